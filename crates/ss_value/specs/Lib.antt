@@ -1,0 +1,9 @@
+pub mod formers
+pub mod Lending
+pub mod Reserved
+pub mod Words
+pub mod Rows
+pub mod Order
+pub mod Fit
+pub mod ValueOrder
+pub mod Refusals

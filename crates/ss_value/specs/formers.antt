@@ -1,0 +1,2 @@
+pub mod keep
+pub mod seq

@@ -1,0 +1,60 @@
+//! Values, rows and the lists that hold them: the types on which every other crate stands.
+//!
+//! Contracts see each type here as the plain mathematical value that a reader has in mind: a `Seq` as its
+//! list, a `Keep` as what it holds, a `Text` or a `Name` as its bytes, a `PartSet` as the number whose bits
+//! it is. So the types of the program are the types of the definitions, and "equal" means equal.
+//!
+//! - `seq`, `reserved`: lists, and lists whose spare room a contract can speak of
+//! - `keep`: a box, for types that hold themselves
+//! - `text`, `value`, `schema`: texts and names, values and rows, columns
+//! - `order`: the order of values and rows; `laws`: what holds of it
+//! - `copies`: exact copies at any depth
+//! - `sets`: small sets of partitions and of procedures
+#![tactic(auto)]
+
+pub mod copies;
+pub mod keep;
+pub mod laws;
+pub mod order;
+pub mod reserved;
+pub mod schema;
+pub mod seq;
+pub mod sets;
+
+use std::alloc::{AllocError, AllocFailed};
+
+#[cfg(test)]
+mod tests;
+pub mod text;
+pub mod value;
+
+/// Want of memory: the one answer that may come in place of any other.
+#[derive(Clone, Copy, Debug, PartialEq, Eq, Drop)]
+pub struct NoMemory;
+
+impl From<AllocError> for NoMemory {
+    fn from(_refused: AllocError) -> NoMemory {
+        NoMemory
+    }
+}
+
+impl<T: Drop> From<AllocFailed<T>> for NoMemory {
+    fn from(_refused: AllocFailed<T>) -> NoMemory {
+        NoMemory
+    }
+}
+
+/// A call on the outside (input, output or disk) that failed.
+#[derive(Clone, Copy, Debug, PartialEq, Eq, Drop)]
+pub struct Failed;
+
+/// What a window counts.
+///
+/// Source: S-Store (Meehan et al., PVLDB 8, 2015), section 2, "Windows": tuple-based and batch-based windows.
+#[derive(Clone, Copy, Debug, PartialEq, Eq, Drop)]
+pub enum Unit {
+    /// Each row is a unit.
+    Rows,
+    /// All rows that one execution of the owner inserts are a unit.
+    Batches,
+}

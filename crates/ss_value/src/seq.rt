@@ -1,0 +1,133 @@
+//! A list, which contracts see as the list and nothing else.
+//!
+//! So a `Seq` of rows *is* a list of lists of values to a definition. The room behind a list is no part of
+//! that value: two equal lists with other room would differ. Where a contract has to speak of room, there is
+//! `Reserved`.
+
+ghost use Rattle.std.specs.Prelude.{◌≡◌, ◌<◌, ◌≤◌, ◌+◌, List, [], ◌∷◌, ◌++◌, length, IfOk, OnOk, IfErr, OnErr, IfSome, IfNone, OnSome, IsSome, IsOk, slice_get, slice_set, take, ◌-◌, ◌↔◌};
+ghost use Rattle.std.specs.Option.{option_copied};
+
+use crate::NoMemory;
+use std::alloc::{AllocFailed, Global};
+use std::marker::Model;
+
+/// Items in a row, over a `Vec`: a look at any place is constant, a push is constant on average over many,
+/// and the memory is that of the items and at most as much again behind them.
+#[derive(Drop)]
+pub struct Seq<T> {
+    items: Vec<T>,
+}
+
+impl<T> Model for Seq<T> {
+    ghost use Rattle.std.specs.Prelude.{List};
+    ghost use Rattle.std.specs.Coded.{coded_list};
+
+    ghost Value = { List T };
+
+    ghost coded = { coded_list T.code };
+
+    ghost view = { λ s. s.items.items };
+}
+
+impl<T> Seq<T> {
+    /// The list of nothing. Takes no memory.
+    pub fn new(alloc: Global) -> Seq<T>
+        ensures { result ≡ [] }
+    {
+        Seq {
+            items: Vec::new(alloc),
+        }
+    }
+
+    /// The list of a `Vec`, which is moved and not copied.
+    pub fn from_vec(items: Vec<T>) -> Seq<T>
+        ensures { result ≡ items.items }
+    {
+        Seq { items }
+    }
+
+    /// The `Vec` of a list, which is moved and not copied.
+    pub fn into_vec(self) -> Vec<T>
+        ensures { result.items ≡ self }
+    {
+        let Seq { items } = self;
+        items
+    }
+
+    /// The number of items.
+    pub fn len(&self) -> usize
+        ensures { result ≡ length self.now }
+    {
+        self.items.len()
+    }
+
+    /// The item at a place, and None exactly where the list ends before it.
+    pub fn get(&self, at: usize) -> Option<&T>
+        ensures value { option_copied result ≡ slice_get self.now at }
+        ensures within { IsSome result ↔ (at < length self.now) }
+        ensures item { IfSome result (λ x. slice_get self.now at ≡ Some x.now) }
+    {
+        self.items.get(at)
+    }
+
+    /// All items, at no cost.
+    pub fn as_slice(&self) -> &[T]
+        ensures { result.now ≡ self.now }
+    {
+        self.items.as_slice()
+    }
+
+    /// Adds an item at the end. Want of memory hands it back and changes nothing.
+    pub fn push(&mut self, item: T) -> Result<(), (NoMemory, T)>
+        ensures ok { OnOk result (self.new ≡ self.old ++ item ∷ []) }
+        ensures err { IfErr result (λ e. (self.new ≡ self.old) × (e.1 ≡ item)) }
+    {
+        match self.items.push(item) {
+            Ok(()) => Ok(()),
+            Err(refused) => Err((NoMemory, refused.value)),
+        }
+    }
+
+    /// Takes the last item off, and answers None exactly where there is none. Takes no memory.
+    pub fn pop(&mut self) -> Option<T>
+        ensures some { IfSome result (λ x. self.old ≡ self.new ++ x ∷ []) }
+        ensures none { IfNone result ((self.old ≡ []) × (self.new ≡ [])) }
+    {
+        self.items.pop()
+    }
+}
+
+impl<T> Seq<T> {
+    ghost use Rattle.std.specs.Borrow.{sem};
+    ghost use Rattle.ss_value.specs.Lending.{LendsItem};
+
+    /// Lends the item at a place: what is written through it is the item there, and all else stays.
+    pub fn get_mut(&mut self, at: usize) -> Option<&mut T>
+        ensures* writes_back { sem 𝓛 (LendsItem T.row self.entry at result) }
+        ensures within { IsSome result ↔ (at < length self.old) }
+        ensures item { IfSome result (λ x. slice_get self.old at ≡ Some x.now) }
+    {
+        self.items.get_mut(at)
+    }
+
+    /// Replaces the item at a place and gives back the old one. Constant, and takes no memory.
+    pub fn put(&mut self, at: usize, item: T) -> T
+        requires { at < length self.old }
+        ensures old { slice_get self.old at ≡ Some result }
+        ensures new { self.new ≡ slice_set self.old at item }
+    {
+        std::mem::replace(&mut self.items[at], item)
+    }
+
+    /// Makes room for this many more items, so that fewer later pushes move the list. The list stays.
+    ///
+    /// That a push then can't fail is no part of what contracts see here: `Reserved` has it.
+    pub fn reserve(&mut self, more: usize) -> Result<(), NoMemory>
+        ensures { self.new ≡ self.old }
+    {
+        match self.items.reserve(more) {
+            Ok(()) => Ok(()),
+            Err(_) => Err(NoMemory),
+        }
+    }
+}

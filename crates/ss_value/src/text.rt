@@ -1,0 +1,212 @@
+//! Texts and names, both seen by contracts as their bytes.
+
+ghost use Rattle.std.specs.Prelude.{◌≡◌, ◌<◌, ◌≤◌, ◌+◌, List, length, IfOk, OnOk, IfErr, OnErr, IsErrOf, IsTrue, ◌↔◌};
+ghost use Rattle.std.specs.Prelude.{◌⊎◌, false, ◌++◌, IfSome, IsSome};
+ghost use Rattle.std.specs.Str.{IsUtf8};
+ghost use Rattle.std.specs.List.{list_all};
+ghost use Rattle.ss_value.specs.Words.{is_letter, is_word_byte, is_name};
+ghost use Rattle.ss_value.specs.Refusals.{IsTextRefusal, IsNameRefusal};
+
+use crate::NoMemory;
+use std::alloc::Global;
+use std::marker::Model;
+
+/// A text: UTF-8 of at most 255 bytes, kept by its type. Takes its bytes and three words.
+#[derive(Drop)]
+pub struct Text {
+    bytes: Vec<u8>,
+}
+
+impl Model for Text {
+    ghost use Rattle.std.specs.Prelude.{List, ℕ};
+
+    ghost Value = { List ℕ };
+
+    ghost use Rattle.ss_value.specs.Words.{IsText};
+
+    ghost view = { λ t. t.bytes.items };
+
+    ghost invariant = { λ t. IsText t.bytes.items };
+}
+
+/// Why a spelling is refused.
+#[derive(Clone, Copy, Debug, PartialEq, Eq, Drop)]
+pub enum ValueError {
+    /// Want of memory.
+    NoMemory,
+    /// The bytes end inside a row.
+    Truncated,
+    /// A value's kind is neither that of an Int nor that of a Text.
+    BadKind,
+    /// The bytes are no UTF-8.
+    NotUtf8,
+    /// The text has more than 255 bytes.
+    TextTooLong,
+    /// The bytes are no name, or a row has more than 16 values.
+    WrongShape,
+}
+
+impl Text {
+    /// The text: linear in its bytes, since it is checked to be UTF-8 again.
+    pub fn as_str(&self) -> &str
+        ensures { result.now ≡ self.now }
+    {
+        match std::str::from_utf8(self.bytes.as_slice()) {
+            Ok(text) => text,
+            Err(_) => unreachable!(),
+        }
+    }
+
+    /// Its bytes, at no cost.
+    pub fn as_bytes(&self) -> &[u8]
+        ensures { result.now ≡ self.now }
+    {
+        self.bytes.as_slice()
+    }
+
+    /// The number of its bytes.
+    pub fn len(&self) -> usize
+        ensures bytes { result ≡ length self.now }
+        ensures short { result ≤ 255 }
+    {
+        self.bytes.len()
+    }
+
+    /// Both texts as one, and None exactly where that is over 255 bytes. Linear in the bytes of both.
+    pub fn concat(&self, alloc: Global, other: &Text) -> Result<Option<Text>, NoMemory>
+        ensures text { IfOk result (λ joined. IfSome joined (λ text. text ≡ self.now ++ other.now)) }
+        ensures within { IfOk result (λ joined. IsSome joined ↔ (length (self.now ++ other.now) ≤ 255)) }
+    {
+        if self.bytes.len() + other.bytes.len() > 255 {
+            return Ok(None);
+        }
+        let Ok(mut bytes) = Vec::from_slice(alloc, self.bytes.as_slice()) else {
+            return Err(NoMemory);
+        };
+        if bytes.extend_from_slice(other.bytes.as_slice()).is_err() {
+            return Err(NoMemory);
+        }
+        Ok(Some(Text { bytes }))
+    }
+
+    /// The same text again: linear in its bytes. Fails only for want of memory.
+    pub fn copy(&self, alloc: Global) -> Result<Text, NoMemory>
+        ensures { IfOk result (λ copy. copy ≡ self.now) }
+    {
+        match Vec::from_slice(alloc, self.bytes.as_slice()) {
+            Ok(bytes) => Ok(Text { bytes }),
+            Err(_) => Err(NoMemory),
+        }
+    }
+}
+
+/// The text of these bytes: linear in them.
+///
+/// Refuses `TextTooLong` exactly over 255 bytes, then `NotUtf8` exactly where they are no UTF-8.
+pub fn text_of(alloc: Global, bytes: &[u8]) -> Result<Text, ValueError>
+    ensures ok { IfOk result (λ text. (text ≡ bytes.now) × (length bytes.now ≤ 255) × IsUtf8 bytes.now) }
+    ensures too_long { IsErrOf result ValueError.TextTooLong ↔ (255 < length bytes.now) }
+    ensures not_utf8 { IsErrOf result ValueError.NotUtf8 → (length bytes.now ≤ 255) × (IsUtf8 bytes.now → ⊥) }
+    ensures others { IfErr result IsTextRefusal }
+{
+    if bytes.len() > 255 {
+        return Err(ValueError::TextTooLong);
+    }
+    if std::str::from_utf8(bytes).is_err() {
+        return Err(ValueError::NotUtf8);
+    }
+    match Vec::from_slice(alloc, bytes) {
+        Ok(bytes) => Ok(Text { bytes }),
+        Err(_) => Err(ValueError::NoMemory),
+    }
+}
+
+/// A name: 1 to 32 characters of `a` to `z`, `0` to `9` and `_`, the first a letter. Its type keeps that.
+#[derive(Drop)]
+pub struct Name {
+    bytes: Vec<u8>,
+}
+
+impl Model for Name {
+    ghost use Rattle.std.specs.Prelude.{List, ℕ, IsTrue};
+
+    ghost Value = { List ℕ };
+
+    ghost use Rattle.ss_value.specs.Words.{is_name};
+
+    ghost view = { λ n. n.bytes.items };
+
+    ghost invariant = { λ n. IsTrue (is_name n.bytes.items) };
+}
+
+impl Name {
+    /// The name: linear in its bytes.
+    pub fn as_str(&self) -> &str
+        ensures { result.now ≡ self.now }
+    {
+        match std::str::from_utf8(self.bytes.as_slice()) {
+            Ok(text) => text,
+            Err(_) => unreachable!(),
+        }
+    }
+
+    /// Its bytes, at no cost.
+    pub fn as_bytes(&self) -> &[u8]
+        ensures bytes { result.now ≡ self.now }
+        ensures name { IsTrue (is_name self.now) }
+    {
+        self.bytes.as_slice()
+    }
+
+    /// The same name again: linear in its bytes. Fails only for want of memory.
+    pub fn copy(&self, alloc: Global) -> Result<Name, NoMemory>
+        ensures { IfOk result (λ copy. copy ≡ self.now) }
+    {
+        match Vec::from_slice(alloc, self.bytes.as_slice()) {
+            Ok(bytes) => Ok(Name { bytes }),
+            Err(_) => Err(NoMemory),
+        }
+    }
+}
+
+fn is_letter(c: u8) -> bool
+    ensures { result ≡ is_letter c }
+{
+    c.is_ascii_lowercase()
+}
+
+fn is_word_byte(c: u8) -> bool
+    ensures { result ≡ is_word_byte c }
+{
+    is_letter(c) || (b'0'..=b'9').contains(&c) || c == b'_'
+}
+
+fn are_word_bytes(bytes: &[u8]) -> bool
+    ensures { result ≡ list_all is_word_byte bytes.now }
+{
+    bytes.iter().all(|c| is_word_byte(*c))
+}
+
+fn is_name(bytes: &[u8]) -> bool
+    ensures { result ≡ is_name bytes.now }
+{
+    match bytes.split_first() {
+        None => false,
+        Some((first, rest)) => is_letter(*first) && rest.len() < 32 && are_word_bytes(rest),
+    }
+}
+
+/// The name of these bytes: linear in them. Refuses `WrongShape` exactly where they are no name.
+pub fn name_of(alloc: Global, bytes: &[u8]) -> Result<Name, ValueError>
+    ensures ok { IfOk result (λ name. (name ≡ bytes.now) × IsTrue (is_name bytes.now)) }
+    ensures wrong { IsErrOf result ValueError.WrongShape ↔ (is_name bytes.now ≡ false) }
+    ensures others { IfErr result IsNameRefusal }
+{
+    if !is_name(bytes) {
+        return Err(ValueError::WrongShape);
+    }
+    match Vec::from_slice(alloc, bytes) {
+        Ok(bytes) => Ok(Name { bytes }),
+        Err(_) => Err(ValueError::NoMemory),
+    }
+}

@@ -1,0 +1,46 @@
+//! Values and rows.
+
+ghost use Rattle.std.specs.Prelude.{◌≡◌, IfOk};
+
+use crate::NoMemory;
+use crate::copies::Copies;
+use crate::seq::Seq;
+use crate::text::Text;
+use std::alloc::Global;
+
+/// A value of a column: a number of 64 bits, or a text of at most 255 bytes.
+///
+/// An Int takes no memory of its own, a Text its bytes.
+#[derive(Drop)]
+pub enum Value {
+    Int(i64),
+    Text(Text),
+}
+
+/// The values of a row, one a column.
+pub type Row = Seq<Value>;
+
+/// Rows in order.
+pub type Rows = Seq<Row>;
+
+impl Value {
+    /// The same value again: linear in a text's bytes. Fails only for want of memory.
+    pub fn copy(&self, alloc: Global) -> Result<Value, NoMemory>
+        ensures { IfOk result (λ copy. copy ≡ self.now) }
+    {
+        match self {
+            Value::Int(n) => Ok(Value::Int(*n)),
+            Value::Text(text) => {
+                let text = text.copy(alloc)?;
+                Ok(Value::Text(text))
+            }
+        }
+    }
+}
+
+/// The same row again: linear in the bytes of its texts and the number of its values.
+pub fn copy_row(alloc: Global, row: &Row) -> Result<Row, NoMemory>
+    ensures { IfOk result (λ copy. copy ≡ row.now) }
+{
+    row.duplicate(alloc)
+}
