@@ -1,0 +1,3 @@
+pub mod Json
+pub mod Splits
+pub mod SoFar

@@ -1,0 +1,7 @@
+pub mod Causes
+pub mod Lines
+pub mod Splitting
+pub mod Json
+pub mod Refusals
+pub mod Memory
+pub mod Outside

@@ -1,0 +1,63 @@
+//! The lines of a source.
+
+ghost use Rattle.std.specs.Prelude.{◌≡◌, ◌<◌, ◌≤◌, ◌+◌, length, IfOk, OnOk, IfErr, IfSome};
+ghost use Rattle.std.specs.Io.KnownBytes.{IsAtEnd};
+ghost use Rattle.ss_lines.specs.Causes.{Rose, TakesAtMost};
+ghost use Rattle.ss_lines.specs.Lines.{lines_of, max_input};
+ghost use Rattle.ss_lines.specs.Refusals.{IsReadRefusal};
+
+use crate::ends::Source;
+use crate::line::{Line, LineError, MAX_INPUT};
+use crate::split::Splitter;
+use ss_value::seq::Seq;
+use std::alloc::Global;
+
+/// How many bytes are asked for at a time.
+const PIECE: usize = 16_384;
+
+/// The lines of the input that aren't blank, in order.
+///
+/// A line ends at a line feed, which is not part of it, or at the end of input. Lines are numbered
+/// from 1. A line of spaces, tabs and carriage returns alone is counted and left out.
+///
+/// `ReadFault` comes only where the source counted a fault, and `InputTooLong` exactly where the
+/// input has more than `MAX_INPUT` bytes, unless memory is wanting or the source fails before that
+/// is seen. No other refusal comes but `NoMemory`. At most one byte more than `MAX_INPUT` is taken
+/// from any source.
+///
+/// Time is linear in the bytes. Each is copied twice: out of the source, in pieces of 16,384 bytes
+/// where it gives that many, and into its line. A line that ends in a later piece than it began in
+/// grows by doubling, and may be moved for that. Memory is that of the lines and of one piece.
+pub fn read_lines<S: Source>(alloc: Global, source: &mut S) -> Result<Seq<Line>, LineError>
+    ensures most { TakesAtMost (max_input + 1) (S.left source.old) (S.left source.new) }
+    ensures lines { IfOk result (λ lines. IfSome (S.left source.old) (λ input. (lines ≡ lines_of input) × (length input ≤ max_input))) }
+    ensures end { OnOk result (IsAtEnd (S.left source.new)) }
+    ensures long { result ≡ Err LineError.InputTooLong → IfSome (S.left source.old) (λ input. max_input < length input) }
+    ensures cause { S.faults source.old ≤ S.faults source.new }
+    ensures fault { result ≡ Err LineError.ReadFault → Rose (S.faults source.old) (S.faults source.new) }
+    ensures others { IfErr result IsReadRefusal }
+{
+    let mut splitter = Splitter::new(alloc);
+    let mut buf = [0u8; PIECE];
+    let mut taken = 0;
+    while taken <= MAX_INPUT {
+        let room = (MAX_INPUT + 1 - taken).min(PIECE);
+        let part = &mut buf[..room];
+        let count = match source.pull(part) {
+            Ok(count) => count,
+            Err(_) => return Err(LineError::ReadFault),
+        };
+        if count == 0 {
+            return match splitter.finish() {
+                Ok(lines) => Ok(lines),
+                Err(_) => Err(LineError::NoMemory),
+            };
+        }
+        let (piece, _) = part.split_at(count);
+        if splitter.take(piece).is_err() {
+            return Err(LineError::NoMemory);
+        }
+        taken += count;
+    }
+    Err(LineError::InputTooLong)
+}

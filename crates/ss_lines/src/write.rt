@@ -1,0 +1,35 @@
+//! Bytes to a sink.
+
+ghost use Rattle.std.specs.Prelude.{◌≤◌, ℕ, length, take, OnOk};
+ghost use Rattle.std.specs.Io.KnownBytes.{Appends};
+ghost use Rattle.ss_lines.specs.Causes.{HasCause};
+
+use crate::ends::Sink;
+
+/// A write that failed.
+#[derive(Clone, Copy, Debug, PartialEq, Eq, Drop)]
+pub enum WriteFault {
+    /// The sink failed.
+    WriteFault,
+}
+
+/// Writes all bytes, in order.
+///
+/// `WriteFault` comes only where the sink counted a fault, and then a prefix of the bytes was
+/// written. No memory is taken, no byte is copied here, and there are at most as many calls of the
+/// sink as bytes.
+pub fn write_all<K: Sink>(sink: &mut K, bytes: &[u8]) -> Result<(), WriteFault>
+    ensures ok { OnOk result (Appends (K.written sink.old) (K.written sink.new) bytes.now) }
+    ensures part { (n : ℕ) × (n ≤ length bytes.now) × Appends (K.written sink.old) (K.written sink.new) (take n bytes.now) }
+    ensures cause { HasCause (K.faults sink.old) (K.faults sink.new) result }
+{
+    let mut at = 0;
+    while at < bytes.len() {
+        let (_, rest) = bytes.split_at(at);
+        match sink.push(rest) {
+            Ok(count) => at += count,
+            Err(_) => return Err(WriteFault::WriteFault),
+        }
+    }
+    Ok(())
+}
