@@ -1,0 +1,9 @@
+pub mod Results
+pub mod Database
+pub mod Bodies
+pub mod Entries
+pub mod Replays
+pub mod Requests
+pub mod ReportLines
+pub mod Report
+pub mod Accepted
