@@ -1,0 +1,11 @@
+pub mod PlainDepth
+pub mod PlainFitting
+pub mod RunStores
+pub mod RunUndone
+pub mod RunReplies
+pub mod RunCalls
+pub mod RunNumbers
+pub mod RunProgress
+pub mod RunExample
+pub mod TopReplies
+pub mod TopRefusals

@@ -1,0 +1,84 @@
+-- Three calls of a small catalogue, by the definitions.
+use Rattle.std.proofs.Common.{◌≡◌, ℕ, pos, List, [], ◌∷◌, map, true, false, nat_le, refl, sym, ap, subst, ◌∙◌, Some, Ok, Err, is_some, unwrap_or}
+use Rattle.std.specs.Option.{option_map}
+use Rattle.std.specs.FinMap as finmap
+use Rattle.std.specs.FinMap.{get-empty, get-insert, len-empty, entries-insert}
+use Rattle.std.specs.FinMap.Entries.{put}
+use Rattle.ss_value.specs.Rows.{Row, Rows}
+use Rattle.ss_value.specs.Order.{row_cmp}
+use Rattle.ss_value.specs.ValueOrder.{row_cmp_total}
+use Rattle.ss_model.specs.declared.catalog.Catalog.{Catalog}
+use Rattle.ss_model.specs.declared.entry.Entry.{Entry}
+use Rattle.ss_model.specs.declared.entry.Entry.TheVariants.{Call}
+use Rattle.ss_model.specs.declared.entry.Outcome.TheVariants.{Done, Aborted}
+use Rattle.ss_model.specs.declared.entry.Reason.TheVariants.{KeyTaken}
+use Rattle.ss_model.specs.declared.entry.Listed.{Listed}
+use Rattle.ss_model.specs.Database.{Database, Table, table_at, with_table, table_rows, row_key, empty_database}
+use Rattle.ss_model.specs.Results.{OrAbort, ◌>>=◌, try_fold}
+use Rattle.ss_model.specs.Bodies.{Execution, insert_row, reply_rows, execute_step, body_result}
+use Rattle.ss_model.specs.Entries.{Applied, applied_body, apply}
+use Rattle.ss_model.specs.Replays.{Replays}
+use Rattle.ss_program.specs.RunExample.{example_catalog, example_list, answered_call, ints}
+use Rattle.ss_program.proofs.RunStores.{entries_none}
+
+insert_free : (catalog : Catalog) (t : ℕ) (row : Row) (w : Execution) → finmap.contains_key (table_at w.db t) (row_key catalog t row) ≡ false → nat_le 1000000 (finmap.len (table_at w.db t)) ≡ false
+    → insert_row catalog t row w ≡ Ok (record w { db = with_table w.db t (finmap.insert (table_at w.db t) (row_key catalog t row) row) })
+insert_free catalog t row w h k = rw (h, k) refl
+
+insert_taken : (catalog : Catalog) (t : ℕ) (row : Row) (w : Execution) → finmap.contains_key (table_at w.db t) (row_key catalog t row) ≡ true → insert_row catalog t row w ≡ Err (KeyTaken t)
+insert_taken catalog t row w h = rw h refl
+
+abbrev nothing : Table
+nothing = finmap.empty
+
+abbrev key : Row
+key = ints (pos 1 ∷ [])
+
+abbrev account : Row
+account = ints (pos 1 ∷ pos 5 ∷ [])
+
+abbrev other : Row
+other = ints (pos 1 ∷ pos 9 ∷ [])
+
+abbrev one_account : Table
+one_account = finmap.insert nothing key account
+
+abbrev start : Database
+start = empty_database example_catalog
+
+abbrev filled : Database
+filled = record { tables = one_account ∷ [] }
+
+free : finmap.contains_key nothing key ≡ false
+free = ap is_some (get-empty row_cmp key)
+
+small : nat_le 1000000 (finmap.len nothing) ≡ false
+small = ap (nat_le 1000000) (len-empty row_cmp Row)
+
+taken : finmap.contains_key one_account key ≡ true
+taken = ap is_some (get-insert row_cmp_total nothing key account key)
+
+rows : table_rows one_account ≡ account ∷ []
+rows = ap (map (λ e. e.1)) (entries-insert row_cmp_total nothing key account ∙ ap (put row_cmp key account) entries_none)
+
+put_applies : apply example_catalog start (Call 0 0 0 account) ≡ Some (record { db = filled; outcome = Done [] })
+put_applies = ap (λ (o : OrAbort Execution). Some (applied_body (body_result start (o >>= try_fold (execute_step example_catalog account) [])))) (insert_free example_catalog 0 account (record { db = start; reply = [] }) free small)
+
+all_applies : apply example_catalog filled (Call 0 1 1 []) ≡ Some (record { db = filled; outcome = Done (account ∷ []) })
+all_applies = ap (λ (found : Rows). Some (applied_body (body_result filled (reply_rows found (record { db = filled; reply = [] }) >>= try_fold (execute_step example_catalog []) [])))) rows
+
+again_applies : apply example_catalog filled (Call 0 2 0 other) ≡ Some (record { db = filled; outcome = Aborted (KeyTaken 0) })
+again_applies = ap (λ (o : OrAbort Execution). Some (applied_body (body_result filled (o >>= try_fold (execute_step example_catalog other) [])))) (insert_taken example_catalog 0 other (record { db = filled; reply = [] }) taken)
+
+one_replays : (catalog : Catalog) (db : Database) (e : Entry) (a : Applied) (rest : List Listed) → apply catalog db e ≡ Some a → Replays catalog a.db rest → Replays catalog db (record { entry = e; outcome = a.outcome } ∷ rest)
+one_replays catalog db e a rest applied replays = (
+  ap (option_map (λ (x : Applied). x.outcome)) applied,
+  subst (λ (d : Database). Replays catalog d rest) (sym (ap (λ o. unwrap_or (option_map (λ (x : Applied). x.db) o) db) applied)) replays,
+)
+
+pub example_replays : Replays example_catalog (empty_database example_catalog) example_list
+example_replays =
+    let last = one_replays example_catalog filled (Call 0 2 0 other) (record { db = filled; outcome = Aborted (KeyTaken 0) }) [] again_applies tt in
+    let middle = one_replays example_catalog filled (Call 0 1 1 []) (record { db = filled; outcome = Done (account ∷ []) }) (answered_call 2 0 (pos 1 ∷ pos 9 ∷ []) (Aborted (KeyTaken 0)) ∷ []) all_applies last in
+    one_replays example_catalog start (Call 0 0 0 account) (record { db = filled; outcome = Done [] })
+    (answered_call 1 1 [] (Done (account ∷ [])) ∷ answered_call 2 0 (pos 1 ∷ pos 9 ∷ []) (Aborted (KeyTaken 0)) ∷ []) put_applies middle

@@ -1,0 +1,18 @@
+use Rattle.std.proofs.Common.{◌≡◌, ◌∙◌, ap, length}
+use Rattle.ss_model.specs.Database.{empty_database}
+use Rattle.ss_program.proofs.TopReplies.{told_report, places_count, accepted_one}
+use Rattle.ss_program.proofs.top.run_plan.Goals as goal
+
+pub write_report-requires-clause-places : goal.write_report-requires-clause-places
+write_report-requires-clause-places c = ap length c.in_ok-list.ensures.places ∙ places_count c.in_ok-list.field-0.list c.args.plan.now.requests
+
+pub write_report-requires-clause-one_table : goal.write_report-requires-clause-one_table
+write_report-requires-clause-one_table c = accepted_one c.args.plan.now.catalog c.requires.accepted
+
+pub write_report-requires-clause-rows : goal.write_report-requires-clause-rows
+write_report-requires-clause-rows c = c.in_ok-list.ensures.count ∙ accepted_one c.args.plan.now.catalog c.requires.accepted
+
+pub returns-clause-text : goal.returns-clause-text
+returns-clause-text c =
+    c.in_ok-text.ensures ∙ told_report c.args.plan.now.catalog c.args.plan.now.requests c.in_ok-list.field-0.places c.in_ok-list.field-0.list c.in_ok-list.field-0.tables
+    (empty_database c.args.plan.now.catalog) c.in_ok-list.ensures.places c.in_ok-list.ensures.tables

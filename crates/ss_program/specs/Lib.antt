@@ -1,0 +1,16 @@
+pub mod PlainNames
+pub mod PlainObjects
+pub mod PlainValues
+pub mod PlainTables
+pub mod PlainSteps
+pub mod PlainProcedures
+pub mod PlainCatalog
+pub mod PlainRequests
+pub mod PlainInput
+pub mod RunCodes
+pub mod RunTables
+pub mod RunBodies
+pub mod RunSessions
+pub mod RunExample
+pub mod Statuses
+pub mod Top

@@ -1,0 +1,40 @@
+//! The program `sstore`: a catalogue and a script of calls in, replies, the serial list and the tables out.
+//!
+//! - `top`: the one call `sstore`, whose contract is the program's promise
+//! - `plain`: reads the input; `run`: runs the requests
+//! - `refusals`, `status`: what is told where nothing ran, and how a run ends
+#![tactic(auto)]
+
+mod plain;
+mod refusals;
+mod run;
+mod status;
+#[cfg(test)]
+mod tests;
+mod top;
+
+use crate::status::Status;
+use crate::top::sstore;
+use ss_lines::{ReadSource, WriteSink};
+use std::process::ExitCode;
+use std::{env, io};
+
+/// The words of the command line, without the program's name.
+fn words(rt: &HostRuntime) -> io::Result<Vec<String>> {
+    let mut words = Vec::new(rt.alloc());
+    for word in env::args(rt)?.skip(1) {
+        words.push(word)?;
+    }
+    Ok(words)
+}
+
+/// Makes the real ends, standard input and standard output, and calls `sstore`.
+fn main(rt: HostRuntime) -> ExitCode {
+    let Ok(words) = words(&rt) else {
+        return ExitCode::from(Status::NoMemory.number());
+    };
+    let mut source = ReadSource::new(rt.reader());
+    let mut sink = WriteSink::new(io::writer(&rt));
+    let status = sstore(rt.alloc(), &words, &mut source, &mut sink);
+    ExitCode::from(status.number())
+}

@@ -1,0 +1,164 @@
+//! The steps of a procedure's body.
+
+ghost use Rattle.std.specs.Prelude.{◌≡◌, ◌<◌, [], length, true, IfOk, OnOk, IfErr, OnErr, Ok, Err};
+ghost use Rattle.std.specs.List.{list_all};
+ghost use Rattle.ss_value.specs.Rows.{Rows};
+ghost use Rattle.ss_model.specs.Database.{Database, table_rows};
+ghost use Rattle.ss_model.specs.Results.{try_fold};
+ghost use Rattle.ss_model.specs.Bodies.{insert_row, reply_rows, execute_step, run_body, body_result};
+ghost use Rattle.ss_program.specs.RunTables.{current, before};
+ghost use Rattle.ss_program.specs.RunBodies.{names_table, execution, StopsAs};
+
+use crate::run::store::RowStore;
+use crate::run::tables::Tables;
+use crate::run::values::{given_row, row_key};
+use ss_model::catalog::{Catalog, Step};
+use ss_model::entry::{Outcome, Reason};
+use ss_value::NoMemory;
+use ss_value::seq::Seq;
+use ss_value::value::{Row, Rows};
+use std::alloc::Global;
+
+/// The most rows that a table has.
+pub const TABLE_ROWS: usize = 1_000_000;
+
+/// The most rows that a reply has.
+pub const REPLY_ROWS: usize = 1_024;
+
+/// Why an execution ends before its last step.
+#[derive(Clone, Copy, Debug, PartialEq, Eq, Drop)]
+pub enum Stop {
+    /// Want of memory: the request has no answer.
+    NoMemory,
+    /// The body aborts, which is an answer.
+    Abort(Reason),
+}
+
+impl From<NoMemory> for Stop {
+    ghost use Rattle.std.specs.Prelude.{◌≡◌};
+    ghost use Rattle.ss_program.specs.declared.run.body.Stop.TheVariants.{NoMemory as OutOfMemory};
+
+    ghost from_gives = { λ _ stop. stop ≡ OutOfMemory };
+
+    fn from(_: NoMemory) -> Stop {
+        Stop::NoMemory
+    }
+}
+
+/// Puts a row into a table. `KeyTaken` comes before `TableFull`. Logarithmic in the table's rows.
+fn insert_row(
+    alloc: Global,
+    catalog: &Catalog,
+    table: u16,
+    row: Row,
+    tables: &mut Tables,
+) -> Result<(), Stop>
+    requires within { table < length tables.old.stores }
+    ensures done { OnOk result ((reply : Rows) → insert_row catalog.now table row (execution tables.old reply) ≡ Ok (execution tables.new reply)) }
+    ensures stops { IfErr result (λ stop. (reply : Rows) → StopsAs (insert_row catalog.now table row (execution tables.old reply)) stop) }
+    ensures before { before tables.new ≡ before tables.old }
+    ensures count { length tables.new.stores ≡ length tables.old.stores }
+{
+    let key = row_key(alloc, catalog, table, &row)?;
+    let store = tables.table(table);
+    if store.contains_key(&key) {
+        return Err(Stop::Abort(Reason::KeyTaken(table)));
+    }
+    if store.len() >= TABLE_ROWS {
+        return Err(Stop::Abort(Reason::TableFull(table)));
+    }
+    tables.insert(alloc, table, key, row)?;
+    Ok(())
+}
+
+/// Adds copies of a table's rows to the reply: linear in them.
+fn reply_rows(alloc: Global, store: &RowStore, reply: &mut Rows) -> Result<(), Stop>
+    ensures done { OnOk result ((db : Database) → reply_rows (table_rows store.now) (record { db = db; reply = reply.old }) ≡ Ok (record { db = db; reply = reply.new })) }
+    ensures stops { IfErr result (λ stop. (db : Database) → StopsAs (reply_rows (table_rows store.now) (record { db = db; reply = reply.old })) stop) }
+{
+    if reply.len().saturating_add(store.len()) > REPLY_ROWS {
+        return Err(Stop::Abort(Reason::ReplyFull));
+    }
+    store.copy_rows(alloc, reply)?;
+    Ok(())
+}
+
+/// Runs a step: logarithmic in the rows of its table, or linear in the rows that it returns.
+fn execute_step(
+    alloc: Global,
+    catalog: &Catalog,
+    args: &Row,
+    step: &Step,
+    tables: &mut Tables,
+    reply: &mut Rows,
+) -> Result<(), Stop>
+    requires named { names_table (length tables.old.stores) step.now ≡ true }
+    ensures done { OnOk result (execute_step catalog.now args.now step.now (execution tables.old reply.old) ≡ Ok (execution tables.new reply.new)) }
+    ensures stops { IfErr result (StopsAs (execute_step catalog.now args.now step.now (execution tables.old reply.old))) }
+    ensures before { before tables.new ≡ before tables.old }
+    ensures count { length tables.new.stores ≡ length tables.old.stores }
+{
+    match step {
+        Step::Insert { table, values } => {
+            let row = given_row(alloc, args, values.as_slice())?;
+            insert_row(alloc, catalog, *table, row, tables)?;
+        }
+        Step::ReturnAll(table) => reply_rows(alloc, tables.table(*table), reply)?,
+    }
+    Ok(())
+}
+
+/// Runs steps in order, up to the first abort.
+fn execute_steps(
+    alloc: Global,
+    catalog: &Catalog,
+    args: &Row,
+    steps: &[Step],
+    tables: &mut Tables,
+    reply: &mut Rows,
+) -> Result<(), Stop>
+    requires named { list_all (names_table (length tables.old.stores)) steps.now ≡ true }
+    ensures done { OnOk result (try_fold (execute_step catalog.now args.now) steps.now (execution tables.old reply.old) ≡ Ok (execution tables.new reply.new)) }
+    ensures stops { IfErr result (StopsAs (try_fold (execute_step catalog.now args.now) steps.now (execution tables.old reply.old))) }
+    ensures before { before tables.new ≡ before tables.old }
+    ensures count { length tables.new.stores ≡ length tables.old.stores }
+{
+    for step in steps {
+        execute_step(alloc, catalog, args, step, tables, reply)?;
+    }
+    Ok(())
+}
+
+/// Runs a body with these arguments. Costs its steps, and for an abort as much again.
+///
+/// Fails only for want of memory, which leaves the tables as they were, as an abort does.
+pub fn run_body(
+    alloc: Global,
+    catalog: &Catalog,
+    args: &Row,
+    body: &[Step],
+    tables: &mut Tables,
+) -> Result<Outcome, NoMemory>
+    requires named { list_all (names_table (length tables.old.stores)) body.now ≡ true }
+    requires settled { tables.old.inserted ≡ [] }
+    ensures body { IfOk result (λ outcome. body_result (current tables.old) (run_body catalog.now args.now body.now (current tables.old)) ≡ record { db = current tables.new; outcome = outcome }) }
+    ensures kept { OnErr result (current tables.new ≡ current tables.old) }
+    ensures settled { tables.new.inserted ≡ [] }
+    ensures count { length tables.new.stores ≡ length tables.old.stores }
+{
+    let mut reply = Seq::new(alloc);
+    match execute_steps(alloc, catalog, args, body, tables, &mut reply) {
+        Ok(()) => {
+            tables.keep(alloc);
+            Ok(Outcome::Done(reply))
+        }
+        Err(Stop::Abort(reason)) => {
+            tables.undo();
+            Ok(Outcome::Aborted(reason))
+        }
+        Err(Stop::NoMemory) => {
+            tables.undo();
+            Err(NoMemory)
+        }
+    }
+}
