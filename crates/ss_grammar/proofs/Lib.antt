@@ -1,0 +1,4 @@
+pub mod Agree
+pub mod Parts
+pub mod Rules
+pub mod Turns

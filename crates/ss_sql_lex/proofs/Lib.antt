@@ -1,0 +1,10 @@
+pub mod Blamed
+pub mod Lexes
+pub mod Once
+pub mod Quotes
+pub mod Reached
+pub mod Spanned
+pub mod Runs
+pub mod Spelled
+pub mod Stands
+pub mod Values

@@ -1,0 +1,10 @@
+pub mod Bytes
+pub mod Causes
+pub mod Content
+pub mod Faults
+pub mod Laws
+pub mod Lexing
+pub mod Reading
+pub mod Spans
+pub mod Spelling
+pub mod Trees

@@ -1,0 +1,159 @@
+//! Copies of typed trees, equal to what they copy at any depth.
+//!
+//! Each takes time and memory linear in the tree, and stack by its depth. Only want of memory
+//! refuses one.
+
+ghost use Rattle.std.specs.Prelude.{◌≡◌, IfOk};
+
+use crate::typed::{ColAt, Condition, Expr, Item, OrderBy, Query, SetTo, Statement};
+use ss_value::NoMemory;
+use ss_value::copies::Copies;
+use ss_value::keep::Keep;
+use std::alloc::Global;
+
+/// A copy of an expression: the tree with its values.
+pub fn copy_expr(alloc: Global, expr: &Expr) -> Result<Expr, NoMemory>
+    ensures { IfOk result (λ copy. copy ≡ expr.now) }
+{
+    match expr {
+        Expr::Lit(value) => Ok(Expr::Lit(value.copy(alloc)?)),
+        Expr::Param(n) => Ok(Expr::Param(*n)),
+        Expr::Col { source, column } => Ok(Expr::Col {
+            source: *source,
+            column: *column,
+        }),
+        Expr::Unary { op, side } => {
+            let side = copy_expr(alloc, side.get())?;
+            let side = Keep::new(alloc, side)?;
+            Ok(Expr::Unary { op: *op, side })
+        }
+        Expr::Binary { op, left, right } => {
+            let left = copy_expr(alloc, left.get())?;
+            let left = Keep::new(alloc, left)?;
+            let right = copy_expr(alloc, right.get())?;
+            let right = Keep::new(alloc, right)?;
+            Ok(Expr::Binary {
+                op: *op,
+                left,
+                right,
+            })
+        }
+    }
+}
+
+impl Copies for Expr {
+    fn duplicate(&self, alloc: Global) -> Result<Expr, NoMemory> {
+        copy_expr(alloc, self)
+    }
+}
+
+impl Copies for Item {
+    fn duplicate(&self, alloc: Global) -> Result<Item, NoMemory> {
+        match self {
+            Item::Count => Ok(Item::Count),
+            Item::Sum(expr) => Ok(Item::Sum(copy_expr(alloc, expr)?)),
+            Item::Min(expr) => Ok(Item::Min(copy_expr(alloc, expr)?)),
+            Item::Max(expr) => Ok(Item::Max(copy_expr(alloc, expr)?)),
+            Item::Plain(expr) => Ok(Item::Plain(copy_expr(alloc, expr)?)),
+        }
+    }
+}
+
+impl Copies for ColAt {
+    fn duplicate(&self, _alloc: Global) -> Result<ColAt, NoMemory> {
+        Ok(*self)
+    }
+}
+
+impl Copies for OrderBy {
+    fn duplicate(&self, _alloc: Global) -> Result<OrderBy, NoMemory> {
+        Ok(*self)
+    }
+}
+
+/// A copy of an expression, where there is one, and None where there is none.
+pub fn copy_test(alloc: Global, test: &Option<Expr>) -> Result<Option<Expr>, NoMemory>
+    ensures { IfOk result (λ copy. copy ≡ test.now) }
+{
+    match test {
+        None => Ok(None),
+        Some(expr) => Ok(Some(copy_expr(alloc, expr)?)),
+    }
+}
+
+impl Copies for Query {
+    fn duplicate(&self, alloc: Global) -> Result<Query, NoMemory> {
+        let items = self.items.duplicate(alloc)?;
+        let test = copy_test(alloc, &self.test)?;
+        let groups = self.groups.duplicate(alloc)?;
+        let order = self.order.duplicate(alloc)?;
+        Ok(Query {
+            items,
+            from: self.from,
+            joined: self.joined,
+            test,
+            groups,
+            order,
+            limit: self.limit,
+        })
+    }
+}
+
+impl Copies for Condition {
+    fn duplicate(&self, alloc: Global) -> Result<Condition, NoMemory> {
+        let query = self.query.duplicate(alloc)?;
+        let right = copy_expr(alloc, &self.right)?;
+        Ok(Condition {
+            query,
+            cmp: self.cmp,
+            right,
+        })
+    }
+}
+
+impl Copies for SetTo {
+    fn duplicate(&self, alloc: Global) -> Result<SetTo, NoMemory> {
+        let value = copy_expr(alloc, &self.value)?;
+        Ok(SetTo {
+            column: self.column,
+            value,
+        })
+    }
+}
+
+impl Copies for Statement {
+    fn duplicate(&self, alloc: Global) -> Result<Statement, NoMemory> {
+        match self {
+            Statement::InsertValues { target, values } => {
+                let values = values.duplicate(alloc)?;
+                Ok(Statement::InsertValues {
+                    target: *target,
+                    values,
+                })
+            }
+            Statement::InsertQuery { target, query } => {
+                let query = query.duplicate(alloc)?;
+                Ok(Statement::InsertQuery {
+                    target: *target,
+                    query,
+                })
+            }
+            Statement::Update { table, sets, test } => {
+                let sets = sets.duplicate(alloc)?;
+                let test = copy_test(alloc, test)?;
+                Ok(Statement::Update {
+                    table: *table,
+                    sets,
+                    test,
+                })
+            }
+            Statement::Delete { table, test } => {
+                let test = copy_test(alloc, test)?;
+                Ok(Statement::Delete {
+                    table: *table,
+                    test,
+                })
+            }
+        }
+    }
+}

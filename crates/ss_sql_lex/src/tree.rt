@@ -1,0 +1,285 @@
+//! Plain trees: SQL texts as the grammar reads them, with the places of their parts.
+//!
+//! A place is the offset of a byte in the text: of the first byte of the first token. Each use of a
+//! rule that does not merely pass to another has a node. Brackets leave none: a bracketed expression
+//! is at its outermost bracket. A name, a column, a number, a text and a parameter have the places of
+//! their own tokens besides.
+//!
+//! A tree takes one heap block for each side of an operator, one for each list in it, and one for
+//! each name and text. Two trees are equal to contracts where they are the same tree.
+
+ghost use Rattle.std.specs.Prelude.{◌≡◌};
+ghost use Rattle.ss_sql_lex.specs.Trees.{place_of, moved};
+
+use crate::typed::{BinaryOp, Cmp, UnaryOp};
+use ss_value::keep::Keep;
+use ss_value::seq::Seq;
+use ss_value::text::{Name, Text};
+
+/// A name, or the name of a parameter.
+#[derive(Drop)]
+pub struct NameTree {
+    /// The place of its token.
+    pub at: usize,
+    /// The name itself, without a parameter's colon.
+    pub name: Name,
+}
+
+/// A number.
+#[derive(Drop)]
+pub struct NumberTree {
+    /// The place of its token.
+    pub at: usize,
+    /// Its value, from 0 to 9223372036854775807.
+    pub value: i64,
+}
+
+/// A text.
+#[derive(Drop)]
+pub struct TextTree {
+    /// The place of its token, which is its opening quote.
+    pub at: usize,
+    /// What stands between its quotes, each doubled quote once.
+    pub value: Text,
+}
+
+/// A column, as `name` or as `source.name`.
+#[derive(Drop)]
+pub struct ColumnTree {
+    /// The name before the dot.
+    pub source: Option<NameTree>,
+    /// The name of the column.
+    pub name: NameTree,
+}
+
+/// An expression. Each variant has the place of its first token, brackets included.
+#[derive(Drop)]
+pub enum ExprTree {
+    /// A number.
+    Number {
+        /// The place of the node.
+        at: usize,
+        /// The number.
+        number: NumberTree,
+    },
+    /// A text.
+    Text {
+        /// The place of the node.
+        at: usize,
+        /// The text.
+        text: TextTree,
+    },
+    /// A parameter.
+    Param {
+        /// The place of the node.
+        at: usize,
+        /// The parameter's name.
+        param: NameTree,
+    },
+    /// A column.
+    Column {
+        /// The place of the node.
+        at: usize,
+        /// The column.
+        column: ColumnTree,
+    },
+    /// An operator before its side.
+    Unary {
+        /// The place of the node.
+        at: usize,
+        /// The operator.
+        op: UnaryOp,
+        /// What it works on.
+        side: Keep<ExprTree>,
+    },
+    /// An operator between its sides.
+    Binary {
+        /// The place of the node, which is its left side's.
+        at: usize,
+        /// The operator.
+        op: BinaryOp,
+        /// The left side.
+        left: Keep<ExprTree>,
+        /// The right side.
+        right: Keep<ExprTree>,
+    },
+}
+
+impl ExprTree {
+    /// The place of its first token, brackets included, in constant time.
+    pub fn place(&self) -> usize
+        ensures { result ≡ place_of self.now }
+    {
+        match self {
+            ExprTree::Number { at, .. } => *at,
+            ExprTree::Text { at, .. } => *at,
+            ExprTree::Param { at, .. } => *at,
+            ExprTree::Column { at, .. } => *at,
+            ExprTree::Unary { at, .. } => *at,
+            ExprTree::Binary { at, .. } => *at,
+        }
+    }
+
+    /// The same expression at another place, as an opening bracket gives it, in constant time.
+    pub fn with_place(self, at: usize) -> ExprTree
+        ensures { result ≡ moved at self }
+    {
+        match self {
+            ExprTree::Number { number, .. } => ExprTree::Number { at, number },
+            ExprTree::Text { text, .. } => ExprTree::Text { at, text },
+            ExprTree::Param { param, .. } => ExprTree::Param { at, param },
+            ExprTree::Column { column, .. } => ExprTree::Column { at, column },
+            ExprTree::Unary { op, side, .. } => ExprTree::Unary { at, op, side },
+            ExprTree::Binary {
+                op,
+                left,
+                right,
+                ..
+            } => ExprTree::Binary {
+                at,
+                op,
+                left,
+                right,
+            },
+        }
+    }
+}
+
+/// An item of SELECT.
+#[derive(Drop)]
+pub enum ItemTree {
+    /// `COUNT(*)`
+    Count {
+        /// The place of its keyword.
+        at: usize,
+    },
+    /// `SUM(side)`
+    Sum {
+        /// The place of its keyword.
+        at: usize,
+        /// What stands between its brackets.
+        side: ExprTree,
+    },
+    /// `MIN(side)`
+    Min {
+        /// The place of its keyword.
+        at: usize,
+        /// What stands between its brackets.
+        side: ExprTree,
+    },
+    /// `MAX(side)`
+    Max {
+        /// The place of its keyword.
+        at: usize,
+        /// What stands between its brackets.
+        side: ExprTree,
+    },
+    /// An expression.
+    Plain(ExprTree),
+}
+
+/// `JOIN name ON left = right`
+#[derive(Drop)]
+pub struct JoinTree {
+    /// The joined source.
+    pub name: NameTree,
+    /// The column before `=`.
+    pub left: ColumnTree,
+    /// The column behind `=`.
+    pub right: ColumnTree,
+}
+
+/// `number`, `number ASC` or `number DESC` behind ORDER BY.
+#[derive(Drop)]
+pub struct OrderTree {
+    /// Which item to sort by.
+    pub number: NumberTree,
+    /// DESC stands behind it.
+    pub descending: bool,
+}
+
+/// `column = value` behind SET.
+#[derive(Drop)]
+pub struct SetTree {
+    /// The column that is set.
+    pub column: NameTree,
+    /// What it is set to.
+    pub value: ExprTree,
+}
+
+/// A query.
+#[derive(Drop)]
+pub struct QueryTree {
+    /// The place of SELECT.
+    pub at: usize,
+    /// The items, one at least.
+    pub items: Seq<ItemTree>,
+    /// The source behind FROM.
+    pub from: NameTree,
+    /// What stands behind JOIN.
+    pub joined: Option<JoinTree>,
+    /// What stands behind WHERE.
+    pub test: Option<ExprTree>,
+    /// The columns behind GROUP BY; none where there is no GROUP BY.
+    pub groups: Seq<ColumnTree>,
+    /// What stands behind ORDER BY; none where there is no ORDER BY.
+    pub order: Seq<OrderTree>,
+    /// The number behind LIMIT.
+    pub limit: Option<NumberTree>,
+}
+
+/// A statement. Each variant has the place of its first keyword.
+#[derive(Drop)]
+pub enum StatementTree {
+    /// `INSERT INTO target VALUES (values)`
+    InsertValues {
+        /// The place of INSERT.
+        at: usize,
+        /// What the row goes into.
+        target: NameTree,
+        /// The values, one at least.
+        values: Seq<ExprTree>,
+    },
+    /// `INSERT INTO target query`
+    InsertQuery {
+        /// The place of INSERT.
+        at: usize,
+        /// What the rows go into.
+        target: NameTree,
+        /// The query that gives the rows.
+        query: QueryTree,
+    },
+    /// `UPDATE table SET sets WHERE test`
+    Update {
+        /// The place of UPDATE.
+        at: usize,
+        /// The table.
+        table: NameTree,
+        /// What is set, one column at least.
+        sets: Seq<SetTree>,
+        /// What stands behind WHERE.
+        test: Option<ExprTree>,
+    },
+    /// `DELETE FROM table WHERE test`
+    Delete {
+        /// The place of DELETE.
+        at: usize,
+        /// The table.
+        table: NameTree,
+        /// What stands behind WHERE.
+        test: Option<ExprTree>,
+    },
+}
+
+/// `(query) cmp right`
+#[derive(Drop)]
+pub struct ConditionTree {
+    /// The place of its opening bracket.
+    pub at: usize,
+    /// The query between the brackets.
+    pub query: QueryTree,
+    /// The comparison.
+    pub cmp: Cmp,
+    /// The right side.
+    pub right: ExprTree,
+}

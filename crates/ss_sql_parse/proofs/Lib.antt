@@ -1,0 +1,9 @@
+mod Answer
+mod Chain
+mod Decides
+mod Limit
+mod Nesting
+mod Series
+mod Comparisons
+mod Told
+mod Whole

@@ -1,0 +1,11 @@
+pub mod Gives
+pub mod Keywords
+pub mod Laws
+pub mod Levels
+pub mod Lists
+pub mod Nodes
+pub mod Sql
+pub mod Statements
+pub mod Terminals
+pub mod Texts
+pub mod Whole

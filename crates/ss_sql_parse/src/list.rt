@@ -1,0 +1,53 @@
+//! Lists behind commas.
+
+ghost use Rattle.std.specs.Prelude.{◌≡◌, ℕ, List, [], ◌∷◌, ◌++◌, Result, IfErr, OnOk};
+ghost use Rattle.ss_sql_parse.specs.declared.lexeme.Lexeme.{Lexeme};
+ghost use Rattle.ss_sql_parse.specs.Gives.{Gives};
+ghost use Rattle.ss_sql_parse.specs.Lists.{list_read};
+ghost use Rattle.ss_sql_parse.specs.declared.stop.Stop.TheVariants.{Memory};
+
+use crate::lexeme::{Lexemes, Terminal};
+use crate::reading::{Read, begins, token};
+use crate::stop::Stop;
+use ss_value::seq::Seq;
+use std::alloc::Global;
+
+/// What stands in a list.
+pub trait Element: Drop {
+    /// How one is read.
+    ghost reads: { List Lexeme → Result (Self × List Lexeme) ℕ };
+
+    /// Reads one from the front.
+    fn read<'t>(alloc: Global, tokens: Lexemes<'t>) -> Read<'t, Self>
+        ensures read { Gives (λ x. (x.0, x.1.now)) result (reads tokens.now) };
+}
+
+/// Reads one from the front, and the others behind commas, in the time of their tokens.
+pub fn list_of<'t, E: Element>(alloc: Global, tokens: Lexemes<'t>) -> Read<'t, Seq<E>>
+    ensures read { Gives (λ x. (x.0, x.1.now)) result (list_read E.reads tokens.now) }
+{
+    let mut items = Seq::new(alloc);
+    let (first, mut rest) = E::read(alloc, tokens)?;
+    push(&mut items, first)?;
+    for _ in 0..rest.len() {
+        if !begins(rest, Terminal::Comma) {
+            return Ok((items, rest));
+        }
+        let (_, after) = token(rest, Terminal::Comma)?;
+        let (item, after) = E::read(alloc, after)?;
+        push(&mut items, item)?;
+        rest = after;
+    }
+    Ok((items, rest))
+}
+
+/// Puts an item behind a list.
+fn push<E: Drop>(items: &mut Seq<E>, item: E) -> Result<(), Stop>
+    ensures ok { OnOk result (items.new ≡ items.old ++ item ∷ []) }
+    ensures err { IfErr result (λ e. e ≡ Memory) }
+{
+    match items.push(item) {
+        Ok(()) => Ok(()),
+        Err((no_memory, _)) => Err(no_memory.into()),
+    }
+}

@@ -1,0 +1,23 @@
+//! Why reading stops.
+
+ghost use Rattle.std.specs.Prelude.{◌≡◌};
+ghost use Rattle.ss_sql_parse.specs.declared.stop.Stop.TheVariants.{Memory};
+
+use ss_value::NoMemory;
+
+/// Why reading stops: for want of memory, or with so many tokens left.
+#[derive(Clone, Copy, Debug, PartialEq, Eq, Drop)]
+pub enum Stop {
+    /// Want of memory.
+    Memory,
+    /// So many tokens are left from the first that is not expected.
+    Left(usize),
+}
+
+impl From<NoMemory> for Stop {
+    ghost from_gives = { λ _ e. e ≡ Memory };
+
+    fn from(_e: NoMemory) -> Stop {
+        Stop::Memory
+    }
+}
