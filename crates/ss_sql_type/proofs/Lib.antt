@@ -1,0 +1,11 @@
+pub mod Folds
+pub mod Least
+pub mod FewColumns
+pub mod Noted
+pub mod Once
+pub mod QueryParts
+pub mod Sound
+pub mod SoundConditions
+pub mod SoundQueries
+pub mod SoundStatements
+pub mod Steps

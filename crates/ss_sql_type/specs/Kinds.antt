@@ -1,0 +1,67 @@
+-- Types of expressions. A name that is not known has none, and so it is never of the wrong type.
+use Rattle.std.specs.Prelude.{◌&&◌, ◌||◌, Bool, true, false, List, [], ◌∷◌, Option, Some, None}
+use Rattle.ss_value.specs.declared.schema.ColType.{ColType}
+use Rattle.ss_value.specs.declared.schema.ColType.TheVariants as column
+use Rattle.ss_sql_lex.specs.declared.typed.UnaryOp.{UnaryOp}
+use Rattle.ss_sql_lex.specs.declared.typed.UnaryOp.TheVariants.{Not, Negate}
+use Rattle.ss_sql_lex.specs.declared.typed.BinaryOp.{BinaryOp}
+use Rattle.ss_sql_lex.specs.declared.typed.BinaryOp.TheVariants.{Or, And, Compare, Concat}
+use Rattle.ss_value.specs.declared.schema.Column.{Column}
+use Rattle.ss_sql_type.specs.declared.kinds.Needs.{Needs}
+use Rattle.ss_sql_type.specs.declared.kinds.Needs.TheVariants.{Value, Only}
+use Rattle.ss_sql_type.specs.declared.kinds.Kind.{Kind}
+use Rattle.ss_sql_type.specs.declared.kinds.Kind.TheVariants.{Int, Text, Bool as Truth}
+
+-- the type of a column's values
+abbrev pub kind_of : ColType → Kind
+kind_of column.Int = Int
+kind_of column.Text = Text
+
+-- no other type than this
+abbrev pub may_be : Kind → Option Kind → Bool
+may_be kind None = true
+may_be Int (Some Int) = true
+may_be Text (Some Text) = true
+may_be Truth (Some Truth) = true
+may_be _ _ = false
+
+-- no other type than Int and Text, as items need
+abbrev pub may_be_value : Option Kind → Bool
+may_be_value kind = may_be Int kind || may_be Text kind
+
+-- two Ints or two Texts, as a comparison takes
+abbrev pub may_compare : Option Kind → Option Kind → Bool
+may_compare left right = (may_be Int left && may_be Int right) || (may_be Text left && may_be Text right)
+
+-- what a place needs: an Int or a Text, or one type alone
+abbrev pub fits : Needs → Option Kind → Bool
+fits Value kind = may_be_value kind
+fits (Only wanted) kind = may_be wanted kind
+
+-- what the first of these columns needs, and any value where there is none
+abbrev pub first_needs : List Column → Needs
+first_needs [] = Value
+first_needs (c ∷ cs) = Only (kind_of c.kind)
+
+-- the columns behind the first
+abbrev pub others : List Column → List Column
+others [] = []
+others (c ∷ cs) = cs
+
+-- NOT takes and gives Bool, a minus sign Int
+abbrev pub sign_kind : UnaryOp → Kind
+sign_kind Not = Truth
+sign_kind Negate = Int
+
+-- what an operator between two sides gives, and takes unless it compares
+abbrev pub gives : BinaryOp → Kind
+gives Or = Truth
+gives And = Truth
+gives (Compare cmp) = Truth
+gives Concat = Text
+gives _ = Int
+
+-- MIN and MAX give the type that they take, which is Int or Text
+abbrev pub value_kind : Option Kind → Option Kind
+value_kind (Some Truth) = None
+value_kind kind = kind

@@ -1,0 +1,9 @@
+pub mod Agrees
+pub mod Refusals
+pub mod Statements
+pub mod Kinds
+pub mod Laws
+pub mod Names
+pub mod Expressions
+pub mod Items
+pub mod Queries

@@ -1,0 +1,188 @@
+-- Statements and conditions: their typed trees, and the rules that they break.
+use Rattle.std.specs.Prelude.{ℕ, ◌==◌, ◌&&◌, not, Bool, List, [], ◌∷◌, ◌++◌, map, length, find, slice_get, Option, Some, None, is_some, unwrap_or, option_and_then}
+use Rattle.std.specs.List.{list_any}
+use Rattle.std.specs.Option.{option_map}
+use Rattle.ss_value.specs.declared.schema.Column.{Column}
+use Rattle.ss_sql_lex.specs.declared.tree.ExprTree.{ExprTree}
+use Rattle.ss_sql_lex.specs.declared.tree.ItemTree.{ItemTree}
+use Rattle.ss_sql_lex.specs.declared.tree.SetTree.{SetTree}
+use Rattle.ss_sql_lex.specs.declared.tree.ConditionTree.{ConditionTree}
+use Rattle.ss_sql_lex.specs.declared.tree.StatementTree.{StatementTree}
+use Rattle.ss_sql_lex.specs.declared.tree.StatementTree.TheVariants as tree
+use Rattle.ss_sql_lex.specs.declared.typed.Condition.{Condition}
+use Rattle.ss_sql_lex.specs.declared.typed.SetTo.{SetTo}
+use Rattle.ss_sql_lex.specs.declared.typed.SourceId.{SourceId}
+use Rattle.ss_sql_lex.specs.declared.typed.SourceId.TheVariants as source
+use Rattle.ss_sql_lex.specs.declared.typed.Target.{Target}
+use Rattle.ss_sql_lex.specs.declared.typed.Target.TheVariants as target
+use Rattle.ss_sql_lex.specs.declared.typed.Statement.{Statement}
+use Rattle.ss_sql_lex.specs.declared.typed.Statement.TheVariants.{InsertValues, InsertQuery, Update, Delete}
+use Rattle.ss_sql_type.specs.declared.scope.Named.{Named}
+use Rattle.ss_sql_type.specs.declared.scope.Scope.{Scope}
+use Rattle.ss_sql_type.specs.declared.scope.TypeError.{TypeError}
+use Rattle.ss_sql_type.specs.declared.scope.TypeError.TheVariants.{UnknownName, WrongType, KeyIsSet, WrongCount}
+use Rattle.ss_sql_type.specs.declared.kinds.Kind.{Kind}
+use Rattle.ss_sql_type.specs.declared.kinds.Needs.{Needs}
+use Rattle.ss_sql_type.specs.declared.kinds.Needs.TheVariants.{Value, Only}
+use Rattle.ss_sql_type.specs.Refusals.{fault_unless}
+use Rattle.ss_sql_type.specs.Kinds.{may_compare}
+use Rattle.ss_sql_type.specs.Names.{Reach, same_name, column_named, columns_of, kind_in}
+use Rattle.ss_sql_type.specs.Expressions.{Typed, typed_expr, expr_faults}
+use Rattle.ss_sql_type.specs.Items.{item_kind, typed_value, values_faults, test_faults}
+use Rattle.ss_sql_type.specs.Queries.{query_reach, unknown_faults, count_faults, wanted, query_faults, typed_query}
+
+-- ---- targets
+
+-- rows go into tables and windows
+abbrev pub target_of : SourceId → Option Target
+target_of (source.Table t) = Some (target.Table t)
+target_of (source.Window w) = Some (target.Window w)
+target_of (source.Batch b) = None
+target_of source.Inserted = None
+
+-- the position of a table, if it is one
+abbrev pub table_of : SourceId → Option ℕ
+table_of (source.Table t) = Some t
+table_of _ = None
+
+-- the table or window of that name
+abbrev pub insert_target : Scope → List ℕ → Option Named
+insert_target scope name = find (λ (n : Named). same_name n.name name && is_some (target_of n.source)) scope.targets
+
+-- the table of that name
+abbrev pub table_named : Scope → List ℕ → Option Named
+table_named scope name = find (λ (n : Named). same_name n.name name && is_some (table_of n.source)) scope.targets
+
+-- which target it is, and the first table where it is not known
+abbrev pub target_or_first : Option Named → Target
+target_or_first given = unwrap_or (option_and_then (λ (n : Named). target_of n.source) given) (target.Table 0)
+
+-- which table it is, and the first where it is not known
+abbrev pub table_or_first : Option Named → ℕ
+table_or_first given = unwrap_or (option_and_then (λ (n : Named). table_of n.source) given) 0
+
+-- its columns, where it is known
+abbrev pub columns_in : Option Named → Option (List Column)
+columns_in given = option_map (λ (n : Named). n.schema) given
+
+-- its key columns
+abbrev pub key_of : Option Named → List ℕ
+key_of None = []
+key_of (Some n) = n.key
+
+-- parameters alone may be named
+abbrev pub bare : Scope → Reach
+bare scope = record { first = None; second = None; params = scope.params }
+
+-- the columns of one table and the parameters may be named
+abbrev pub of_table : Scope → Option Named → Reach
+of_table scope table = record { first = table; second = None; params = scope.params }
+
+-- ---- SET
+
+-- the column is one of these
+abbrev pub has : List ℕ → ℕ → Bool
+has columns column = list_any (λ c. c == column) columns
+
+-- a column that is there, no key column, and none that was set before
+abbrev pub column_faults : List ℕ → List ℕ → ℕ → Option ℕ → List TypeError
+column_faults key earlier at None = UnknownName at ∷ []
+column_faults key earlier at (Some c) = fault_unless (not (has key c)) (KeyIsSet at) ++ fault_unless (not (has earlier c)) (WrongCount at)
+
+-- a value of this type, where it is known
+abbrev pub kind_needs : Option Kind → Needs
+kind_needs None = Value
+kind_needs (Some kind) = Only kind
+
+-- a value of the type of the column that is set
+abbrev pub set_needs : List Column → Option ℕ → Needs
+set_needs columns None = Value
+set_needs columns (Some c) = kind_needs (kind_in columns c)
+
+-- the columns that are set, one further
+abbrev pub with_column : List ℕ → Option ℕ → List ℕ
+with_column earlier None = earlier
+with_column earlier (Some c) = earlier ++ c ∷ []
+
+-- the position of the column that is set
+abbrev pub set_column : Reach → SetTree → Option ℕ
+set_column reach s = column_named (columns_of reach.first) s.column.name
+
+-- the rules that one SET breaks: in its column, and in its value
+abbrev pub set_faults : Reach → List ℕ → List ℕ → SetTree → List TypeError
+set_faults reach key earlier s =
+    column_faults key earlier s.column.at (set_column reach s)
+    ++ expr_faults reach None (set_needs (columns_of reach.first) (set_column reach s)) s.value
+
+-- one SET after the other: `earlier` are the columns set before
+abbrev pub sets_faults : Reach → List ℕ → List ℕ → List SetTree → List TypeError
+sets_faults reach key earlier [] = []
+sets_faults reach key earlier (s ∷ sets) = set_faults reach key earlier s ++ sets_faults reach key (with_column earlier (set_column reach s)) sets
+
+-- the typed tree of one SET
+abbrev pub typed_set : Reach → SetTree → SetTo
+typed_set reach s = record { column = unwrap_or (set_column reach s) 0; value = typed_value reach s.value }
+
+-- ---- statements
+
+-- the rules that an UPDATE of this table breaks
+abbrev pub update_faults : Scope → Option Named → ℕ → List SetTree → Option ExprTree → List TypeError
+update_faults scope table at sets test =
+    unknown_faults table at
+    ++ (sets_faults (of_table scope table) (key_of table) [] sets
+    ++ test_faults (of_table scope table) test)
+
+-- the rules that a DELETE from this table breaks
+abbrev pub delete_faults : Scope → Option Named → ℕ → Option ExprTree → List TypeError
+delete_faults scope table at test = unknown_faults table at ++ test_faults (of_table scope table) test
+
+-- the rules that an INSERT of values into this target breaks
+abbrev pub insert_faults : Scope → Option Named → ℕ → List ExprTree → List TypeError
+insert_faults scope given at values =
+    unknown_faults given at
+    ++ (count_faults (columns_in given) (length values) at
+    ++ values_faults (bare scope) (wanted (columns_in given)) values)
+
+-- the rules that a statement breaks
+abbrev pub statement_faults : Scope → StatementTree → List TypeError
+statement_faults scope (tree.InsertValues at target values) = insert_faults scope (insert_target scope target.name) target.at values
+statement_faults scope (tree.InsertQuery at target q) =
+    unknown_faults (insert_target scope target.name) target.at ++ query_faults scope (columns_in (insert_target scope target.name)) target.at q
+statement_faults scope (tree.Update at table sets test) = update_faults scope (table_named scope table.name) table.at sets test
+statement_faults scope (tree.Delete at table test) = delete_faults scope (table_named scope table.name) table.at test
+
+-- the typed tree of an UPDATE of this table
+abbrev pub typed_update : Scope → Option Named → List SetTree → Option ExprTree → Statement
+typed_update scope table sets test = Update (table_or_first table) (map (typed_set (of_table scope table)) sets) (option_map (typed_value (of_table scope table)) test)
+
+-- the typed tree of a DELETE from this table
+abbrev pub typed_delete : Scope → Option Named → Option ExprTree → Statement
+typed_delete scope table test = Delete (table_or_first table) (option_map (typed_value (of_table scope table)) test)
+
+-- the typed tree of a statement
+abbrev pub typed_statement : Scope → StatementTree → Statement
+typed_statement scope (tree.InsertValues at target values) = InsertValues (target_or_first (insert_target scope target.name)) (map (typed_value (bare scope)) values)
+typed_statement scope (tree.InsertQuery at target q) = InsertQuery (target_or_first (insert_target scope target.name)) (typed_query scope q)
+typed_statement scope (tree.Update at table sets test) = typed_update scope (table_named scope table.name) sets test
+typed_statement scope (tree.Delete at table test) = typed_delete scope (table_named scope table.name) test
+
+-- ---- conditions
+
+-- the type of a query's first item, where there is one
+abbrev pub first_kind : Reach → List ItemTree → Option Kind
+first_kind reach items = option_and_then (item_kind reach) (slice_get items 0)
+
+-- the right side is of the type of the one item
+abbrev pub right_faults : Option Kind → Typed → List TypeError
+right_faults kind t = t.faults ++ fault_unless (may_compare kind t.kind) (WrongType t.at)
+
+-- the rules that a condition breaks
+abbrev pub condition_faults : Scope → ConditionTree → List TypeError
+condition_faults scope c =
+    query_faults scope None 0 c.query
+    ++ (fault_unless (length c.query.items == 1) (WrongCount c.query.at)
+    ++ right_faults (first_kind (query_reach scope c.query) c.query.items) (typed_expr (bare scope) None c.right))
+
+-- the typed tree of a condition
+abbrev pub typed_condition : Scope → ConditionTree → Condition
+typed_condition scope c = record { query = typed_query scope c.query; cmp = c.cmp; right = typed_value (bare scope) c.right }

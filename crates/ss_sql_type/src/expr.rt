@@ -1,0 +1,261 @@
+//! Typing of expressions.
+
+ghost use Rattle.std.specs.Prelude.{◌≡◌, IsTrue, IfOk, OnOk, Some, None};
+ghost use Rattle.std.specs.List.{list_any};
+ghost use Rattle.ss_sql_rules.specs.WellTyped.{is_column};
+ghost use Rattle.ss_sql_lex.specs.declared.typed.Expr.TheVariants.{Unary, Binary};
+ghost use Rattle.ss_sql_type.specs.Kinds.{sign_kind, gives};
+ghost use Rattle.ss_sql_type.specs.Refusals.{all_noted};
+ghost use Rattle.ss_sql_type.specs.Names.{Reach, reach_of, is_narrow, resolve, column_named};
+ghost use Rattle.ss_sql_type.specs.Expressions.{typed_param, typed_column, typed_expr, is_grouped, side_faults, sides_faults, grouping, shown, Shows, expr_faults};
+
+use crate::found::{check, note};
+use crate::kinds::{Kind, Needs, fits, gives, may_be, may_compare, sign_kind};
+use crate::names::{Names, column_named, column_place, kind_at, kind_in, resolve};
+use crate::scope::TypeError;
+use ss_sql_lex::tree::{ColumnTree, ExprTree, NameTree};
+use ss_sql_lex::typed::{BinaryOp, ColAt, Expr, UnaryOp};
+use ss_value::NoMemory;
+use ss_value::copies::Copies;
+use ss_value::keep::Keep;
+use ss_value::value::Value;
+use std::alloc::Global;
+
+/// A typed expression, with its type and its place.
+#[derive(Drop)]
+pub struct TypedExpr {
+    /// The expression, with 0 for what is not known.
+    pub expr: Expr,
+    /// Its type; None where its name is not known.
+    pub kind: Option<Kind>,
+    /// The place of its first token.
+    pub at: usize,
+}
+
+/// A parameter, in time linear in the parameters.
+fn param_of(names: &Names, at: usize, name: &NameTree, found: &mut Option<TypeError>) -> TypedExpr
+    requires { IsTrue (is_narrow (reach_of names.now)) }
+    ensures expr { Shows result (typed_param (reach_of names.now) at name.now (column_named names.now.params.now name.now.name)) }
+    ensures faults { found.new ≡ all_noted found.old (typed_param (reach_of names.now) at name.now (column_named names.now.params.now name.now.name)).faults }
+{
+    match column_named(names.params, &name.name) {
+        Some(number) => TypedExpr {
+            expr: Expr::Param(number),
+            kind: kind_in(names.params, number),
+            at,
+        },
+        None => {
+            note(found, TypeError::UnknownName(name.at));
+            TypedExpr {
+                expr: Expr::Param(0),
+                kind: None,
+                at,
+            }
+        }
+    }
+}
+
+/// Whether a column is one of these.
+fn is_among(columns: &[ColAt], column: ColAt) -> bool
+    ensures { result ≡ list_any (λ g. is_column g column.source column.column) columns.now }
+{
+    columns
+        .iter()
+        .any(|g| g.source == column.source && g.column == column.column)
+}
+
+/// Whether a column is grouped, where it has to be.
+fn is_grouped(grouped: Option<&[ColAt]>, column: ColAt) -> bool
+    ensures { result ≡ is_grouped (grouping grouped.entry) (Some column) }
+{
+    match grouped {
+        Some(grouped) => is_among(grouped, column),
+        None => true,
+    }
+}
+
+/// A column, in time linear in the columns of the sources, and in those of GROUP BY where it has to be grouped.
+fn column_of(
+    names: &Names,
+    grouped: Option<&[ColAt]>,
+    at: usize,
+    tree: &ColumnTree,
+    found: &mut Option<TypeError>,
+) -> TypedExpr
+    requires { IsTrue (is_narrow (reach_of names.now)) }
+    ensures expr { Shows result (typed_column (reach_of names.now) (grouping grouped.entry) at tree.now (resolve (reach_of names.now) tree.now)) }
+    ensures faults { found.new ≡ all_noted found.old (typed_column (reach_of names.now) (grouping grouped.entry) at tree.now (resolve (reach_of names.now) tree.now)).faults }
+{
+    match resolve(names, tree) {
+        Ok(column) => {
+            let right = is_grouped(grouped, column);
+            check(found, right, TypeError::NotAggregated(column_place(tree)));
+            TypedExpr {
+                expr: Expr::Col {
+                    source: column.source,
+                    column: column.column,
+                },
+                kind: kind_at(names, column),
+                at,
+            }
+        }
+        Err(fault) => {
+            note(found, fault);
+            TypedExpr {
+                expr: Expr::Col {
+                    source: 0,
+                    column: 0,
+                },
+                kind: None,
+                at,
+            }
+        }
+    }
+}
+
+/// Checks a side of an operator against the type that the operator takes.
+fn check_side(found: &mut Option<TypeError>, kind: Kind, side: &TypedExpr)
+    ensures { found.new ≡ all_noted found.old (side_faults kind (shown side.now)) }
+{
+    check(
+        found,
+        may_be(kind, side.kind),
+        TypeError::WrongType(side.at),
+    );
+}
+
+/// Checks both sides of an operator.
+fn check_sides(found: &mut Option<TypeError>, op: BinaryOp, left: &TypedExpr, right: &TypedExpr)
+    ensures { found.new ≡ all_noted found.old (sides_faults op (shown left.now) (shown right.now)) }
+{
+    if let BinaryOp::Compare(_) = op {
+        check(
+            found,
+            may_compare(left.kind, right.kind),
+            TypeError::WrongType(right.at),
+        );
+    } else {
+        check_side(found, gives(op), left);
+        check_side(found, gives(op), right);
+    }
+}
+
+/// An expression, in time linear in its nodes, each as a parameter or a column takes.
+///
+/// Where `grouped` is given, each column has to be one of those.
+pub fn expr_of(
+    alloc: Global,
+    names: &Names,
+    grouped: Option<&[ColAt]>,
+    tree: &ExprTree,
+    found: &mut Option<TypeError>,
+) -> Result<TypedExpr, NoMemory>
+    requires { IsTrue (is_narrow (reach_of names.now)) }
+    ensures expr { IfOk result (λ typed. Shows typed (typed_expr (reach_of names.now) (grouping grouped.entry) tree.now)) }
+    ensures faults { OnOk result (found.new ≡ all_noted found.old (typed_expr (reach_of names.now) (grouping grouped.entry) tree.now).faults) }
+{
+    match tree {
+        ExprTree::Number { at, number } => Ok(TypedExpr {
+            expr: Expr::Lit(Value::Int(number.value)),
+            kind: Some(Kind::Int),
+            at: *at,
+        }),
+        ExprTree::Text { at, text } => Ok(TypedExpr {
+            expr: Expr::Lit(Value::Text(text.value.copy(alloc)?)),
+            kind: Some(Kind::Text),
+            at: *at,
+        }),
+        ExprTree::Param { at, param } => Ok(param_of(names, *at, param, found)),
+        ExprTree::Column { at, column } => Ok(column_of(names, grouped, *at, column, found)),
+        ExprTree::Unary { at, op, side } => {
+            let side = expr_of(alloc, names, grouped, side.get(), found)?;
+            check_side(found, sign_kind(*op), &side);
+            signed(alloc, *at, *op, side)
+        }
+        ExprTree::Binary {
+            at,
+            op,
+            left,
+            right,
+        } => {
+            let left = expr_of(alloc, names, grouped, left.get(), found)?;
+            let right = expr_of(alloc, names, grouped, right.get(), found)?;
+            check_sides(found, *op, &left, &right);
+            joined(alloc, *at, *op, left, right)
+        }
+    }
+}
+
+/// An operator before its side.
+fn signed(alloc: Global, at: usize, op: UnaryOp, side: TypedExpr) -> Result<TypedExpr, NoMemory>
+    ensures { IfOk result (λ typed. (typed.expr ≡ Unary op side.expr) × (typed.kind ≡ Some (sign_kind op)) × (typed.at ≡ at)) }
+{
+    let side = Keep::new(alloc, side.expr)?;
+    Ok(TypedExpr {
+        expr: Expr::Unary { op, side },
+        kind: Some(sign_kind(op)),
+        at,
+    })
+}
+
+/// An operator between its sides.
+fn joined(
+    alloc: Global,
+    at: usize,
+    op: BinaryOp,
+    left: TypedExpr,
+    right: TypedExpr,
+) -> Result<TypedExpr, NoMemory>
+    ensures { IfOk result (λ typed. (typed.expr ≡ Binary op left.expr right.expr) × (typed.kind ≡ Some (gives op)) × (typed.at ≡ at)) }
+{
+    let left = Keep::new(alloc, left.expr)?;
+    let right = Keep::new(alloc, right.expr)?;
+    Ok(TypedExpr {
+        expr: Expr::Binary { op, left, right },
+        kind: Some(gives(op)),
+        at,
+    })
+}
+
+/// An expression that has to be what its place needs.
+pub fn expr_at(
+    alloc: Global,
+    names: &Names,
+    grouped: Option<&[ColAt]>,
+    needs: Needs,
+    tree: &ExprTree,
+    found: &mut Option<TypeError>,
+) -> Result<TypedExpr, NoMemory>
+    requires { IsTrue (is_narrow (reach_of names.now)) }
+    ensures expr { IfOk result (λ typed. Shows typed (typed_expr (reach_of names.now) (grouping grouped.entry) tree.now)) }
+    ensures faults { OnOk result (found.new ≡ all_noted found.old (expr_faults (reach_of names.now) (grouping grouped.entry) needs tree.now)) }
+{
+    let typed = expr_of(alloc, names, grouped, tree, found)?;
+    check(
+        found,
+        fits(needs, typed.kind),
+        TypeError::WrongType(typed.at),
+    );
+    Ok(typed)
+}
+
+/// The type of an expression, by its outermost node alone: in time linear in the columns.
+pub fn kind_of_expr(names: &Names, tree: &ExprTree) -> Option<Kind>
+    requires { IsTrue (is_narrow (reach_of names.now)) }
+    ensures { result ≡ (typed_expr (reach_of names.now) None tree.now).kind }
+{
+    match tree {
+        ExprTree::Number { .. } => Some(Kind::Int),
+        ExprTree::Text { .. } => Some(Kind::Text),
+        ExprTree::Param { param, .. } => match column_named(names.params, &param.name) {
+            Some(number) => kind_in(names.params, number),
+            None => None,
+        },
+        ExprTree::Column { column, .. } => match resolve(names, column) {
+            Ok(column) => kind_at(names, column),
+            Err(_) => None,
+        },
+        ExprTree::Unary { op, .. } => Some(sign_kind(*op)),
+        ExprTree::Binary { op, .. } => Some(gives(*op)),
+    }
+}

@@ -1,0 +1,289 @@
+//! Typing of the lists in a query and of the values in a statement.
+
+ghost use Rattle.std.specs.Prelude.{◌≡◌, IsTrue, IfOk, OnOk, None, map, slice_get};
+ghost use Rattle.std.specs.List.{flat_map, list_any};
+ghost use Rattle.std.specs.Option.{option_map};
+ghost use Rattle.ss_sql_type.specs.Refusals.{all_noted};
+ghost use Rattle.ss_sql_type.specs.Names.{reach_of, is_narrow};
+ghost use Rattle.ss_sql_type.specs.Expressions.{grouping};
+ghost use Rattle.ss_sql_lex.specs.declared.tree.ItemTree.TheVariants.{Sum, Min};
+ghost use Rattle.ss_sql_type.specs.Items.{item_place, item_kind, typed_item, item_faults, items_faults, crowd_faults, is_aggregate, typed_value, values_faults, test_faults, typed_groups, groups_faults, nat_of, typed_order, order_faults};
+
+use crate::expr::{expr_at, kind_of_expr};
+use crate::found::{check, note};
+use crate::kinds::{Kind, Needs, first_needs, fits, value_kind};
+use crate::lists::push;
+use crate::names::{Names, resolve};
+use crate::scope::TypeError;
+use ss_sql_lex::tree::{ColumnTree, ExprTree, ItemTree, OrderTree};
+use ss_sql_lex::typed::{ColAt, Expr, Item, OrderBy};
+use ss_value::NoMemory;
+use ss_value::schema::Column;
+use ss_value::seq::Seq;
+use std::alloc::Global;
+
+/// The place of an item's first token.
+fn item_place(item: &ItemTree) -> usize
+    ensures { result ≡ item_place item.now }
+{
+    match item {
+        ItemTree::Count { at } => *at,
+        ItemTree::Sum { at, .. } => *at,
+        ItemTree::Min { at, .. } => *at,
+        ItemTree::Max { at, .. } => *at,
+        ItemTree::Plain(expr) => expr.place(),
+    }
+}
+
+/// The type that an item gives, in time linear in the columns.
+pub fn item_kind(names: &Names, item: &ItemTree) -> Option<Kind>
+    requires { IsTrue (is_narrow (reach_of names.now)) }
+    ensures { result ≡ item_kind (reach_of names.now) item.now }
+{
+    match item {
+        ItemTree::Count { .. } => Some(Kind::Int),
+        ItemTree::Sum { .. } => Some(Kind::Int),
+        ItemTree::Min { side, .. } => value_kind(kind_of_expr(names, side)),
+        ItemTree::Max { side, .. } => value_kind(kind_of_expr(names, side)),
+        ItemTree::Plain(expr) => kind_of_expr(names, expr),
+    }
+}
+
+/// What MIN or MAX works on.
+fn value_side(
+    alloc: Global,
+    names: &Names,
+    needs: Needs,
+    at: usize,
+    side: &ExprTree,
+    found: &mut Option<TypeError>,
+) -> Result<Expr, NoMemory>
+    requires { IsTrue (is_narrow (reach_of names.now)) }
+    ensures expr { IfOk result (λ expr. expr ≡ typed_value (reach_of names.now) side.now) }
+    ensures faults { OnOk result (found.new ≡ all_noted found.old (item_faults (reach_of names.now) None needs (Min at side.now))) }
+{
+    let typed = expr_at(alloc, names, None, Needs::Value, side, found)?;
+    check(
+        found,
+        fits(needs, value_kind(typed.kind)),
+        TypeError::WrongType(at),
+    );
+    Ok(typed.expr)
+}
+
+/// What SUM works on.
+fn sum_side(
+    alloc: Global,
+    names: &Names,
+    needs: Needs,
+    at: usize,
+    side: &ExprTree,
+    found: &mut Option<TypeError>,
+) -> Result<Expr, NoMemory>
+    requires { IsTrue (is_narrow (reach_of names.now)) }
+    ensures expr { IfOk result (λ expr. expr ≡ typed_value (reach_of names.now) side.now) }
+    ensures faults { OnOk result (found.new ≡ all_noted found.old (item_faults (reach_of names.now) None needs (Sum at side.now))) }
+{
+    let typed = expr_at(alloc, names, None, Needs::Only(Kind::Int), side, found)?;
+    check(
+        found,
+        fits(needs, Some(Kind::Int)),
+        TypeError::WrongType(at),
+    );
+    Ok(typed.expr)
+}
+
+/// An item, as its place needs it.
+fn item_of(
+    alloc: Global,
+    names: &Names,
+    grouped: Option<&[ColAt]>,
+    needs: Needs,
+    item: &ItemTree,
+    found: &mut Option<TypeError>,
+) -> Result<Item, NoMemory>
+    requires { IsTrue (is_narrow (reach_of names.now)) }
+    ensures item { IfOk result (λ typed. typed ≡ typed_item (reach_of names.now) (grouping grouped.entry) item.now) }
+    ensures faults { OnOk result (found.new ≡ all_noted found.old (item_faults (reach_of names.now) (grouping grouped.entry) needs item.now)) }
+{
+    match item {
+        ItemTree::Count { at } => {
+            check(
+                found,
+                fits(needs, Some(Kind::Int)),
+                TypeError::WrongType(*at),
+            );
+            Ok(Item::Count)
+        }
+        ItemTree::Sum { at, side } => {
+            let side = sum_side(alloc, names, needs, *at, side, found)?;
+            Ok(Item::Sum(side))
+        }
+        ItemTree::Min { at, side } => {
+            let side = value_side(alloc, names, needs, *at, side, found)?;
+            Ok(Item::Min(side))
+        }
+        ItemTree::Max { at, side } => {
+            let side = value_side(alloc, names, needs, *at, side, found)?;
+            Ok(Item::Max(side))
+        }
+        ItemTree::Plain(expr) => {
+            let typed = expr_at(alloc, names, grouped, needs, expr, found)?;
+            Ok(Item::Plain(typed.expr))
+        }
+    }
+}
+
+/// The items of a query, each for its column.
+pub fn items_of(
+    alloc: Global,
+    names: &Names,
+    grouped: Option<&[ColAt]>,
+    columns: &[Column],
+    items: &[ItemTree],
+    found: &mut Option<TypeError>,
+) -> Result<Seq<Item>, NoMemory>
+    requires { IsTrue (is_narrow (reach_of names.now)) }
+    ensures items { IfOk result (λ typed. typed ≡ map (typed_item (reach_of names.now) (grouping grouped.entry)) items.now) }
+    ensures faults { OnOk result (found.new ≡ all_noted found.old (items_faults (reach_of names.now) (grouping grouped.entry) columns.now items.now)) }
+{
+    let mut typed = Seq::new(alloc);
+    let mut rest = columns;
+    for item in items {
+        let (needs, others) = first_needs(rest);
+        let item = item_of(alloc, names, grouped, needs, item, found)?;
+        push(&mut typed, item)?;
+        rest = others;
+    }
+    Ok(typed)
+}
+
+/// Notes a 17th item.
+pub fn check_crowd(items: &[ItemTree], found: &mut Option<TypeError>)
+    ensures { found.new ≡ all_noted found.old (crowd_faults (slice_get items.now 16)) }
+{
+    match items.get(16) {
+        Some(item) => note(found, TypeError::WrongCount(item_place(item))),
+        None => {}
+    }
+}
+
+/// Whether an item is COUNT, SUM, MIN or MAX.
+pub fn is_aggregate(item: &ItemTree) -> bool
+    ensures { result ≡ is_aggregate item.now }
+{
+    match item {
+        ItemTree::Plain(_) => false,
+        _ => true,
+    }
+}
+
+/// Whether one of the items is an aggregate.
+pub fn has_aggregate(items: &[ItemTree]) -> bool
+    ensures { result ≡ list_any is_aggregate items.now }
+{
+    items.iter().any(|item| is_aggregate(item))
+}
+
+/// The values of an INSERT, each for its column.
+pub fn values_of(
+    alloc: Global,
+    names: &Names,
+    columns: &[Column],
+    values: &[ExprTree],
+    found: &mut Option<TypeError>,
+) -> Result<Seq<Expr>, NoMemory>
+    requires { IsTrue (is_narrow (reach_of names.now)) }
+    ensures values { IfOk result (λ typed. typed ≡ map (typed_value (reach_of names.now)) values.now) }
+    ensures faults { OnOk result (found.new ≡ all_noted found.old (values_faults (reach_of names.now) columns.now values.now)) }
+{
+    let mut typed = Seq::new(alloc);
+    let mut rest = columns;
+    for value in values {
+        let (needs, others) = first_needs(rest);
+        let value = expr_at(alloc, names, None, needs, value, found)?;
+        push(&mut typed, value.expr)?;
+        rest = others;
+    }
+    Ok(typed)
+}
+
+/// A condition behind WHERE.
+pub fn test_of(
+    alloc: Global,
+    names: &Names,
+    test: &Option<ExprTree>,
+    found: &mut Option<TypeError>,
+) -> Result<Option<Expr>, NoMemory>
+    requires { IsTrue (is_narrow (reach_of names.now)) }
+    ensures test { IfOk result (λ typed. typed ≡ option_map (typed_value (reach_of names.now)) test.now) }
+    ensures faults { OnOk result (found.new ≡ all_noted found.old (test_faults (reach_of names.now) test.now)) }
+{
+    match test {
+        Some(test) => {
+            let typed = expr_at(alloc, names, None, Needs::Only(Kind::Bool), test, found)?;
+            Ok(Some(typed.expr))
+        }
+        None => Ok(None),
+    }
+}
+
+/// The columns of GROUP BY that are known.
+pub fn groups_of(
+    alloc: Global,
+    names: &Names,
+    groups: &[ColumnTree],
+    found: &mut Option<TypeError>,
+) -> Result<Seq<ColAt>, NoMemory>
+    requires { IsTrue (is_narrow (reach_of names.now)) }
+    ensures groups { IfOk result (λ typed. typed ≡ typed_groups (reach_of names.now) groups.now) }
+    ensures faults { OnOk result (found.new ≡ all_noted found.old (groups_faults (reach_of names.now) groups.now)) }
+{
+    let mut typed = Seq::new(alloc);
+    for group in groups {
+        match resolve(names, group) {
+            Ok(column) => {
+                push(&mut typed, column)?;
+            }
+            Err(fault) => note(found, fault),
+        }
+    }
+    Ok(typed)
+}
+
+/// A number that is not less than 0.
+pub fn nat_of(value: i64) -> u64
+    ensures { result ≡ nat_of value }
+{
+    if value < 0 { 0 } else { value as u64 }
+}
+
+/// One column of ORDER BY.
+fn order_by(order: &OrderTree) -> OrderBy
+    ensures { result ≡ typed_order order.now }
+{
+    OrderBy {
+        item: nat_of(order.number.value).min(255) as u8,
+        descending: order.descending,
+    }
+}
+
+/// ORDER BY, of a query with so many items.
+pub fn order_of(
+    alloc: Global,
+    count: usize,
+    orders: &[OrderTree],
+    found: &mut Option<TypeError>,
+) -> Result<Seq<OrderBy>, NoMemory>
+    ensures order { IfOk result (λ typed. typed ≡ map typed_order orders.now) }
+    ensures faults { OnOk result (found.new ≡ all_noted found.old (flat_map (order_faults count) orders.now)) }
+{
+    let mut typed = Seq::new(alloc);
+    for order in orders {
+        let number = nat_of(order.number.value);
+        let right = 1 <= number && number <= count as u64;
+        check(found, right, TypeError::WrongCount(order.number.at));
+        push(&mut typed, order_by(order))?;
+    }
+    Ok(typed)
+}
