@@ -4,8 +4,9 @@ use Rattle.std.specs.Prelude.{All, slice_range}
 use Rattle.std.proofs.lemmas.List.{take_at, drop_at}
 use Rattle.ss_sql_lex.specs.declared.token.Token.{Token}
 use Rattle.ss_sql_lex.specs.Spelling.{IsSpelling}
-use Rattle.ss_sql_lex.specs.Lexing.{Begins, Spells}
+use Rattle.ss_sql_lex.specs.Lexing.{Begins}
 use Rattle.ss_sql_lex.specs.Spans.{IsTokenOf, Rise}
+use Rattle.ss_sql_lex.proofs.Reached.{Reached}
 use Rattle.ss_sql_lex.proofs.Stands.{scans}
 
 not_empty : (t : Token) (own : List ℕ) → IsSpelling t.kind own → 0 < length own
@@ -37,9 +38,17 @@ spans_from text before here (t ∷ ts) left parts h =
     all_next text t ts (span_of text (before ++ h.gap) h.own h.rest t front from h.ends h.is)
     (spans_from text ((before ++ h.gap) ++ h.own) h.rest ts left whole (subst (λ (n : ℕ). Begins n h.rest ts left) to h.follows))
 
-pub spans : (text : List ℕ) (ts : List Token) → Spells text ts → All (IsTokenOf text) ts
-spans text ts h = spans_from text [] text ts h.left refl h.tokens
-
-pub rises : (at : ℕ) (text : List ℕ) (ts : List Token) (left : List ℕ) → Begins at text ts left → Rise at ts
+rises : (at : ℕ) (text : List ℕ) (ts : List Token) (left : List ℕ) → Begins at text ts left → Rise at ts
 rises at text [] left h = tt
 rises at text (t ∷ ts) left h = let starts = h.starts in (omega arith, rises t.to h.rest ts left h.follows)
+
+-- ---- as far as a text is read
+
+-- tokens and blanks are read up to the place at, and the tokens stand in the text and rise
+pub record Read (text : List ℕ) (ts : List Token) (at : ℕ) (rest : List ℕ) : Type 0 where
+  pub reached : Reached text ts at rest
+  pub spans : All (IsTokenOf text) ts
+  pub order : Rise 0 ts
+
+pub read_so : (text : List ℕ) (ts : List Token) (at : ℕ) (rest : List ℕ) → Reached text ts at rest → Read text ts at rest
+read_so text ts at rest r = record { reached = r; spans = spans_from text [] text ts r.left refl r.are; order = rises 0 text ts r.left r.are }

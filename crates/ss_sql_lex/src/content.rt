@@ -99,7 +99,8 @@ pub fn text_value(alloc: Global, own: &[u8]) -> Result<Text, NoMemory>
         Ok(text) => Ok(text),
         Err(ValueError::TextTooLong) => unreachable!(),
         Err(ValueError::NotUtf8) => unreachable!(),
-        Err(_) => Err(NoMemory),
+        Err(ValueError::NoMemory) => Err(NoMemory),
+        Err(_) => unreachable!(),
     }
 }
 

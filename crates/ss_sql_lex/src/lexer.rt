@@ -33,6 +33,7 @@ fn fault_of(rest: &[u8], at: usize) -> LexError
 }
 
 /// The token at the front of the rest, which begins at the place `at` of the text.
+#[tactic(auto, using(crate::proofs::Stands::scan_at))]
 fn token_at(rest: &[u8], at: usize) -> Result<Token, LexError>
     requires { at + length rest.now < 2 ^ 63 }
     ensures token { IfOk result (StandsAt at rest.now) }

@@ -3,14 +3,18 @@
 //! A copy is linear in the tree. It calls itself once for each level of an expression, as the parser does.
 
 ghost use Rattle.std.specs.Prelude.{◌≡◌, IfOk};
+ghost use Rattle.ss_sql_lex.specs.declared.tree.ExprTree.TheVariants.{Unary, Binary};
+ghost use Rattle.ss_sql_lex.specs.declared.tree.StatementTree.TheVariants.{Update};
 
 use crate::tree::{
     ColumnTree, ConditionTree, ExprTree, ItemTree, JoinTree, NameTree, NumberTree, OrderTree,
     QueryTree, SetTree, StatementTree, TextTree,
 };
+use crate::typed::{BinaryOp, UnaryOp};
 use ss_value::NoMemory;
 use ss_value::copies::Copies;
 use ss_value::keep::Keep;
+use ss_value::seq::Seq;
 use std::alloc::Global;
 
 impl Copies for NameTree {
@@ -54,6 +58,34 @@ impl Copies for ColumnTree {
     }
 }
 
+/// The tree of an operator before its side.
+fn unary_tree(alloc: Global, at: usize, op: UnaryOp, side: ExprTree) -> Result<ExprTree, NoMemory>
+    ensures { IfOk result (λ tree. tree ≡ Unary at op side) }
+{
+    let side = Keep::new(alloc, side)?;
+    Ok(ExprTree::Unary { at, op, side })
+}
+
+/// The tree of an operator between its sides.
+fn binary_tree(
+    alloc: Global,
+    at: usize,
+    op: BinaryOp,
+    left: ExprTree,
+    right: ExprTree,
+) -> Result<ExprTree, NoMemory>
+    ensures { IfOk result (λ tree. tree ≡ Binary at op left right) }
+{
+    let left = Keep::new(alloc, left)?;
+    let right = Keep::new(alloc, right)?;
+    Ok(ExprTree::Binary {
+        at,
+        op,
+        left,
+        right,
+    })
+}
+
 /// The same expression again. Fails only for want of memory.
 pub fn copy_expr_tree(alloc: Global, expr: &ExprTree) -> Result<ExprTree, NoMemory>
     ensures { IfOk result (λ copy. copy ≡ expr.now) }
@@ -77,12 +109,7 @@ pub fn copy_expr_tree(alloc: Global, expr: &ExprTree) -> Result<ExprTree, NoMemo
         }
         ExprTree::Unary { at, op, side } => {
             let side = copy_expr_tree(alloc, side.get())?;
-            let side = Keep::new(alloc, side)?;
-            Ok(ExprTree::Unary {
-                at: *at,
-                op: *op,
-                side,
-            })
+            unary_tree(alloc, *at, *op, side)
         }
         ExprTree::Binary {
             at,
@@ -91,15 +118,8 @@ pub fn copy_expr_tree(alloc: Global, expr: &ExprTree) -> Result<ExprTree, NoMemo
             right,
         } => {
             let left = copy_expr_tree(alloc, left.get())?;
-            let left = Keep::new(alloc, left)?;
             let right = copy_expr_tree(alloc, right.get())?;
-            let right = Keep::new(alloc, right)?;
-            Ok(ExprTree::Binary {
-                at: *at,
-                op: *op,
-                left,
-                right,
-            })
+            binary_tree(alloc, *at, *op, left, right)
         }
     }
 }
@@ -210,6 +230,27 @@ impl Copies for QueryTree {
     }
 }
 
+/// The same UPDATE again.
+fn copy_update(
+    alloc: Global,
+    at: usize,
+    table: &NameTree,
+    sets: &Seq<SetTree>,
+    test: &Option<ExprTree>,
+) -> Result<StatementTree, NoMemory>
+    ensures { IfOk result (λ copy. copy ≡ Update at table.now sets.now test.now) }
+{
+    let table = table.duplicate(alloc)?;
+    let sets = sets.duplicate(alloc)?;
+    let test = copy_where(alloc, test)?;
+    Ok(StatementTree::Update {
+        at,
+        table,
+        sets,
+        test,
+    })
+}
+
 impl Copies for StatementTree {
     fn duplicate(&self, alloc: Global) -> Result<StatementTree, NoMemory> {
         match self {
@@ -236,17 +277,7 @@ impl Copies for StatementTree {
                 table,
                 sets,
                 test,
-            } => {
-                let table = table.duplicate(alloc)?;
-                let sets = sets.duplicate(alloc)?;
-                let test = copy_where(alloc, test)?;
-                Ok(StatementTree::Update {
-                    at: *at,
-                    table,
-                    sets,
-                    test,
-                })
-            }
+            } => copy_update(alloc, *at, table, sets, test),
             StatementTree::Delete { at, table, test } => {
                 let table = table.duplicate(alloc)?;
                 let test = copy_where(alloc, test)?;

@@ -24,9 +24,12 @@
 //! of the tree is made of them.
 //!
 //! The calls nest as the text does: an opening bracket costs five, a minus sign or a NOT two. 512
-//! tokens are the limit, so 508 brackets are the deepest. Texts of 512 tokens that open brackets,
-//! signs or NOTs to the end are read within 512 KB of stack, by programs of LLVM and of Rattle's own
-//! compiler; the tests run them. No clause can speak of the stack.
+//! tokens are the limit, so 508 brackets are the deepest. No clause can speak of the stack. The tests
+//! read texts of 512 tokens that open brackets, signs or NOTs to the end, on whatever stack the system
+//! gives, and limit it nowhere. That 512 KB are enough for these, in programs of LLVM and of Rattle's
+//! own compiler, was measured by hand alone.
+//!
+//! The tests stand in `ss_sql_parse_tests`.
 #![tactic(auto)]
 
 pub mod expr;
@@ -39,6 +42,4 @@ pub mod query;
 pub mod reading;
 pub mod statement;
 pub mod stop;
-#[cfg(test)]
-mod tests;
 pub mod words;

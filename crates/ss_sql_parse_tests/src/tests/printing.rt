@@ -4,13 +4,13 @@
 //! and then its own, as `0/1#5` for `(5)`. `#` stands before a number, `:` before a parameter, `!` is
 //! NOT, `|` OR, `&` AND and `$` is `||`.
 
-use crate::parse::ParseError;
 use ss_sql_lex::token::LexError;
 use ss_sql_lex::tree::{
     ColumnTree, ConditionTree, ExprTree, ItemTree, NameTree, OrderTree, QueryTree, SetTree,
     StatementTree,
 };
 use ss_sql_lex::typed::{BinaryOp, Cmp, UnaryOp};
+use ss_sql_parse::parse::ParseError;
 use std::alloc::{AllocError, Global};
 
 fn cmp_sign(cmp: Cmp) -> &'static str {
@@ -218,6 +218,20 @@ fn sets(alloc: Global, text: &mut String, trees: &[SetTree]) -> Result<(), Alloc
     Ok(())
 }
 
+fn update(
+    alloc: Global,
+    at: usize,
+    table: &NameTree,
+    trees: &[SetTree],
+    tree: &Option<ExprTree>,
+) -> Result<String, AllocError> {
+    let table = name(alloc, table)?;
+    let mut text = format!(in alloc; "{at}U {table}")?;
+    sets(alloc, &mut text, trees)?;
+    test(alloc, &mut text, tree)?;
+    Ok(text)
+}
+
 pub fn statement(alloc: Global, tree: &StatementTree) -> Result<String, AllocError> {
     match tree {
         StatementTree::InsertValues {
@@ -244,13 +258,7 @@ pub fn statement(alloc: Global, tree: &StatementTree) -> Result<String, AllocErr
             table,
             sets: trees,
             test: tree,
-        } => {
-            let table = name(alloc, table)?;
-            let mut text = format!(in alloc; "{at}U {table}")?;
-            sets(alloc, &mut text, trees.as_slice())?;
-            test(alloc, &mut text, tree)?;
-            Ok(text)
-        }
+        } => update(alloc, *at, table, trees.as_slice(), tree),
         StatementTree::Delete {
             at,
             table,

@@ -2,8 +2,8 @@
 
 mod printing;
 
-use crate::parse::{ParseError, parse_condition, parse_query, parse_statement};
 use printing::{condition, query, refused, statement};
+use ss_sql_parse::parse::{ParseError, parse_condition, parse_query, parse_statement};
 use std::alloc::{AllocError, Global};
 use std::test::Fail;
 
