@@ -1,4 +1,5 @@
 pub mod Folds
+pub mod Hashed
 pub mod Least
 pub mod FewColumns
 pub mod Noted

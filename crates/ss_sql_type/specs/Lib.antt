@@ -4,6 +4,7 @@ pub mod Statements
 pub mod Kinds
 pub mod Laws
 pub mod Names
+pub mod Hashed
 pub mod Expressions
 pub mod Items
 pub mod Queries

@@ -1,6 +1,6 @@
 -- What names stand for.
 use Rattle.std.specs.Prelude.{ℕ, nat_eq, ◌==◌, ◌&&◌, Bool, false, List, [], ◌∷◌, Option, Some, None, Result, Ok, Err, find, position, slice_get, unwrap_or, if◌then◌else◌, length, nat_le}
-use Rattle.std.specs.Option.{option_map, option_copied, ok_or}
+use Rattle.std.specs.Option.{option_map, ok_or}
 use Rattle.std.specs.Cmp.Lexicographic.{pointwise}
 use Rattle.ss_value.specs.declared.schema.Column.{Column}
 use Rattle.ss_sql_lex.specs.declared.tree.NameTree.{NameTree}
@@ -9,7 +9,6 @@ use Rattle.ss_sql_lex.specs.declared.typed.ColAt.{ColAt}
 use Rattle.ss_sql_type.specs.declared.scope.Named.{Named}
 use Rattle.ss_sql_type.specs.declared.scope.TypeError.{TypeError}
 use Rattle.ss_sql_type.specs.declared.scope.TypeError.TheVariants.{UnknownName}
-use Rattle.ss_sql_type.specs.declared.names.Names.{Names}
 use Rattle.ss_sql_type.specs.declared.kinds.Kind.{Kind}
 use Rattle.ss_sql_type.specs.Kinds.{kind_of}
 
@@ -35,10 +34,6 @@ pub record Reach : Type 0 where
   pub first : Option Named
   pub second : Option Named
   pub params : List Column
-
--- the same of the code's references
-abbrev pub reach_of : Names → Reach
-reach_of names = record { first = option_copied names.first; second = option_copied names.second; params = names.params.now }
 
 -- its columns are numbered by one byte
 abbrev pub is_narrow : Reach → Bool

@@ -1,17 +1,16 @@
 //! Typing of expressions.
 
 ghost use Rattle.std.specs.Prelude.{◌≡◌, IsTrue, IfOk, OnOk, Some, None};
-ghost use Rattle.std.specs.List.{list_any};
-ghost use Rattle.ss_sql_rules.specs.WellTyped.{is_column};
 ghost use Rattle.ss_sql_lex.specs.declared.typed.Expr.TheVariants.{Unary, Binary};
 ghost use Rattle.ss_sql_type.specs.Kinds.{sign_kind, gives};
 ghost use Rattle.ss_sql_type.specs.Refusals.{all_noted};
-ghost use Rattle.ss_sql_type.specs.Names.{Reach, reach_of, is_narrow, resolve, column_named};
+ghost use Rattle.ss_sql_type.specs.Names.{is_narrow, resolve, column_named};
 ghost use Rattle.ss_sql_type.specs.Expressions.{typed_param, typed_column, typed_expr, is_grouped, side_faults, sides_faults, grouping, shown, Shows, expr_faults};
 
 use crate::found::{check, note};
+use crate::grouped::Grouped;
 use crate::kinds::{Kind, Needs, fits, gives, may_be, may_compare, sign_kind};
-use crate::names::{Names, column_named, column_place, kind_at, kind_in, resolve};
+use crate::names::{Names, column_place, kind_at, kind_in, resolve};
 use crate::scope::TypeError;
 use ss_sql_lex::tree::{ColumnTree, ExprTree, NameTree};
 use ss_sql_lex::typed::{BinaryOp, ColAt, Expr, UnaryOp};
@@ -32,16 +31,16 @@ pub struct TypedExpr {
     pub at: usize,
 }
 
-/// A parameter, in time linear in the parameters.
+/// A parameter. Takes the time of a hash.
 fn param_of(names: &Names, at: usize, name: &NameTree, found: &mut Option<TypeError>) -> TypedExpr
-    requires { IsTrue (is_narrow (reach_of names.now)) }
-    ensures expr { Shows result (typed_param (reach_of names.now) at name.now (column_named names.now.params.now name.now.name)) }
-    ensures faults { found.new ≡ all_noted found.old (typed_param (reach_of names.now) at name.now (column_named names.now.params.now name.now.name)).faults }
+    requires { IsTrue (is_narrow names.now) }
+    ensures expr { Shows result (typed_param names.now at name.now (column_named names.now.params name.now.name)) }
+    ensures faults { found.new ≡ all_noted found.old (typed_param names.now at name.now (column_named names.now.params name.now.name)).faults }
 {
-    match column_named(names.params, &name.name) {
+    match names.in_params(&name.name) {
         Some(number) => TypedExpr {
             expr: Expr::Param(number),
-            kind: kind_in(names.params, number),
+            kind: kind_in(names.params(), number),
             at,
         },
         None => {
@@ -55,36 +54,27 @@ fn param_of(names: &Names, at: usize, name: &NameTree, found: &mut Option<TypeEr
     }
 }
 
-/// Whether a column is one of these.
-fn is_among(columns: &[ColAt], column: ColAt) -> bool
-    ensures { result ≡ list_any (λ g. is_column g column.source column.column) columns.now }
-{
-    columns
-        .iter()
-        .any(|g| g.source == column.source && g.column == column.column)
-}
-
 /// Whether a column is grouped, where it has to be.
-fn is_grouped(grouped: Option<&[ColAt]>, column: ColAt) -> bool
+fn is_grouped(grouped: Option<&Grouped>, column: ColAt) -> bool
     ensures { result ≡ is_grouped (grouping grouped.entry) (Some column) }
 {
     match grouped {
-        Some(grouped) => is_among(grouped, column),
+        Some(grouped) => grouped.has(column),
         None => true,
     }
 }
 
-/// A column, in time linear in the columns of the sources, and in those of GROUP BY where it has to be grouped.
+/// A column. Takes the time of two hashes, and of one more where it has to be grouped.
 fn column_of(
     names: &Names,
-    grouped: Option<&[ColAt]>,
+    grouped: Option<&Grouped>,
     at: usize,
     tree: &ColumnTree,
     found: &mut Option<TypeError>,
 ) -> TypedExpr
-    requires { IsTrue (is_narrow (reach_of names.now)) }
-    ensures expr { Shows result (typed_column (reach_of names.now) (grouping grouped.entry) at tree.now (resolve (reach_of names.now) tree.now)) }
-    ensures faults { found.new ≡ all_noted found.old (typed_column (reach_of names.now) (grouping grouped.entry) at tree.now (resolve (reach_of names.now) tree.now)).faults }
+    requires { IsTrue (is_narrow names.now) }
+    ensures expr { Shows result (typed_column names.now (grouping grouped.entry) at tree.now (resolve names.now tree.now)) }
+    ensures faults { found.new ≡ all_noted found.old (typed_column names.now (grouping grouped.entry) at tree.now (resolve names.now tree.now)).faults }
 {
     match resolve(names, tree) {
         Ok(column) => {
@@ -140,19 +130,19 @@ fn check_sides(found: &mut Option<TypeError>, op: BinaryOp, left: &TypedExpr, ri
     }
 }
 
-/// An expression, in time linear in its nodes, each as a parameter or a column takes.
+/// An expression, in time linear in its nodes.
 ///
 /// Where `grouped` is given, each column has to be one of those.
 pub fn expr_of(
     alloc: Global,
     names: &Names,
-    grouped: Option<&[ColAt]>,
+    grouped: Option<&Grouped>,
     tree: &ExprTree,
     found: &mut Option<TypeError>,
 ) -> Result<TypedExpr, NoMemory>
-    requires { IsTrue (is_narrow (reach_of names.now)) }
-    ensures expr { IfOk result (λ typed. Shows typed (typed_expr (reach_of names.now) (grouping grouped.entry) tree.now)) }
-    ensures faults { OnOk result (found.new ≡ all_noted found.old (typed_expr (reach_of names.now) (grouping grouped.entry) tree.now).faults) }
+    requires { IsTrue (is_narrow names.now) }
+    ensures expr { IfOk result (λ typed. Shows typed (typed_expr names.now (grouping grouped.entry) tree.now)) }
+    ensures faults { OnOk result (found.new ≡ all_noted found.old (typed_expr names.now (grouping grouped.entry) tree.now).faults) }
 {
     match tree {
         ExprTree::Number { at, number } => Ok(TypedExpr {
@@ -221,14 +211,14 @@ fn joined(
 pub fn expr_at(
     alloc: Global,
     names: &Names,
-    grouped: Option<&[ColAt]>,
+    grouped: Option<&Grouped>,
     needs: Needs,
     tree: &ExprTree,
     found: &mut Option<TypeError>,
 ) -> Result<TypedExpr, NoMemory>
-    requires { IsTrue (is_narrow (reach_of names.now)) }
-    ensures expr { IfOk result (λ typed. Shows typed (typed_expr (reach_of names.now) (grouping grouped.entry) tree.now)) }
-    ensures faults { OnOk result (found.new ≡ all_noted found.old (expr_faults (reach_of names.now) (grouping grouped.entry) needs tree.now)) }
+    requires { IsTrue (is_narrow names.now) }
+    ensures expr { IfOk result (λ typed. Shows typed (typed_expr names.now (grouping grouped.entry) tree.now)) }
+    ensures faults { OnOk result (found.new ≡ all_noted found.old (expr_faults names.now (grouping grouped.entry) needs tree.now)) }
 {
     let typed = expr_of(alloc, names, grouped, tree, found)?;
     check(
@@ -239,16 +229,16 @@ pub fn expr_at(
     Ok(typed)
 }
 
-/// The type of an expression, by its outermost node alone: in time linear in the columns.
+/// The type of an expression, by its outermost node alone: in constant time.
 pub fn kind_of_expr(names: &Names, tree: &ExprTree) -> Option<Kind>
-    requires { IsTrue (is_narrow (reach_of names.now)) }
-    ensures { result ≡ (typed_expr (reach_of names.now) None tree.now).kind }
+    requires { IsTrue (is_narrow names.now) }
+    ensures { result ≡ (typed_expr names.now None tree.now).kind }
 {
     match tree {
         ExprTree::Number { .. } => Some(Kind::Int),
         ExprTree::Text { .. } => Some(Kind::Text),
-        ExprTree::Param { param, .. } => match column_named(names.params, &param.name) {
-            Some(number) => kind_in(names.params, number),
+        ExprTree::Param { param, .. } => match names.in_params(&param.name) {
+            Some(number) => kind_in(names.params(), number),
             None => None,
         },
         ExprTree::Column { column, .. } => match resolve(names, column) {

@@ -4,13 +4,14 @@ ghost use Rattle.std.specs.Prelude.{◌≡◌, IsTrue, IfOk, OnOk, None, map, sl
 ghost use Rattle.std.specs.List.{flat_map, list_any};
 ghost use Rattle.std.specs.Option.{option_map};
 ghost use Rattle.ss_sql_type.specs.Refusals.{all_noted};
-ghost use Rattle.ss_sql_type.specs.Names.{reach_of, is_narrow};
+ghost use Rattle.ss_sql_type.specs.Names.{is_narrow};
 ghost use Rattle.ss_sql_type.specs.Expressions.{grouping};
 ghost use Rattle.ss_sql_lex.specs.declared.tree.ItemTree.TheVariants.{Sum, Min};
 ghost use Rattle.ss_sql_type.specs.Items.{item_place, item_kind, typed_item, item_faults, items_faults, crowd_faults, is_aggregate, typed_value, values_faults, test_faults, typed_groups, groups_faults, nat_of, typed_order, order_faults};
 
 use crate::expr::{expr_at, kind_of_expr};
 use crate::found::{check, note};
+use crate::grouped::Grouped;
 use crate::kinds::{Kind, Needs, first_needs, fits, value_kind};
 use crate::lists::push;
 use crate::names::{Names, resolve};
@@ -35,10 +36,10 @@ fn item_place(item: &ItemTree) -> usize
     }
 }
 
-/// The type that an item gives, in time linear in the columns.
+/// The type that an item gives, in constant time.
 pub fn item_kind(names: &Names, item: &ItemTree) -> Option<Kind>
-    requires { IsTrue (is_narrow (reach_of names.now)) }
-    ensures { result ≡ item_kind (reach_of names.now) item.now }
+    requires { IsTrue (is_narrow names.now) }
+    ensures { result ≡ item_kind names.now item.now }
 {
     match item {
         ItemTree::Count { .. } => Some(Kind::Int),
@@ -58,9 +59,9 @@ fn value_side(
     side: &ExprTree,
     found: &mut Option<TypeError>,
 ) -> Result<Expr, NoMemory>
-    requires { IsTrue (is_narrow (reach_of names.now)) }
-    ensures expr { IfOk result (λ expr. expr ≡ typed_value (reach_of names.now) side.now) }
-    ensures faults { OnOk result (found.new ≡ all_noted found.old (item_faults (reach_of names.now) None needs (Min at side.now))) }
+    requires { IsTrue (is_narrow names.now) }
+    ensures expr { IfOk result (λ expr. expr ≡ typed_value names.now side.now) }
+    ensures faults { OnOk result (found.new ≡ all_noted found.old (item_faults names.now None needs (Min at side.now))) }
 {
     let typed = expr_at(alloc, names, None, Needs::Value, side, found)?;
     check(
@@ -80,9 +81,9 @@ fn sum_side(
     side: &ExprTree,
     found: &mut Option<TypeError>,
 ) -> Result<Expr, NoMemory>
-    requires { IsTrue (is_narrow (reach_of names.now)) }
-    ensures expr { IfOk result (λ expr. expr ≡ typed_value (reach_of names.now) side.now) }
-    ensures faults { OnOk result (found.new ≡ all_noted found.old (item_faults (reach_of names.now) None needs (Sum at side.now))) }
+    requires { IsTrue (is_narrow names.now) }
+    ensures expr { IfOk result (λ expr. expr ≡ typed_value names.now side.now) }
+    ensures faults { OnOk result (found.new ≡ all_noted found.old (item_faults names.now None needs (Sum at side.now))) }
 {
     let typed = expr_at(alloc, names, None, Needs::Only(Kind::Int), side, found)?;
     check(
@@ -97,14 +98,14 @@ fn sum_side(
 fn item_of(
     alloc: Global,
     names: &Names,
-    grouped: Option<&[ColAt]>,
+    grouped: Option<&Grouped>,
     needs: Needs,
     item: &ItemTree,
     found: &mut Option<TypeError>,
 ) -> Result<Item, NoMemory>
-    requires { IsTrue (is_narrow (reach_of names.now)) }
-    ensures item { IfOk result (λ typed. typed ≡ typed_item (reach_of names.now) (grouping grouped.entry) item.now) }
-    ensures faults { OnOk result (found.new ≡ all_noted found.old (item_faults (reach_of names.now) (grouping grouped.entry) needs item.now)) }
+    requires { IsTrue (is_narrow names.now) }
+    ensures item { IfOk result (λ typed. typed ≡ typed_item names.now (grouping grouped.entry) item.now) }
+    ensures faults { OnOk result (found.new ≡ all_noted found.old (item_faults names.now (grouping grouped.entry) needs item.now)) }
 {
     match item {
         ItemTree::Count { at } => {
@@ -138,14 +139,14 @@ fn item_of(
 pub fn items_of(
     alloc: Global,
     names: &Names,
-    grouped: Option<&[ColAt]>,
+    grouped: Option<&Grouped>,
     columns: &[Column],
     items: &[ItemTree],
     found: &mut Option<TypeError>,
 ) -> Result<Seq<Item>, NoMemory>
-    requires { IsTrue (is_narrow (reach_of names.now)) }
-    ensures items { IfOk result (λ typed. typed ≡ map (typed_item (reach_of names.now) (grouping grouped.entry)) items.now) }
-    ensures faults { OnOk result (found.new ≡ all_noted found.old (items_faults (reach_of names.now) (grouping grouped.entry) columns.now items.now)) }
+    requires { IsTrue (is_narrow names.now) }
+    ensures items { IfOk result (λ typed. typed ≡ map (typed_item names.now (grouping grouped.entry)) items.now) }
+    ensures faults { OnOk result (found.new ≡ all_noted found.old (items_faults names.now (grouping grouped.entry) columns.now items.now)) }
 {
     let mut typed = Seq::new(alloc);
     let mut rest = columns;
@@ -193,9 +194,9 @@ pub fn values_of(
     values: &[ExprTree],
     found: &mut Option<TypeError>,
 ) -> Result<Seq<Expr>, NoMemory>
-    requires { IsTrue (is_narrow (reach_of names.now)) }
-    ensures values { IfOk result (λ typed. typed ≡ map (typed_value (reach_of names.now)) values.now) }
-    ensures faults { OnOk result (found.new ≡ all_noted found.old (values_faults (reach_of names.now) columns.now values.now)) }
+    requires { IsTrue (is_narrow names.now) }
+    ensures values { IfOk result (λ typed. typed ≡ map (typed_value names.now) values.now) }
+    ensures faults { OnOk result (found.new ≡ all_noted found.old (values_faults names.now columns.now values.now)) }
 {
     let mut typed = Seq::new(alloc);
     let mut rest = columns;
@@ -215,9 +216,9 @@ pub fn test_of(
     test: &Option<ExprTree>,
     found: &mut Option<TypeError>,
 ) -> Result<Option<Expr>, NoMemory>
-    requires { IsTrue (is_narrow (reach_of names.now)) }
-    ensures test { IfOk result (λ typed. typed ≡ option_map (typed_value (reach_of names.now)) test.now) }
-    ensures faults { OnOk result (found.new ≡ all_noted found.old (test_faults (reach_of names.now) test.now)) }
+    requires { IsTrue (is_narrow names.now) }
+    ensures test { IfOk result (λ typed. typed ≡ option_map (typed_value names.now) test.now) }
+    ensures faults { OnOk result (found.new ≡ all_noted found.old (test_faults names.now test.now)) }
 {
     match test {
         Some(test) => {
@@ -235,9 +236,9 @@ pub fn groups_of(
     groups: &[ColumnTree],
     found: &mut Option<TypeError>,
 ) -> Result<Seq<ColAt>, NoMemory>
-    requires { IsTrue (is_narrow (reach_of names.now)) }
-    ensures groups { IfOk result (λ typed. typed ≡ typed_groups (reach_of names.now) groups.now) }
-    ensures faults { OnOk result (found.new ≡ all_noted found.old (groups_faults (reach_of names.now) groups.now)) }
+    requires { IsTrue (is_narrow names.now) }
+    ensures groups { IfOk result (λ typed. typed ≡ typed_groups names.now groups.now) }
+    ensures faults { OnOk result (found.new ≡ all_noted found.old (groups_faults names.now groups.now)) }
 {
     let mut typed = Seq::new(alloc);
     for group in groups {

@@ -6,12 +6,18 @@
 //! `query_faults`, `condition_faults`), and which typed tree it stands for (`typed_statement` and the
 //! like). What is given is well typed for all schemas that agree with the scope (`Agrees`).
 //!
-//! Names are looked up by walking a list: sources and targets at most three times a tree, the columns
-//! of a query's one or two sources and the parameters once for each name.
+//! Columns and parameters are looked up by hash: each list of them that a tree may name gets an index,
+//! once a tree, from a name to the first position of it ([`columns`], [`names`]). The columns of GROUP BY
+//! are a set for the items that have to be grouped ([`grouped`]), and so are the columns set before a SET.
+//! So typing takes time linear in the tree, in the sources and targets, and in the columns of those that
+//! are named, as far as hashes spread the names. The hasher's seed is fixed. Walked are what is looked up
+//! a few times: the sources at most twice a tree, the targets once, and at each SET the key of its table.
 #![tactic(auto)]
 
+pub mod columns;
 pub mod expr;
 pub mod found;
+pub mod grouped;
 pub mod items;
 pub mod kinds;
 pub mod laws;

@@ -3,12 +3,13 @@
 ghost use Rattle.std.specs.Prelude.{◌≡◌, IsTrue, IfOk, OnOk, map};
 ghost use Rattle.std.specs.Option.{option_map, option_copied};
 ghost use Rattle.ss_sql_type.specs.Refusals.{all_noted};
-ghost use Rattle.ss_sql_type.specs.Names.{reach_of, is_narrow, resolve, known, name_faults, known_kind};
+ghost use Rattle.ss_sql_type.specs.Names.{is_narrow, resolve, known, name_faults, known_kind};
 ghost use Rattle.ss_sql_type.specs.Expressions.{grouping};
 ghost use Rattle.ss_sql_type.specs.Items.{typed_item, items_faults, typed_groups};
-ghost use Rattle.ss_sql_type.specs.Queries.{scope_narrow, query_reach, joined_source, source_id, unknown_faults, column_or_first, typed_join, join_faults, is_aggregated, grouped_columns, count_faults, wanted, columns_shown, limit_of, query_faults, typed_query};
+ghost use Rattle.ss_sql_type.specs.Queries.{scope_narrow, query_reach, joined_source, source_id, unknown_faults, column_or_first, typed_join, join_faults, is_aggregated, grouped_columns, count_faults, wanted, columns_shown, limit_of, faults_within, query_faults, typed_within, typed_query};
 
 use crate::found::{check, note};
+use crate::grouped::Grouped;
 use crate::items::{check_crowd, groups_of, has_aggregate, items_of, nat_of, order_of, test_of};
 use crate::kinds::{Kind, may_compare};
 use crate::names::{Names, column_place, kind_at, named, resolve, same_name};
@@ -30,17 +31,21 @@ fn joined_source<'a>(sources: &'a [Named], joined: &Option<JoinTree>) -> Option<
     }
 }
 
-/// What the names in a query may stand for, in time linear in the sources.
-pub fn query_names<'a>(scope: &'a Scope, tree: &QueryTree) -> Names<'a>
+/// What the names in a query may stand for, in time linear in the sources, in the columns of those
+/// that it reads and in the parameters. Fails only for want of memory.
+pub fn query_names<'a>(
+    alloc: Global,
+    scope: &'a Scope,
+    tree: &QueryTree,
+) -> Result<Names<'a>, NoMemory>
     requires { IsTrue (scope_narrow scope.now) }
-    ensures reach { reach_of result ≡ query_reach scope.now tree.now }
+    ensures reach { IfOk result (λ names. names ≡ query_reach scope.now tree.now) }
     ensures narrow { IsTrue (is_narrow (query_reach scope.now tree.now)) }
 {
-    Names {
-        first: named(scope.sources.as_slice(), &tree.from.name),
-        second: joined_source(scope.sources.as_slice(), &tree.joined),
-        params: scope.params.as_slice(),
-    }
+    let sources = scope.sources.as_slice();
+    let first = named(sources, &tree.from.name);
+    let second = joined_source(sources, &tree.joined);
+    Names::new(alloc, first, second, scope.params.as_slice())
 }
 
 /// Which source it is.
@@ -66,10 +71,10 @@ fn column_of_join(
     tree: &ColumnTree,
     found: &mut Option<TypeError>,
 ) -> (ColAt, Option<Kind>)
-    requires { IsTrue (is_narrow (reach_of names.now)) }
-    ensures column { result.0 ≡ column_or_first (known (resolve (reach_of names.now) tree.now)) }
-    ensures kind { result.1 ≡ known_kind (reach_of names.now) (resolve (reach_of names.now) tree.now) }
-    ensures faults { found.new ≡ all_noted found.old (name_faults (resolve (reach_of names.now) tree.now)) }
+    requires { IsTrue (is_narrow names.now) }
+    ensures column { result.0 ≡ column_or_first (known (resolve names.now tree.now)) }
+    ensures kind { result.1 ≡ known_kind names.now (resolve names.now tree.now) }
+    ensures faults { found.new ≡ all_noted found.old (name_faults (resolve names.now tree.now)) }
 {
     match resolve(names, tree) {
         Ok(column) => (column, kind_at(names, column)),
@@ -93,13 +98,14 @@ fn join_of(
     joined: &Option<JoinTree>,
     found: &mut Option<TypeError>,
 ) -> Option<Joined>
-    requires { IsTrue (is_narrow (reach_of names.now)) }
-    ensures join { result ≡ option_map (typed_join (reach_of names.now)) joined.now }
-    ensures faults { found.new ≡ all_noted found.old (join_faults (reach_of names.now) from.now joined.now) }
+    requires { IsTrue (is_narrow names.now) }
+    ensures join { result ≡ option_map (typed_join names.now) joined.now }
+    ensures faults { found.new ≡ all_noted found.old (join_faults names.now from.now joined.now) }
 {
     match joined {
         Some(join) => {
-            check_known(names.second, join.name.at, found);
+            let source = names.second();
+            check_known(source, join.name.at, found);
             let other = !same_name(&from.name, &join.name.name);
             check(found, other, TypeError::UnknownName(join.name.at));
             let (left, left_kind) = column_of_join(names, &join.left, found);
@@ -107,7 +113,7 @@ fn join_of(
             let right_place = TypeError::WrongType(column_place(&join.right));
             check(found, may_compare(left_kind, right_kind), right_place);
             Some(Joined {
-                source: source_id(names.second),
+                source: source_id(source),
                 left,
                 right,
             })
@@ -159,7 +165,6 @@ fn limit_of(limit: &Option<NumberTree>) -> Option<u64>
 }
 
 /// A query whose rows go into these columns.
-#[tactic(auto, using(crate::proofs::Noted::all_noted_append))]
 pub fn query_of(
     alloc: Global,
     scope: &Scope,
@@ -172,18 +177,37 @@ pub fn query_of(
     ensures query { IfOk result (λ query. query ≡ typed_query scope.now tree.now) }
     ensures faults { OnOk result (found.new ≡ all_noted found.old (query_faults scope.now (columns_shown columns.entry) at tree.now)) }
 {
-    let names = query_names(scope, tree);
-    check_known(names.first, tree.from.at, found);
-    let joined = join_of(&names, &tree.from, &tree.joined, found);
-    let groups = groups_of(alloc, &names, tree.groups.as_slice(), found)?;
+    let names = query_names(alloc, scope, tree)?;
+    let query = query_within(alloc, &names, columns, at, tree, found)?;
+    Ok(query)
+}
+
+/// A query whose rows go into these columns, with what its names may stand for.
+#[tactic(auto, using(crate::proofs::Noted::all_noted_append))]
+pub fn query_within(
+    alloc: Global,
+    names: &Names,
+    columns: Option<&[Column]>,
+    at: usize,
+    tree: &QueryTree,
+    found: &mut Option<TypeError>,
+) -> Result<Query, NoMemory>
+    requires { IsTrue (is_narrow names.now) }
+    ensures query { IfOk result (λ query. query ≡ typed_within names.now tree.now) }
+    ensures faults { OnOk result (found.new ≡ all_noted found.old (faults_within names.now (columns_shown columns.entry) at tree.now)) }
+{
+    let from = names.first();
+    check_known(from, tree.from.at, found);
+    let joined = join_of(names, &tree.from, &tree.joined, found);
+    let groups = groups_of(alloc, names, tree.groups.as_slice(), found)?;
     check_count(columns, tree.items.len(), at, found);
-    let items = grouped_items(alloc, &names, &groups, wanted(columns), tree, found)?;
+    let items = grouped_items(alloc, names, &groups, wanted(columns), tree, found)?;
     check_crowd(tree.items.as_slice(), found);
-    let test = test_of(alloc, &names, &tree.test, found)?;
+    let test = test_of(alloc, names, &tree.test, found)?;
     let order = order_of(alloc, tree.items.len(), tree.order.as_slice(), found)?;
     Ok(Query {
         items,
-        from: source_id(names.first),
+        from: source_id(from),
         joined,
         test,
         groups,
@@ -201,15 +225,15 @@ fn grouped_items(
     tree: &QueryTree,
     found: &mut Option<TypeError>,
 ) -> Result<Seq<Item>, NoMemory>
-    requires narrow { IsTrue (is_narrow (reach_of names.now)) }
-    requires groups { groups.now ≡ typed_groups (reach_of names.now) tree.now.groups }
-    ensures items { IfOk result (λ items. items ≡ map (typed_item (reach_of names.now) (grouped_columns (reach_of names.now) tree.now)) tree.now.items) }
-    ensures faults { OnOk result (found.new ≡ all_noted found.old (items_faults (reach_of names.now) (grouped_columns (reach_of names.now) tree.now) columns.now tree.now.items)) }
+    requires narrow { IsTrue (is_narrow names.now) }
+    requires groups { groups.now ≡ typed_groups names.now tree.now.groups }
+    ensures items { IfOk result (λ items. items ≡ map (typed_item names.now (grouped_columns names.now tree.now)) tree.now.items) }
+    ensures faults { OnOk result (found.new ≡ all_noted found.old (items_faults names.now (grouped_columns names.now tree.now) columns.now tree.now.items)) }
 {
     let items = tree.items.as_slice();
     if is_aggregated(tree) {
-        let grouped = Some(groups.as_slice());
-        items_of(alloc, names, grouped, columns, items, found)
+        let grouped = Grouped::new(alloc, groups.as_slice())?;
+        items_of(alloc, names, Some(&grouped), columns, items, found)
     } else {
         items_of(alloc, names, None, columns, items, found)
     }

@@ -1,9 +1,9 @@
 //! Typing of statements and conditions.
 
-ghost use Rattle.std.specs.Prelude.{◌≡◌, ◌≤◌, ◌++◌, [], IsTrue, IfOk, OnOk, None, map, length};
+ghost use Rattle.std.specs.Prelude.{◌≡◌, ℕ, ◌≤◌, ◌++◌, [], IsTrue, IfOk, OnOk, None, map, length};
 ghost use Rattle.std.specs.Option.{option_map, option_copied};
 ghost use Rattle.ss_sql_type.specs.Refusals.{all_noted};
-ghost use Rattle.ss_sql_type.specs.Names.{reach_of, is_narrow, kind_in};
+ghost use Rattle.ss_sql_type.specs.Names.{is_narrow, kind_in};
 ghost use Rattle.ss_sql_type.specs.Expressions.{typed_expr};
 ghost use Rattle.ss_sql_type.specs.Items.{typed_value, test_faults};
 ghost use Rattle.ss_sql_type.specs.Queries.{scope_narrow, query_reach, columns_shown, unknown_faults, query_faults, typed_query};
@@ -14,9 +14,10 @@ use crate::found::{check, note};
 use crate::items::{item_kind, test_of, values_of};
 use crate::kinds::{Kind, Needs, may_compare};
 use crate::lists::push;
-use crate::names::{Names, column_named, columns_of, kind_in, same_name};
-use crate::query::{check_count, check_known, query_names, query_of, wanted};
+use crate::names::{Names, columns_of, kind_in, same_name};
+use crate::query::{check_count, check_known, query_names, query_of, query_within, wanted};
 use crate::scope::{Named, Scope, TypeError};
+use indexmap::IndexSet;
 use ss_sql_lex::tree::{
     ConditionTree, ExprTree, ItemTree, NameTree, QueryTree, SetTree, StatementTree,
 };
@@ -112,20 +113,27 @@ fn has(columns: &[u8], column: u8) -> bool
     columns.iter().any(|c| *c == column)
 }
 
-/// Notes what is wrong with a column that is set, in time linear in the key and the columns set before.
+/// Whether a column was set before. Takes the time of a hash.
+fn was_set(earlier: &IndexSet<u8>, column: u8) -> bool
+    ensures { result ≡ has earlier.now.keys column }
+{
+    earlier.contains(&column)
+}
+
+/// Notes what is wrong with a column that is set, in time linear in the key.
 fn check_column(
     key: &[u8],
-    earlier: &[u8],
+    earlier: &IndexSet<u8>,
     at: usize,
     column: Option<u8>,
     found: &mut Option<TypeError>,
 )
-    ensures { found.new ≡ all_noted found.old (column_faults key.now earlier.now at column) }
+    ensures { found.new ≡ all_noted found.old (column_faults key.now earlier.now.keys at column) }
 {
     match column {
         Some(column) => {
             check(found, !has(key, column), TypeError::KeyIsSet(at));
-            check(found, !has(earlier, column), TypeError::WrongCount(at));
+            check(found, !was_set(earlier, column), TypeError::WrongCount(at));
         }
         None => note(found, TypeError::UnknownName(at)),
     }
@@ -145,12 +153,12 @@ fn set_needs(columns: &[Column], column: Option<u8>) -> Needs
 }
 
 /// Puts a column to those that are set.
-fn add_column(earlier: &mut Seq<u8>, column: Option<u8>) -> Result<(), NoMemory>
-    ensures { OnOk result (earlier.new ≡ with_column earlier.old column) }
+fn add_column(earlier: &mut IndexSet<u8>, column: Option<u8>) -> Result<(), NoMemory>
+    ensures { OnOk result ((c : ℕ) → has earlier.new.keys c ≡ has (with_column earlier.old.keys column) c) }
 {
     match column {
         Some(column) => {
-            push(earlier, column)?;
+            earlier.insert(column)?;
             Ok(())
         }
         None => Ok(()),
@@ -159,10 +167,10 @@ fn add_column(earlier: &mut Seq<u8>, column: Option<u8>) -> Result<(), NoMemory>
 
 /// The position of the column that is set.
 fn set_column(names: &Names, set: &SetTree) -> Option<u8>
-    requires { IsTrue (is_narrow (reach_of names.now)) }
-    ensures { result ≡ set_column (reach_of names.now) set.now }
+    requires { IsTrue (is_narrow names.now) }
+    ensures { result ≡ set_column names.now set.now }
 {
-    column_named(columns_of(names.first), &set.column.name)
+    names.in_first(&set.column.name)
 }
 
 /// One SET, of which the column is known.
@@ -170,17 +178,17 @@ fn set_of(
     alloc: Global,
     names: &Names,
     key: &[u8],
-    earlier: &[u8],
+    earlier: &IndexSet<u8>,
     set: &SetTree,
     found: &mut Option<TypeError>,
 ) -> Result<SetTo, NoMemory>
-    requires { IsTrue (is_narrow (reach_of names.now)) }
-    ensures set { IfOk result (λ typed. typed ≡ typed_set (reach_of names.now) set.now) }
-    ensures faults { OnOk result (found.new ≡ all_noted found.old (set_faults (reach_of names.now) key.now earlier.now set.now)) }
+    requires { IsTrue (is_narrow names.now) }
+    ensures set { IfOk result (λ typed. typed ≡ typed_set names.now set.now) }
+    ensures faults { OnOk result (found.new ≡ all_noted found.old (set_faults names.now key.now earlier.now.keys set.now)) }
 {
     let column = set_column(names, set);
     check_column(key, earlier, set.column.at, column, found);
-    let needs = set_needs(columns_of(names.first), column);
+    let needs = set_needs(columns_of(names.first()), column);
     let typed = expr_at(alloc, names, None, needs, &set.value, found)?;
     Ok(SetTo {
         column: column.unwrap_or(0),
@@ -188,7 +196,7 @@ fn set_of(
     })
 }
 
-/// All SETs of an UPDATE, each in time linear in those before it.
+/// All SETs of an UPDATE, each in time linear in the key and in its value.
 fn sets_of(
     alloc: Global,
     names: &Names,
@@ -196,14 +204,14 @@ fn sets_of(
     sets: &[SetTree],
     found: &mut Option<TypeError>,
 ) -> Result<Seq<SetTo>, NoMemory>
-    requires { IsTrue (is_narrow (reach_of names.now)) }
-    ensures sets { IfOk result (λ typed. typed ≡ map (typed_set (reach_of names.now)) sets.now) }
-    ensures faults { OnOk result (found.new ≡ all_noted found.old (sets_faults (reach_of names.now) key.now [] sets.now)) }
+    requires { IsTrue (is_narrow names.now) }
+    ensures sets { IfOk result (λ typed. typed ≡ map (typed_set names.now) sets.now) }
+    ensures faults { OnOk result (found.new ≡ all_noted found.old (sets_faults names.now key.now [] sets.now)) }
 {
     let mut typed = Seq::new(alloc);
-    let mut earlier = Seq::new(alloc);
+    let mut earlier = IndexSet::new(alloc);
     for set in sets {
-        let to = set_of(alloc, names, key, earlier.as_slice(), set, found)?;
+        let to = set_of(alloc, names, key, &earlier, set, found)?;
         add_column(&mut earlier, set_column(names, set))?;
         push(&mut typed, to)?;
     }
@@ -211,29 +219,22 @@ fn sets_of(
 }
 
 /// Parameters alone may be named.
-fn bare_names<'a>(scope: &'a Scope) -> Names<'a>
+fn bare_names<'a>(alloc: Global, scope: &'a Scope) -> Result<Names<'a>, NoMemory>
     requires { IsTrue (scope_narrow scope.now) }
-    ensures reach { reach_of result ≡ bare scope.now }
+    ensures reach { IfOk result (λ names. names ≡ bare scope.now) }
     ensures narrow { IsTrue (is_narrow (bare scope.now)) }
 {
-    Names {
-        first: None,
-        second: None,
-        params: scope.params.as_slice(),
-    }
+    Names::new(alloc, None, None, scope.params.as_slice())
 }
 
 /// The columns of a table and the parameters may be named.
-fn table_names<'a>(scope: &'a Scope, name: &Name) -> Names<'a>
+fn table_names<'a>(alloc: Global, scope: &'a Scope, name: &Name) -> Result<Names<'a>, NoMemory>
     requires { IsTrue (scope_narrow scope.now) }
-    ensures reach { reach_of result ≡ of_table scope.now (table_named scope.now name.now) }
+    ensures reach { IfOk result (λ names. names ≡ of_table scope.now (table_named scope.now name.now)) }
     ensures narrow { IsTrue (is_narrow (of_table scope.now (table_named scope.now name.now))) }
 {
-    Names {
-        first: table_named(scope, name),
-        second: None,
-        params: scope.params.as_slice(),
-    }
+    let table = table_named(scope, name);
+    Names::new(alloc, table, None, scope.params.as_slice())
 }
 
 /// INSERT of values.
@@ -249,7 +250,7 @@ fn insert_values(
     ensures values { IfOk result (λ typed. typed ≡ map (typed_value (bare scope.now)) values.now) }
     ensures faults { OnOk result (found.new ≡ all_noted found.old (insert_faults scope.now (option_copied given.entry) at values.now)) }
 {
-    let names = bare_names(scope);
+    let names = bare_names(alloc, scope)?;
     check_known(given, at, found);
     check_count(columns_in(given), values.len(), at, found);
     values_of(alloc, &names, wanted(columns_in(given)), values, found)
@@ -285,12 +286,13 @@ fn update_of(
     ensures update { IfOk result (λ typed. typed ≡ typed_update scope.now (table_named scope.now table.now.name) sets.now test.now) }
     ensures faults { OnOk result (found.new ≡ all_noted found.old (update_faults scope.now (table_named scope.now table.now.name) table.now.at sets.now test.now)) }
 {
-    let names = table_names(scope, &table.name);
-    check_known(names.first, table.at, found);
-    let sets = sets_of(alloc, &names, key_of(names.first), sets, found)?;
+    let names = table_names(alloc, scope, &table.name)?;
+    let given = names.first();
+    check_known(given, table.at, found);
+    let sets = sets_of(alloc, &names, key_of(given), sets, found)?;
     let test = test_of(alloc, &names, test, found)?;
     Ok(Statement::Update {
-        table: table_or_first(names.first),
+        table: table_or_first(given),
         sets,
         test,
     })
@@ -308,11 +310,12 @@ fn delete_of(
     ensures delete { IfOk result (λ typed. typed ≡ typed_delete scope.now (table_named scope.now table.now.name) test.now) }
     ensures faults { OnOk result (found.new ≡ all_noted found.old (delete_faults scope.now (table_named scope.now table.now.name) table.now.at test.now)) }
 {
-    let names = table_names(scope, &table.name);
-    check_known(names.first, table.at, found);
+    let names = table_names(alloc, scope, &table.name)?;
+    let given = names.first();
+    check_known(given, table.at, found);
     let test = test_of(alloc, &names, test, found)?;
     Ok(Statement::Delete {
-        table: table_or_first(names.first),
+        table: table_or_first(given),
         test,
     })
 }
@@ -357,8 +360,8 @@ pub fn statement_of(
 
 /// The type of a query's first item.
 fn first_kind(names: &Names, items: &[ItemTree]) -> Option<Kind>
-    requires { IsTrue (is_narrow (reach_of names.now)) }
-    ensures { result ≡ first_kind (reach_of names.now) items.now }
+    requires { IsTrue (is_narrow names.now) }
+    ensures { result ≡ first_kind names.now items.now }
 {
     match items.get(0) {
         Some(item) => item_kind(names, item),
@@ -378,7 +381,7 @@ fn right_of(
     ensures right { IfOk result (λ typed. typed ≡ typed_value (bare scope.now) right.now) }
     ensures faults { OnOk result (found.new ≡ all_noted found.old (right_faults kind (typed_expr (bare scope.now) None right.now))) }
 {
-    let names = bare_names(scope);
+    let names = bare_names(alloc, scope)?;
     let typed = expr_of(alloc, &names, None, right, found)?;
     check(
         found,
@@ -399,10 +402,10 @@ pub fn condition_of(
     ensures condition { IfOk result (λ typed. typed ≡ typed_condition scope.now tree.now) }
     ensures faults { OnOk result (found.new ≡ all_noted found.old (condition_faults scope.now tree.now)) }
 {
-    let query = query_of(alloc, scope, None, 0, &tree.query, found)?;
+    let names = query_names(alloc, scope, &tree.query)?;
+    let query = query_within(alloc, &names, None, 0, &tree.query, found)?;
     let one = tree.query.items.len() == 1;
     check(found, one, TypeError::WrongCount(tree.query.at));
-    let names = query_names(scope, &tree.query);
     let kind = first_kind(&names, tree.query.items.as_slice());
     let right = right_of(alloc, scope, kind, &tree.right, found)?;
     Ok(Condition {

@@ -38,9 +38,11 @@ fn answer<T: Drop>(typed: T, found: Option<TypeError>) -> Result<T, TypeError>
 
 /// The typed tree of a statement, or its least fault.
 ///
-/// In time linear in the sources and targets, and for each token in the columns of at most two of
-/// them and in the parameters. The tree takes a heap block for each operator and for each list.
-/// `out` is for queries alone, and has no part in this.
+/// In time linear in the tree, the sources and targets, the columns of at most two of them and the
+/// parameters, as far as hashes spread the names; each SET takes that of its table's key besides. The
+/// typed tree takes a heap block for each operator and for each list. Tables of hashes of the columns
+/// that may be named stand beside it for as long as the call takes. `out` is for queries alone, and has
+/// no part in this.
 pub fn type_statement(
     alloc: Global,
     scope: &Scope,
@@ -58,8 +60,7 @@ pub fn type_statement(
 
 /// The typed tree of a query, or its least fault. Where the scope has `out`, the items go by it.
 ///
-/// In time linear in the sources, and for each token in the columns of at most two of them and in
-/// the parameters. The tree takes a heap block for each operator and for each list.
+/// In time and memory as `type_statement`, without targets.
 pub fn type_query(alloc: Global, scope: &Scope, tree: &QueryTree) -> Result<Query, TypeError>
     requires { IsTrue (scope_narrow scope.now) }
     ensures typed { IfOk result (λ typed. (query_faults scope.now scope.now.out tree.now.at tree.now ≡ []) × (typed ≡ typed_query scope.now tree.now)) }
@@ -74,9 +75,8 @@ pub fn type_query(alloc: Global, scope: &Scope, tree: &QueryTree) -> Result<Quer
 
 /// The typed tree of a condition, or its least fault.
 ///
-/// In time linear in the sources, and for each token in the columns of at most two of them and in
-/// the parameters. The tree takes a heap block for each operator and for each list. `out` is for
-/// queries alone, and has no part in this.
+/// In time and memory as `type_statement`, without targets. `out` is for queries alone, and has no part
+/// in this.
 pub fn type_condition(
     alloc: Global,
     scope: &Scope,

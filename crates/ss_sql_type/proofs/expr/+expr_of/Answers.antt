@@ -1,7 +1,6 @@
 use Rattle.std.proofs.Common.{rules, ◌≡◌, ap, ◌∙◌, sym, subst}
 use Rattle.ss_sql_lex.specs.declared.tree.ExprTree.{ExprTree}
 use Rattle.ss_sql_type.specs.Refusals.{all_noted}
-use Rattle.ss_sql_type.specs.Names.{reach_of}
 use Rattle.ss_sql_type.specs.Expressions.{Typed, typed_expr, grouping, Shows}
 use Rattle.ss_sql_type.proofs.Noted.{unary_noted, binary_noted, on_ok}
 use Rattle.ss_sql_type.proofs.Folds.{typed_unary, typed_binary}
@@ -9,7 +8,7 @@ use Rattle.ss_sql_type.proofs.expr.+expr_of.Goals as goal
 
 pub returns-in_ok-side-in-Unary-clause-faults : goal.returns-in_ok-side-in-Unary-clause-faults
 returns-in_ok-side-in-Unary-clause-faults t c =
-    let reach = reach_of c.args.names.now in
+    let reach = c.args.names.now in
     let grouped = grouping c.args.grouped in
     let tree = ap (typed_expr reach grouped) c.in-Unary.is ∙ typed_unary reach grouped c.in-Unary.at c.in-Unary.op c.in-Unary.side in
     let side = typed_expr reach grouped c.in-Unary.side in
@@ -20,7 +19,7 @@ returns-in_ok-side-in-Unary-clause-faults t c =
 
 pub returns-in_ok-right-in-Binary-clause-faults : goal.returns-in_ok-right-in-Binary-clause-faults
 returns-in_ok-right-in-Binary-clause-faults t c =
-    let reach = reach_of c.args.names.now in
+    let reach = c.args.names.now in
     let grouped = grouping c.args.grouped in
     let tree = ap (typed_expr reach grouped) c.in-Binary.is ∙ typed_binary reach grouped c.in-Binary.at c.in-Binary.op c.in-Binary.left c.in-Binary.right in
     let left = typed_expr reach grouped c.in-Binary.left in

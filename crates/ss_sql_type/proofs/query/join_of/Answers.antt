@@ -3,16 +3,17 @@ use Rattle.std.specs.Prelude.{not}
 use Rattle.ss_sql_lex.specs.declared.tree.JoinTree.{JoinTree}
 use Rattle.ss_sql_type.specs.declared.kinds.Kind.{Kind}
 use Rattle.ss_sql_type.specs.declared.scope.TypeError.TheVariants.{UnknownName, WrongType}
+use Rattle.ss_sql_type.specs.declared.scope.Named.{Named}
 use Rattle.ss_sql_type.specs.Refusals.{all_noted, fault_unless}
 use Rattle.ss_sql_type.specs.Kinds.{may_compare}
-use Rattle.ss_sql_type.specs.Names.{reach_of, resolve, name_faults, known_kind, column_place, same_name}
+use Rattle.ss_sql_type.specs.Names.{resolve, name_faults, known_kind, column_place, same_name}
 use Rattle.ss_sql_type.specs.Queries.{unknown_faults, join_faults}
 use Rattle.ss_sql_type.proofs.Noted.{noted_twice, check_noted}
 use Rattle.ss_sql_type.proofs.query.join_of.Goals as goal
 
 pub returns-in-Some-clause-faults : goal.returns-in-Some-clause-faults
 returns-in-Some-clause-faults c =
-    let reach = reach_of c.args.names.now in
+    let reach = c.args.names.now in
     let j = c.in-Some.join in
     let l = resolve reach j.left in
     let r = resolve reach j.right in
@@ -31,5 +32,6 @@ returns-in-Some-clause-faults c =
     let other : f2 ≡ all_noted f1 (fault_unless (not (same_name c.args.from.now.name j.name.name)) (UnknownName j.name.at)) =
     c.check.ensures ∙ ap (λ (b : Bool). all_noted f1 (fault_unless (not b) (UnknownName j.name.at))) c.same_name-other.ensures in
     let second = noted_twice f1 f2 f5 (fault_unless (not (same_name c.args.from.now.name j.name.name)) (UnknownName j.name.at)) _ other third in
-    let first = noted_twice f0 f1 f5 (unknown_faults reach.second j.name.at) _ c.check_known.ensures second in
+    let known : f1 ≡ all_noted f0 (unknown_faults reach.second j.name.at) = c.check_known.ensures ∙ ap (λ (o : Option Named). all_noted f0 (unknown_faults o j.name.at)) c.second-source.ensures in
+    let first = noted_twice f0 f1 f5 (unknown_faults reach.second j.name.at) _ known second in
     first ∙ ap (λ (x : Option JoinTree). all_noted f0 (join_faults reach c.args.from.now x)) (sym c.in-Some.is)

@@ -1,57 +1,13 @@
-use Rattle.std.proofs.Common.{◌≡◌, ap, ◌∙◌, ℕ, List}
-use Rattle.std.specs.Prelude.{slice_get, length}
-use Rattle.std.specs.List.{flat_map}
-use Rattle.std.proofs.Common.{map}
-use Rattle.ss_value.specs.declared.schema.Column.{Column}
-use Rattle.ss_sql_lex.specs.declared.tree.ColumnTree.{ColumnTree}
-use Rattle.ss_sql_lex.specs.declared.tree.ItemTree.{ItemTree}
-use Rattle.ss_sql_lex.specs.declared.tree.OrderTree.{OrderTree}
+use Rattle.std.proofs.Common.{ap, ◌∙◌}
 use Rattle.ss_sql_type.specs.Refusals.{all_noted}
-use Rattle.ss_sql_type.specs.Names.{Reach, reach_of}
-use Rattle.ss_sql_type.specs.Items.{items_faults, crowd_faults, test_faults, typed_groups, groups_faults, typed_order, order_faults}
-use Rattle.ss_sql_type.specs.Queries.{unknown_faults, join_faults, grouped_columns, count_faults, wanted, columns_shown, faults_within, typed_within}
-use Rattle.ss_sql_type.proofs.Noted.{noted_twice}
-use Rattle.ss_sql_type.proofs.QueryParts.{query_made}
+use Rattle.ss_sql_type.specs.Names.{Reach}
+use Rattle.ss_sql_type.specs.Queries.{columns_shown, faults_within, typed_within}
 use Rattle.ss_sql_type.proofs.query.query_of.Goals as goal
 
 pub returns-clause-query : goal.returns-clause-query
-returns-clause-query c =
-    let reach = reach_of c.query_names-names.result in
-    let q = c.args.tree.now in
-    query_made reach q c.in_ok-items.items c.source_id.result c.join_of-joined.result c.in_ok-test.test c.in_ok-groups.groups c.in_ok-order.order c.limit_of.result
-    c.in_ok-items.ensures.items
-    c.source_id.ensures
-    c.join_of-joined.ensures.join
-    c.in_ok-test.ensures.test
-    (c.in_ok-groups.ensures.groups ∙ ap (λ (x : List ColumnTree). typed_groups reach x) c.as_slice.ensures)
-    (c.in_ok-order.ensures.order ∙ ap (λ (x : List OrderTree). map typed_order x) c.as_slice-3.ensures)
-    c.limit_of.ensures
-    ∙ ap (λ (r : Reach). typed_within r q) c.query_names-names.ensures.reach
+returns-clause-query c = c.in_ok-query.ensures.query ∙ ap (λ (r : Reach). typed_within r c.args.tree.now) c.in_ok-names.ensures.reach
 
 pub returns-clause-faults : goal.returns-clause-faults
 returns-clause-faults c =
-    let reach = reach_of c.query_names-names.result in
-    let q = c.args.tree.now in
-    let columns = columns_shown c.args.columns in
-    let f0 = c.args.found.now in
-    let f1 = c.check_known.new.found in
-    let f2 = c.join_of-joined.new.found in
-    let f3 = c.groups_of.new.found in
-    let f4 = c.check_count.new.found in
-    let f5 = c.grouped_items.new.found in
-    let f6 = c.check_crowd.new.found in
-    let f7 = c.test_of.new.found in
-    let f8 = c.order_of.new.found in
-    let e3 : f3 ≡ all_noted f2 (groups_faults reach q.groups) = c.in_ok-groups.ensures.faults ∙ ap (λ (x : List ColumnTree). all_noted f2 (groups_faults reach x)) c.as_slice.ensures in
-    let e4 : f4 ≡ all_noted f3 (count_faults columns (length q.items) c.args.at) = c.check_count.ensures ∙ ap (λ (n : ℕ). all_noted f3 (count_faults columns n c.args.at)) c.len.ensures in
-    let e5 : f5 ≡ all_noted f4 (items_faults reach (grouped_columns reach q) (wanted columns) q.items) = c.in_ok-items.ensures.faults ∙ ap (λ (x : List Column). all_noted f4 (items_faults reach (grouped_columns reach q) x q.items)) c.wanted.ensures in
-    let e6 : f6 ≡ all_noted f5 (crowd_faults (slice_get q.items 16)) = c.check_crowd.ensures ∙ ap (λ (x : List ItemTree). all_noted f5 (crowd_faults (slice_get x 16))) c.as_slice-2.ensures in
-    let e8 : f8 ≡ all_noted f7 (flat_map (order_faults (length q.items)) q.order) = c.in_ok-order.ensures.faults ∙ ap (λ (n : ℕ). all_noted f7 (flat_map (order_faults n) c.as_slice-3.result.now)) c.len-2.ensures ∙ ap (λ (x : List OrderTree). all_noted f7 (flat_map (order_faults (length q.items)) x)) c.as_slice-3.ensures in
-    let g6 = noted_twice f6 f7 f8 (test_faults reach q.test) _ c.in_ok-test.ensures.faults e8 in
-    let g5 = noted_twice f5 f6 f8 (crowd_faults (slice_get q.items 16)) _ e6 g6 in
-    let g4 = noted_twice f4 f5 f8 (items_faults reach (grouped_columns reach q) (wanted columns) q.items) _ e5 g5 in
-    let g3 = noted_twice f3 f4 f8 (count_faults columns (length q.items) c.args.at) _ e4 g4 in
-    let g2 = noted_twice f2 f3 f8 (groups_faults reach q.groups) _ e3 g3 in
-    let g1 = noted_twice f1 f2 f8 (join_faults reach q.from q.joined) _ c.join_of-joined.ensures.faults g2 in
-    let g0 = noted_twice f0 f1 f8 (unknown_faults reach.first q.from.at) _ c.check_known.ensures g1 in
-    g0 ∙ ap (λ (r : Reach). all_noted f0 (faults_within r columns c.args.at q)) c.query_names-names.ensures.reach
+    c.in_ok-query.ensures.faults
+    ∙ ap (λ (r : Reach). all_noted c.args.found.now (faults_within r (columns_shown c.args.columns) c.args.at c.args.tree.now)) c.in_ok-names.ensures.reach
