@@ -1,9 +1,17 @@
 pub mod PlainDepth
+pub mod PlainReads
 pub mod PlainFitting
+pub mod PlainShapes
+pub mod PlainForms
+pub mod PlainTyped
+pub mod PlainAccepts
+pub mod RunSources
 pub mod RunStores
 pub mod RunUndone
 pub mod RunReplies
 pub mod RunCalls
+pub mod RunMeaning
+pub mod RunApplies
 pub mod RunNumbers
 pub mod RunProgress
 pub mod RunExample

@@ -1,6 +1,6 @@
 -- What is read fits the catalogue, and is of client 0.
-use Rattle.std.proofs.Common.{◌≡◌, ℕ, List, [], ◌∷◌, ◌++◌, Bool, true, false, refl, sym, ap, subst, ◌∙◌, ◌&&◌, ◌==◌}
-use Rattle.std.specs.Prelude.{Option, Some, None, option_map, option_and_then, Result, Ok, Err, slice_get, codes}
+use Rattle.std.proofs.Common.{◌≡◌, ℕ, List, [], ◌∷◌, ◌++◌, Bool, true, false, refl, subst, ◌==◌}
+use Rattle.std.specs.Prelude.{Option, Some, None, option_and_then, Ok, slice_get, codes}
 use Rattle.std.specs.Option.{ok_or}
 use Rattle.std.specs.List.{list_all, count_by}
 use Rattle.serde_json.specs.Data.{Data}
@@ -8,46 +8,26 @@ use Rattle.ss_value.specs.declared.value.Value.{Value}
 use Rattle.ss_model.specs.declared.catalog.Procedure.{Procedure}
 use Rattle.ss_model.specs.declared.catalog.Catalog.{Catalog}
 use Rattle.ss_model.specs.declared.entry.Asked.{Asked}
-use Rattle.ss_model.specs.declared.entry.Asked.TheVariants.{Call}
+use Rattle.ss_model.specs.declared.entry.Asked.TheVariants.{Call, Push}
 use Rattle.ss_model.specs.declared.entry.Request.{Request}
-use Rattle.ss_model.specs.Entries.{only_when, has_call, fits_entry}
-use Rattle.ss_model.specs.Requests.{asked_entry, entries_behind, all_fit}
+use Rattle.ss_model.specs.Database.{has_call, fits_entry}
+use Rattle.ss_model.specs.Report.{asked_entry, entries_behind}
+use Rattle.ss_program.specs.RunAnswers.{all_fit}
 use Rattle.ss_lines.specs.declared.line.Line.{Line}
 use Rattle.ss_lines.specs.Json.{value_at}
-use Rattle.ss_program.specs.declared.plain.input.ReadError.{ReadError}
 use Rattle.ss_program.specs.declared.plain.input.ReadError.TheVariants.{NotBuilt}
 use Rattle.ss_program.specs.PlainObjects.{at_key}
 use Rattle.ss_program.specs.PlainTables.{place_of}
 use Rattle.ss_program.specs.PlainRequests.{values_of, procedure_names, fits_args, call_of, asked_of, request_from, request_of}
 use Rattle.ss_program.specs.PlainInput.{unless_refused, of_line, request_at, requests_at}
-
--- ---- what a reading that ends well went through
-
-when_some : {A : Type 0} (b : Bool) (o : Option A) (x : A) → only_when b o ≡ Some x → (b ≡ true) × (o ≡ Some x)
-when_some true o x h = (refl, h)
-when_some false o x h = absurd (let no : ⊥ = cc in no)
-
-then_some : {A B : Type 0} (f : A → Option B) (o : Option A) (y : B) → option_and_then f o ≡ Some y → (x : A) × (f x ≡ Some y)
-then_some f (Some x) y h = (x, h)
-then_some f None y h = absurd (let no : ⊥ = cc in no)
-
-map_some : {A B : Type 0} (f : A → B) (o : Option A) (y : B) → option_map f o ≡ Some y → (x : A) × (o ≡ Some x) × (f x ≡ y)
-map_some f (Some x) y h = (x, refl, (cc))
-map_some f None y h = absurd (let no : ⊥ = cc in no)
-
-then_ok : {A B : Type 0} (f : A → Result B ReadError) (r : Result A ReadError) (y : B) → unless_refused f r ≡ Ok y → (x : A) × (r ≡ Ok x) × (f x ≡ Ok y)
-then_ok f (Ok x) y h = (x, refl, h)
-then_ok f (Err e) y h = absurd (let no : ⊥ = cc in no)
-
-or_some : {A : Type 0} (o : Option A) (e : ReadError) (x : A) → ok_or o e ≡ Ok x → o ≡ Some x
-or_some (Some y) e x h = cc
-or_some None e x h = cc
+use Rattle.ss_program.proofs.PlainReads.{when_some, then_some, map_some, then_ok, or_some}
 
 -- ---- requests
 
 -- whether what is asked is a call of one of the procedures, by a client, that fits
 abbrev pub asked_fits : List Procedure → ℕ → Asked → Bool
 asked_fits ps client (Call n args) = has_call client args (slice_get ps n)
+asked_fits ps client (Push s source seq rows) = false
 
 args_fit : (values : List Value) (p : Option Procedure) → fits_args values p ≡ true → has_call 0 values p ≡ true
 args_fit values None h = h
@@ -64,8 +44,8 @@ asked_of-fits : (ps : List Procedure) (d : Data) (a : Asked) → asked_of ps d �
 asked_of-fits ps d a h =
     let whole = when_some _ _ a h in
     let called = then_some (λ n. option_and_then (call_of ps n) (at_key (codes "args") values_of d)) (at_key (codes "call") (place_of (procedure_names ps)) d) a whole.1 in
-    let given = then_some (call_of ps called.0) (at_key (codes "args") values_of d) a called.1 in
-    call_fits ps called.0 given.0 a given.1
+    let given = then_some (call_of ps called.0) (at_key (codes "args") values_of d) a called.2 in
+    call_fits ps called.0 given.0 a given.2
 
 -- a request that fits, of client 0
 pub record IsFitting (ps : List Procedure) (r : Request) : Type 0 where
@@ -97,6 +77,7 @@ requests_at-fit ps (l ∷ ls) rs h =
 
 entry_fits : (catalog : Catalog) (client index : ℕ) (a : Asked) → asked_fits catalog.procedures client a ≡ true → fits_entry catalog (asked_entry client index a) ≡ true
 entry_fits catalog client index (Call n args) h = h
+entry_fits catalog client index (Push s source seq rows) h = cc
 
 fit_behind : (catalog : Catalog) (earlier rs : List Request) → AllFitting catalog.procedures rs → list_all (fits_entry catalog) (entries_behind earlier rs) ≡ true
 fit_behind catalog earlier [] h = refl

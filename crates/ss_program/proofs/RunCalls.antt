@@ -1,28 +1,36 @@
 -- What an accepted catalogue gives for the call of a procedure.
-use Rattle.std.proofs.Common.{◌≡◌, ℕ, zero, suc, ◌<◌, List, [], ◌∷◌, length, Bool, true, false, ◌&&◌, refl, ap, subst, Option, Some, None, slice_get, nat_lt, arith}
-use Rattle.std.proofs.lemmas.Bool.Decides.{nat_tests}
-use Rattle.std.specs.List.{list_all}
-use Rattle.ss_value.specs.Rows.{Row}
+use Rattle.std.proofs.Common.{◌≡◌, ◌∙◌, ℕ, zero, suc, ◌<◌, List, [], ◌∷◌, length, Bool, true, false, ◌&&◌, refl, ap, sym, subst, Option, Some, None, slice_get, nat_lt, arith}
+use Rattle.std.proofs.lemmas.Bool.Decides.{nat_tests, Decides-eqb}
+use Rattle.std.specs.List.{list_all, list_any}
+use Rattle.ss_value.specs.Rows.{Row, Rows}
+use Rattle.ss_value.specs.declared.schema.Column.{Column}
+use Rattle.ss_sql_lex.specs.declared.typed.Expr.{Expr}
+use Rattle.ss_sql_lex.specs.declared.typed.SourceId.{SourceId}
+use Rattle.ss_sql_lex.specs.declared.typed.SourceId.TheVariants.{Table as FromTable, Window as FromWindow, Batch as FromBatch, Inserted}
+use Rattle.ss_sql_lex.specs.declared.typed.Query.{Query}
+use Rattle.ss_sql_lex.specs.declared.typed.Target.TheVariants.{Table as IntoTable, Window as IntoWindow}
+use Rattle.ss_sql_lex.specs.declared.typed.Statement.{Statement}
+use Rattle.ss_sql_lex.specs.declared.typed.Statement.TheVariants.{InsertValues, InsertQuery, Update, Delete}
+use Rattle.ss_model.specs.declared.catalog.Kind.{Kind}
+use Rattle.ss_model.specs.declared.catalog.Kind.TheVariants.{Call as CallKind, Border, Interior}
+use Rattle.ss_model.specs.declared.catalog.Place.{Place}
+use Rattle.ss_model.specs.declared.catalog.Place.TheVariants.{Part, By}
 use Rattle.ss_model.specs.declared.catalog.TableDef.{TableDef}
 use Rattle.ss_model.specs.declared.catalog.Step.{Step}
-use Rattle.ss_model.specs.declared.catalog.Step.TheVariants.{Insert, ReturnAll}
-use Rattle.ss_model.specs.declared.catalog.Given.{Given}
+use Rattle.ss_model.specs.declared.catalog.Step.TheVariants.{Sql, AbortIf, ForEach, Emit, Return}
 use Rattle.ss_model.specs.declared.catalog.Procedure.{Procedure}
 use Rattle.ss_model.specs.declared.catalog.Catalog.{Catalog}
-use Rattle.ss_model.specs.declared.entry.Entry.{Entry}
-use Rattle.ss_model.specs.declared.entry.Entry.TheVariants.{Call}
-use Rattle.ss_value.specs.declared.schema.Column.{Column}
-use Rattle.ss_model.specs.Accepted.{is_accepted, is_procedure, is_step, gives_row}
-use Rattle.ss_model.specs.Database.{Database}
-use Rattle.ss_model.specs.Bodies.{BodyResult, body_result, run_body}
-use Rattle.ss_model.specs.Entries.{applied_body, apply, call_fits, has_call, fits_entry}
-use Rattle.ss_program.specs.RunBodies.{names_table}
+use Rattle.ss_model.specs.declared.entry.Entry.TheVariants.{Call, Push}
+use Rattle.ss_model.specs.Contents.{table_place}
+use Rattle.ss_model.specs.Database.{has_call, fits_entry, is_call, is_border, is_border_stream, takes_stream}
+use Rattle.ss_program.specs.PlainAccepted.{is_accepted, is_procedure, is_step, is_insert, is_whole, source_table, gives_row, is_placed, is_table, has_tables_alone}
+use Rattle.ss_program.specs.RunBodies.{names_target, names_source, names_table}
 
-left_true : (a b : Bool) → (a && b) ≡ true → a ≡ true
+pub left_true : (a b : Bool) → (a && b) ≡ true → a ≡ true
 left_true true b h = refl
 left_true false b h = h
 
-right_true : (a b : Bool) → (a && b) ≡ true → b ≡ true
+pub right_true : (a b : Bool) → (a && b) ≡ true → b ≡ true
 right_true true b h = h
 right_true false b h = cc
 
@@ -37,13 +45,38 @@ found_below [] i x e = cc
 found_below (y ∷ ys) zero x e = omega arith
 found_below (y ∷ ys) (suc i) x e = omega (arith, found_below ys i x e)
 
-row_names : (args : List Column) (values : List Given) (tables : List TableDef) (t : ℕ) (d : Option TableDef) → slice_get tables t ≡ d → gives_row args values d ≡ true → nat_lt t (length tables) ≡ true
+-- ---- steps name tables
+
+below : {X : Type 0} (xs : List X) (i : ℕ) (x : X) → slice_get xs i ≡ Some x → nat_lt i (length xs) ≡ true
+below xs i x e = let h : i < length xs = found_below xs i x e in grind (arith, nat_tests)
+
+row_names : (args : List Column) (values : List Expr) (tables : List TableDef) (t : ℕ) (d : Option TableDef) → slice_get tables t ≡ d → gives_row args values d ≡ true → nat_lt t (length tables) ≡ true
 row_names args values tables t None e h = cc
-row_names args values tables t (Some d) e h = let below : t < length tables = found_below tables t d e in grind (arith, nat_tests)
+row_names args values tables t (Some d) e h = below tables t d e
+
+statement_names : (tables : List TableDef) (args : List Column) (s : Statement) → is_insert tables args s ≡ true → names_target (length tables) s ≡ true
+statement_names tables args (InsertValues (IntoTable t) values) h = row_names args values tables t (slice_get tables t) refl h
+statement_names tables args (InsertValues (IntoWindow w) values) h = cc
+statement_names tables args (InsertQuery target q) h = cc
+statement_names tables args (Update t sets test) h = cc
+statement_names tables args (Delete t test) h = cc
+
+whole_names : (tables : List TableDef) (q : Query) (t : ℕ) (d : Option TableDef) → slice_get tables t ≡ d → is_whole q d ≡ true → nat_lt t (length tables) ≡ true
+whole_names tables q t None e h = cc
+whole_names tables q t (Some d) e h = below tables t d e
+
+source_names : (tables : List TableDef) (q : Query) (s : SourceId) → is_whole q (source_table tables s) ≡ true → names_source (length tables) s ≡ true
+source_names tables q (FromTable t) h = whole_names tables q t (slice_get tables t) refl h
+source_names tables q (FromWindow w) h = cc
+source_names tables q (FromBatch i) h = cc
+source_names tables q Inserted h = cc
 
 step_names : (tables : List TableDef) (args : List Column) (step : Step) → is_step tables args step ≡ true → names_table (length tables) step ≡ true
-step_names tables args (Insert t values) h = row_names args values tables t (slice_get tables t) refl h
-step_names tables args (ReturnAll t) h = h
+step_names tables args (Sql s) h = statement_names tables args s h
+step_names tables args (Return q) h = source_names tables q q.from h
+step_names tables args (AbortIf c code) h = cc
+step_names tables args (ForEach input body) h = cc
+step_names tables args (Emit s q) h = cc
 
 steps_name : (tables : List TableDef) (args : List Column) (steps : List Step) → list_all (is_step tables args) steps ≡ true → list_all (names_table (length tables)) steps ≡ true
 steps_name tables args [] h = refl
@@ -51,11 +84,37 @@ steps_name tables args (step ∷ steps) h =
     rw (step_names tables args step (left_true (is_step tables args step) (list_all (is_step tables args) steps) h))
     (steps_name tables args steps (right_true (is_step tables args step) (list_all (is_step tables args) steps) h))
 
+-- ---- the parts of an accepted catalogue
+
+pub accepted_procedure : (catalog : Catalog) (n : ℕ) (p : Procedure) → is_accepted catalog ≡ true → slice_get catalog.procedures n ≡ Some p → is_procedure catalog.tables p ≡ true
+accepted_procedure catalog n p h e = all_at (is_procedure catalog.tables) catalog.procedures n p (right_true _ (list_all (is_procedure catalog.tables) catalog.procedures) h) e
+
+pub accepted_steps : (catalog : Catalog) (n : ℕ) (p : Procedure) → is_accepted catalog ≡ true → slice_get catalog.procedures n ≡ Some p → list_all (is_step catalog.tables p.args) p.body ≡ true
+accepted_steps catalog n p h e = right_true _ (list_all (is_step catalog.tables p.args) p.body) (accepted_procedure catalog n p h e)
+
 -- each step of an accepted catalogue's procedure is about a table
 pub accepted_names : (catalog : Catalog) (n : ℕ) (p : Procedure) → is_accepted catalog ≡ true → slice_get catalog.procedures n ≡ Some p → list_all (names_table (length catalog.tables)) p.body ≡ true
-accepted_names catalog n p h e =
-    let procedure : is_procedure catalog.tables p ≡ true = all_at (is_procedure catalog.tables) catalog.procedures n p (right_true _ (list_all (is_procedure catalog.tables) catalog.procedures) h) e in
-    steps_name catalog.tables p.args p.body (right_true _ (list_all (is_step catalog.tables p.args) p.body) procedure)
+accepted_names catalog n p h e = steps_name catalog.tables p.args p.body (accepted_steps catalog n p h e)
+
+alone : (catalog : Catalog) → is_accepted catalog ≡ true → has_tables_alone catalog ≡ true
+alone catalog h = left_true _ _ (left_true _ _ (left_true _ _ (left_true _ _ (left_true _ _ h))))
+
+pub accepted_windows : (catalog : Catalog) → is_accepted catalog ≡ true → length catalog.windows ≡ 0
+accepted_windows catalog h = (Decides-eqb (length catalog.windows) 0).0 (right_true _ _ (left_true _ _ (alone catalog h)))
+
+placed_so : (d : TableDef) (place : Place) → d.place ≡ place → is_placed place ≡ true → (p : ℕ) × (table_place (Some d) ≡ Some (Part p))
+placed_so d (Part p) e h = (p, ap Some e)
+placed_so d (By c) e h = cc
+
+-- a table stands whole on one part
+pub accepted_placed : (catalog : Catalog) (t : ℕ) (d : TableDef) → is_accepted catalog ≡ true → slice_get catalog.tables t ≡ Some d → (p : ℕ) × (table_place (slice_get catalog.tables t) ≡ Some (Part p))
+accepted_placed catalog t d h e =
+    let tables : list_all is_table catalog.tables ≡ true = right_true _ _ (left_true _ _ (left_true _ _ (left_true _ _ h))) in
+    let table : is_table d ≡ true = all_at is_table catalog.tables t d tables e in
+    let placed : is_placed d.place ≡ true = left_true _ _ (left_true _ _ (left_true _ _ (left_true _ _ (left_true _ _ (left_true _ _ table))))) in
+    subst (λ (o : Option TableDef). (p : ℕ) × (table_place o ≡ Some (Part p))) (sym e) (placed_so d d.place refl placed)
+
+-- ---- calls
 
 has_procedure : (client : ℕ) (args : Row) (ps : List Procedure) (n : ℕ) (p : Option Procedure) → slice_get ps n ≡ p → has_call client args p ≡ true → n < length ps
 has_procedure client args ps n None e h = cc
@@ -65,11 +124,20 @@ has_procedure client args ps n (Some p) e h = found_below ps n p e
 pub fits_below : (catalog : Catalog) (client index n : ℕ) (args : Row) → fits_entry catalog (Call client index n args) ≡ true → n < length catalog.procedures
 fits_below catalog client index n args h = has_procedure client args catalog.procedures n (slice_get catalog.procedures n) refl h
 
--- what the body of a call leaves is what the call comes to
-pub call_applies : (catalog : Catalog) (db : Database) (e : Entry) (client index n : ℕ) (args : Row) (p : Procedure) (body : List Step) (r : BodyResult) → e ≡ Call client index n args
-    → slice_get catalog.procedures n ≡ Some p → body ≡ p.body → fits_entry catalog e ≡ true → body_result db (run_body catalog args body db) ≡ r → apply catalog db e ≡ Some (applied_body r)
-call_applies catalog db e client index n args p body r is found same h b =
-    let fits_call : fits_entry catalog (Call client index n args) ≡ true = subst (λ (x : Entry). fits_entry catalog x ≡ true) is h in
-    let fits : call_fits client p args ≡ true = subst (λ (o : Option Procedure). has_call client args o ≡ true) found fits_call in
-    let left : body_result db (run_body catalog args p.body db) ≡ r = subst (λ (steps : List Step). body_result db (run_body catalog args steps db) ≡ r) same b in
-    rw (is, found, fits) (ap (λ (x : BodyResult). Some (applied_body x)) left)
+no_border : (k : Kind) (b : Bool) → is_call k ≡ true → (is_border k && b) ≡ false
+no_border CallKind b h = refl
+no_border Border b h = cc
+no_border Interior b h = cc
+
+none_border : (tables : List TableDef) (ps : List Procedure) (s : ℕ) → list_all (is_procedure tables) ps ≡ true → list_any (λ (p : Procedure). is_border p.kind && takes_stream s p) ps ≡ false
+none_border tables [] s h = refl
+none_border tables (p ∷ ps) s h =
+    let first : is_procedure tables p ≡ true = left_true _ _ h in
+    rw (no_border p.kind (takes_stream s p) (left_true _ _ (left_true _ _ (left_true _ _ first)))) (none_border tables ps s (right_true (is_procedure tables p) _ h))
+
+-- nothing can be pushed
+pub no_push : (catalog : Catalog) (client index s : ℕ) (source : List ℕ) (seq : ℕ) (rows : Rows) → is_accepted catalog ≡ true → fits_entry catalog (Push client index s source seq rows) ≡ true → ⊥
+no_push catalog client index s source seq rows h f =
+    let border : is_border_stream catalog s ≡ true = right_true (nat_lt client 8) (is_border_stream catalog s) (left_true _ _ (left_true _ _ (left_true _ _ f))) in
+    let none : is_border_stream catalog s ≡ false = none_border catalog.tables catalog.procedures s (right_true _ (list_all (is_procedure catalog.tables) catalog.procedures) h) in
+    let both : true ≡ false = sym border ∙ none in cc

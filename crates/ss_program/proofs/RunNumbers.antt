@@ -5,11 +5,11 @@ use Rattle.std.proofs.lemmas.List.{take_more, length-take-le, take_all}
 use Rattle.std.specs.List.{count_by, list_all, filter}
 use Rattle.std.proofs.lemmas.List.Sums.{length-filter}
 use Rattle.ss_model.specs.declared.entry.Entry.{Entry}
-use Rattle.ss_model.specs.declared.entry.Entry.TheVariants.{Call}
+use Rattle.ss_model.specs.declared.entry.Entry.TheVariants.{Call, Push, Step as StepEntry}
 use Rattle.ss_model.specs.declared.entry.Asked.{Asked}
-use Rattle.ss_model.specs.declared.entry.Asked.TheVariants.{Call as CallAsked}
+use Rattle.ss_model.specs.declared.entry.Asked.TheVariants.{Call as CallAsked, Push as PushAsked}
 use Rattle.ss_model.specs.declared.entry.Request.{Request}
-use Rattle.ss_model.specs.Requests.{asked_entry, asked_entries, entries_behind}
+use Rattle.ss_model.specs.Report.{asked_entry, asked_entries, entries_behind}
 use Rattle.ss_program.specs.RunSessions.{one_client}
 
 -- the entries of requests, numbered from n on
@@ -17,12 +17,15 @@ abbrev pub numbered : ℕ → List Request → List Entry
 numbered n [] = []
 numbered n (r ∷ rs) = asked_entry r.client n r.what ∷ numbered (n + 1) rs
 
--- the position that an entry has
+-- the position that a client's entry has among those of the client
 abbrev pub entry_index : Entry → ℕ
 entry_index (Call client index procedure args) = index
+entry_index (Push client index stream source seq rows) = index
+entry_index (StepEntry procedure batch) = 0
 
 pub asked_index : (client index : ℕ) (what : Asked) → entry_index (asked_entry client index what) ≡ index
 asked_index client index (CallAsked procedure args) = refl
+asked_index client index (PushAsked stream source seq rows) = refl
 
 left_true : (a b : Bool) → (a && b) ≡ true → a ≡ true
 left_true true b h = refl

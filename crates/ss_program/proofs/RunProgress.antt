@@ -5,26 +5,42 @@ use Rattle.std.proofs.lemmas.List.{map-append}
 use Rattle.std.specs.Option.{option_map}
 use Rattle.ss_model.specs.declared.catalog.Catalog.{Catalog}
 use Rattle.ss_model.specs.declared.entry.Entry.{Entry}
-use Rattle.ss_model.specs.declared.entry.Entry.TheVariants.{Call}
+use Rattle.ss_model.specs.declared.entry.Entry.TheVariants.{Call, Push, Step as StepEntry}
+use Rattle.ss_model.specs.declared.entry.Asked.{Asked}
+use Rattle.ss_model.specs.declared.entry.Asked.TheVariants.{Call as CallAsked, Push as PushAsked}
 use Rattle.ss_model.specs.declared.entry.Outcome.{Outcome}
 use Rattle.ss_model.specs.declared.entry.Listed.{Listed}
 use Rattle.ss_model.specs.declared.entry.Request.{Request}
 use Rattle.ss_model.specs.Database.{Database, empty_database}
 use Rattle.ss_model.specs.Replays.{Replays, after, entry_outcome, database_after}
-use Rattle.ss_model.specs.Requests.{asked_entry, find_listed, is_same_request, IsPartOf, listed_entries}
+use Rattle.ss_model.specs.Report.{asked_entry, find_listed, is_same_request}
+use Rattle.ss_program.specs.RunAnswers.{IsPartOf, listed_entries}
 use Rattle.ss_model.proofs.Replays.{after-append, Replays-append}
 use Rattle.ss_program.specs.RunSessions.{places_in, IsListed}
 use Rattle.ss_program.proofs.RunNumbers.{entry_index, asked_index, asked_up_to, one_asked}
 
 -- ---- which entries are of one request
-same_self : (e : Entry) → is_same_request e e ≡ true
-same_self (Call client index procedure args) = grind (arith, nat_tests)
+same_self : (client index : ℕ) (what : Asked) → is_same_request (asked_entry client index what) (asked_entry client index what) ≡ true
+same_self client index (CallAsked procedure args) = grind (arith, nat_tests)
+same_self client index (PushAsked stream source seq rows) = grind (arith, nat_tests)
 
 later_differs : (e f : Entry) → entry_index e < entry_index f → is_same_request e f ≡ false
 later_differs (Call c i p a) (Call d j q b) h = grind (arith, nat_tests)
+later_differs (Call c i p a) (Push d j t name n more) h = refl
+later_differs (Call c i p a) (StepEntry q r) h = refl
+later_differs (Push c i s source seq rows) (Call d j q b) h = refl
+later_differs (Push c i s source seq rows) (Push d j t name n more) h = grind (arith, nat_tests)
+later_differs (Push c i s source seq rows) (StepEntry q r) h = refl
+later_differs (StepEntry p b) f h = refl
 
 earlier_differs : (e f : Entry) → entry_index f < entry_index e → is_same_request e f ≡ false
 earlier_differs (Call c i p a) (Call d j q b) h = grind (arith, nat_tests)
+earlier_differs (Call c i p a) (Push d j t name n more) h = refl
+earlier_differs (Call c i p a) (StepEntry q r) h = refl
+earlier_differs (Push c i s source seq rows) (Call d j q b) h = refl
+earlier_differs (Push c i s source seq rows) (Push d j t name n more) h = grind (arith, nat_tests)
+earlier_differs (Push c i s source seq rows) (StepEntry q r) h = refl
+earlier_differs (StepEntry p b) f h = refl
 
 -- each entry is below a position
 abbrev pub AreBelow : ℕ → List Entry → Type 0
@@ -44,12 +60,12 @@ find_none : (list : List Listed) (place : ℕ) (e : Entry) → AreBelow (entry_i
 find_none [] place e h = refl
 find_none (l ∷ ls) place e h = rw (earlier_differs e l.entry h.0) (find_none ls (place + 1) e h.1)
 
-find_last : (list : List Listed) (place : ℕ) (e : Entry) (o : Outcome) → AreBelow (entry_index e) (listed_entries list)
+find_last : (list : List Listed) (place : ℕ) (e : Entry) (o : Outcome) → is_same_request e e ≡ true → AreBelow (entry_index e) (listed_entries list)
     → find_listed place e (list ++ record { entry = e; outcome = o } ∷ []) ≡ Some (place + length list, o)
-find_last [] place e o h = let none : place ≡ place + 0 = omega arith in rw (same_self e) (ap (λ (n : ℕ). Some (n, o)) none)
-find_last (l ∷ ls) place e o h =
+find_last [] place e o self h = let none : place ≡ place + 0 = omega arith in rw self (ap (λ (n : ℕ). Some (n, o)) none)
+find_last (l ∷ ls) place e o self h =
     let one : (place + 1) + length ls ≡ place + length (l ∷ ls) = omega arith in
-    rw (earlier_differs e l.entry h.0) (find_last ls (place + 1) e o h.1 ∙ ap (λ (n : ℕ). Some (n, o)) one)
+    rw (earlier_differs e l.entry h.0) (find_last ls (place + 1) e o self h.1 ∙ ap (λ (n : ℕ). Some (n, o)) one)
 
 find_kept : (list : List Listed) (place : ℕ) (e : Entry) (l : Listed) → entry_index e < entry_index l.entry → find_listed place e (list ++ l ∷ []) ≡ find_listed place e list
 find_kept [] place e l h = rw (later_differs e l.entry h) refl
@@ -141,8 +157,8 @@ module _ (catalog : Catalog) (requests : List Request) (i : ℕ) (list : List Li
     entries_now = map-append (λ (l : Listed). l.entry) list (listed ∷ [])
 
     found_now : find_listed 0 entry (list ++ listed ∷ []) ≡ Some (0 + length list, joins.outcome)
-    unfolding listed
-    found_now = find_last list 0 entry joins.outcome none_before
+    unfolding listed entry
+    found_now = find_last list 0 entry joins.outcome (same_self r.client i r.what) none_before
 
     kept_now : places_in (list ++ listed ∷ []) (asked_up_to i requests) ≡ places_in list (asked_up_to i requests)
     unfolding listed

@@ -16,7 +16,7 @@ use Rattle.std.proofs.lemmas.List.Elements.{All-head}
 use Rattle.ss_value.specs.Rows.{Row}
 use Rattle.ss_value.specs.Order.{row_cmp}
 use Rattle.ss_value.specs.ValueOrder.{row_cmp_total, row_cmp-IsAntisymmetric}
-use Rattle.ss_model.specs.Database.{Table}
+use Rattle.ss_model.specs.Contents.{Table}
 
 -- the map of a tree's entries
 abbrev pub table_of : List (Row × Row) → Table

@@ -11,7 +11,7 @@ use Rattle.std.proofs.lemmas.Option.{get_or_from_slice_get}
 use Rattle.ss_value.specs.Rows.{Row}
 use Rattle.ss_value.specs.Order.{row_cmp}
 use Rattle.ss_value.specs.ValueOrder.{row_cmp_total, row_cmp-IsAntisymmetric}
-use Rattle.ss_model.specs.Database.{Table}
+use Rattle.ss_model.specs.Contents.{Table}
 use Rattle.ss_program.specs.declared.run.tables.Inserted.{Inserted}
 use Rattle.ss_program.specs.RunTables.{without, undone}
 

@@ -4,12 +4,15 @@ pub mod PlainValues
 pub mod PlainTables
 pub mod PlainSteps
 pub mod PlainProcedures
+pub mod PlainAccepted
 pub mod PlainCatalog
 pub mod PlainRequests
 pub mod PlainInput
 pub mod RunCodes
+pub mod RunPlain
 pub mod RunTables
 pub mod RunBodies
+pub mod RunAnswers
 pub mod RunSessions
 pub mod RunExample
 pub mod Statuses

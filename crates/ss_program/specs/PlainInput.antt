@@ -1,7 +1,6 @@
 -- What an input in the plain form says, or why it is refused.
 use Rattle.std.specs.Prelude.{◌≡◌, ℕ, List, [], ◌∷◌, Result, Ok, Err, IfOk}
 use Rattle.std.specs.Option.{ok_or}
-use Rattle.serde_json.specs.Data.{Data}
 use Rattle.ss_lines.specs.declared.line.Line.{Line}
 use Rattle.ss_lines.specs.declared.line.LineError.{LineError}
 use Rattle.ss_lines.specs.declared.line.LineError.TheVariants as cause

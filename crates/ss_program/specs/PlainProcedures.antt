@@ -1,11 +1,13 @@
 -- Procedures as JSON.
-use Rattle.std.specs.Prelude.{ℕ, ◌+◌, List, [], ◌∷◌, map, ◌==◌, ◌&&◌, Bool, false, Option, Some, None, option_map, option_and_then, is_some, codes, if◌then◌else◌}
+use Rattle.std.specs.Prelude.{ℕ, ◌+◌, List, [], ◌==◌, ◌&&◌, Bool, false, Option, Some, None, option_map, option_and_then, is_some, codes, if◌then◌else◌}
 use Rattle.serde_json.specs.Data.{Data}
 use Rattle.serde_json.specs.Find.{get, as_str, as_array}
 use Rattle.ss_value.specs.declared.schema.Column.{Column}
 use Rattle.ss_model.specs.declared.catalog.TableDef.{TableDef}
 use Rattle.ss_model.specs.declared.catalog.Procedure.{Procedure}
-use Rattle.ss_model.specs.Entries.{only_when}
+use Rattle.ss_model.specs.declared.catalog.Kind.TheVariants.{Call as CallKind}
+use Rattle.ss_model.specs.declared.catalog.Touch.TheVariants.{Part}
+use Rattle.ss_model.specs.Database.{only_when}
 use Rattle.ss_program.specs.PlainObjects.{key_count, at_key, read_or, each_item, int_of, is_zero, is_word}
 use Rattle.ss_program.specs.PlainValues.{name_of}
 use Rattle.ss_program.specs.PlainTables.{columns_of, column_names}
@@ -20,14 +22,10 @@ abbrev pub is_part_zero : Option Data → Bool
 is_part_zero None = false
 is_part_zero (Some d) = (key_count d == 1) && is_zero (at_key (codes "part") int_of d)
 
--- the names of tables
-abbrev pub table_names : List TableDef → List (List ℕ)
-table_names = map (λ (d : TableDef). d.name)
-
 -- a procedure of this name and these arguments, with the body of the value
 abbrev pub procedure_from : List TableDef → Data → List ℕ → List Column → Option Procedure
 procedure_from tables d name args =
-    option_map (λ body. record { name = name; args = args; body = body }) (at_key (codes "body") (body_of (table_names tables) (column_names args)) d)
+    option_map (λ body. record { name = name; kind = CallKind; args = args; inputs = []; touch = Part 0; body = body }) (at_key (codes "body") (body_of tables (column_names args)) d)
 
 -- the keys name, kind, touch, body and maybe args, and no others; the kind is call, and what is touched is part 0
 abbrev pub is_call : Data → Bool

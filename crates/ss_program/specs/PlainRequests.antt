@@ -1,5 +1,5 @@
 -- Requests as JSON.
-use Rattle.std.specs.Prelude.{ℕ, List, map, ◌==◌, Bool, true, false, Option, Some, None, option_map, option_and_then, slice_get, codes}
+use Rattle.std.specs.Prelude.{ℕ, List, map, ◌==◌, ◌&&◌, Bool, false, Option, Some, None, option_map, option_and_then, slice_get, codes}
 use Rattle.serde_json.specs.Data.{Data}
 use Rattle.serde_json.specs.Find.{as_array}
 use Rattle.ss_value.specs.declared.value.Value.{Value}
@@ -8,7 +8,7 @@ use Rattle.ss_model.specs.declared.catalog.Procedure.{Procedure}
 use Rattle.ss_model.specs.declared.entry.Asked.{Asked}
 use Rattle.ss_model.specs.declared.entry.Asked.TheVariants.{Call}
 use Rattle.ss_model.specs.declared.entry.Request.{Request}
-use Rattle.ss_model.specs.Entries.{only_when}
+use Rattle.ss_model.specs.Database.{only_when, is_call}
 use Rattle.ss_program.specs.PlainObjects.{key_count, at_key, each_item}
 use Rattle.ss_program.specs.PlainValues.{value_of}
 use Rattle.ss_program.specs.PlainTables.{place_of}
@@ -21,10 +21,10 @@ values_of d = option_and_then (each_item value_of) (as_array d)
 abbrev pub procedure_names : List Procedure → List (List ℕ)
 procedure_names = map (λ (p : Procedure). p.name)
 
--- one value of the right type for each argument
+-- a call procedure, and one value of the right type for each argument
 abbrev pub fits_args : List Value → Option Procedure → Bool
 fits_args values None = false
-fits_args values (Some p) = fits_schema p.args values
+fits_args values (Some p) = is_call p.kind && fits_schema p.args values
 
 -- a call of a procedure by its number, with values that fit it
 abbrev pub call_of : List Procedure → ℕ → List Value → Option Asked

@@ -7,7 +7,8 @@ use Rattle.ss_value.specs.declared.schema.ColType.{ColType}
 use Rattle.ss_value.specs.declared.schema.ColType.TheVariants.{Int, Text}
 use Rattle.ss_value.specs.declared.schema.Column.{Column}
 use Rattle.ss_model.specs.declared.catalog.TableDef.{TableDef}
-use Rattle.ss_model.specs.Entries.{only_when}
+use Rattle.ss_model.specs.declared.catalog.Place.TheVariants.{Part}
+use Rattle.ss_model.specs.Database.{only_when}
 use Rattle.ss_program.specs.PlainNames.{place_in}
 use Rattle.ss_program.specs.PlainObjects.{key_count, at_key, each_item, int_of, is_zero}
 use Rattle.ss_program.specs.PlainValues.{name_of}
@@ -37,6 +38,15 @@ columns_of d = option_and_then (λ cs. only_when (nat_le (length cs) 16) (Some c
 abbrev pub column_names : List Column → List (List ℕ)
 column_names = map (λ (c : Column). c.name)
 
+-- the number of columns of a table
+abbrev pub width : Option TableDef → ℕ
+width None = 0
+width (Some d) = length d.schema
+
+-- the names of tables
+abbrev pub table_names : List TableDef → List (List ℕ)
+table_names = map (λ (d : TableDef). d.name)
+
 -- a text that is one of these names, as its place among them
 abbrev pub place_of : List (List ℕ) → Data → Option ℕ
 place_of names d = option_and_then (place_in names) (as_str d)
@@ -47,7 +57,7 @@ key_of columns d = option_and_then (each_item (place_of (column_names columns)))
 
 -- a table of this name and these columns, with the key of the value
 abbrev pub table_from : Data → List ℕ → List Column → Option TableDef
-table_from d name columns = option_map (λ key. record { name = name; schema = columns; key = key }) (at_key (codes "key") (key_of columns) d)
+table_from d name columns = option_map (λ key. record { name = name; schema = columns; key = key; place = Part 0; indexes = [] }) (at_key (codes "key") (key_of columns) d)
 
 -- an object with the keys name, columns, key and part alone, where part is 0
 abbrev pub table_of : Data → Option TableDef

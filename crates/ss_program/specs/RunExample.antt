@@ -5,8 +5,14 @@ use Rattle.ss_value.specs.declared.value.Value.TheVariants.{Int as IntValue}
 use Rattle.ss_value.specs.declared.schema.ColType.TheVariants.{Int}
 use Rattle.ss_value.specs.declared.schema.Column.{Column}
 use Rattle.ss_model.specs.declared.catalog.TableDef.{TableDef}
-use Rattle.ss_model.specs.declared.catalog.Given.TheVariants.{Value as Written, Arg}
-use Rattle.ss_model.specs.declared.catalog.Step.TheVariants.{Insert, ReturnAll}
+use Rattle.ss_sql_lex.specs.declared.typed.Expr.TheVariants.{Lit, Param}
+use Rattle.ss_sql_lex.specs.declared.typed.SourceId.TheVariants.{Table as FromTable}
+use Rattle.ss_model.specs.declared.catalog.Place.TheVariants.{Part as PlacedAt}
+use Rattle.ss_model.specs.declared.catalog.Kind.TheVariants.{Call as CallKind}
+use Rattle.ss_model.specs.declared.catalog.Touch.TheVariants.{Part}
+use Rattle.ss_model.specs.declared.catalog.Step.TheVariants.{Return}
+use Rattle.ss_model.specs.Queries.{all_columns}
+use Rattle.ss_program.specs.PlainSteps.{insert_into}
 use Rattle.ss_model.specs.declared.catalog.Procedure.{Procedure}
 use Rattle.ss_model.specs.declared.catalog.Catalog.{Catalog}
 use Rattle.ss_model.specs.declared.entry.Asked.TheVariants.{Call as CallAsked}
@@ -23,23 +29,23 @@ int_column name = record { name = name; kind = Int }
 
 -- accounts: an id, which is the key, and a balance
 abbrev pub accounts : TableDef
-accounts = record { name = codes "acct"; schema = int_column (codes "id") ∷ int_column (codes "bal") ∷ []; key = 0 ∷ [] }
+accounts = record { name = codes "acct"; schema = int_column (codes "id") ∷ int_column (codes "bal") ∷ []; key = 0 ∷ []; place = PlacedAt 0; indexes = [] }
 
 -- puts in an account
 abbrev pub put : Procedure
-put = record { name = codes "put"; args = int_column (codes "id") ∷ int_column (codes "bal") ∷ []; body = Insert 0 (Arg 0 ∷ Arg 1 ∷ []) ∷ [] }
+put = record { name = codes "put"; kind = CallKind; inputs = []; touch = Part 0; args = int_column (codes "id") ∷ int_column (codes "bal") ∷ []; body = insert_into 0 (Param 0 ∷ Param 1 ∷ []) ∷ [] }
 
 -- returns all accounts
 abbrev pub all : Procedure
-all = record { name = codes "all"; args = []; body = ReturnAll 0 ∷ [] }
+all = record { name = codes "all"; kind = CallKind; inputs = []; touch = Part 0; args = []; body = Return (all_columns (FromTable 0) 2) ∷ [] }
 
 -- puts in an account with nothing in it, and then again, which always aborts
 abbrev pub twice : Procedure
-twice = record { name = codes "twice"; args = int_column (codes "id") ∷ []; body = Insert 0 (Arg 0 ∷ Written (IntValue (pos 0)) ∷ []) ∷ Insert 0 (Arg 0 ∷ Written (IntValue (pos 0)) ∷ []) ∷ [] }
+twice = record { name = codes "twice"; kind = CallKind; inputs = []; touch = Part 0; args = int_column (codes "id") ∷ []; body = insert_into 0 (Param 0 ∷ Lit (IntValue (pos 0)) ∷ []) ∷ insert_into 0 (Param 0 ∷ Lit (IntValue (pos 0)) ∷ []) ∷ [] }
 
 -- accounts, with the procedures of number 0, 1 and 2
 abbrev pub example_catalog : Catalog
-example_catalog = record { tables = accounts ∷ []; procedures = put ∷ all ∷ twice ∷ []; text = [] }
+example_catalog = record { tables = accounts ∷ []; streams = []; windows = []; triggers = []; procedures = put ∷ all ∷ twice ∷ []; text = [] }
 
 -- a row of Ints
 abbrev pub ints : List ℤ → Row

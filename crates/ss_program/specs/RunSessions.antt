@@ -9,7 +9,7 @@ use Rattle.ss_model.specs.declared.entry.Listed.{Listed}
 use Rattle.ss_model.specs.declared.entry.Request.{Request}
 use Rattle.ss_model.specs.Database.{Database}
 use Rattle.ss_model.specs.Replays.{entry_outcome, database_after}
-use Rattle.ss_model.specs.Requests.{find_listed}
+use Rattle.ss_model.specs.Report.{find_listed}
 
 -- whether each request is client 0's
 abbrev pub one_client : List Request → Bool

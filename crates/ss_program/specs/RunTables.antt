@@ -1,9 +1,15 @@
 -- Tables in which an execution is under way.
-use Rattle.std.specs.Prelude.{List, [], ◌∷◌, slice_set, slice_index_or}
+use Rattle.std.specs.Prelude.{◌≡◌, ℕ, List, [], ◌∷◌, length, slice_get, slice_set, slice_index_or}
+use Rattle.std.specs.List.{AllByRecursion}
 use Rattle.std.specs.FinMap as finmap
-use Rattle.ss_model.specs.Database.{Table, Database}
+use Rattle.ss_value.specs.Rows.{Row}
+use Rattle.ss_model.specs.declared.catalog.Catalog.{Catalog}
+use Rattle.ss_model.specs.Contents.{Table}
+use Rattle.ss_model.specs.Database.{Database, empty_database}
 use Rattle.ss_program.specs.declared.run.tables.Inserted.{Inserted}
 use Rattle.ss_program.specs.declared.run.tables.Tables.{Tables}
+use Rattle.ss_program.specs.PlainTables.{width}
+use Rattle.ss_program.specs.RunPlain.{table_at, table_rows}
 
 -- the tables without a row that was put in
 abbrev pub without : Inserted → List Table → List Table
@@ -14,10 +20,18 @@ abbrev pub undone : List Inserted → List Table → List Table
 undone [] tables = tables
 undone (i ∷ is) tables = without i (undone is tables)
 
--- the database as it is now
-abbrev pub current : Tables → Database
-current t = record { tables = t.stores }
+-- the tables as they are now
+abbrev pub current : Tables → List Table
+current t = t.stores
 
--- the database as it was before the execution
-abbrev pub before : Tables → Database
-before t = record { tables = undone t.inserted t.stores }
+-- the tables as they were before the execution
+abbrev pub before : Tables → List Table
+before t = undone t.inserted t.stores
+
+-- the database of these tables, in which nothing streams
+abbrev pub database_of : Catalog → List Table → Database
+database_of catalog tables = record (empty_database catalog) { contents = record (empty_database catalog).contents { tables = tables } }
+
+-- each row has one value for each column of its table
+abbrev pub FullRows : Catalog → List Table → Type 0
+FullRows catalog tables = (t : ℕ) → AllByRecursion (λ (row : Row). length row ≡ width (slice_get catalog.tables t)) (table_rows (table_at tables t))

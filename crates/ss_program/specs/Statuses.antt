@@ -1,6 +1,6 @@
 -- The numbers of statuses, and what is written at each.
-use Rattle.std.specs.Prelude.{ℕ, List, [], ◌∷◌, ◌++◌, codes}
-use Rattle.serde_json.specs.Data.{Data, string}
+use Rattle.std.specs.Prelude.{ℕ, List, [], ◌∷◌, codes}
+use Rattle.serde_json.specs.Data.{string}
 use Rattle.ss_lines.specs.declared.line.LineError.TheVariants as cause
 use Rattle.ss_model.specs.ReportLines.{array_of, count, line_text}
 use Rattle.ss_program.specs.declared.plain.input.ReadError.{ReadError}

@@ -1,5 +1,5 @@
 -- What the top call promises: the meaning of an input, and what a run tells.
-use Rattle.std.specs.Prelude.{◌≡◌, ◌≤◌, ◌<◌, ◌⊎◌, ◌==◌, ◌&&◌, ℕ, nat_lt, List, [], ◌∷◌, length, take, Bool, true, false, if◌then◌else◌, Result, Ok, Err, Option, IfSome, codes, String, string_bytes}
+use Rattle.std.specs.Prelude.{◌≡◌, ◌≤◌, ◌<◌, ◌⊎◌, ◌==◌, ◌&&◌, ℕ, nat_lt, List, [], ◌∷◌, length, take, Bool, false, if◌then◌else◌, Result, Ok, Err, Option, IfSome, codes, String, string_bytes}
 use Rattle.std.specs.Str.{bytes_eq}
 use Rattle.std.specs.declared.alloc.Global.{Global}
 use Rattle.std.specs.Io.KnownBytes.{Appends, IsAtEnd}
@@ -9,10 +9,11 @@ use Rattle.ss_lines.specs.Lines.{lines_of, max_input}
 use Rattle.ss_model.specs.declared.catalog.Catalog.{Catalog}
 use Rattle.ss_model.specs.declared.entry.Listed.{Listed}
 use Rattle.ss_model.specs.declared.entry.Request.{Request}
+use Rattle.ss_model.specs.Accepted.{Accepted}
 use Rattle.ss_model.specs.Database.{empty_database}
 use Rattle.ss_model.specs.Replays.{Replays}
-use Rattle.ss_model.specs.Requests.{AnswersInOrder}
-use Rattle.ss_model.specs.Report.{report_text}
+use Rattle.ss_model.specs.Report.{Report, Whole}
+use Rattle.ss_program.specs.RunAnswers.{AnswersInOrder}
 use Rattle.ss_program.specs.declared.plain.input.ReadError.{ReadError}
 use Rattle.ss_program.specs.declared.plain.input.ReadError.TheVariants.{Line as OfLine, NotBuilt as NotBuiltAt}
 use Rattle.ss_program.specs.declared.status.Status.{Status}
@@ -66,6 +67,7 @@ pub record EndsAs (status ended : Status) (text : List ℕ) (w : Sunk) : Type 0 
   pub is : ended ≡ status
   pub told : Tells text w
 
+-- the refusal, or no memory for it, was told
 abbrev pub EndsRefused : ReadError → Status → Sunk → Type 0
 EndsRefused refusal ended w = EndsAs (refusal_status refusal) ended (refusal_text refusal) w ⊎ EndsAs NoMemory ended no_memory_text w
 
@@ -94,16 +96,17 @@ pub record IsRefused (input : List ℕ) (status : Status) (w : Sunk) : Type 0 wh
   pub is : refusal_status refusal ≡ status
   pub told : Tells (refusal_text refusal) w
 
--- there is one list that replays from the empty database and answers the requests in order, and the text is its report
+-- the catalogue is accepted, there is one list that replays from the empty database and answers the requests in order, and the text is its report
 pub record IsRun (input text : List ℕ) : Type 0 where
   pub catalog : Catalog
   pub requests : List Request
   pub list : List Listed
   pub read : start_of input ≡ Ok (record { catalog = fields_of catalog; requests = requests })
   pub stored : IsTextOfFirst (lines_of input) catalog.text
+  pub accepted : Accepted catalog
   pub replays : Replays catalog (empty_database catalog) list
   pub in_order : AnswersInOrder requests list
-  pub report : text ≡ report_text catalog requests list (empty_database catalog)
+  pub report : Report catalog requests (empty_database catalog) 0 list Whole text
 
 -- a run whose whole report was written
 pub record IsToldRun (input : List ℕ) (w : Sunk) : Type 0 where

@@ -5,11 +5,12 @@ ghost use Rattle.std.specs.List.{list_all};
 ghost use Rattle.std.specs.Io.KnownBytes.{IsAtEnd};
 ghost use Rattle.ss_lines.specs.Causes.{Rose, TakesAtMost};
 ghost use Rattle.ss_lines.specs.Lines.{lines_of, max_input};
-ghost use Rattle.ss_model.specs.Accepted.{is_accepted};
+ghost use Rattle.ss_program.specs.PlainAccepted.{is_accepted};
+ghost use Rattle.ss_model.specs.Accepted.{Accepted};
 ghost use Rattle.ss_model.specs.Database.{empty_database};
 ghost use Rattle.ss_model.specs.Replays.{Replays};
-ghost use Rattle.ss_model.specs.Requests.{all_fit, AnswersInOrder};
-ghost use Rattle.ss_model.specs.Report.{report_text};
+ghost use Rattle.ss_program.specs.RunAnswers.{all_fit, AnswersInOrder};
+ghost use Rattle.ss_model.specs.Report.{Report, Whole};
 ghost use Rattle.ss_program.specs.PlainInput.{plan_fields, IsTextOfFirst};
 ghost use Rattle.ss_program.specs.Statuses.{usage_text, read_fault_text, no_memory_text};
 ghost use Rattle.ss_program.specs.Top.{is_run, start_of, sunk, Tells, EndsRefused, IsRefusalOf, LeavesAt, IsRefused, IsToldRun, IsCutRun, Empties};
@@ -42,7 +43,8 @@ fn read_input<S: Source>(alloc: Global, source: &mut S) -> Result<Plan, ReadErro
     ensures end { OnOk result (IsAtEnd (S.left source.new)) }
     ensures ok { IfOk result (λ p. IfSome (S.left source.old) (λ input. start_of input ≡ Ok (plan_fields p))) }
     ensures text { IfOk result (λ p. IfSome (S.left source.old) (λ input. IsTextOfFirst (lines_of input) p.catalog.text)) }
-    ensures accepted { IfOk result (λ p. is_accepted p.catalog ≡ true) }
+    ensures kept { IfOk result (λ p. is_accepted p.catalog ≡ true) }
+    ensures accepted { IfOk result (λ p. Accepted p.catalog) }
     ensures fit { IfOk result (λ p. all_fit p.catalog p.requests ≡ true) }
     ensures clients { IfOk result (λ p. list_all (λ r. r.client == 0) p.requests ≡ true) }
     ensures refused { IfErr result (λ e. IfSome (S.left source.old) (λ input. IsRefusalOf input e)) }
@@ -69,7 +71,7 @@ fn run_plan(alloc: Global, plan: &Plan) -> Result<ToldRun, NoMemory>
     requires clients { list_all (λ r. r.client == 0) plan.now.requests ≡ true }
     ensures replays { IfOk result (λ t. Replays plan.now.catalog (empty_database plan.now.catalog) t.list) }
     ensures in_order { IfOk result (λ t. AnswersInOrder plan.now.requests t.list) }
-    ensures text { IfOk result (λ t. t.text ≡ report_text plan.now.catalog plan.now.requests t.list (empty_database plan.now.catalog)) }
+    ensures report { IfOk result (λ t. Report plan.now.catalog plan.now.requests (empty_database plan.now.catalog) 0 t.list Whole t.text) }
 {
     let Session {
         list,
@@ -116,7 +118,8 @@ pub fn sstore<S: Source, K: Sink>(
     ensures input { result ≡ Status.Input → IfSome (S.left source.old) (λ input. IsRefused input Status.Input (sunk (K.written sink.old) (K.written sink.new) (K.faults sink.old) (K.faults sink.new))) }
     ensures not_built { result ≡ Status.NotBuilt → IfSome (S.left source.old) (λ input. IsRefused input Status.NotBuilt (sunk (K.written sink.old) (K.written sink.new) (K.faults sink.old) (K.faults sink.new))) }
 
-    // The headline: the replies and tables are those of one list that replays, and the bytes are its report.
+    // The headline: the catalogue is accepted, the replies and tables are those of one list that replays, and the
+    // bytes are its report.
     ensures done { result ≡ Status.Done → IfSome (S.left source.old) (λ input. IsToldRun input (sunk (K.written sink.old) (K.written sink.new) (K.faults sink.old) (K.faults sink.new))) }
     ensures cut { result ≡ Status.WriteFault → IfSome (S.left source.old) (λ input. IsCutRun input (sunk (K.written sink.old) (K.written sink.new) (K.faults sink.old) (K.faults sink.new))) }
 {

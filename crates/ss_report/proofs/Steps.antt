@@ -8,7 +8,8 @@ use Rattle.std.specs.FinMap.{entries-insert, len-entries, len-empty, put}
 use Rattle.serde_json.specs.Data.{Data}
 use Rattle.ss_value.specs.Rows.{Rows}
 use Rattle.ss_model.specs.declared.catalog.TableDef.{TableDef}
-use Rattle.ss_model.specs.ReportLines.{line_text, lines_text, table_lines, tables_by_name}
+use Rattle.ss_model.specs.ReportLines.{line_text, lines_text}
+use Rattle.ss_report.specs.Told.{rows_lines, rows_by_name}
 
 -- what is left of a list at an item, and what is left behind it
 pub next_item : {A : Type 0} (xs : List A) (k : ℕ) (x : A) → k < length xs → x ≡ get_or xs k x → drop k xs ≡ x ∷ drop (k + 1) xs
@@ -28,13 +29,13 @@ nothing_left : {A : Type 0} (xs : List A) → length xs ≡ 0 → xs ≡ []
 nothing_left [] h = refl
 nothing_left (x ∷ xs) h = absurd (omega arith)
 
-named_once : (def : TableDef) (rows : Rows) → finmap.values (tables_by_name (def ∷ []) (rows ∷ [])) ≡ (def, rows) ∷ []
+named_once : (def : TableDef) (rows : Rows) → finmap.values (rows_by_name (def ∷ []) (rows ∷ [])) ≡ (def, rows) ∷ []
 named_once def rows =
     ap (map (λ e. e.1)) (entries-insert nat_list_cmp_total finmap.empty def.name (def, rows)
     ∙ ap (put (slice_cmp nat_cmp) def.name (def, rows)) (nothing_left _ (sym (len-entries finmap.empty) ∙ len-empty (slice_cmp nat_cmp) (TableDef × Rows))))
 
 -- one table alone is all tables
-pub one_table : (defs : List TableDef) (def : TableDef) (rows : Rows) → defs ≡ def ∷ [] → flat_map (λ t. table_lines t.0 t.1) (finmap.values (tables_by_name defs (rows ∷ []))) ≡ table_lines def rows
+pub one_table : (defs : List TableDef) (def : TableDef) (rows : Rows) → defs ≡ def ∷ [] → flat_map (λ t. rows_lines t.0 t.1) (finmap.values (rows_by_name defs (rows ∷ []))) ≡ rows_lines def rows
 one_table defs def rows e = rw (e, named_once def rows, append-nil) refl
 
 -- the four parts are the whole

@@ -1,8 +1,8 @@
 //! The whole report.
 
 ghost use Rattle.std.specs.Prelude.{◌≡◌, ◌++◌, IfOk, OnOk, length};
-ghost use Rattle.ss_model.specs.ReportLines.{list_lines, table_lines, tables_lines, lines_text};
-ghost use Rattle.ss_report.specs.Told.{told_replies, told_text};
+ghost use Rattle.ss_model.specs.ReportLines.{list_lines, lines_text};
+ghost use Rattle.ss_report.specs.Told.{told_replies, rows_lines, told_text};
 
 use crate::lines::{done_json, entry_json, reply_json, table_json, table_row_json};
 use crate::write::append_line;
@@ -52,7 +52,7 @@ fn append_table(
     rows: &[Row],
     out: &mut Vec<u8>,
 ) -> Result<(), NoMemory>
-    ensures { OnOk result (out.new.items ≡ out.old.items ++ lines_text (table_lines def.now rows.now)) }
+    ensures { OnOk result (out.new.items ≡ out.old.items ++ lines_text (rows_lines def.now rows.now)) }
 {
     let name = def.name.as_str();
     let head = table_json(alloc, name, rows.len() as u64)?;

@@ -1,10 +1,10 @@
 //! Values, rows and outcomes as JSON.
 
-ghost use Rattle.std.specs.Prelude.{◌≡◌, IfOk, map};
+ghost use Rattle.std.specs.Prelude.{◌≡◌, [], ◌∷◌, codes, IfOk, map};
 ghost use Rattle.serde_json.specs.Data.{string};
 ghost use Rattle.serde_json.specs.View.{view};
 ghost use Rattle.ss_model.specs.declared.entry.Outcome.TheVariants.{Aborted};
-ghost use Rattle.ss_model.specs.ReportLines.{array_of, value_data, row_data, rows_data, outcome_data, table_name};
+ghost use Rattle.ss_model.specs.ReportLines.{array_of, value_data, row_data, rows_data, outcome_data, table_name, stream_name, window_name, procedure_name};
 
 use serde_json::{Value as Json, json};
 use ss_model::catalog::Catalog;
@@ -45,7 +45,7 @@ pub fn rows_json(alloc: Global, rows: &[Row]) -> Result<Json, AllocError>
 }
 
 /// The name of a table, and nothing for a number that no table has.
-fn name_of(catalog: &Catalog, table: u16) -> &str
+fn table_name(catalog: &Catalog, table: u16) -> &str
     ensures { string result.now ≡ table_name catalog.now table }
 {
     match catalog.tables.get(table as usize) {
@@ -54,19 +54,65 @@ fn name_of(catalog: &Catalog, table: u16) -> &str
     }
 }
 
+/// The name of a stream, and nothing for a number that no stream has.
+fn stream_name(catalog: &Catalog, stream: u16) -> &str
+    ensures { string result.now ≡ stream_name catalog.now stream }
+{
+    match catalog.streams.get(stream as usize) {
+        Some(def) => def.name.as_str(),
+        None => "",
+    }
+}
+
+/// The name of a window, and nothing for a number that no window has.
+fn window_name(catalog: &Catalog, window: u16) -> &str
+    ensures { string result.now ≡ window_name catalog.now window }
+{
+    match catalog.windows.get(window as usize) {
+        Some(def) => def.name.as_str(),
+        None => "",
+    }
+}
+
+/// The name of a procedure, and nothing for a number that no procedure has.
+pub fn procedure_name(catalog: &Catalog, procedure: u16) -> &str
+    ensures { string result.now ≡ procedure_name catalog.now procedure }
+{
+    match catalog.procedures.get(procedure as usize) {
+        Some(called) => called.name.as_str(),
+        None => "",
+    }
+}
+
+/// An abort that is of nothing else.
+fn plain_abort(alloc: Global, reason: &str) -> Result<Json, AllocError>
+    ensures { IfOk result (λ v. view v ≡ array_of (string (codes "aborted") ∷ string reason.now ∷ [])) }
+{
+    json!(in alloc; ["aborted", reason])
+}
+
+/// An abort that is of a table, a stream or a window.
+fn abort_of(alloc: Global, reason: &str, name: &str) -> Result<Json, AllocError>
+    ensures { IfOk result (λ v. view v ≡ array_of (string (codes "aborted") ∷ string reason.now ∷ string name.now ∷ [])) }
+{
+    json!(in alloc; ["aborted", reason, name])
+}
+
 fn aborted_json(alloc: Global, catalog: &Catalog, reason: Reason) -> Result<Json, AllocError>
     ensures { IfOk result (λ v. view v ≡ outcome_data catalog.now (Aborted reason)) }
 {
     match reason {
-        Reason::KeyTaken(table) => {
-            let name = name_of(catalog, table);
-            json!(in alloc; ["aborted", "key_taken", name])
-        }
-        Reason::TableFull(table) => {
-            let name = name_of(catalog, table);
-            json!(in alloc; ["aborted", "table_full", name])
-        }
-        Reason::ReplyFull => json!(in alloc; ["aborted", "reply_full"]),
+        Reason::Raised(code) => json!(in alloc; ["aborted", "raised", code]),
+        Reason::KeyTaken(table) => abort_of(alloc, "key_taken", table_name(catalog, table)),
+        Reason::Overflow => plain_abort(alloc, "overflow"),
+        Reason::DivideByZero => plain_abort(alloc, "divide_by_zero"),
+        Reason::NotOneRow => plain_abort(alloc, "not_one_row"),
+        Reason::EmptyAggregate => plain_abort(alloc, "empty_aggregate"),
+        Reason::TextTooLong => plain_abort(alloc, "text_too_long"),
+        Reason::TableFull(table) => abort_of(alloc, "table_full", table_name(catalog, table)),
+        Reason::BatchFull(stream) => abort_of(alloc, "batch_full", stream_name(catalog, stream)),
+        Reason::ReplyFull => plain_abort(alloc, "reply_full"),
+        Reason::WindowFull(window) => abort_of(alloc, "window_full", window_name(catalog, window)),
     }
 }
 
@@ -80,5 +126,13 @@ pub fn outcome_json(alloc: Global, catalog: &Catalog, outcome: &Outcome) -> Resu
             json!(in alloc; ["done", rows])
         }
         Outcome::Aborted(reason) => aborted_json(alloc, catalog, *reason),
+        Outcome::Duplicate(next) => {
+            let next = *next;
+            json!(in alloc; ["duplicate", next])
+        }
+        Outcome::Gap(next) => {
+            let next = *next;
+            json!(in alloc; ["gap", next])
+        }
     }
 }

@@ -5,7 +5,8 @@ ghost use Rattle.serde_json.specs.Data.{depth};
 ghost use Rattle.serde_json.specs.Find.{get, as_array};
 ghost use Rattle.serde_json.specs.Read.{max_depth};
 ghost use Rattle.serde_json.specs.View.{view};
-ghost use Rattle.ss_model.specs.Accepted.{is_accepted};
+ghost use Rattle.ss_model.specs.Accepted.{Accepted};
+ghost use Rattle.ss_program.specs.PlainAccepted.{is_accepted};
 ghost use Rattle.ss_program.specs.PlainObjects.{at_key, read_or};
 ghost use Rattle.ss_program.specs.PlainProcedures.{procedures_of};
 ghost use Rattle.ss_program.specs.PlainCatalog.{CatalogFields, fields_of, tables_of, fields_from, shape_of, catalog_of, IsCompactTextOf};
@@ -72,6 +73,9 @@ fn shape_of(alloc: Global, value: &Json) -> Result<Option<Catalog>, NoMemory>
     match procedures_at(alloc, tables.as_slice(), value)? {
         Some(procedures) => Ok(Some(Catalog {
             tables,
+            streams: Seq::new(alloc),
+            windows: Seq::new(alloc),
+            triggers: Seq::new(alloc),
             procedures,
             text: Seq::new(alloc),
         })),
@@ -89,7 +93,8 @@ fn text_of(alloc: Global, value: &Json) -> Result<Seq<u8>, NoMemory>
     }
 }
 
-/// The catalogue that a value is, and None exactly where it isn't in the plain form or breaks a rule.
+/// The catalogue that a value is, and None exactly where it isn't in the plain form or breaks a rule. One that keeps
+/// the rules of this form is accepted, as the model says of any catalogue.
 ///
 /// Its text is the value's, compact. Linear in the value, times the 64 procedures, 32 steps and 16 columns
 /// that a catalogue may have. Fails only for want of memory.
@@ -97,7 +102,8 @@ pub fn catalog_of(alloc: Global, value: &Json) -> Result<Option<Catalog>, NoMemo
     requires { depth (view value.now) ≤ max_depth }
     ensures fields { IfOk result (λ o. option_map fields_of o ≡ catalog_of (view value.now)) }
     ensures text { IfOk result (λ o. IfSome o (λ c. IsCompactTextOf (view value.now) c.text)) }
-    ensures accepted { IfOk result (λ o. IfSome o (λ c. is_accepted c ≡ true)) }
+    ensures kept { IfOk result (λ o. IfSome o (λ c. is_accepted c ≡ true)) }
+    ensures accepted { IfOk result (λ o. IfSome o Accepted) }
 {
     let Some(catalog) = shape_of(alloc, value)? else {
         return Ok(None);
@@ -107,12 +113,18 @@ pub fn catalog_of(alloc: Global, value: &Json) -> Result<Option<Catalog>, NoMemo
     }
     let Catalog {
         tables,
+        streams,
+        windows,
+        triggers,
         procedures,
         text: _,
     } = catalog;
     let text = text_of(alloc, value)?;
     Ok(Some(Catalog {
         tables,
+        streams,
+        windows,
+        triggers,
         procedures,
         text,
     }))

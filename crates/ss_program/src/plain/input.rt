@@ -3,8 +3,9 @@
 ghost use Rattle.std.specs.Prelude.{◌≡◌, ◌≤◌, ◌==◌, length, IfOk, IfErr, Ok, true};
 ghost use Rattle.std.specs.List.{list_all};
 ghost use Rattle.serde_json.specs.View.{view};
-ghost use Rattle.ss_model.specs.Accepted.{is_accepted};
-ghost use Rattle.ss_model.specs.Requests.{all_fit};
+ghost use Rattle.ss_model.specs.Accepted.{Accepted};
+ghost use Rattle.ss_program.specs.PlainAccepted.{is_accepted};
+ghost use Rattle.ss_program.specs.RunAnswers.{all_fit};
 ghost use Rattle.ss_lines.specs.Json.{value_at};
 ghost use Rattle.ss_program.specs.PlainCatalog.{fields_of, IsCompactTextOf};
 ghost use Rattle.ss_program.specs.PlainInput.{plan_fields, catalog_at, request_at, requests_at, input_of, IsTextOfFirst, RefusesAs, IsPlainRefusal};
@@ -45,7 +46,8 @@ fn not_built(line: &Line) -> ReadError
 fn read_catalog(alloc: Global, line: &Line) -> Result<Catalog, ReadError>
     ensures ok { IfOk result (λ c. catalog_at line.now ≡ Ok (fields_of c)) }
     ensures text { IfOk result (λ c. IfOk (value_at line.now) (λ d. IsCompactTextOf d c.text)) }
-    ensures accepted { IfOk result (λ c. is_accepted c ≡ true) }
+    ensures kept { IfOk result (λ c. is_accepted c ≡ true) }
+    ensures accepted { IfOk result Accepted }
     ensures err { IfErr result (RefusesAs (catalog_at line.now)) }
     ensures others { IfErr result IsPlainRefusal }
 {
@@ -108,7 +110,8 @@ fn read_requests(
 pub fn read_plain(alloc: Global, lines: &[Line]) -> Result<Plan, ReadError>
     ensures ok { IfOk result (λ p. input_of lines.now ≡ Ok (plan_fields p)) }
     ensures text { IfOk result (λ p. IsTextOfFirst lines.now p.catalog.text) }
-    ensures accepted { IfOk result (λ p. is_accepted p.catalog ≡ true) }
+    ensures kept { IfOk result (λ p. is_accepted p.catalog ≡ true) }
+    ensures accepted { IfOk result (λ p. Accepted p.catalog) }
     ensures fit { IfOk result (λ p. all_fit p.catalog p.requests ≡ true) }
     ensures clients { IfOk result (λ p. list_all (λ r. r.client == 0) p.requests ≡ true) }
     ensures err { IfErr result (RefusesAs (input_of lines.now)) }

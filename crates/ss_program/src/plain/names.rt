@@ -3,7 +3,7 @@
 ghost use Rattle.std.specs.Prelude.{◌≡◌, ◌<◌, ◌≤◌, length, map, IfSome, List, ℕ};
 ghost use Rattle.std.specs.List.{list_any};
 ghost use Rattle.std.specs.Str.{bytes_eq};
-ghost use Rattle.ss_model.specs.Accepted.{are_distinct_names};
+ghost use Rattle.ss_program.specs.PlainAccepted.{are_distinct_names};
 ghost use Rattle.ss_program.specs.PlainNames.{place_in};
 
 use ss_model::catalog::{Procedure, TableDef};
@@ -59,7 +59,8 @@ pub fn place_of<T: Named>(items: &[T], name: &str) -> Option<usize>
 /// The place of the first item of this name, among few. Linear in the items.
 pub fn number_of<T: Named>(items: &[T], name: &str) -> Option<u16>
     requires { length items.now ≤ 64 }
-    ensures { result ≡ place_in (map T.name items.now) name.now }
+    ensures place { result ≡ place_in (map T.name items.now) name.now }
+    ensures within { IfSome result (λ n. n < 64) }
 {
     let place = place_of(items, name)?;
     Some(place as u16)

@@ -6,13 +6,13 @@ ghost use Rattle.serde_json.specs.Find.{get, as_array};
 ghost use Rattle.ss_program.specs.PlainObjects.{at_key, each_item, read_or};
 ghost use Rattle.ss_program.specs.PlainTables.{column_names, columns_of};
 ghost use Rattle.ss_program.specs.PlainSteps.{body_of};
-ghost use Rattle.ss_program.specs.PlainProcedures.{key_present, is_part_zero, table_names, procedure_from, is_call, procedure_of, procedures_of};
+ghost use Rattle.ss_program.specs.PlainProcedures.{key_present, is_part_zero, procedure_from, is_call, procedure_of, procedures_of};
 
 use crate::plain::objects::{has_word, has_zero, key_count, name_at};
 use crate::plain::steps::each_step;
 use crate::plain::tables::columns_of;
 use serde_json::Value as Json;
-use ss_model::catalog::{Procedure, Step, TableDef};
+use ss_model::catalog::{Kind, Procedure, Step, TableDef, Touch};
 use ss_value::NoMemory;
 use ss_value::schema::{Column, Schema};
 use ss_value::seq::Seq;
@@ -64,7 +64,7 @@ fn body_at(
 ) -> Result<Option<Seq<Step>>, NoMemory>
     requires tables { length tables.now ≤ 64 }
     requires args { length args.now ≤ 64 }
-    ensures { IfOk result (λ o. o ≡ at_key (codes "body") (body_of (table_names tables.now) (column_names args.now)) (view value.now)) }
+    ensures { IfOk result (λ o. o ≡ at_key (codes "body") (body_of tables.now (column_names args.now)) (view value.now)) }
 {
     let Some(found) = value.get("body") else {
         return Ok(None);
@@ -87,7 +87,14 @@ fn procedure_from(
     ensures { IfOk result (λ o. o ≡ procedure_from tables.now (view value.now) name args) }
 {
     match body_at(alloc, tables, args.as_slice(), value)? {
-        Some(body) => Ok(Some(Procedure { name, args, body })),
+        Some(body) => Ok(Some(Procedure {
+            name,
+            kind: Kind::Call,
+            args,
+            inputs: Seq::new(alloc),
+            touch: Touch::Part(0),
+            body,
+        })),
         None => Ok(None),
     }
 }

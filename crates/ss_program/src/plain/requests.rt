@@ -6,6 +6,7 @@ ghost use Rattle.ss_program.specs.PlainObjects.{at_key, each_item};
 ghost use Rattle.ss_program.specs.PlainValues.{value_of};
 ghost use Rattle.ss_program.specs.PlainRequests.{values_of, fits_args, call_of, asked_of, request_of};
 
+use crate::plain::accepted::is_call;
 use crate::plain::objects::{key_count, value_from};
 use crate::plain::steps::place_at;
 use serde_json::Value as Json;
@@ -48,7 +49,7 @@ fn fits_args(procedure: Option<&Procedure>, values: &Row) -> bool
     ensures { result ≡ fits_args values.now (option_map (λ p. p.now) procedure.entry) }
 {
     match procedure {
-        Some(procedure) => fits(&procedure.args, values),
+        Some(procedure) => is_call(procedure.kind) && fits(&procedure.args, values),
         None => false,
     }
 }

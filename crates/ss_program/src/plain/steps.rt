@@ -1,18 +1,20 @@
 //! The steps of a body as JSON.
 
-ghost use Rattle.std.specs.Prelude.{◌≡◌, ◌≤◌, length, IfOk, codes, map, option_map, option_and_then};
+ghost use Rattle.std.specs.Prelude.{◌≡◌, ◌≤◌, ◌<◌, length, IfOk, IfSome, codes, map, option_map, option_and_then};
 ghost use Rattle.serde_json.specs.View.{view, items_view};
 ghost use Rattle.serde_json.specs.Find.{as_str, as_array};
+ghost use Rattle.std.specs.List.{range_with_len};
+ghost use Rattle.ss_model.specs.Queries.{column_item, all_columns};
 ghost use Rattle.ss_program.specs.PlainNames.{place_in};
 ghost use Rattle.ss_program.specs.PlainObjects.{at_key, each_item};
-ghost use Rattle.ss_program.specs.PlainTables.{place_of, column_names};
-ghost use Rattle.ss_program.specs.PlainSteps.{argument_of, given_of, givens_of, insert_of, return_of, step_of, body_of};
-ghost use Rattle.ss_program.specs.PlainProcedures.{table_names};
+ghost use Rattle.ss_program.specs.PlainTables.{place_of, column_names, table_names, width};
+ghost use Rattle.ss_program.specs.PlainSteps.{argument_of, given_of, givens_of, insert_of, return_all, return_of, step_of, body_of};
 
 use crate::plain::names::{Named, number_of};
 use crate::plain::objects::{key_count, value_from};
 use serde_json::Value as Json;
-use ss_model::catalog::{Given, Step, TableDef};
+use ss_model::catalog::{Step, TableDef};
+use ss_sql_lex::typed::{Expr, Item, Query, SourceId, Statement, Target};
 use ss_value::NoMemory;
 use ss_value::schema::Column;
 use ss_value::seq::Seq;
@@ -21,7 +23,8 @@ use std::alloc::Global;
 /// The place of the item that the text at a key names. Linear in the items.
 pub fn place_at<T: Named>(items: &[T], value: &Json, key: &str) -> Option<u16>
     requires { length items.now ≤ 64 }
-    ensures { result ≡ at_key key.now (place_of (map T.name items.now)) (view value.now) }
+    ensures place { result ≡ at_key key.now (place_of (map T.name items.now)) (view value.now) }
+    ensures within { IfSome result (λ n. n < 64) }
 {
     let found = value.get(key)?;
     match found.as_str() {
@@ -30,7 +33,7 @@ pub fn place_at<T: Named>(items: &[T], value: &Json, key: &str) -> Option<u16>
     }
 }
 
-fn argument_of(args: &[Column], value: &Json) -> Option<Given>
+fn argument_of(args: &[Column], value: &Json) -> Option<Expr>
     requires { length args.now ≤ 64 }
     ensures { result ≡ argument_of (column_names args.now) (view value.now) }
 {
@@ -38,24 +41,20 @@ fn argument_of(args: &[Column], value: &Json) -> Option<Given>
         return None;
     }
     let place = place_at(args, value, "arg")?;
-    Some(Given::Arg(place))
+    Some(Expr::Param(place as u8))
 }
 
-fn given_of(alloc: Global, args: &[Column], value: &Json) -> Result<Option<Given>, NoMemory>
+fn given_of(alloc: Global, args: &[Column], value: &Json) -> Result<Option<Expr>, NoMemory>
     requires { length args.now ≤ 64 }
     ensures { IfOk result (λ o. o ≡ given_of (column_names args.now) (view value.now)) }
 {
     match value_from(alloc, value)? {
-        Some(written) => Ok(Some(Given::Value(written))),
+        Some(written) => Ok(Some(Expr::Lit(written))),
         None => Ok(argument_of(args, value)),
     }
 }
 
-fn each_given(
-    alloc: Global,
-    args: &[Column],
-    items: &[Json],
-) -> Result<Option<Seq<Given>>, NoMemory>
+fn each_given(alloc: Global, args: &[Column], items: &[Json]) -> Result<Option<Seq<Expr>>, NoMemory>
     requires { length args.now ≤ 64 }
     ensures { IfOk result (λ o. o ≡ each_item (given_of (column_names args.now)) (items_view items.now)) }
 {
@@ -71,7 +70,7 @@ fn each_given(
     Ok(Some(values))
 }
 
-fn givens_at(alloc: Global, args: &[Column], value: &Json) -> Result<Option<Seq<Given>>, NoMemory>
+fn givens_at(alloc: Global, args: &[Column], value: &Json) -> Result<Option<Seq<Expr>>, NoMemory>
     requires { length args.now ≤ 64 }
     ensures { IfOk result (λ o. o ≡ at_key (codes "values") (givens_of (column_names args.now)) (view value.now)) }
 {
@@ -101,20 +100,77 @@ fn insert_of(
         return Ok(None);
     };
     match givens_at(alloc, args, value)? {
-        Some(values) => Ok(Some(Step::Insert { table, values })),
+        Some(values) => Ok(Some(Step::Sql(Statement::InsertValues {
+            target: Target::Table(table),
+            values,
+        }))),
         None => Ok(None),
     }
 }
 
-fn return_of(tables: &[TableDef], value: &Json) -> Option<Step>
+/// The columns of a source by themselves, from the first on: linear in them.
+fn column_items(alloc: Global, count: u8) -> Result<Seq<Item>, NoMemory>
+    ensures { IfOk result (λ items. items ≡ map column_item (range_with_len 0 count)) }
+{
+    let mut items = Seq::new(alloc);
+    for column in 0..count {
+        if items
+            .push(Item::Plain(Expr::Col { source: 0, column }))
+            .is_err()
+        {
+            return Err(NoMemory);
+        }
+    }
+    Ok(items)
+}
+
+/// The query of all columns of a source, with no clause. Linear in the columns.
+pub fn all_columns(alloc: Global, from: SourceId, count: u8) -> Result<Query, NoMemory>
+    ensures { IfOk result (λ q. q ≡ all_columns from count) }
+{
+    let items = column_items(alloc, count)?;
+    Ok(Query {
+        items,
+        from,
+        joined: None,
+        test: None,
+        groups: Seq::new(alloc),
+        order: Seq::new(alloc),
+        limit: None,
+    })
+}
+
+fn width_of(table: Option<&TableDef>) -> usize
+    ensures { result ≡ width (option_map (λ t. t.now) table.entry) }
+{
+    match table {
+        Some(def) => def.schema.len(),
+        None => 0,
+    }
+}
+
+fn return_all(alloc: Global, tables: &[TableDef], table: u16) -> Result<Option<Step>, NoMemory>
+    ensures { IfOk result (λ o. o ≡ return_all tables.now table) }
+{
+    let count = width_of(tables.get(table as usize));
+    if count > 16 {
+        return Ok(None);
+    }
+    let query = all_columns(alloc, SourceId::Table(table), count as u8)?;
+    Ok(Some(Step::Return(query)))
+}
+
+fn return_of(alloc: Global, tables: &[TableDef], value: &Json) -> Result<Option<Step>, NoMemory>
     requires { length tables.now ≤ 64 }
-    ensures { result ≡ return_of (table_names tables.now) (view value.now) }
+    ensures { IfOk result (λ o. o ≡ return_of tables.now (view value.now)) }
 {
     if key_count(value) != 1 {
-        return None;
+        return Ok(None);
     }
-    let table = place_at(tables, value, "return_all")?;
-    Some(Step::ReturnAll(table))
+    match place_at(tables, value, "return_all") {
+        Some(table) => return_all(alloc, tables, table),
+        None => Ok(None),
+    }
 }
 
 fn step_of(
@@ -125,11 +181,11 @@ fn step_of(
 ) -> Result<Option<Step>, NoMemory>
     requires tables { length tables.now ≤ 64 }
     requires args { length args.now ≤ 64 }
-    ensures { IfOk result (λ o. o ≡ step_of (table_names tables.now) (column_names args.now) (view value.now)) }
+    ensures { IfOk result (λ o. o ≡ step_of tables.now (column_names args.now) (view value.now)) }
 {
     match insert_of(alloc, tables, args, value)? {
         Some(step) => Ok(Some(step)),
-        None => Ok(return_of(tables, value)),
+        None => return_of(alloc, tables, value),
     }
 }
 
@@ -143,7 +199,7 @@ pub fn each_step(
 ) -> Result<Option<Seq<Step>>, NoMemory>
     requires tables { length tables.now ≤ 64 }
     requires args { length args.now ≤ 64 }
-    ensures { IfOk result (λ o. o ≡ each_item (step_of (table_names tables.now) (column_names args.now)) (items_view items.now)) }
+    ensures { IfOk result (λ o. o ≡ each_item (step_of tables.now (column_names args.now)) (items_view items.now)) }
 {
     let mut body = Seq::new(alloc);
     for value in items {

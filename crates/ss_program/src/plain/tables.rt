@@ -10,7 +10,7 @@ ghost use Rattle.ss_program.specs.PlainTables.{kind_of, column_pair, column_of, 
 use crate::plain::names::column_number;
 use crate::plain::objects::{has_zero, key_count, name_at, name_from};
 use serde_json::Value as Json;
-use ss_model::catalog::TableDef;
+use ss_model::catalog::{Place, TableDef};
 use ss_value::NoMemory;
 use ss_value::schema::{ColType, Column, Schema};
 use ss_value::seq::Seq;
@@ -164,7 +164,13 @@ fn table_from(
     ensures { IfOk result (λ o. o ≡ table_from (view value.now) name schema) }
 {
     match key_at(alloc, schema.as_slice(), value)? {
-        Some(key) => Ok(Some(TableDef { name, schema, key })),
+        Some(key) => Ok(Some(TableDef {
+            name,
+            schema,
+            key,
+            place: Place::Part(0),
+            indexes: Seq::new(alloc),
+        })),
         None => Ok(None),
     }
 }

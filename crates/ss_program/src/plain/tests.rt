@@ -355,7 +355,9 @@ fn plan(rt: HostRuntime) -> Result<(), Fail> {
     assert_eq!(rt; plan.requests.len(), 1);
     let request = plan.requests.get(0).ok_or("no request")?;
     assert_eq!(rt; (request.line, request.client), (3, 0));
-    let Asked::Call { procedure, args } = &request.what;
+    let Asked::Call { procedure, args } = &request.what else {
+        return Err("a push".into());
+    };
     assert_eq!(rt; *procedure, 0);
     assert_eq!(rt; args.len(), 1);
     match args.get(0) {

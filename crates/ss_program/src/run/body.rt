@@ -1,19 +1,21 @@
 //! The steps of a procedure's body.
 
-ghost use Rattle.std.specs.Prelude.{◌≡◌, ◌<◌, [], length, true, IfOk, OnOk, IfErr, OnErr, Ok, Err};
+ghost use Rattle.std.specs.Prelude.{◌≡◌, ◌<◌, List, [], length, true, IfOk, OnOk, IfErr, OnErr, Ok, Err};
 ghost use Rattle.std.specs.List.{list_all};
 ghost use Rattle.ss_value.specs.Rows.{Rows};
-ghost use Rattle.ss_model.specs.Database.{Database, table_rows};
+ghost use Rattle.ss_model.specs.Contents.{Table};
+ghost use Rattle.ss_program.specs.RunPlain.{table_rows};
 ghost use Rattle.ss_model.specs.Results.{try_fold};
-ghost use Rattle.ss_model.specs.Bodies.{insert_row, reply_rows, execute_step, run_body, body_result};
+ghost use Rattle.ss_program.specs.RunPlain.{insert_row, reply_rows, plain_statement, source_number, plain_step, run_plain, plain_result};
 ghost use Rattle.ss_program.specs.RunTables.{current, before};
-ghost use Rattle.ss_program.specs.RunBodies.{names_table, execution, StopsAs};
+ghost use Rattle.ss_program.specs.RunBodies.{names_target, names_table, execution, StopsAs};
 
 use crate::run::store::RowStore;
 use crate::run::tables::Tables;
 use crate::run::values::{given_row, row_key};
 use ss_model::catalog::{Catalog, Step};
 use ss_model::entry::{Outcome, Reason};
+use ss_sql_lex::typed::{SourceId, Statement, Target};
 use ss_value::NoMemory;
 use ss_value::seq::Seq;
 use ss_value::value::{Row, Rows};
@@ -73,14 +75,55 @@ fn insert_row(
 
 /// Adds copies of a table's rows to the reply: linear in them.
 fn reply_rows(alloc: Global, store: &RowStore, reply: &mut Rows) -> Result<(), Stop>
-    ensures done { OnOk result ((db : Database) → reply_rows (table_rows store.now) (record { db = db; reply = reply.old }) ≡ Ok (record { db = db; reply = reply.new })) }
-    ensures stops { IfErr result (λ stop. (db : Database) → StopsAs (reply_rows (table_rows store.now) (record { db = db; reply = reply.old })) stop) }
+    ensures done { OnOk result ((tables : List Table) → reply_rows (table_rows store.now) (record { tables = tables; reply = reply.old }) ≡ Ok (record { tables = tables; reply = reply.new })) }
+    ensures stops { IfErr result (λ stop. (tables : List Table) → StopsAs (reply_rows (table_rows store.now) (record { tables = tables; reply = reply.old })) stop) }
 {
     if reply.len().saturating_add(store.len()) > REPLY_ROWS {
         return Err(Stop::Abort(Reason::ReplyFull));
     }
     store.copy_rows(alloc, reply)?;
     Ok(())
+}
+
+/// Runs a statement, which puts a row into a table: logarithmic in the table's rows.
+fn execute_statement(
+    alloc: Global,
+    catalog: &Catalog,
+    args: &Row,
+    statement: &Statement,
+    tables: &mut Tables,
+) -> Result<(), Stop>
+    requires named { names_target (length tables.old.stores) statement.now ≡ true }
+    ensures done { OnOk result ((reply : Rows) → plain_statement catalog.now args.now statement.now (execution tables.old reply) ≡ Ok (execution tables.new reply)) }
+    ensures stops { IfErr result (λ stop. (reply : Rows) → StopsAs (plain_statement catalog.now args.now statement.now (execution tables.old reply)) stop) }
+    ensures before { before tables.new ≡ before tables.old }
+    ensures count { length tables.new.stores ≡ length tables.old.stores }
+{
+    match statement {
+        Statement::InsertValues { target, values } => match target {
+            Target::Table(table) => {
+                let row = given_row(alloc, args, values.as_slice())?;
+                insert_row(alloc, catalog, *table, row, tables)?;
+                Ok(())
+            }
+            Target::Window(_) => Ok(()),
+        },
+        Statement::InsertQuery { .. } => Ok(()),
+        Statement::Update { .. } => Ok(()),
+        Statement::Delete { .. } => Ok(()),
+    }
+}
+
+/// The number of the table that is a source, and 0 of another source.
+fn source_number(source: SourceId) -> u16
+    ensures { result ≡ source_number source }
+{
+    match source {
+        SourceId::Table(table) => table,
+        SourceId::Window(_) => 0,
+        SourceId::Batch(_) => 0,
+        SourceId::Inserted => 0,
+    }
 }
 
 /// Runs a step: logarithmic in the rows of its table, or linear in the rows that it returns.
@@ -93,17 +136,20 @@ fn execute_step(
     reply: &mut Rows,
 ) -> Result<(), Stop>
     requires named { names_table (length tables.old.stores) step.now ≡ true }
-    ensures done { OnOk result (execute_step catalog.now args.now step.now (execution tables.old reply.old) ≡ Ok (execution tables.new reply.new)) }
-    ensures stops { IfErr result (StopsAs (execute_step catalog.now args.now step.now (execution tables.old reply.old))) }
+    ensures done { OnOk result (plain_step catalog.now args.now step.now (execution tables.old reply.old) ≡ Ok (execution tables.new reply.new)) }
+    ensures stops { IfErr result (StopsAs (plain_step catalog.now args.now step.now (execution tables.old reply.old))) }
     ensures before { before tables.new ≡ before tables.old }
     ensures count { length tables.new.stores ≡ length tables.old.stores }
 {
     match step {
-        Step::Insert { table, values } => {
-            let row = given_row(alloc, args, values.as_slice())?;
-            insert_row(alloc, catalog, *table, row, tables)?;
+        Step::Sql(statement) => execute_statement(alloc, catalog, args, statement, tables)?,
+        Step::Return(query) => {
+            let number = source_number(query.from);
+            reply_rows(alloc, tables.table(number), reply)?
         }
-        Step::ReturnAll(table) => reply_rows(alloc, tables.table(*table), reply)?,
+        Step::AbortIf { .. } => {}
+        Step::ForEach { .. } => {}
+        Step::Emit { .. } => {}
     }
     Ok(())
 }
@@ -118,8 +164,8 @@ fn execute_steps(
     reply: &mut Rows,
 ) -> Result<(), Stop>
     requires named { list_all (names_table (length tables.old.stores)) steps.now ≡ true }
-    ensures done { OnOk result (try_fold (execute_step catalog.now args.now) steps.now (execution tables.old reply.old) ≡ Ok (execution tables.new reply.new)) }
-    ensures stops { IfErr result (StopsAs (try_fold (execute_step catalog.now args.now) steps.now (execution tables.old reply.old))) }
+    ensures done { OnOk result (try_fold (plain_step catalog.now args.now) steps.now (execution tables.old reply.old) ≡ Ok (execution tables.new reply.new)) }
+    ensures stops { IfErr result (StopsAs (try_fold (plain_step catalog.now args.now) steps.now (execution tables.old reply.old))) }
     ensures before { before tables.new ≡ before tables.old }
     ensures count { length tables.new.stores ≡ length tables.old.stores }
 {
@@ -141,7 +187,7 @@ pub fn run_body(
 ) -> Result<Outcome, NoMemory>
     requires named { list_all (names_table (length tables.old.stores)) body.now ≡ true }
     requires settled { tables.old.inserted ≡ [] }
-    ensures body { IfOk result (λ outcome. body_result (current tables.old) (run_body catalog.now args.now body.now (current tables.old)) ≡ record { db = current tables.new; outcome = outcome }) }
+    ensures body { IfOk result (λ outcome. plain_result (current tables.old) (run_plain catalog.now args.now body.now (current tables.old)) ≡ record { tables = current tables.new; outcome = outcome }) }
     ensures kept { OnErr result (current tables.new ≡ current tables.old) }
     ensures settled { tables.new.inserted ≡ [] }
     ensures count { length tables.new.stores ≡ length tables.old.stores }

@@ -1,10 +1,10 @@
 //! That the premises of a run can be met, as the contract of a function that does nothing.
 
 ghost use Rattle.std.specs.Prelude.{◌≡◌, true};
-ghost use Rattle.ss_model.specs.Accepted.{is_accepted};
+ghost use Rattle.ss_program.specs.PlainAccepted.{is_accepted};
 ghost use Rattle.ss_model.specs.Database.{empty_database};
 ghost use Rattle.ss_model.specs.Replays.{Replays};
-ghost use Rattle.ss_model.specs.Requests.{all_fit};
+ghost use Rattle.ss_program.specs.RunAnswers.{all_fit};
 ghost use Rattle.ss_program.specs.RunSessions.{one_client};
 ghost use Rattle.ss_program.specs.RunExample.{example_catalog, example_requests, example_list};
 

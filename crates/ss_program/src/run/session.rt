@@ -1,12 +1,14 @@
 //! All requests of a run, in input order.
 
 ghost use Rattle.std.specs.Prelude.{◌≡◌, ◌<◌, [], length, map, true, IfOk, OnErr, IfSome, IfNone, Some};
-ghost use Rattle.ss_model.specs.Accepted.{is_accepted};
-ghost use Rattle.ss_model.specs.Database.{empty_database, table_rows};
-ghost use Rattle.ss_model.specs.Entries.{fits_entry};
+ghost use Rattle.ss_program.specs.PlainAccepted.{is_accepted};
+ghost use Rattle.ss_model.specs.Database.{empty_database};
+ghost use Rattle.ss_program.specs.RunPlain.{table_rows};
+ghost use Rattle.ss_model.specs.Database.{fits_entry};
 ghost use Rattle.ss_model.specs.Replays.{Replays, after, entry_outcome, database_after};
-ghost use Rattle.ss_model.specs.Requests.{asked_entry, asked_entries, all_fit, AnswersInOrder};
-ghost use Rattle.ss_program.specs.RunTables.{current};
+ghost use Rattle.ss_model.specs.Report.{asked_entry, asked_entries};
+ghost use Rattle.ss_program.specs.RunAnswers.{all_fit, AnswersInOrder};
+ghost use Rattle.ss_program.specs.RunTables.{current, database_of, FullRows};
 ghost use Rattle.ss_program.specs.RunSessions.{one_client, places_in, IsListed};
 
 use crate::run::body::run_body;
@@ -44,12 +46,14 @@ fn run_request(
     requires fits { fits_entry catalog.now (asked_entry request.now.client index request.now.what) ≡ true }
     requires count { length tables.old.stores ≡ length catalog.now.tables }
     requires settled { tables.old.inserted ≡ [] }
+    requires full { FullRows catalog.now (current tables.old) }
     ensures entry { IfOk result (λ l. l.entry ≡ asked_entry request.now.client index request.now.what) }
-    ensures outcome { IfOk result (λ l. entry_outcome catalog.now (current tables.old) (asked_entry request.now.client index request.now.what) ≡ Some l.outcome) }
-    ensures after { IfOk result (λ l. current tables.new ≡ database_after catalog.now (current tables.old) (asked_entry request.now.client index request.now.what)) }
+    ensures outcome { IfOk result (λ l. entry_outcome catalog.now (database_of catalog.now (current tables.old)) (asked_entry request.now.client index request.now.what) ≡ Some l.outcome) }
+    ensures after { IfOk result (λ l. database_of catalog.now (current tables.new) ≡ database_after catalog.now (database_of catalog.now (current tables.old)) (asked_entry request.now.client index request.now.what)) }
     ensures kept { OnErr result (current tables.new ≡ current tables.old) }
     ensures settled { tables.new.inserted ≡ [] }
     ensures count { length tables.new.stores ≡ length tables.old.stores }
+    ensures full { FullRows catalog.now (current tables.new) }
 {
     match &request.what {
         Asked::Call { procedure, args } => {
@@ -66,6 +70,7 @@ fn run_request(
             };
             Ok(Listed { entry, outcome })
         }
+        Asked::Push { .. } => unreachable!(),
     }
 }
 
@@ -84,10 +89,12 @@ fn list_request(
     requires fits { fits_entry catalog.now (asked_entry request.now.client index request.now.what) ≡ true }
     requires count { length tables.old.stores ≡ length catalog.now.tables }
     requires settled { tables.old.inserted ≡ [] }
-    ensures listed { IfSome result (IsListed catalog.now (current tables.old) (current tables.new) list.old.items list.new.items (asked_entry request.now.client index request.now.what)) }
+    requires full { FullRows catalog.now (current tables.old) }
+    ensures listed { IfSome result (IsListed catalog.now (database_of catalog.now (current tables.old)) (database_of catalog.now (current tables.new)) list.old.items list.new.items (asked_entry request.now.client index request.now.what)) }
     ensures none { IfNone result ((list.new.items ≡ list.old.items) × (current tables.new ≡ current tables.old)) }
     ensures settled { tables.new.inserted ≡ [] }
     ensures count { length tables.new.stores ≡ length tables.old.stores }
+    ensures full { FullRows catalog.now (current tables.new) }
 {
     if list.reserve(1).is_err() {
         return None;
@@ -122,7 +129,7 @@ pub fn run_requests(
     ensures replays { IfOk result (λ s. Replays catalog.now (empty_database catalog.now) s.list) }
     ensures in_order { IfOk result (λ s. AnswersInOrder requests.now s.list) }
     ensures places { IfOk result (λ s. s.places ≡ places_in s.list (asked_entries requests.now)) }
-    ensures tables { IfOk result (λ s. s.tables ≡ map table_rows (after catalog.now (empty_database catalog.now) s.list).tables) }
+    ensures tables { IfOk result (λ s. s.tables ≡ map table_rows (after catalog.now (empty_database catalog.now) s.list).contents.tables) }
     ensures count { IfOk result (λ s. length s.tables ≡ length catalog.now.tables) }
 {
     let mut tables = Tables::empty(alloc, catalog.tables.len())?;

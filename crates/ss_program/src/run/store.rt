@@ -2,7 +2,7 @@
 
 ghost use Rattle.std.specs.Prelude.{◌≡◌, ◌<◌, ◌^◌, ◌++◌, false, IfOk, OnOk, OnErr};
 ghost use Rattle.std.specs.FinMap as finmap;
-ghost use Rattle.ss_model.specs.Database.{table_rows};
+ghost use Rattle.ss_program.specs.RunPlain.{table_rows};
 
 use ss_value::NoMemory;
 use ss_value::copies::Copies;
@@ -23,7 +23,7 @@ pub struct RowStore {
 
 impl Model for RowStore {
     ghost use Rattle.std.specs.FinMap.{from_entries};
-    ghost use Rattle.ss_model.specs.Database.{Table};
+    ghost use Rattle.ss_model.specs.Contents.{Table};
     ghost use Rattle.ss_program.specs.RunCodes.{coded_table};
 
     ghost Value = { Table };

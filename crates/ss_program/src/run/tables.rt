@@ -2,7 +2,7 @@
 
 ghost use Rattle.std.specs.Prelude.{◌≡◌, ◌<◌, [], length, map, false, IfOk, OnOk, slice_get, Some, replicate};
 ghost use Rattle.std.specs.FinMap as finmap;
-ghost use Rattle.ss_model.specs.Database.{table_at, with_table, table_rows};
+ghost use Rattle.ss_program.specs.RunPlain.{table_at, with_table, table_rows};
 ghost use Rattle.ss_program.specs.RunTables.{current, before, without};
 
 use crate::run::store::RowStore;

@@ -1,11 +1,14 @@
 //! Six calls of a small catalogue, whose outcomes are decided by hand.
 
 ghost use Rattle.std.specs.Prelude.{◌≡◌, IfOk};
+ghost use Rattle.ss_program.specs.PlainSteps.{insert_into};
 ghost use Rattle.ss_program.specs.RunExample.{int_column, accounts, put, all, twice, example_catalog, ints, call_of, example_requests};
 
+use crate::plain::steps::all_columns;
 use crate::run::session::{Session, run_requests};
-use ss_model::catalog::{Catalog, Given, Procedure, Step, TableDef};
+use ss_model::catalog::{Catalog, Kind, Place, Procedure, Step, TableDef, Touch};
 use ss_model::entry::{Asked, Outcome, Reason, Request};
+use ss_sql_lex::typed::{Expr, SourceId, Statement, Target};
 use ss_value::schema::{ColType, Column, Schema};
 use ss_value::seq::Seq;
 use ss_value::text::name_of;
@@ -38,48 +41,61 @@ fn accounts(alloc: Global) -> Result<TableDef, Fail>
         name: name_of(alloc, b"acct")?,
         schema: account_columns(alloc)?,
         key: Seq::from_vec(vec![in alloc; 0u8]?),
+        place: Place::Part(0),
+        indexes: Seq::new(alloc),
+    })
+}
+
+fn insert_into(values: Seq<Expr>) -> Step
+    ensures { result ≡ insert_into 0 values }
+{
+    Step::Sql(Statement::InsertValues {
+        target: Target::Table(0),
+        values,
     })
 }
 
 fn put(alloc: Global) -> Result<Procedure, Fail>
     ensures { IfOk result (λ procedure. procedure ≡ put) }
 {
-    let values = Seq::from_vec(vec![in alloc; Given::Arg(0), Given::Arg(1)]?);
+    let values = Seq::from_vec(vec![in alloc; Expr::Param(0), Expr::Param(1)]?);
     Ok(Procedure {
         name: name_of(alloc, b"put")?,
+        kind: Kind::Call,
         args: account_columns(alloc)?,
-        body: Seq::from_vec(vec![in alloc; Step::Insert { table: 0, values }]?),
+        inputs: Seq::new(alloc),
+        touch: Touch::Part(0),
+        body: Seq::from_vec(vec![in alloc; insert_into(values)]?),
     })
 }
 
 fn all(alloc: Global) -> Result<Procedure, Fail>
     ensures { IfOk result (λ procedure. procedure ≡ all) }
 {
+    let query = all_columns(alloc, SourceId::Table(0), 2)?;
     Ok(Procedure {
         name: name_of(alloc, b"all")?,
+        kind: Kind::Call,
         args: Seq::new(alloc),
-        body: Seq::from_vec(vec![in alloc; Step::ReturnAll(0)]?),
+        inputs: Seq::new(alloc),
+        touch: Touch::Part(0),
+        body: Seq::from_vec(vec![in alloc; Step::Return(query)]?),
     })
 }
 
 fn twice(alloc: Global) -> Result<Procedure, Fail>
     ensures { IfOk result (λ procedure. procedure ≡ twice) }
 {
-    let first = Seq::from_vec(vec![in alloc; Given::Arg(0), Given::Value(Value::Int(0))]?);
-    let second = Seq::from_vec(vec![in alloc; Given::Arg(0), Given::Value(Value::Int(0))]?);
-    let first = Step::Insert {
-        table: 0,
-        values: first,
-    };
-    let second = Step::Insert {
-        table: 0,
-        values: second,
-    };
+    let first = Seq::from_vec(vec![in alloc; Expr::Param(0), Expr::Lit(Value::Int(0))]?);
+    let second = Seq::from_vec(vec![in alloc; Expr::Param(0), Expr::Lit(Value::Int(0))]?);
     let id = int_column(alloc, b"id")?;
     Ok(Procedure {
         name: name_of(alloc, b"twice")?,
+        kind: Kind::Call,
         args: Seq::from_vec(vec![in alloc; id]?),
-        body: Seq::from_vec(vec![in alloc; first, second]?),
+        inputs: Seq::new(alloc),
+        touch: Touch::Part(0),
+        body: Seq::from_vec(vec![in alloc; insert_into(first), insert_into(second)]?),
     })
 }
 
@@ -92,6 +108,9 @@ fn catalog(alloc: Global) -> Result<Catalog, Fail>
     let twice = twice(alloc)?;
     Ok(Catalog {
         tables: Seq::from_vec(vec![in alloc; accounts]?),
+        streams: Seq::new(alloc),
+        windows: Seq::new(alloc),
+        triggers: Seq::new(alloc),
         procedures: Seq::from_vec(vec![in alloc; put, all, twice]?),
         text: Seq::new(alloc),
     })

@@ -2,10 +2,11 @@
 
 ghost use Rattle.std.specs.Prelude.{◌≡◌, map, IfOk};
 ghost use Rattle.ss_value.specs.Rows.{column_value, column_values};
-ghost use Rattle.ss_model.specs.Bodies.{given_value};
-ghost use Rattle.ss_model.specs.Database.{row_key};
+ghost use Rattle.ss_program.specs.RunPlain.{given_value};
+ghost use Rattle.ss_model.specs.Contents.{row_key};
 
-use ss_model::catalog::{Catalog, Given};
+use ss_model::catalog::Catalog;
+use ss_sql_lex::typed::Expr;
 use ss_value::NoMemory;
 use ss_value::seq::Seq;
 use ss_value::value::{Row, Value};
@@ -45,18 +46,21 @@ pub fn row_key(alloc: Global, catalog: &Catalog, table: u16, row: &Row) -> Resul
     }
 }
 
-/// The value that a step gives, with these arguments. Linear in a text's bytes.
-fn given_value(alloc: Global, args: &Row, given: &Given) -> Result<Value, NoMemory>
+/// The value that a step gives, with these arguments, and the Int 0 of what is no value or argument. Linear in a text's bytes.
+fn given_value(alloc: Global, args: &Row, given: &Expr) -> Result<Value, NoMemory>
     ensures { IfOk result (λ value. value ≡ given_value args.now given.now) }
 {
     match given {
-        Given::Value(value) => value.copy(alloc),
-        Given::Arg(n) => column_value(alloc, args, usize::from(*n)),
+        Expr::Lit(value) => value.copy(alloc),
+        Expr::Param(n) => column_value(alloc, args, usize::from(*n)),
+        Expr::Col { .. } => Ok(Value::Int(0)),
+        Expr::Unary { .. } => Ok(Value::Int(0)),
+        Expr::Binary { .. } => Ok(Value::Int(0)),
     }
 }
 
 /// The row that a step gives, with these arguments: linear in its values.
-pub fn given_row(alloc: Global, args: &Row, values: &[Given]) -> Result<Row, NoMemory>
+pub fn given_row(alloc: Global, args: &Row, values: &[Expr]) -> Result<Row, NoMemory>
     ensures { IfOk result (λ row. row ≡ map (given_value args.now) values.now) }
 {
     let mut row = Seq::new(alloc);

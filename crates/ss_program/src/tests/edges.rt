@@ -3,9 +3,9 @@
 use super::{ACCOUNTS, Ended, run_on, run_within, words_of};
 use crate::status::Status;
 use crate::top::sstore;
-use ss_lines::{MAX_INPUT, MAX_LINE, MemorySink, MemorySource};
-use ss_value::NoMemory;
+use ss_lines::{MAX_INPUT, MAX_LINE, MemorySink, MemorySource, Source};
 use ss_value::seq::Seq;
+use ss_value::{Failed, NoMemory};
 use std::alloc::{AllocError, Global};
 use std::test::Fail;
 
@@ -32,6 +32,42 @@ fn nested(alloc: Global, depth: usize) -> Result<Ended, NoMemory> {
     run_within(alloc, input, 64)
 }
 
+/// What a source of letters gives at a time.
+static LETTERS: [u8; 4096] = [b'x'; 4096];
+
+/// A source of so many letters, which stand nowhere in memory.
+#[derive(Drop)]
+struct Letters {
+    left: usize,
+}
+
+impl Source for Letters {
+    ghost use Rattle.std.specs.Prelude.{None};
+
+    ghost left = { λ _. None };
+
+    ghost faults = { λ _. 0 };
+
+    fn pull(&mut self, buf: &mut [u8]) -> Result<usize, Failed> {
+        let count = self.left.min(buf.len()).min(LETTERS.len());
+        let (front, _) = buf.split_at_mut(count);
+        let (given, _) = LETTERS.split_at(count);
+        front.copy_from_slice(given);
+        self.left -= count;
+        Ok(count)
+    }
+}
+
+/// Runs `run` on so many letters.
+fn run_letters(alloc: Global, count: usize) -> Result<Ended, NoMemory> {
+    let words = words_of(alloc, &["run"])?;
+    let mut source = Letters { left: count };
+    let mut sink = MemorySink::new(alloc, 64)?;
+    let status = sstore(alloc, &words, &mut source, &mut sink);
+    let told = Vec::from_slice(alloc, sink.written())?;
+    Ok(Ended { status, told })
+}
+
 /// How a command line ends on the empty input.
 fn ends_with(alloc: Global, words: &[&str]) -> Result<Status, NoMemory> {
     let words = words_of(alloc, words)?;
@@ -51,13 +87,12 @@ fn long_lines(rt: HostRuntime) -> Result<(), Fail> {
     Ok(())
 }
 
+// An input that is within its limit is refused for its one line.
 #[test]
 fn long_inputs(rt: HostRuntime) -> Result<(), Fail> {
-    let within = vec![in rt.alloc(); b' '; MAX_INPUT]?;
-    let ended = run_within(rt.alloc(), within, 64)?;
-    assert!(rt; ended.is(Status::NotBuilt, "[\"not_built\",1]\n"));
-    let beyond = vec![in rt.alloc(); b' '; MAX_INPUT + 1]?;
-    let ended = run_within(rt.alloc(), beyond, 64)?;
+    let ended = run_letters(rt.alloc(), MAX_INPUT)?;
+    assert!(rt; ended.is(Status::Input, "[\"input\",1,\"L2\"]\n"));
+    let ended = run_letters(rt.alloc(), MAX_INPUT + 1)?;
     assert!(rt; ended.is(Status::Input, "[\"input\",0,\"L3\"]\n"));
     Ok(())
 }

@@ -1,4 +1,5 @@
-use Rattle.std.proofs.Common.{◌≡◌, ◌∙◌, ap, length}
+use Rattle.std.proofs.Common.{◌∙◌, ap, sym, subst, length}
+use Rattle.ss_model.specs.Report.{Report, Whole}
 use Rattle.ss_model.specs.Database.{empty_database}
 use Rattle.ss_program.proofs.TopReplies.{told_report, places_count, accepted_one}
 use Rattle.ss_program.proofs.top.run_plan.Goals as goal
@@ -12,7 +13,9 @@ write_report-requires-clause-one_table c = accepted_one c.args.plan.now.catalog 
 pub write_report-requires-clause-rows : goal.write_report-requires-clause-rows
 write_report-requires-clause-rows c = c.in_ok-list.ensures.count ∙ accepted_one c.args.plan.now.catalog c.requires.accepted
 
-pub returns-clause-text : goal.returns-clause-text
-returns-clause-text c =
-    c.in_ok-text.ensures ∙ told_report c.args.plan.now.catalog c.args.plan.now.requests c.in_ok-list.field-0.places c.in_ok-list.field-0.list c.in_ok-list.field-0.tables
-    (empty_database c.args.plan.now.catalog) c.in_ok-list.ensures.places c.in_ok-list.ensures.tables
+pub returns-clause-report : goal.returns-clause-report
+returns-clause-report c =
+    subst (Report c.args.plan.now.catalog c.args.plan.now.requests (empty_database c.args.plan.now.catalog) 0 c.in_ok-list.field-0.list Whole) (sym c.in_ok-text.ensures)
+    (told_report c.args.plan.now.catalog c.args.plan.now.requests c.in_ok-list.field-0.places c.in_ok-list.field-0.list c.in_ok-list.field-0.tables
+    (empty_database c.args.plan.now.catalog) c.requires.clients c.in_ok-list.ensures.in_order c.in_ok-list.ensures.places c.in_ok-list.ensures.tables
+    (accepted_one c.args.plan.now.catalog c.requires.accepted) (c.in_ok-list.ensures.count ∙ accepted_one c.args.plan.now.catalog c.requires.accepted))

@@ -1,14 +1,14 @@
 use Rattle.std.proofs.Common.{◌≡◌, drop, length, true}
 use Rattle.std.specs.List.{list_all}
 use Rattle.ss_model.specs.Results.{try_fold}
-use Rattle.ss_model.specs.Bodies.{execute_step}
+use Rattle.ss_program.specs.RunPlain.{plain_step}
 use Rattle.ss_program.specs.RunTables.{before}
 use Rattle.ss_program.specs.RunBodies.{execution, names_table}
 use Rattle.ss_program.proofs.run.body.execute_steps.Given as goal
 
 abbrev pub invariant-loop-step : goal.invariant-loop-step
 invariant-loop-step l = record {
-  told : try_fold (execute_step l.catalog l.args) (drop l.step-index l.steps) (execution l.tables l.reply) ≡ try_fold (execute_step l.catalog l.args) l.steps (execution l.fn.tables l.fn.reply);
+  told : try_fold (plain_step l.catalog l.args) (drop l.step-index l.steps) (execution l.tables l.reply) ≡ try_fold (plain_step l.catalog l.args) l.steps (execution l.fn.tables l.fn.reply);
   named : list_all (names_table (length l.tables.stores)) (drop l.step-index l.steps) ≡ true;
   before : before l.tables ≡ before l.fn.tables;
   count : length l.tables.stores ≡ length l.fn.tables.stores;

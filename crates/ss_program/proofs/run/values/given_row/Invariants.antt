@@ -1,5 +1,5 @@
 use Rattle.std.proofs.Common.{◌≡◌, take, map}
-use Rattle.ss_model.specs.Bodies.{given_value}
+use Rattle.ss_program.specs.RunPlain.{given_value}
 use Rattle.ss_program.proofs.run.values.given_row.Given as goal
 
 abbrev pub invariant-loop-given : goal.invariant-loop-given

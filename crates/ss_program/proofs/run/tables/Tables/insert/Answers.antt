@@ -10,4 +10,4 @@ returns-clause-before c =
     let within : c.from.result < length c.args.self.now.stores = rw c.from.ensures c.requires.within in
     let same = noted c.args.self.now.inserted c.push.new.self note c.args.self.now.stores c.from.result c.in-Some.store.now c.insert.new.self c.args.key c.args.row c.insert.result
     pushed c.from.ensures c.in_ok-duplicate.ensures within c.in-Some.ensures.item c.requires.free c.insert.ensures.ok c.insert.ensures.err in
-    λ i. record { tables = same i }
+    same

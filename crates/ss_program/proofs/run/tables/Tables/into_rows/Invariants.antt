@@ -1,5 +1,5 @@
 use Rattle.std.proofs.Common.{◌≡◌, ◌++◌, map}
-use Rattle.ss_model.specs.Database.{table_rows}
+use Rattle.ss_program.specs.RunPlain.{table_rows}
 use Rattle.ss_program.proofs.run.tables.Tables.into_rows.Given as goal
 
 abbrev pub invariant-loop-store : goal.invariant-loop-store
