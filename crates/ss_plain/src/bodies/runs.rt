@@ -1,0 +1,144 @@
+//! A whole body, and what it leaves.
+
+ghost use Rattle.std.specs.Prelude.{◌≡◌, [], IfOk, IfErr, Ok};
+ghost use Rattle.std.specs.Option.{option_copied};
+ghost use Rattle.ss_model.specs.Bodies.{run_body, execution_start};
+ghost use Rattle.ss_model.specs.Database.{body_result, run_procedure, split_value_for};
+ghost use Rattle.ss_plain_sql.specs.Stops.{StopsAs};
+ghost use Rattle.ss_plain.specs.State.{contents_of, context_of, execution_of};
+ghost use Rattle.ss_plain.specs.Runs.{body_result_of};
+
+use crate::bodies::steps::execute_steps;
+use crate::bodies::windows::close_owned;
+use crate::contents::{Contents, Context, Execution};
+use crate::lists::empty_lists;
+use ss_model::catalog::{Catalog, Procedure, Step, Touch};
+use ss_model::entry::Outcome;
+use ss_plain_sql::queries::column_value;
+use ss_plain_sql::stop::Stop;
+use ss_value::NoMemory;
+use ss_value::seq::Seq;
+use ss_value::value::{Row, Rows, Value};
+use std::alloc::Global;
+
+/// What a body leaves: tables and windows, the outcome, and its batch per stream.
+#[derive(Drop)]
+pub struct BodyResult {
+    pub contents: Contents,
+    pub outcome: Outcome,
+    pub emitted: Seq<Rows>,
+}
+
+/// An execution on these tables and windows, with no unit, no batch and no reply yet.
+fn execution_start(
+    alloc: Global,
+    catalog: &Catalog,
+    contents: Contents,
+) -> Result<Execution, NoMemory>
+    ensures { IfOk result (λ w. execution_of w ≡ execution_start catalog.now (contents_of contents)) }
+{
+    let open_units = empty_lists(alloc, catalog.windows.len())?;
+    let emitted = empty_lists(alloc, catalog.streams.len())?;
+    Ok(Execution {
+        contents,
+        open_units,
+        emitted,
+        reply: Seq::new(alloc),
+    })
+}
+
+/// Runs the steps of a body, and then closes the procedure's windows of batches, in written order.
+///
+/// Costs its steps and what its triggers do, and copies of the batches that it emits. An abort and want of memory
+/// leave nothing of the tables and windows that were passed.
+///
+/// Source: transaction executions of S-Store (Meehan et al., PVLDB 8, 2015, section 2).
+pub fn run_body(
+    alloc: Global,
+    context: &Context,
+    body: &Seq<Step>,
+    contents: Contents,
+) -> Result<Execution, Stop>
+    ensures done { IfOk result (λ w. run_body (context_of context.now) body.now (contents_of contents) ≡ Ok (execution_of w)) }
+    ensures stops { IfErr result (StopsAs (run_body (context_of context.now) body.now (contents_of contents))) }
+{
+    let mut execution = execution_start(alloc, context.catalog, contents)?;
+    execute_steps(alloc, context, body.as_slice(), &mut execution)?;
+    close_owned(alloc, context, &mut execution)?;
+    Ok(execution)
+}
+
+/// In a procedure that touches the partition of an argument, a copy of that argument's value.
+fn split_value_for(alloc: Global, touch: &Touch, args: &Row) -> Result<Option<Value>, NoMemory>
+    ensures { IfOk result (λ value. value ≡ split_value_for touch.now args.now) }
+{
+    match touch {
+        Touch::Arg(arg) => Ok(Some(column_value(alloc, args, usize::from(*arg))?)),
+        Touch::Part(_) => Ok(None),
+        Touch::Multi(_) => Ok(None),
+        Touch::All => Ok(None),
+    }
+}
+
+/// Runs the body of a procedure on a copy of the tables and windows, limited to this value of split columns.
+fn run_limited<'a>(
+    alloc: Global,
+    catalog: &'a Catalog,
+    number: u16,
+    procedure: &'a Procedure,
+    args: &'a Row,
+    batches: &'a Seq<Rows>,
+    split_value: Option<&'a Value>,
+    contents: &'a Contents,
+) -> Result<BodyResult, NoMemory>
+    ensures { IfOk result (λ r. body_result catalog.now (contents_of contents.now) (run_body (record { catalog = catalog.now; procedure = number; args = args.now; batches = batches.now; split_value = option_copied split_value.entry }) procedure.now.body (contents_of contents.now)) ≡ body_result_of r) }
+{
+    let context = Context {
+        catalog,
+        procedure: number,
+        args,
+        batches,
+        split_value,
+    };
+    match run_body(alloc, &context, &procedure.body, contents.copy(alloc)?) {
+        Ok(execution) => Ok(BodyResult {
+            contents: execution.contents,
+            outcome: Outcome::Done(execution.reply),
+            emitted: execution.emitted,
+        }),
+        Err(Stop::Abort(reason)) => Ok(BodyResult {
+            contents: contents.copy(alloc)?,
+            outcome: Outcome::Aborted(reason),
+            emitted: empty_lists(alloc, catalog.streams.len())?,
+        }),
+        Err(Stop::NoMemory) => Err(NoMemory),
+    }
+}
+
+/// Runs the body of a procedure with these arguments and batches, on a copy of the tables and windows.
+///
+/// After an abort, tables and windows are as they were, and each batch is empty. Linear in all that tables and
+/// windows hold, besides what the body costs. Fails only for want of memory.
+pub fn run_procedure(
+    alloc: Global,
+    catalog: &Catalog,
+    number: u16,
+    procedure: &Procedure,
+    args: &Row,
+    batches: &Seq<Rows>,
+    contents: &Contents,
+) -> Result<BodyResult, NoMemory>
+    ensures { IfOk result (λ r. run_procedure catalog.now number procedure.now args.now batches.now (contents_of contents.now) ≡ body_result_of r) }
+{
+    let split_value = split_value_for(alloc, &procedure.touch, args)?;
+    run_limited(
+        alloc,
+        catalog,
+        number,
+        procedure,
+        args,
+        batches,
+        split_value.as_ref(),
+        contents,
+    )
+}

@@ -1,0 +1,133 @@
+//! The third phase: groups, in order of first appearance.
+
+ghost use Rattle.std.specs.Prelude.{◌≡◌, ◌++◌, [], ◌∷◌, map, fold, position, IfOk, OnOk};
+ghost use Rattle.std.specs.Ordering.{eq_by_cmp};
+ghost use Rattle.ss_value.specs.Order.{row_cmp};
+ghost use Rattle.ss_model.specs.Queries.{source_column, add_to_group, group_rows, query_groups};
+
+use crate::columns::source_column;
+use crate::queries::singles::{single, singles};
+use ss_sql_lex::typed::ColAt;
+use ss_value::NoMemory;
+use ss_value::copies::Copies;
+use ss_value::order::compare_rows;
+use ss_value::seq::Seq;
+use ss_value::value::{Row, Rows};
+use std::alloc::Global;
+
+/// A group: its key, and its tuples in order.
+type Group = (Row, Seq<Rows>);
+
+/// The values of these columns in a tuple: linear in their bytes.
+fn group_key(alloc: Global, columns: &[ColAt], here: &Rows) -> Result<Row, NoMemory>
+    ensures { IfOk result (λ key. key ≡ map (λ c. source_column c here.now) columns.now) }
+{
+    let mut key = Seq::new(alloc);
+    for column in columns {
+        let value = source_column(alloc, here, *column)?;
+        if key.push(value).is_err() {
+            return Err(NoMemory);
+        }
+    }
+    Ok(key)
+}
+
+/// The place of the group of this key, and None where there is none: linear in the groups.
+fn group_place(groups: &[Group], key: &Row) -> Option<usize>
+    ensures { result ≡ position (λ g. eq_by_cmp row_cmp key.now g.0) groups.now }
+{
+    groups.iter().position(|group| compare_rows(key.as_slice(), group.0.as_slice()).is_eq())
+}
+
+/// Adds a tuple to a group.
+fn add_member(group: &mut Group, here: Rows) -> Result<(), NoMemory>
+    ensures { OnOk result (group.new ≡ (group.old.0, group.old.1 ++ here ∷ [])) }
+{
+    if group.1.push(here).is_err() {
+        return Err(NoMemory);
+    }
+    Ok(())
+}
+
+/// Adds a tuple to the group of its key, or as a new group behind all others: linear in the groups.
+fn add_to_group(
+    alloc: Global,
+    groups: &mut Seq<Group>,
+    key: Row,
+    here: Rows,
+) -> Result<(), NoMemory>
+    ensures { OnOk result (groups.new ≡ add_to_group key here groups.old) }
+{
+    match group_place(groups.as_slice(), &key) {
+        Some(place) => match groups.get_mut(place) {
+            Some(group) => add_member(group, here),
+            None => unreachable!(),
+        },
+        None => {
+            let members = single(alloc, here)?;
+            if groups.push((key, members)).is_err() {
+                return Err(NoMemory);
+            }
+            Ok(())
+        }
+    }
+}
+
+/// The tuples by the values of these columns, with their keys: linear in the product of tuples and groups.
+fn keyed_groups(alloc: Global, columns: &[ColAt], found: &[Rows]) -> Result<Seq<Group>, NoMemory>
+    ensures { IfOk result (λ groups. groups ≡ fold (λ gs here. add_to_group (map (λ c. source_column c here) columns.now) here gs) [] found.now) }
+{
+    let mut groups = Seq::new(alloc);
+    for here in found {
+        let key = group_key(alloc, columns, here)?;
+        add_to_group(alloc, &mut groups, key, here.duplicate(alloc)?)?;
+    }
+    Ok(groups)
+}
+
+/// Copies of the tuples of each group, without the keys.
+fn members(alloc: Global, groups: &[Group]) -> Result<Seq<Seq<Rows>>, NoMemory>
+    ensures { IfOk result (λ members. members ≡ map (λ g. g.1) groups.now) }
+{
+    let mut members = Seq::new(alloc);
+    for group in groups {
+        let tuples = group.1.duplicate(alloc)?;
+        if members.push(tuples).is_err() {
+            return Err(NoMemory);
+        }
+    }
+    Ok(members)
+}
+
+/// The tuples in groups by these columns, and all of them as one group where no column is listed.
+fn group_rows(
+    alloc: Global,
+    columns: &[ColAt],
+    found: &Seq<Rows>,
+) -> Result<Seq<Seq<Rows>>, NoMemory>
+    ensures { IfOk result (λ groups. groups ≡ group_rows columns.now found.now) }
+{
+    if columns.is_empty() {
+        return single(alloc, found.duplicate(alloc)?);
+    }
+    let groups = keyed_groups(alloc, columns, found.as_slice())?;
+    members(alloc, groups.as_slice())
+}
+
+/// The groups of a query: by its columns where it is aggregated, and else each tuple by itself.
+///
+/// Linear in the product of tuples and groups.
+pub fn query_groups(
+    alloc: Global,
+    aggregated: bool,
+    columns: &[ColAt],
+    found: &Seq<Rows>,
+) -> Result<Seq<Seq<Rows>>, NoMemory>
+    ensures { IfOk result (λ groups. groups ≡ query_groups aggregated columns.now found.now) }
+{
+    if aggregated {
+        group_rows(alloc, columns, found)
+    } else {
+        singles(alloc, found.as_slice())
+    }
+}
