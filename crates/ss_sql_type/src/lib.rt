@@ -12,6 +12,8 @@
 //! So typing takes time linear in the tree, in the sources and targets, and in the columns of those that
 //! are named, as far as hashes spread the names. The hasher's seed is fixed. Walked are what is looked up
 //! a few times: the sources at most twice a tree, the targets once, and at each SET the key of its table.
+//!
+//! The tests stand in `ss_sql_type_tests`.
 #![tactic(auto)]
 
 pub mod columns;
@@ -27,6 +29,4 @@ pub mod narrow;
 pub mod query;
 pub mod scope;
 pub mod statement;
-#[cfg(test)]
-mod tests;
 pub mod typing;

@@ -5,11 +5,11 @@
 //! source and the columns of ON, behind `W` the condition, `G` the groups, `O` the order (`d` is DESC)
 //! and `L` the limit.
 
-use crate::scope::TypeError;
 use ss_sql_lex::typed::{
     BinaryOp, Cmp, ColAt, Condition, Expr, Item, Joined, OrderBy, Query, SetTo, SourceId,
     Statement, Target, UnaryOp,
 };
+use ss_sql_type::scope::TypeError;
 use ss_value::value::Value;
 use std::alloc::{AllocError, Global};
 

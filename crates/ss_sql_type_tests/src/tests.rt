@@ -6,12 +6,12 @@ mod scopes;
 ghost use Rattle.std.specs.Prelude.{IsTrue};
 ghost use Rattle.ss_sql_type.specs.Queries.{scope_narrow};
 
-use crate::narrow::is_narrow;
-use crate::scope::Scope;
-use crate::typing::{type_condition, type_query, type_statement};
 use printing::{condition, query, refused, statement};
 use scopes::scope_of;
 use ss_sql_parse::parse::{parse_condition, parse_query, parse_statement};
+use ss_sql_type::narrow::is_narrow;
+use ss_sql_type::scope::Scope;
+use ss_sql_type::typing::{type_condition, type_query, type_statement};
 use std::alloc::{AllocError, Global};
 use std::test::Fail;
 

@@ -4,8 +4,8 @@
 //! `w` (a int, b text), the batch `r` (x int, y text) and `inserted` (i int, j text); all but
 //! `inserted` are told as targets too. The parameters are p int and q text.
 
-use crate::scope::{Named, Scope};
 use ss_sql_lex::typed::SourceId;
+use ss_sql_type::scope::{Named, Scope};
 use ss_value::NoMemory;
 use ss_value::schema::{ColType, Column, Schema};
 use ss_value::seq::Seq;
