@@ -1,0 +1,4 @@
+pub mod InOrder
+pub mod Told
+pub mod Narrow
+pub mod Indexed

@@ -1,0 +1,5 @@
+pub mod Readings
+pub mod Tables
+pub mod Steps
+pub mod Procedures
+pub mod Outlines

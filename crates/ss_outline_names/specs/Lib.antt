@@ -1,0 +1,4 @@
+pub mod Names
+pub mod Twice
+pub mod Unknown
+pub mod Limits
