@@ -1,0 +1,5 @@
+pub mod Texts
+pub mod Checks
+pub mod Reads
+pub mod Told
+pub mod Accepts

@@ -1,0 +1,62 @@
+//! The catalogue of a JSON value.
+
+ghost use Rattle.std.specs.Prelude.{◌≤◌, IfOk, IfErr};
+ghost use Rattle.serde_json.specs.Data.{depth};
+ghost use Rattle.serde_json.specs.Read.{max_depth};
+ghost use Rattle.serde_json.specs.View.{view};
+ghost use Rattle.ss_model.specs.Accepted.{Accepted};
+ghost use Rattle.ss_catalog.specs.Reads.{Reads, Refuses};
+ghost use Rattle.ss_catalog.specs.Accepts.{Accepts};
+
+use crate::checks::with_owners;
+use crate::error::CatalogError;
+use crate::resolved::Draft;
+use serde_json::Value as Json;
+use ss_catalog_checks::laws::{
+    acyclic_workflows_have_levels, unrefused_sql_is_local, unrefused_streams_end_well,
+    unrefused_windows_are_owned, unreturning_batches_go_forward, unreturning_triggers_have_ranks,
+};
+use ss_model::catalog::Catalog;
+use ss_outline_names::limits::over_limit;
+use ss_resolved_form::resolved_has_form;
+use ss_resolved_sql::resolved_is_typed;
+use std::alloc::Global;
+
+/// What passes all checks is accepted.
+fn what_reads_is_accepted()
+    ensures { Accepts }
+{
+    resolved_has_form();
+    resolved_is_typed();
+    acyclic_workflows_have_levels();
+    unreturning_triggers_have_ranks();
+    unreturning_batches_go_forward();
+    unrefused_sql_is_local();
+    unrefused_streams_end_well();
+    unrefused_windows_are_owned();
+}
+
+/// The catalogue of a value, or the first thing that is wrong with it.
+///
+/// The checks go in this order, each over the whole: shape (C1); names that stand twice (C2); names of nothing (C3);
+/// counts too large to be numbered (C10); SQL (C4); cycles of workflows (C5) and of triggers (C6); locality (C7); the
+/// ends of streams (C8); the owners of windows (C9); all other counts (C10). What is read is accepted, and keeps the
+/// value's compact text, which reads as the same value.
+///
+/// Time is linear in the value but for these: each SQL text walks the names of the tables, windows and inputs, and
+/// C5 to C9 take the times that `ss_catalog_checks` tells. `NoMemory` says nothing of the value.
+pub fn read_catalog(alloc: Global, value: &Json) -> Result<Catalog, CatalogError>
+    requires { depth (view value.now) ≤ max_depth }
+    ensures reads { IfOk result (Reads (view value.now)) }
+    ensures accepted { IfOk result Accepted }
+    ensures refused { IfErr result (Refuses (view value.now)) }
+{
+    let Draft { outline, catalog } = with_owners(alloc, value)?;
+    match over_limit(&outline) {
+        Some(counted) => Err(CatalogError::Limit(counted)),
+        None => {
+            what_reads_is_accepted();
+            Ok(catalog)
+        }
+    }
+}

@@ -1,0 +1,12 @@
+pub mod Firsts
+pub mod Ways
+pub mod Searches
+pub mod Graphs
+pub mod Handing
+pub mod Firing
+pub mod Counts
+pub mod Ending
+pub mod Owning
+pub mod Allowing
+pub mod Levels
+pub mod Rising

@@ -1,0 +1,9 @@
+pub mod Firsts
+pub mod Graphs
+pub mod Workflows
+pub mod Cascades
+pub mod Runs
+pub mod Localities
+pub mod Ends
+pub mod Owners
+pub mod Guarantees

@@ -1,0 +1,124 @@
+//! What procedures emit, take and own.
+
+ghost use Rattle.std.specs.Prelude.{◌≡◌, length, slice_get};
+ghost use Rattle.std.specs.List.{list_any};
+ghost use Rattle.ss_model.specs.Contents.{window_owner};
+ghost use Rattle.ss_model.specs.Database.{emits_to, takes_stream, is_border, is_call, is_border_stream};
+ghost use Rattle.ss_model.specs.Orders.{procedure_emits, procedure_takes};
+ghost use Rattle.ss_catalog_checks.specs.Ends.{is_interior};
+ghost use Rattle.ss_catalog_checks.specs.Runs.{is_owner, runs_in};
+
+use ss_model::catalog::{Catalog, Kind, On, Procedure, Step};
+
+/// Whether these are call procedures.
+pub(crate) fn is_call(kind: Kind) -> bool
+    ensures { result ≡ is_call kind }
+{
+    match kind {
+        Kind::Call => true,
+        Kind::Border => false,
+        Kind::Interior => false,
+    }
+}
+
+/// Whether these are border procedures.
+pub(crate) fn is_border(kind: Kind) -> bool
+    ensures { result ≡ is_border kind }
+{
+    match kind {
+        Kind::Call => false,
+        Kind::Border => true,
+        Kind::Interior => false,
+    }
+}
+
+/// Whether these are interior procedures.
+pub(crate) fn is_interior(kind: Kind) -> bool
+    ensures { result ≡ is_interior kind }
+{
+    match kind {
+        Kind::Call => false,
+        Kind::Border => false,
+        Kind::Interior => true,
+    }
+}
+
+/// Whether a step emits to this stream.
+fn emits_to(stream: usize, step: &Step) -> bool
+    ensures { result ≡ emits_to stream step.now }
+{
+    match step {
+        Step::Emit { stream: to, .. } => stream == usize::from(*to),
+        Step::Sql(_) => false,
+        Step::AbortIf { .. } => false,
+        Step::ForEach { .. } => false,
+        Step::Return(_) => false,
+    }
+}
+
+/// Whether a step of a body emits to this stream.
+fn body_emits(stream: usize, body: &[Step]) -> bool
+    ensures { result ≡ list_any (emits_to stream) body.now }
+{
+    body.iter().any(|step| emits_to(stream, step))
+}
+
+/// Whether a procedure emits to this stream: linear in its body.
+pub(crate) fn procedure_emits(catalog: &Catalog, procedure: usize, stream: usize) -> bool
+    ensures { result ≡ procedure_emits catalog.now procedure stream }
+{
+    match catalog.procedures.get(procedure) {
+        Some(procedure) => body_emits(stream, procedure.body.as_slice()),
+        None => false,
+    }
+}
+
+/// Whether a stream is an input of a procedure.
+pub(crate) fn takes_stream(stream: usize, procedure: &Procedure) -> bool
+    ensures { result ≡ takes_stream stream procedure.now }
+{
+    procedure
+        .inputs
+        .as_slice()
+        .iter()
+        .any(|input| usize::from(*input) == stream)
+}
+
+/// Whether the procedure of this number takes a stream: linear in its inputs.
+pub(crate) fn procedure_takes(catalog: &Catalog, procedure: usize, stream: usize) -> bool
+    ensures { result ≡ procedure_takes catalog.now procedure stream }
+{
+    match catalog.procedures.get(procedure) {
+        Some(procedure) => takes_stream(stream, procedure),
+        None => false,
+    }
+}
+
+/// Whether a border procedure takes a stream: linear in all inputs.
+pub(crate) fn is_border_stream(catalog: &Catalog, stream: usize) -> bool
+    ensures { result ≡ is_border_stream catalog.now stream }
+{
+    catalog.procedures.as_slice().iter().any(|procedure| is_border(procedure.kind)
+        && takes_stream(stream, procedure))
+}
+
+/// Whether a procedure owns a window. Constant.
+fn owns(catalog: &Catalog, window: usize, procedure: usize) -> bool
+    ensures { result ≡ is_owner procedure (window_owner catalog.now window) }
+{
+    match catalog.windows.get(window) {
+        Some(window) => usize::from(window.owner) == procedure,
+        None => false,
+    }
+}
+
+/// Whether a trigger on this runs in a procedure: at a stream where the procedure emits to it, and at a window
+/// where the procedure owns it. Linear in the procedure's body.
+pub(crate) fn runs_in(catalog: &Catalog, on: On, procedure: usize) -> bool
+    ensures { result ≡ runs_in catalog.now on procedure }
+{
+    match on {
+        On::Stream(stream) => procedure_emits(catalog, procedure, usize::from(stream)),
+        On::Window(window) => owns(catalog, usize::from(window), procedure),
+    }
+}

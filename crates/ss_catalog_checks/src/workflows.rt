@@ -1,0 +1,166 @@
+//! The workflows that streams and procedures belong to.
+
+ghost use Rattle.std.specs.Prelude.{◌≡◌, ◌==◌, ◌<◌, ℕ, cond, Some, None, get_or, length, slice_get, unwrap_or, IfOk, OnOk};
+ghost use Rattle.std.specs.List.{list_any};
+ghost use Rattle.ss_model.specs.Database.{emits_to, is_border};
+ghost use Rattle.ss_model.specs.Orders.{procedure_has, procedure_emits};
+ghost use Rattle.ss_model.specs.Settling.{first_input, border_stream_from, border_stream};
+ghost use Rattle.ss_catalog_checks.specs.Ends.{TellsEmitters, workflow_of};
+
+use crate::procedures::{is_border, is_border_stream};
+use ss_model::catalog::{Catalog, Step};
+use ss_value::NoMemory;
+use ss_value::seq::Seq;
+use std::alloc::Global;
+
+/// Whether a procedure is a border procedure.
+fn is_border_procedure(catalog: &Catalog, procedure: usize) -> bool
+    ensures { result ≡ procedure_has (λ p. is_border p.kind) (slice_get catalog.now.procedures procedure) }
+{
+    match catalog.procedures.get(procedure) {
+        Some(procedure) => is_border(procedure.kind),
+        None => false,
+    }
+}
+
+/// The first input of a procedure, and 0 where it has none.
+fn first_input(catalog: &Catalog, procedure: usize) -> usize
+    ensures { result ≡ first_input catalog.now procedure }
+{
+    match catalog.procedures.get(procedure) {
+        Some(procedure) => match procedure.inputs.get(0) {
+            Some(input) => usize::from(*input),
+            None => 0,
+        },
+        None => 0,
+    }
+}
+
+/// Adds places with no procedure until this stream has a place.
+fn add_places(emitters: &mut Seq<Option<usize>>, stream: usize) -> Result<(), NoMemory>
+    ensures same { OnOk result ((s : ℕ) → get_or emitters.new s None ≡ get_or emitters.old s None) }
+    ensures there { OnOk result (stream < length emitters.new) }
+{
+    'places: while emitters.len() <= stream {
+        if emitters.push(None).is_err() {
+            return Err(NoMemory);
+        }
+    }
+    Ok(())
+}
+
+/// Notes a procedure at a stream, in the place of what is noted there.
+fn note(emitters: &mut Seq<Option<usize>>, stream: usize, procedure: usize) -> Result<(), NoMemory>
+    ensures { OnOk result ((s : ℕ) → get_or emitters.new s None ≡ cond (s == stream) (Some procedure) (get_or emitters.old s None)) }
+{
+    add_places(emitters, stream)?;
+    let _before = emitters.put(stream, Some(procedure));
+    Ok(())
+}
+
+/// Notes a procedure at the stream that a step emits to.
+fn note_step(
+    emitters: &mut Seq<Option<usize>>,
+    step: &Step,
+    procedure: usize,
+) -> Result<(), NoMemory>
+    ensures { OnOk result ((s : ℕ) → get_or emitters.new s None ≡ cond (emits_to s step.now) (Some procedure) (get_or emitters.old s None)) }
+{
+    match step {
+        Step::Emit { stream, .. } => note(emitters, usize::from(*stream), procedure),
+        Step::Sql(_) => Ok(()),
+        Step::AbortIf { .. } => Ok(()),
+        Step::ForEach { .. } => Ok(()),
+        Step::Return(_) => Ok(()),
+    }
+}
+
+/// Notes a procedure at the streams that a body emits to.
+fn note_body(
+    emitters: &mut Seq<Option<usize>>,
+    body: &[Step],
+    procedure: usize,
+) -> Result<(), NoMemory>
+    ensures { OnOk result ((s : ℕ) → get_or emitters.new s None ≡ cond (list_any (emits_to s) body.now) (Some procedure) (get_or emitters.old s None)) }
+{
+    for step in body {
+        note_step(emitters, step, procedure)?;
+    }
+    Ok(())
+}
+
+/// Notes the procedure of this number at the streams that it emits to.
+fn note_procedure(
+    emitters: &mut Seq<Option<usize>>,
+    catalog: &Catalog,
+    procedure: usize,
+) -> Result<(), NoMemory>
+    ensures { OnOk result ((s : ℕ) → get_or emitters.new s None ≡ cond (procedure_emits catalog.now procedure s) (Some procedure) (get_or emitters.old s None)) }
+{
+    match catalog.procedures.get(procedure) {
+        Some(found) => note_body(emitters, found.body.as_slice(), procedure),
+        None => Ok(()),
+    }
+}
+
+/// The first procedure that emits to each stream, up to the last that is emitted to.
+///
+/// Linear in all bodies and in the streams. Fails only for want of memory: two words a stream.
+pub(crate) fn first_emitters(
+    alloc: Global,
+    catalog: &Catalog,
+) -> Result<Seq<Option<usize>>, NoMemory>
+    ensures { IfOk result (λ emitters. TellsEmitters catalog.now emitters) }
+{
+    let mut emitters = Seq::new(alloc);
+    // From the last procedure to the first, so that the first stays noted.
+    for procedure in (0..catalog.procedures.len()).rev() {
+        note_procedure(&mut emitters, catalog, procedure)?;
+    }
+    Ok(emitters)
+}
+
+/// The procedure that is noted at a stream, and 0 where none is. Constant.
+fn emitting_procedure(emitters: &Seq<Option<usize>>, stream: usize) -> usize
+    ensures { result ≡ unwrap_or (get_or emitters.now stream None) 0 }
+{
+    match emitters.get(stream) {
+        Some(noted) => match noted {
+            Some(procedure) => *procedure,
+            None => 0,
+        },
+        None => 0,
+    }
+}
+
+/// The border stream of a procedure's workflow: up the first inputs, at most one for each procedure.
+///
+/// Linear in the procedures on the way.
+pub(crate) fn border_stream(
+    catalog: &Catalog,
+    emitters: &Seq<Option<usize>>,
+    procedure: usize,
+) -> usize
+    requires { TellsEmitters catalog.now emitters.now }
+    ensures { result ≡ border_stream catalog.now procedure }
+{
+    let mut at = procedure;
+    for _ in 0..catalog.procedures.len() {
+        if is_border_procedure(catalog, at) {
+            return first_input(catalog, at);
+        }
+        at = emitting_procedure(emitters, first_input(catalog, at));
+    }
+    first_input(catalog, at)
+}
+
+/// The border stream of a stream's workflow. Linear in the inputs of border procedures, and then as `border_stream`.
+pub(crate) fn workflow_of(catalog: &Catalog, emitters: &Seq<Option<usize>>, stream: usize) -> usize
+    requires { TellsEmitters catalog.now emitters.now }
+    ensures { result ≡ workflow_of catalog.now stream }
+{
+    if is_border_stream(catalog, stream) {
+        return stream;
+    }
+    border_stream(catalog, emitters, emitting_procedure(emitters, stream))
+}

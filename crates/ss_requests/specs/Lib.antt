@@ -1,0 +1,4 @@
+pub mod Shape
+pub mod Targets
+pub mod Fitting
+pub mod Requests

@@ -1,0 +1,15 @@
+pub mod Lists
+pub mod Names
+pub mod Readings
+pub mod SectionsRead
+pub mod ProceduresRead
+pub mod OutlineRead
+pub mod Once
+pub mod Known
+pub mod Within
+pub mod InOrder
+pub mod StepForms
+pub mod Numbers
+pub mod SectionForms
+pub mod ProcedureForms
+pub mod Forms

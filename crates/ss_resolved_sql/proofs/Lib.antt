@@ -1,0 +1,10 @@
+pub mod Places
+pub mod Uses
+pub mod Entries
+pub mod Sourced
+pub mod Said
+pub mod Given
+pub mod InOrder
+pub mod Numbered
+pub mod Steps
+pub mod Resolved
