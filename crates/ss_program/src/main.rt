@@ -1,21 +1,11 @@
 //! The program `sstore`: a catalogue and a script of calls in, replies, the serial list and the tables out.
 //!
-//! - `top`: the one call `sstore`, whose contract is the program's promise
-//! - `plain`: reads the input; `run`: runs the requests
-//! - `refusals`, `status`: what is told where nothing ran, and how a run ends
+//! It makes the real ends, and calls what `ss_top` promises.
 #![tactic(auto)]
 
-mod plain;
-mod refusals;
-mod run;
-mod status;
-#[cfg(test)]
-mod tests;
-mod top;
-
-use crate::status::Status;
-use crate::top::sstore;
 use ss_lines::{ReadSource, WriteSink};
+use ss_top::status::Status;
+use ss_top::top::sstore;
 use std::process::ExitCode;
 use std::{env, io};
 

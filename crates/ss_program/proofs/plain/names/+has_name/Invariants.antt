@@ -1,5 +1,0 @@
-use Rattle.std.proofs.Common.{length}
-use Rattle.ss_program.proofs.plain.names.+has_name.Given as goal
-
-abbrev pub decreases-has_name : goal.decreases-has_name
-decreases-has_name g l = length l.items.now

@@ -1,5 +1,0 @@
-use Rattle.std.proofs.Common.{length}
-use Rattle.ss_program.proofs.plain.names.+have_distinct_names.Given as goal
-
-abbrev pub decreases-have_distinct_names : goal.decreases-have_distinct_names
-decreases-have_distinct_names g l = length l.items.now

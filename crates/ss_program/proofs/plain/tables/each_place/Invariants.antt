@@ -1,9 +1,0 @@
-use Rattle.std.proofs.Common.{◌≡◌, ◌++◌, drop}
-use Rattle.std.specs.Prelude.{option_map}
-use Rattle.serde_json.specs.View.{items_view}
-use Rattle.ss_program.specs.PlainObjects.{each_item}
-use Rattle.ss_program.specs.PlainTables.{place_of, column_names}
-use Rattle.ss_program.proofs.plain.tables.each_place.Given as goal
-
-abbrev pub invariant-loop-value : goal.invariant-loop-value
-invariant-loop-value l = each_item (place_of (column_names l.columns)) (items_view l.items) ≡ option_map (λ xs. l.key ++ xs) (each_item (place_of (column_names l.columns)) (items_view (drop l.value-index l.items)))

@@ -1,0 +1,15 @@
+//! All that the program `sstore` does, as a library: a catalogue and a script of calls in, replies, the serial list
+//! and the tables out.
+//!
+//! - `top`: the one call `sstore`, whose contract is the program's promise
+//! - `input`: reads the input's lines; `plain`: which catalogues the running code takes
+//! - `run`: runs the requests
+//! - `refusals`, `status`: what is told where nothing ran, and how a run ends
+#![tactic(auto)]
+
+mod input;
+mod plain;
+mod refusals;
+mod run;
+pub mod status;
+pub mod top;

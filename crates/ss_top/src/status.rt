@@ -1,0 +1,40 @@
+//! How a run ends.
+
+ghost use Rattle.std.specs.Prelude.{◌≡◌};
+ghost use Rattle.ss_top.specs.Statuses.{status_number};
+
+/// How a run ended; the program's exit status is its number.
+#[derive(Clone, Copy, Debug, PartialEq, Eq, Drop)]
+pub enum Status {
+    /// 0: all requests were taken, and the whole report was written.
+    Done,
+    /// 1: the words of the command line are no command.
+    Usage,
+    /// 2: the input is refused, and nothing ran.
+    Input,
+    /// 3: reading failed, and nothing ran.
+    ReadFault,
+    /// 4: all is as at 0, but writing the report failed.
+    WriteFault,
+    /// 6: the run as a whole found no memory.
+    NoMemory,
+    /// 10: the input asks for what isn't built yet, and nothing ran.
+    NotBuilt,
+}
+
+impl Status {
+    /// The number of the status.
+    pub fn number(self) -> u8
+        ensures { result ≡ status_number self }
+    {
+        match self {
+            Status::Done => 0,
+            Status::Usage => 1,
+            Status::Input => 2,
+            Status::ReadFault => 3,
+            Status::WriteFault => 4,
+            Status::NoMemory => 6,
+            Status::NotBuilt => 10,
+        }
+    }
+}

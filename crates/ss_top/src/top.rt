@@ -1,0 +1,142 @@
+//! The program's one call: from the bytes of a source to the bytes of a sink.
+
+ghost use Rattle.std.specs.Prelude.{◌≡◌, ◌≤◌, ◌+◌, ◌↔◌, false, true, IfOk, IfErr, OnOk, IfSome};
+ghost use Rattle.std.specs.Io.KnownBytes.{IsAtEnd};
+ghost use Rattle.ss_lines.specs.Causes.{Rose, TakesAtMost};
+ghost use Rattle.ss_lines.specs.Lines.{max_input};
+ghost use Rattle.ss_model.specs.Accepted.{Accepted};
+ghost use Rattle.ss_model.specs.Database.{empty_database};
+ghost use Rattle.ss_model.specs.Replays.{Replays};
+ghost use Rattle.ss_top.specs.RunAnswers.{all_fit, AnswersInOrder};
+ghost use Rattle.ss_model.specs.Report.{Report, Whole};
+ghost use Rattle.ss_top.specs.RunSessions.{one_client};
+ghost use Rattle.ss_top.specs.Runnable.{is_runnable};
+ghost use Rattle.ss_top.specs.Starts.{Starts};
+ghost use Rattle.ss_top.specs.Refused.{IsRefusedBy};
+ghost use Rattle.ss_top.specs.Statuses.{usage_text, read_fault_text, no_memory_text};
+ghost use Rattle.ss_top.specs.Top.{is_run, sunk, Tells, EndsRefused, LeavesAt, IsRefused, IsToldRun, IsCutRun, Empties};
+
+use crate::input::{Plan, ReadError, read_plan};
+use crate::refusals::{NO_MEMORY, USAGE, refuse, tell};
+use crate::run::session::{Session, run_requests};
+use crate::status::Status;
+use ss_lines::{Sink, Source, read_lines, write_all};
+use ss_model::entry::Listed;
+use ss_report::write_report;
+use ss_value::NoMemory;
+use ss_value::seq::Seq;
+use std::alloc::Global;
+
+/// Whether the words are a command: the one word `run`.
+fn is_run(words: &[String]) -> bool
+    ensures { result ≡ is_run words.now }
+{
+    match words.split_first() {
+        None => false,
+        Some((word, rest)) => word.as_str() == "run" && rest.is_empty(),
+    }
+}
+
+/// Reads all of a source, and says what its bytes ask for. The lines are let go on the way.
+fn read_input<S: Source>(alloc: Global, source: &mut S) -> Result<Plan, ReadError>
+    ensures taken { TakesAtMost (max_input + 1) (S.left source.old) (S.left source.new) }
+    ensures counts { S.faults source.old ≤ S.faults source.new }
+    ensures end { OnOk result (IsAtEnd (S.left source.new)) }
+    ensures starts { IfOk result (λ p. IfSome (S.left source.old) (λ input. Starts input p.catalog p.requests)) }
+    ensures accepted { IfOk result (λ p. Accepted p.catalog) }
+    ensures runnable { IfOk result (λ p. is_runnable p.catalog ≡ true) }
+    ensures clients { IfOk result (λ p. one_client p.requests ≡ true) }
+    ensures fit { IfOk result (λ p. all_fit p.catalog p.requests ≡ true) }
+    ensures refused { IfErr result (λ e. IfSome (S.left source.old) (λ input. IsRefusedBy input e)) }
+    ensures leaves { IfErr result (λ e. LeavesAt e (S.faults source.old) (S.faults source.new) (S.left source.old) (S.left source.new)) }
+{
+    let lines = match read_lines(alloc, source) {
+        Ok(lines) => lines,
+        Err(e) => return Err(ReadError::Line(e)),
+    };
+    read_plan(alloc, lines.as_slice())
+}
+
+/// The text of a run's report, and the list that it tells.
+#[derive(Drop)]
+struct ToldRun {
+    list: Seq<Listed>,
+    text: Seq<u8>,
+}
+
+/// Runs what was asked for, and makes the report. Fails only for want of memory of the run as a whole.
+fn run_plan(alloc: Global, plan: &Plan) -> Result<ToldRun, NoMemory>
+    requires runnable { is_runnable plan.now.catalog ≡ true }
+    requires fit { all_fit plan.now.catalog plan.now.requests ≡ true }
+    requires clients { one_client plan.now.requests ≡ true }
+    ensures replays { IfOk result (λ t. Replays plan.now.catalog (empty_database plan.now.catalog) t.list) }
+    ensures in_order { IfOk result (λ t. AnswersInOrder plan.now.requests t.list) }
+    ensures report { IfOk result (λ t. Report plan.now.catalog plan.now.requests (empty_database plan.now.catalog) 0 t.list Whole t.text) }
+{
+    let Session {
+        list,
+        places,
+        tables,
+    } = run_requests(alloc, &plan.catalog, &plan.requests)?;
+    let text = write_report(
+        alloc,
+        &plan.catalog,
+        &plan.requests,
+        &places,
+        &list,
+        &tables,
+    )?;
+    Ok(ToldRun { list, text })
+}
+
+/// Does all that the program does: reads a catalogue and requests, runs them, and reports.
+///
+/// Linear in the input's bytes, and logarithmic in the table's rows for each step that runs. Memory is that of the
+/// input's lines, or of its values with the tables and the report, whichever is more.
+pub fn sstore<S: Source, K: Sink>(
+    alloc: Global,
+    words: &[String],
+    source: &mut S,
+    sink: &mut K,
+) -> Status
+    // The words alone tell whether it is a command.
+    ensures usage { (result ≡ Status.Usage) ↔ (is_run words.now ≡ false) }
+    ensures usage_told { result ≡ Status.Usage → Tells usage_text (sunk (K.written sink.old) (K.written sink.new) (K.faults sink.old) (K.faults sink.new)) }
+
+    // Faults come only where they were counted, and counts never fall.
+    ensures counts { (S.faults source.old ≤ S.faults source.new) × (K.faults sink.old ≤ K.faults sink.new) }
+    ensures read_fault { result ≡ Status.ReadFault → Rose (S.faults source.old) (S.faults source.new) }
+    ensures read_fault_told { result ≡ Status.ReadFault → Tells read_fault_text (sunk (K.written sink.old) (K.written sink.new) (K.faults sink.old) (K.faults sink.new)) }
+    ensures write_fault { result ≡ Status.WriteFault → Rose (K.faults sink.old) (K.faults sink.new) }
+    ensures memory_told { result ≡ Status.NoMemory → Tells no_memory_text (sunk (K.written sink.old) (K.written sink.new) (K.faults sink.old) (K.faults sink.new)) }
+
+    // What is taken of the source.
+    ensures taken { TakesAtMost (max_input + 1) (S.left source.old) (S.left source.new) }
+    ensures empties { Empties result (S.left source.old) (S.left source.new) }
+
+    // A refusal is the first that the bytes have.
+    ensures input { result ≡ Status.Input → IfSome (S.left source.old) (λ input. IsRefused input Status.Input (sunk (K.written sink.old) (K.written sink.new) (K.faults sink.old) (K.faults sink.new))) }
+    ensures not_built { result ≡ Status.NotBuilt → IfSome (S.left source.old) (λ input. IsRefused input Status.NotBuilt (sunk (K.written sink.old) (K.written sink.new) (K.faults sink.old) (K.faults sink.new))) }
+
+    // The headline: the catalogue is accepted, the replies and tables are those of one list that replays, and the
+    // bytes are its report.
+    ensures done { result ≡ Status.Done → IfSome (S.left source.old) (λ input. IsToldRun input (sunk (K.written sink.old) (K.written sink.new) (K.faults sink.old) (K.faults sink.new))) }
+    ensures cut { result ≡ Status.WriteFault → IfSome (S.left source.old) (λ input. IsCutRun input (sunk (K.written sink.old) (K.written sink.new) (K.faults sink.old) (K.faults sink.new))) }
+{
+    if !is_run(words) {
+        tell(sink, USAGE);
+        return Status::Usage;
+    }
+    let plan = match read_input(alloc, source) {
+        Ok(plan) => plan,
+        Err(error) => return refuse(alloc, sink, &error),
+    };
+    let Ok(told) = run_plan(alloc, &plan) else {
+        tell(sink, NO_MEMORY);
+        return Status::NoMemory;
+    };
+    match write_all(sink, told.text.as_slice()) {
+        Ok(()) => Status::Done,
+        Err(_) => Status::WriteFault,
+    }
+}

@@ -1,0 +1,57 @@
+//! Runs through the top call, over ends in memory. Every expected answer is decided by hand.
+
+mod catalogs;
+mod edges;
+mod faults;
+mod requests;
+
+use ss_lines::{MemorySink, MemorySource};
+use ss_top::status::Status;
+use ss_top::top::sstore;
+use ss_value::NoMemory;
+use ss_value::seq::Seq;
+use std::alloc::{AllocError, Global};
+
+/// Accounts by number, with `put`, `all`, and `twice`, which always aborts.
+const ACCOUNTS: &str =
+    r#"{"tables":[{"name":"acct","columns":[["id","int"],["bal","int"]],"key":["id"],"part":0}],"procedures":[{"name":"put","kind":"call","args":[["id","int"],["bal","int"]],"touch":{"part":0},"body":[{"insert":"acct","values":[{"arg":"id"},{"arg":"bal"}]}]},{"name":"all","kind":"call","args":[],"touch":{"part":0},"body":[{"return_all":"acct"}]},{"name":"twice","kind":"call","args":[["id","int"]],"touch":{"part":0},"body":[{"insert":"acct","values":[{"arg":"id"},0]},{"insert":"acct","values":[{"arg":"id"},0]}]}]}"#;
+
+/// How a run ended, and what it wrote.
+#[derive(Drop)]
+struct Ended {
+    status: Status,
+    told: Vec<u8>,
+}
+
+impl Ended {
+    /// Whether it ended so, and wrote this.
+    fn is(&self, status: Status, told: &str) -> bool {
+        self.status == status && self.told.as_slice() == told.as_bytes()
+    }
+}
+
+/// The words of a command line.
+fn words_of(alloc: Global, words: &[&str]) -> Result<Vec<String>, AllocError> {
+    let mut owned = Vec::new(alloc);
+    for word in words {
+        owned.push(String::from_str(alloc, word)?)?;
+    }
+    Ok(owned)
+}
+
+/// Runs `run` on an input, with a sink of this room.
+fn run_within(alloc: Global, input: Vec<u8>, room: usize) -> Result<Ended, NoMemory> {
+    let words = words_of(alloc, &["run"])?;
+    let mut source = MemorySource::new(Seq::from_vec(input));
+    let mut sink = MemorySink::new(alloc, room)?;
+    let status = sstore(alloc, &words, &mut source, &mut sink);
+    let told = Vec::from_slice(alloc, sink.written())?;
+    Ok(Ended { status, told })
+}
+
+/// Runs `run` on an input of two pieces.
+fn run_on(alloc: Global, front: &[u8], back: &[u8]) -> Result<Ended, NoMemory> {
+    let mut input = Vec::from_slice(alloc, front)?;
+    input.extend_from_slice(back)?;
+    run_within(alloc, input, 65_536)
+}

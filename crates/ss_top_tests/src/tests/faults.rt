@@ -1,0 +1,53 @@
+//! Ends that fail.
+
+use super::{ACCOUNTS, run_within, words_of};
+use ss_lines::{MemorySink, Source};
+use ss_top::status::Status;
+use ss_top::top::sstore;
+use ss_value::Failed;
+use std::test::Fail;
+
+/// A source that fails at each call.
+#[derive(Drop)]
+struct Broken {
+    faults: u64,
+}
+
+impl Source for Broken {
+    ghost use Rattle.std.specs.Prelude.{None};
+
+    ghost left = { λ _. None };
+
+    ghost faults = { λ s. s.faults };
+
+    fn pull(&mut self, _buf: &mut [u8]) -> Result<usize, Failed> {
+        self.faults = self.faults.saturating_add(1);
+        Err(Failed)
+    }
+}
+
+#[test]
+fn a_source_that_fails(rt: HostRuntime) -> Result<(), Fail> {
+    let words = words_of(rt.alloc(), &["run"])?;
+    let mut source = Broken { faults: 0 };
+    let mut sink = MemorySink::new(rt.alloc(), 64)?;
+    let status = sstore(rt.alloc(), &words, &mut source, &mut sink);
+    assert!(rt; status == Status::ReadFault);
+    assert!(rt; sink.written() == b"[\"read_fault\"]\n".as_slice());
+    Ok(())
+}
+
+#[test]
+fn sinks_that_are_full(rt: HostRuntime) -> Result<(), Fail> {
+    let whole = "[\"table\",\"acct\",0]\n[\"done\",0]\n";
+    for room in 0..whole.len() {
+        let input = Vec::from_slice(rt.alloc(), ACCOUNTS.as_bytes())?;
+        let ended = run_within(rt.alloc(), input, room)?;
+        assert!(rt; ended.status == Status::WriteFault);
+        assert!(rt; whole.as_bytes().starts_with(&ended.told));
+        assert!(rt; ended.told.len() == room);
+    }
+    let input = Vec::from_slice(rt.alloc(), b"{")?;
+    assert!(rt; run_within(rt.alloc(), input, 3)?.is(Status::Input, "[\"i"));
+    Ok(())
+}
