@@ -11,7 +11,7 @@ pub some_same : {A : Type 0} (x y : A) → Some x ≡ Some y → x ≡ y
 some_same x y e = cc
 
 module _ {A : Type 0} (p : A → Bool) where
-  count_cons : (x : A) (xs : List A) → count_by p (x ∷ xs) ≡ tick (p x) + count_by p xs
+  pub count_cons : (x : A) (xs : List A) → count_by p (x ∷ xs) ≡ tick (p x) + count_by p xs
   count_cons x xs = sum_by-cons (λ x. tick (p x)) x xs
 
   passing : (x y : A) → Some x ≡ Some y → p y ≡ true → tick (p x) ≡ 1

@@ -5,6 +5,7 @@ pub mod Graphs
 pub mod Handing
 pub mod Firing
 pub mod Counts
+pub mod Noting
 pub mod Ending
 pub mod Owning
 pub mod Allowing

@@ -5,5 +5,6 @@ pub mod Cascades
 pub mod Runs
 pub mod Localities
 pub mod Ends
+pub mod Tallies
 pub mod Owners
 pub mod Guarantees

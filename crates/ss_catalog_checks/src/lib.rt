@@ -6,10 +6,10 @@
 //! - `cycles`: workflows have no cycle; `cascades`: triggers of windows have none
 //! - `locality`: SQL names the tables that its procedure's touch set allows, under an argument that argument's rows
 //!   alone (`allowed`, `conjuncts`)
-//! - `ends`: where streams begin and end, and that the inputs of a procedure are of one workflow (`workflows`)
+//! - `ends`: where streams begin and end, and that the inputs of a procedure are of one workflow (`tallies`, `workflows`)
 //! - `owners`: a window's owner is a streaming procedure, and the window's SQL runs in it alone
 //! - `laws`: what holds of a catalogue that they do not refuse, as an accepted catalogue says it
-//! - `graph`: graphs by their edges, and what is reached along them; `procedures`: what procedures emit, take and own
+//! - `graph`: graphs by their edges, and what is reached along them; `procedures`: what procedures are, emit and own
 #![tactic(auto)]
 
 mod allowed;
@@ -22,4 +22,5 @@ pub mod laws;
 pub mod locality;
 pub mod owners;
 mod procedures;
+mod tallies;
 mod workflows;

@@ -1,14 +1,14 @@
-//! What procedures emit, take and own.
+//! What procedures are, emit and own.
 
 ghost use Rattle.std.specs.Prelude.{◌≡◌, length, slice_get};
 ghost use Rattle.std.specs.List.{list_any};
 ghost use Rattle.ss_model.specs.Contents.{window_owner};
-ghost use Rattle.ss_model.specs.Database.{emits_to, takes_stream, is_border, is_call, is_border_stream};
-ghost use Rattle.ss_model.specs.Orders.{procedure_emits, procedure_takes};
+ghost use Rattle.ss_model.specs.Database.{emits_to, is_border, is_call};
+ghost use Rattle.ss_model.specs.Orders.{procedure_emits};
 ghost use Rattle.ss_catalog_checks.specs.Ends.{is_interior};
 ghost use Rattle.ss_catalog_checks.specs.Runs.{is_owner, runs_in};
 
-use ss_model::catalog::{Catalog, Kind, On, Procedure, Step};
+use ss_model::catalog::{Catalog, Kind, On, Step};
 
 /// Whether these are call procedures.
 pub(crate) fn is_call(kind: Kind) -> bool
@@ -71,35 +71,6 @@ pub(crate) fn procedure_emits(catalog: &Catalog, procedure: usize, stream: usize
         Some(procedure) => body_emits(stream, procedure.body.as_slice()),
         None => false,
     }
-}
-
-/// Whether a stream is an input of a procedure.
-pub(crate) fn takes_stream(stream: usize, procedure: &Procedure) -> bool
-    ensures { result ≡ takes_stream stream procedure.now }
-{
-    procedure
-        .inputs
-        .as_slice()
-        .iter()
-        .any(|input| usize::from(*input) == stream)
-}
-
-/// Whether the procedure of this number takes a stream: linear in its inputs.
-pub(crate) fn procedure_takes(catalog: &Catalog, procedure: usize, stream: usize) -> bool
-    ensures { result ≡ procedure_takes catalog.now procedure stream }
-{
-    match catalog.procedures.get(procedure) {
-        Some(procedure) => takes_stream(stream, procedure),
-        None => false,
-    }
-}
-
-/// Whether a border procedure takes a stream: linear in all inputs.
-pub(crate) fn is_border_stream(catalog: &Catalog, stream: usize) -> bool
-    ensures { result ≡ is_border_stream catalog.now stream }
-{
-    catalog.procedures.as_slice().iter().any(|procedure| is_border(procedure.kind)
-        && takes_stream(stream, procedure))
 }
 
 /// Whether a procedure owns a window. Constant.

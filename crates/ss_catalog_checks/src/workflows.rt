@@ -6,8 +6,10 @@ ghost use Rattle.ss_model.specs.Database.{emits_to, is_border};
 ghost use Rattle.ss_model.specs.Orders.{procedure_has, procedure_emits};
 ghost use Rattle.ss_model.specs.Settling.{first_input, border_stream_from, border_stream};
 ghost use Rattle.ss_catalog_checks.specs.Ends.{TellsEmitters, workflow_of};
+ghost use Rattle.ss_catalog_checks.specs.Tallies.{TellsEnds};
 
-use crate::procedures::{is_border, is_border_stream};
+use crate::procedures::is_border;
+use crate::tallies::{StreamEnds, is_border_stream};
 use ss_model::catalog::{Catalog, Step};
 use ss_value::NoMemory;
 use ss_value::seq::Seq;
@@ -154,12 +156,18 @@ pub(crate) fn border_stream(
     first_input(catalog, at)
 }
 
-/// The border stream of a stream's workflow. Linear in the inputs of border procedures, and then as `border_stream`.
-pub(crate) fn workflow_of(catalog: &Catalog, emitters: &Seq<Option<usize>>, stream: usize) -> usize
-    requires { TellsEmitters catalog.now emitters.now }
+/// The border stream of a stream's workflow. Linear in the procedures on the way, as `border_stream`.
+pub(crate) fn workflow_of(
+    catalog: &Catalog,
+    ends: &StreamEnds,
+    emitters: &Seq<Option<usize>>,
+    stream: usize,
+) -> usize
+    requires ends { TellsEnds catalog.now ends.now }
+    requires emitters { TellsEmitters catalog.now emitters.now }
     ensures { result ≡ workflow_of catalog.now stream }
 {
-    if is_border_stream(catalog, stream) {
+    if is_border_stream(catalog, ends, stream) {
         return stream;
     }
     border_stream(catalog, emitters, emitting_procedure(emitters, stream))

@@ -4,7 +4,7 @@ use Rattle.std.proofs.lemmas.List.{append-nil, drop_all}
 use Rattle.ss_catalog_sql.specs.declared.fault.Refused.{Refused}
 use Rattle.ss_catalog_sql.specs.declared.fault.Refused.TheVariants.{NoMemory, Fault}
 use Rattle.ss_catalog_sql.specs.Answers.{Answers}
-use Rattle.ss_catalog_sql.specs.InOrder.{AllRead, FirstFault, InOrder}
+use Rattle.ss_catalog_sql.specs.InOrder.{AllRead, InOrder}
 
 -- behind what was read
 abbrev pub behind : {B E : Type 0} → List B → Result (List B) E → Result (List B) E

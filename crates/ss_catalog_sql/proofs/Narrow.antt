@@ -1,9 +1,8 @@
 -- Each list of columns is short, where an outline is not too large.
-use Rattle.std.proofs.Common.{◌≡◌, ℕ, zero, suc, ◌≤◌, refl, sym, ap, ◌∙◌, Bool, true, false, ◌&&◌, ◌||◌, nat_lt, nat_le, List, [], ◌∷◌, ◌++◌, length, map, Option, Some, None, arith}
+use Rattle.std.proofs.Common.{◌≡◌, ℕ, zero, suc, ◌≤◌, refl, ap, ◌∙◌, Bool, true, false, ◌&&◌, ◌||◌, nat_lt, List, [], ◌∷◌, ◌++◌, length, map, Option}
 use Rattle.std.specs.Prelude.{slice_get, unwrap_or, option_map, Contains}
 use Rattle.std.specs.List.{list_all, list_any}
 use Rattle.std.proofs.lemmas.Bool.{ltb-false, le-leb, or_parts, and_from, and_parts, both_ways}
-use Rattle.std.proofs.lemmas.Option.{slice_get-map}
 use Rattle.std.proofs.lemmas.List.Folds.{list_all-append, list_all-map, list_all_at}
 use Rattle.ss_value.specs.declared.schema.Column.{Column}
 use Rattle.ss_outline.specs.declared.outline.TableOutline.{TableOutline}
@@ -20,11 +19,10 @@ use Rattle.ss_model.specs.declared.catalog.On.{On}
 use Rattle.ss_model.specs.declared.catalog.On.TheVariants.{Stream as OnStream, Window as OnWindow}
 use Rattle.ss_model.specs.Results.{map_indexed}
 use Rattle.ss_sql_type.specs.declared.scope.Named.{Named}
-use Rattle.ss_sql_type.specs.declared.scope.Scope.{Scope}
 use Rattle.ss_sql_type.specs.Queries.{is_short, scope_narrow}
 use Rattle.ss_numbering.specs.Numbered.{table_of, stream_of, window_of, sections_of}
 use Rattle.ss_catalog_sql.specs.Scopes.{named_table, named_window, shared_names, shared_scope, stream_columns, named_batch, named_inserted, procedure_scope, trigger_scope}
-use Rattle.ss_catalog_sql.specs.Steps.{table_columns, table_number, columns_of_stream, stream_number}
+use Rattle.ss_catalog_sql.specs.Steps.{table_columns, table_number}
 
 -- ---- tests of lists
 

@@ -1,5 +1,5 @@
 -- What a text says, from what its parser and its typing answer.
-use Rattle.std.proofs.Common.{◌≡◌, ℕ, refl, sym, subst, List, [], Some, None, Result, Ok, Err, inl, inr}
+use Rattle.std.proofs.Common.{◌≡◌, ℕ, refl, sym, subst, List, [], Some, Result, Ok, Err, inl, inr}
 use Rattle.ss_sql_parse.specs.declared.parse.ParseError.{ParseError}
 use Rattle.ss_sql_parse.specs.Sql.{Sql}
 use Rattle.ss_sql_parse.specs.Texts.{IsTextOf, IsParseError}

@@ -1,5 +1,5 @@
 -- What the procedures and triggers of an outline say, and the whole.
-use Rattle.std.specs.Prelude.{◌≡◌, ◌⊎◌, ℕ, List, [], map, Option, None, Result, Ok, Err}
+use Rattle.std.specs.Prelude.{◌≡◌, ◌⊎◌, ℕ, List, Result, Ok, Err}
 use Rattle.ss_sql_lex.specs.declared.typed.Statement.{Statement}
 use Rattle.ss_model.specs.declared.catalog.Catalog.{Catalog}
 use Rattle.ss_model.specs.declared.catalog.Procedure.{Procedure}
@@ -9,9 +9,7 @@ use Rattle.ss_outline.specs.declared.outline.TriggerOutline.{TriggerOutline}
 use Rattle.ss_outline.specs.declared.outline.ProcedureOutline.{ProcedureOutline}
 use Rattle.ss_outline.specs.declared.outline.Outline.{Outline}
 use Rattle.ss_outline_names.specs.Limits.{step_count}
-use Rattle.ss_numbering.specs.declared.sections.Sections.{Sections}
 use Rattle.ss_numbering.specs.Numbered.{sections_of, on_of, inputs_of, touch_of}
-use Rattle.ss_catalog_sql.specs.declared.fault.SqlFault.{SqlFault}
 use Rattle.ss_catalog_sql.specs.declared.fault.BodyFault.{BodyFault}
 use Rattle.ss_catalog_sql.specs.declared.fault.Site.{Site}
 use Rattle.ss_catalog_sql.specs.declared.fault.Refused.{Refused}

@@ -1,5 +1,5 @@
 -- What the steps of a body say.
-use Rattle.std.specs.Prelude.{◌≡◌, ◌+◌, ◌==◌, ℕ, Bool, true, false, cond, List, [], ◌∷◌, map, length, slice_get, zip, unwrap_or, option_map, Option, Some, None, Result, Ok, Err}
+use Rattle.std.specs.Prelude.{◌≡◌, ◌+◌, ◌==◌, ℕ, Bool, true, false, cond, List, [], map, length, slice_get, zip, unwrap_or, option_map, Option, Some, None, Result, Ok, Err}
 use Rattle.std.specs.List.{list_all, range_with_len}
 use Rattle.ss_value.specs.declared.schema.ColType.{ColType}
 use Rattle.ss_value.specs.declared.schema.ColType.TheVariants.{Int, Text}
@@ -26,7 +26,6 @@ use Rattle.ss_outline.specs.declared.outline.StepOutline.{StepOutline}
 use Rattle.ss_outline.specs.declared.outline.StepOutline.TheVariants as outline
 use Rattle.ss_outline.specs.declared.outline.ProcedureOutline.{ProcedureOutline}
 use Rattle.ss_outline.specs.declared.outline.Outline.{Outline}
-use Rattle.ss_numbering.specs.declared.sections.Sections.{Sections}
 use Rattle.ss_numbering.specs.Numbers.{number_in, column_number}
 use Rattle.ss_numbering.specs.Numbered.{sections_of, table_names, stream_names, inputs_of}
 use Rattle.ss_catalog_sql.specs.declared.fault.SqlFault.{SqlFault}

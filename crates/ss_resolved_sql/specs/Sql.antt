@@ -4,7 +4,6 @@ use Rattle.ss_model.specs.declared.catalog.Catalog.{Catalog}
 use Rattle.ss_model.specs.Typing.{catalog_typed}
 use Rattle.ss_model.specs.Scopes.{catalog_in_scope}
 use Rattle.ss_outline.specs.declared.outline.Outline.{Outline}
-use Rattle.ss_outline_names.specs.Twice.{name_twice}
 use Rattle.ss_outline_names.specs.Unknown.{name_unknown}
 use Rattle.ss_outline_names.specs.Limits.{over_limit}
 use Rattle.ss_catalog_sql.specs.Bodies.{Resolves}
@@ -17,4 +16,4 @@ pub record HasTypedSql (catalog : Catalog) : Type 0 where
 -- law: a resolved outline has such SQL
 abbrev pub ResolvedIsTyped : Type 0
 ResolvedIsTyped =
-    (o : Outline) (catalog : Catalog) → name_twice o ≡ None → name_unknown o ≡ None → over_limit o ≡ None → Resolves o catalog → HasTypedSql catalog
+    (o : Outline) (catalog : Catalog) → name_unknown o ≡ None → over_limit o ≡ None → Resolves o catalog → HasTypedSql catalog

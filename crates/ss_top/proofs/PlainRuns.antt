@@ -1,15 +1,13 @@
 -- An accepted catalogue that is plain has what the running code needs.
-use Rattle.std.proofs.Common.{◌≡◌, ◌∙◌, ◌==◌, ◌&&◌, ℕ, zero, suc, ◌<◌, List, [], ◌∷◌, Bool, true, false, refl, sym, ap, subst, length, map, nat_lt, Option, Some, None, slice_get, arith, eq-eqb}
-use Rattle.std.proofs.lemmas.Bool.{and_parts, and_from}
+use Rattle.std.proofs.Common.{◌≡◌, ◌∙◌, ℕ, zero, suc, List, [], ◌∷◌, true, false, refl, sym, ap, length, map, nat_lt, Option, Some, None, slice_get, arith, eq-eqb}
+use Rattle.std.proofs.lemmas.Bool.{and_from}
 use Rattle.std.proofs.lemmas.Bool.Decides.{nat_tests}
 use Rattle.std.proofs.lemmas.List.{length-map}
 use Rattle.std.specs.List.{list_all}
 use Rattle.ss_value.specs.declared.schema.Column.{Column}
 use Rattle.ss_sql_lex.specs.declared.typed.Expr.{Expr}
-use Rattle.ss_sql_lex.specs.declared.typed.Query.{Query}
 use Rattle.ss_sql_lex.specs.declared.typed.SourceId.{SourceId}
 use Rattle.ss_sql_lex.specs.declared.typed.SourceId.TheVariants.{Table as FromTable, Window as FromWindow, Batch as FromBatch, Inserted}
-use Rattle.ss_sql_lex.specs.declared.typed.Statement.{Statement}
 use Rattle.ss_sql_lex.specs.declared.typed.Statement.TheVariants.{InsertValues, InsertQuery, Update, Delete}
 use Rattle.ss_sql_lex.specs.declared.typed.Target.TheVariants.{Table as IntoTable, Window as IntoWindow}
 use Rattle.ss_sql_rules.specs.WellTyped.{ExprType, expr_type, types_fit}
@@ -26,12 +24,12 @@ use Rattle.ss_model.specs.declared.catalog.WindowDef.{WindowDef}
 use Rattle.ss_model.specs.Contents.{window_owner}
 use Rattle.ss_model.specs.Database.{is_call, is_streaming}
 use Rattle.ss_model.specs.Orders.{procedure_has}
-use Rattle.ss_model.specs.CatalogForm.{has_form, inputs_of_kind, is_of_kind}
-use Rattle.ss_model.specs.Typing.{table_schema, step_typed, procedure_typed, catalog_typed}
-use Rattle.ss_model.specs.Scopes.{source_in_scope, step_in_scope, procedure_in_scope, catalog_in_scope}
+use Rattle.ss_model.specs.CatalogForm.{inputs_of_kind, is_of_kind}
+use Rattle.ss_model.specs.Typing.{table_schema, step_typed, procedure_typed}
+use Rattle.ss_model.specs.Scopes.{source_in_scope, step_in_scope, procedure_in_scope}
 use Rattle.ss_model.specs.Accepted.{Accepted}
 use Rattle.ss_top.specs.Plain.{is_on_part_zero, is_given, is_plain_step, is_plain_procedure, are_plain, is_plain}
-use Rattle.ss_top.specs.Runnable.{is_placed, gives_row, is_whole_of, source_table, is_step, is_procedure, is_runnable}
+use Rattle.ss_top.specs.Runnable.{is_placed, gives_row, source_table, is_step, is_procedure, is_runnable}
 use Rattle.ss_top.proofs.RunCalls.{left_true, right_true, all_at}
 
 -- ---- the parts of a plain catalogue

@@ -4,7 +4,7 @@ use Rattle.std.proofs.lemmas.Bool.Decides.{nat_tests, Decides-eqb}
 use Rattle.std.proofs.lemmas.List.{length-map}
 use Rattle.std.specs.declared.cmp.Ordering.{Ordering}
 use Rattle.std.specs.declared.cmp.Ordering.TheVariants.{Less, Equal, Greater}
-use Rattle.std.specs.List.{list_all, zip, filter, range_with_len, AllByRecursion}
+use Rattle.std.specs.List.{list_all, filter, range_with_len, AllByRecursion}
 use Rattle.std.specs.FinMap as finmap
 use Rattle.std.specs.FinMap.{entries-insert}
 use Rattle.std.specs.FinMap.Entries.{put, by_order}
@@ -34,7 +34,7 @@ use Rattle.ss_model.specs.Expressions.{Meaning, level_meaning, expr_value}
 use Rattle.ss_model.specs.Contents.{Table, Contents, table_place, row_key, put_entries, matches_split, has_split_value, key_columns, visible_table}
 use Rattle.ss_model.specs.Contents as contents
 use Rattle.ss_model.specs.Queries.{column_item, all_columns, query_result}
-use Rattle.ss_model.specs.Statements.{Context, Execution, is_table_full, statement_effect, apply_effect, Wrote, execute_statement, trigger_cascade, context_query}
+use Rattle.ss_model.specs.Statements.{Context, Execution, is_table_full, apply_effect, Wrote, trigger_cascade}
 use Rattle.ss_model.specs.Statements as statements
 use Rattle.ss_model.specs.Bodies.{exceeds_row_limit, execute_step, owned_batch_windows, is_closed_by, close_window, execution_start, run_body}
 use Rattle.ss_model.proofs.Meanings.{param_value}

@@ -1,4 +1,4 @@
-use Rattle.std.proofs.Common.{◌≤◌, ◌≡◌, ◌∙◌, length, ap, sym, subst, map, arith}
+use Rattle.std.proofs.Common.{◌≡◌, ◌∙◌, length, ap, subst, map, arith}
 use Rattle.std.proofs.lemmas.List.{length-map}
 use Rattle.ss_outline.specs.declared.outline.Outline.{Outline}
 use Rattle.ss_outline_names.specs.Names.{procedure_name}

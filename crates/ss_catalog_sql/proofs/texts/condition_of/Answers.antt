@@ -1,7 +1,7 @@
 use Rattle.std.proofs.Common.{◌∙◌}
 use Rattle.ss_sql_parse.specs.Statements.{condition}
 use Rattle.ss_sql_type.specs.Statements.{condition_faults, typed_condition}
-use Rattle.ss_catalog_sql.proofs.Told.{is_typed, is_unparsed, is_untyped}
+use Rattle.ss_catalog_sql.proofs.Told.{is_typed, is_untyped}
 use Rattle.ss_catalog_sql.proofs.texts.condition_of.Goals as goal
 
 pub returns-in-Ok : goal.returns-in-Ok

@@ -2,7 +2,7 @@ use Rattle.std.proofs.Common.{◌∙◌}
 use Rattle.ss_sql_parse.specs.Statements.{query}
 use Rattle.ss_sql_lex.specs.declared.tree.QueryTree.{QueryTree}
 use Rattle.ss_sql_type.specs.Queries.{query_faults, typed_query}
-use Rattle.ss_catalog_sql.proofs.Told.{is_typed, is_unparsed, is_untyped}
+use Rattle.ss_catalog_sql.proofs.Told.{is_typed, is_untyped}
 use Rattle.ss_catalog_sql.proofs.texts.query_of.Goals as goal
 
 pub returns-in-Ok : goal.returns-in-Ok

@@ -1,7 +1,7 @@
 use Rattle.std.proofs.Common.{◌∙◌}
 use Rattle.ss_sql_parse.specs.Statements.{statement}
 use Rattle.ss_sql_type.specs.Statements.{statement_faults, typed_statement}
-use Rattle.ss_catalog_sql.proofs.Told.{is_typed, is_unparsed, is_untyped}
+use Rattle.ss_catalog_sql.proofs.Told.{is_typed, is_untyped}
 use Rattle.ss_catalog_sql.proofs.texts.statement_of.Goals as goal
 
 pub returns-in-Ok : goal.returns-in-Ok

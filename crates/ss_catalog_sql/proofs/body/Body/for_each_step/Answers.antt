@@ -1,4 +1,4 @@
-use Rattle.std.proofs.Common.{◌≡◌, ◌∙◌, ap, sym, subst, true, None, List}
+use Rattle.std.proofs.Common.{◌∙◌, ap, None, List}
 use Rattle.ss_value.specs.declared.schema.Column.{Column}
 use Rattle.ss_sql_type.specs.declared.scope.Scope.{Scope}
 use Rattle.ss_sql_type.specs.Queries.{scope_narrow}

@@ -1,4 +1,4 @@
-use Rattle.std.proofs.Common.{◌≤◌, ◌≡◌, length, ap, arith}
+use Rattle.std.proofs.Common.{◌≤◌, length, ap, arith}
 use Rattle.std.proofs.lemmas.Bool.{leb-true}
 use Rattle.ss_catalog_sql.specs.Steps.{table_columns}
 use Rattle.ss_catalog_sql.proofs.Narrow.{short_table}

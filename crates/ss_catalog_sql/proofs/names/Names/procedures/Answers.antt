@@ -1,4 +1,4 @@
-use Rattle.std.proofs.Common.{◌≡◌, ◌∙◌, ap, subst, true, List}
+use Rattle.std.proofs.Common.{◌∙◌, ap, subst, List}
 use Rattle.std.specs.List.{Contains}
 use Rattle.ss_outline.specs.declared.outline.ProcedureOutline.{ProcedureOutline}
 use Rattle.ss_sql_type.specs.declared.scope.Scope.{Scope}

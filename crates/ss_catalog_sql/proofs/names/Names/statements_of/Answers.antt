@@ -1,4 +1,4 @@
-use Rattle.std.proofs.Common.{◌≡◌, ◌∙◌, ap, true}
+use Rattle.std.proofs.Common.{◌∙◌, ap}
 use Rattle.ss_sql_type.specs.declared.scope.Scope.{Scope}
 use Rattle.ss_sql_type.specs.Queries.{scope_narrow}
 use Rattle.ss_catalog_sql.proofs.Narrow.{narrow_trigger}
