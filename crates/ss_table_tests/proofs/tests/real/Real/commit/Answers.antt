@@ -1,0 +1,7 @@
+use Rattle.ss_table_tests.proofs.Running.{committed}
+use Rattle.ss_table_tests.proofs.tests.real.Real.commit.Goals as goal
+
+pub invariant_of-self : goal.invariant_of-self
+invariant_of-self c =
+    let r = c.self.inside in
+    committed c.final_at_first.ensures r.key r.tables c.commit.new.tables c.commit.new.self.items c.self.invariant.keyed c.commit.ensures.kept c.commit.ensures.empty

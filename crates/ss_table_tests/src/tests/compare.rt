@@ -1,0 +1,94 @@
+//! Whether a table and a plain map hold the same, by every call that looks.
+
+use crate::tests::plain::Plain;
+use crate::tests::words::add;
+use ss_table::table::{Slot, Table};
+use ss_value::seq::Seq;
+use ss_value::value::{Row, Value, copy_row};
+use std::alloc::Global;
+use std::test::Fail;
+
+/// The slot behind a live one.
+fn behind(table: &Table, slot: Slot) -> Option<Slot> {
+    match table.row(slot) {
+        None => None,
+        Some(_) => table.after(slot),
+    }
+}
+
+/// Whether a slot, if there is one, has this row.
+fn has_row(table: &Table, slot: Option<Slot>, row: &Row) -> bool {
+    match slot {
+        None => false,
+        Some(slot) => match table.row(slot) {
+            None => false,
+            Some(found) => found == row,
+        },
+    }
+}
+
+/// Whether a walk over all rows gives the same, and each row stands where its key is found.
+fn walk_alike(table: &Table, map: &Plain) -> bool {
+    let mut slot = table.first();
+    for (key, row) in map.iter() {
+        if !has_row(table, slot, row) || table.get(key) != slot {
+            return false;
+        }
+        slot = match slot {
+            None => None,
+            Some(slot) => behind(table, slot),
+        };
+    }
+    slot.is_none()
+}
+
+/// Whether both have a row of a key, and the same one, or neither has.
+fn get_alike(table: &Table, map: &Plain, key: &Row) -> bool {
+    match map.get(key) {
+        None => table.get(key).is_none(),
+        Some(row) => has_row(table, table.get(key), row),
+    }
+}
+
+/// The same of keys, of each with a value more, and of each with one less.
+fn gets_alike(alloc: Global, table: &Table, map: &Plain, keys: &Seq<Row>) -> Result<bool, Fail> {
+    for key in keys.as_slice() {
+        let mut longer = copy_row(alloc, key)?;
+        add(&mut longer, Value::Int(0))?;
+        let mut shorter = copy_row(alloc, key)?;
+        let _last = shorter.pop();
+        if !get_alike(table, map, key)
+            || !get_alike(table, map, &longer)
+            || !get_alike(table, map, &shorter)
+        {
+            return Ok(false);
+        }
+    }
+    Ok(true)
+}
+
+/// How many of the first slots are live.
+pub fn live_below(table: &Table, slots: usize) -> usize {
+    (0..slots).filter(|slot| table.row(*slot).is_some()).count()
+}
+
+/// What a table and a map differ in, asked for these keys and among so many slots. The empty text where they hold
+/// the same.
+pub fn difference(
+    alloc: Global,
+    table: &Table,
+    map: &Plain,
+    keys: &Seq<Row>,
+    slots: usize,
+) -> Result<&'static str, Fail> {
+    if !walk_alike(table, map) {
+        return Ok("the walk differs");
+    }
+    if !gets_alike(alloc, table, map, keys)? {
+        return Ok("a key is found otherwise");
+    }
+    if live_below(table, slots) != map.len() {
+        return Ok("another slot is live");
+    }
+    Ok("")
+}

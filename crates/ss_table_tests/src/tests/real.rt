@@ -1,0 +1,241 @@
+//! Tables, with the changes noted that made them.
+
+ghost use Rattle.std.specs.Prelude.{◌≡◌, ◌<◌, length, slice_get, Some, IsTrue, IfOk, OnErr};
+ghost use Rattle.ss_table.specs.Held.{HasKey, key_of};
+ghost use Rattle.ss_undo.specs.declared.change.Change.TheVariants.{Inserted, Deleted, Replaced};
+ghost use Rattle.ss_undo.specs.Came.{Step};
+ghost use Rattle.ss_table_tests.specs.Runs.{AreKeyed, IsLive, CanReplace};
+
+use crate::tests::plain::key_of;
+use crate::tests::words::add;
+use ss_table::table::{Slot, Table, TableError};
+use ss_undo::change::Change;
+use ss_undo::laws::{a_note_more, final_at_first, one_table_changed};
+use ss_undo::undo::Undo;
+use ss_value::copies::Copies;
+use ss_value::laws::row_order_is_total;
+use ss_value::order::compare_rows;
+use ss_value::seq::Seq;
+use ss_value::value::Row;
+use std::alloc::Global;
+use std::marker::Model;
+use std::test::Fail;
+
+/// Two tables of one key and one limit, and the changes since they were last final.
+///
+/// Contracts see the columns of the key alone. That the noted changes are those that were made is kept by the
+/// type.
+#[derive(Drop)]
+pub struct Real {
+    key: Seq<u8>,
+    tables: Seq<Table>,
+    undo: Undo,
+}
+
+impl Model for Real {
+    ghost use Rattle.std.specs.Prelude.{List, ℕ};
+
+    ghost Value = { List ℕ };
+
+    ghost use Rattle.ss_table_tests.specs.Runs.{Runs};
+
+    ghost view = { λ r. r.key };
+
+    ghost invariant = { λ r. Runs r.key r.tables r.undo.items };
+}
+
+/// Whether a row has every column of a key.
+fn has_key(key: &[u8], row: &Row) -> bool
+    ensures { IsTrue result → HasKey key.now row.now }
+{
+    match key.split_first() {
+        None => true,
+        Some((column, rest)) => usize::from(*column) < row.len() && has_key(rest, row),
+    }
+}
+
+/// One of the tables.
+fn table_in(tables: &Seq<Table>, at: u16) -> Result<&Table, Fail>
+    ensures { IfOk result (λ table. slice_get tables.now at ≡ Some table.now) }
+{
+    match tables.get(usize::from(at)) {
+        Some(table) => Ok(table),
+        None => Err("no such table".into()),
+    }
+}
+
+/// Whether a slot of one of the tables is live.
+fn is_live(tables: &Seq<Table>, at: u16, slot: Slot) -> bool
+    ensures { IsTrue result → IsLive tables.now at slot }
+{
+    match tables.get(usize::from(at)) {
+        Some(table) => table.row(slot).is_some(),
+        None => false,
+    }
+}
+
+/// Inserts a row in one of the tables.
+fn insert_in(
+    key: &[u8],
+    tables: &mut Seq<Table>,
+    at: u16,
+    row: Row,
+) -> Result<Slot, (TableError, Row)>
+    requires there { at < length tables.old }
+    requires keyed { AreKeyed key.now tables.old }
+    requires has_key { HasKey key.now row }
+    ensures made { IfOk result (λ slot. Step tables.old (Inserted at slot) tables.new) }
+    ensures refused { OnErr result (tables.new ≡ tables.old) }
+    ensures keyed { AreKeyed key.now tables.new }
+{
+    one_table_changed();
+    match tables.get_mut(usize::from(at)) {
+        None => unreachable!(),
+        Some(table) => table.insert(row),
+    }
+}
+
+/// Makes a live slot of one of the tables dead.
+fn delete_in(key: &[u8], tables: &mut Seq<Table>, at: u16, slot: Slot)
+    requires keyed { AreKeyed key.now tables.old }
+    requires live { IsLive tables.old at slot }
+    ensures made { Step tables.old (Deleted at slot) tables.new }
+    ensures keyed { AreKeyed key.now tables.new }
+{
+    one_table_changed();
+    match tables.get_mut(usize::from(at)) {
+        None => unreachable!(),
+        Some(table) => table.mark_dead(slot),
+    }
+}
+
+/// Puts a row in a live slot of one of the tables, and gives back the old one.
+fn replace_in(key: &[u8], tables: &mut Seq<Table>, at: u16, slot: Slot, row: Row) -> Row
+    requires keyed { AreKeyed key.now tables.old }
+    requires can { CanReplace tables.old at slot row }
+    ensures made { Step tables.old (Replaced at slot result) tables.new }
+    ensures keyed { AreKeyed key.now tables.new }
+{
+    one_table_changed();
+    match tables.get_mut(usize::from(at)) {
+        None => unreachable!(),
+        Some(table) => table.replace(slot, row),
+    }
+}
+
+/// Whether two rows have one key.
+fn have_one_key(alloc: Global, key: &[u8], row: &Row, other: &Row) -> Result<bool, Fail>
+    ensures { IfOk result (λ same. IsTrue same → key_of key.now row.now ≡ key_of key.now other.now) }
+{
+    row_order_is_total();
+    let row = key_of(alloc, key, row)?;
+    let other = key_of(alloc, key, other)?;
+    Ok(compare_rows(row.as_slice(), other.as_slice()).is_eq())
+}
+
+/// Whether a slot of one of the tables is live, and its row has the key of another.
+fn can_replace(
+    alloc: Global,
+    key: &[u8],
+    tables: &Seq<Table>,
+    at: u16,
+    slot: Slot,
+    row: &Row,
+) -> Result<bool, Fail>
+    requires keyed { AreKeyed key.now tables.now }
+    ensures { IfOk result (λ can. IsTrue can → CanReplace tables.now at slot row.now) }
+{
+    let table = table_in(tables, at)?;
+    match table.row(slot) {
+        None => Ok(false),
+        Some(old) => have_one_key(alloc, key, row, old),
+    }
+}
+
+impl Real {
+    /// Two tables without a row.
+    pub fn new(alloc: Global, key: Seq<u8>, limit: Option<usize>) -> Result<Real, Fail> {
+        let mut tables = Seq::new(alloc);
+        add(&mut tables, Table::new(alloc, key.duplicate(alloc)?, limit))?;
+        add(&mut tables, Table::new(alloc, key.duplicate(alloc)?, limit))?;
+        let undo = Undo::new(alloc);
+        Ok(Real { key, tables, undo })
+    }
+
+    /// One of them.
+    pub fn table(&self, at: u16) -> Result<&Table, Fail> {
+        table_in(&self.tables, at)
+    }
+
+    /// Inserts a row, or tells why not, with the row.
+    pub fn insert(&mut self, at: u16, row: Row) -> Result<Option<(TableError, Row)>, Fail> {
+        if !has_key(self.key.as_slice(), &row) || usize::from(at) >= self.tables.len() {
+            return Err("no such table or row".into());
+        }
+        a_note_more();
+        self.undo.room()?;
+        match insert_in(self.key.as_slice(), &mut self.tables, at, row) {
+            Err(refused) => Ok(Some(refused)),
+            Ok(slot) => {
+                self.undo.note(Change::Inserted { table: at, slot });
+                Ok(None)
+            }
+        }
+    }
+
+    /// Deletes the row of a live slot, if it is one.
+    fn delete_slot(&mut self, at: u16, slot: Slot) -> Result<bool, Fail> {
+        if !is_live(&self.tables, at, slot) {
+            return Ok(false);
+        }
+        a_note_more();
+        self.undo.room()?;
+        delete_in(self.key.as_slice(), &mut self.tables, at, slot);
+        self.undo.note(Change::Deleted { table: at, slot });
+        Ok(true)
+    }
+
+    /// Deletes the row of a key, if there is one.
+    pub fn delete(&mut self, at: u16, key: &Row) -> Result<bool, Fail> {
+        match self.table(at)?.get(key) {
+            None => Ok(false),
+            Some(slot) => self.delete_slot(at, slot),
+        }
+    }
+
+    /// Puts a row in place of the one in a live slot, if that has its key.
+    fn replace_slot(&mut self, alloc: Global, at: u16, slot: Slot, row: Row) -> Result<bool, Fail> {
+        if !can_replace(alloc, self.key.as_slice(), &self.tables, at, slot, &row)? {
+            return Ok(false);
+        }
+        a_note_more();
+        self.undo.room()?;
+        let old = replace_in(self.key.as_slice(), &mut self.tables, at, slot, row);
+        self.undo.note(Change::Replaced {
+            table: at,
+            slot,
+            old,
+        });
+        Ok(true)
+    }
+
+    /// Puts a row in place of the one with its key, if there is one.
+    pub fn replace(&mut self, alloc: Global, at: u16, row: Row) -> Result<bool, Fail> {
+        let key = key_of(alloc, self.key.as_slice(), &row)?;
+        match self.table(at)?.get(&key) {
+            None => Ok(false),
+            Some(slot) => self.replace_slot(alloc, at, slot, row),
+        }
+    }
+
+    /// Makes all changes final.
+    pub fn commit(&mut self) {
+        final_at_first();
+        self.undo.commit(&mut self.tables);
+    }
+
+    /// Takes all changes back.
+    pub fn rollback(&mut self) {
+        self.undo.rollback(&mut self.tables);
+    }
+}

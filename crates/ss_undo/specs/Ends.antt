@@ -1,0 +1,35 @@
+-- What takes a change back, and what makes it final.
+use Rattle.std.specs.Prelude.{◌≡◌, ℕ, List, Option, Some, None, slice_get, slice_set, IsSome, IsSomeAnd}
+use Rattle.std.specs.FinMap as finite
+use Rattle.ss_table.specs.Held.{Held, key_of, row_at, removed, unmarked, replaced, purged}
+use Rattle.ss_undo.specs.declared.change.Change.{Change}
+use Rattle.ss_undo.specs.declared.change.Change.TheVariants.{Inserted, Deleted, Replaced}
+
+-- tables with one of them changed, and as they are where it is missing
+abbrev pub with_one : List Held → ℕ → (Held → Held) → Option Held → List Held
+with_one tables table f None = tables
+with_one tables table f (Some h) = slice_set tables table (f h)
+
+-- tables with a change taken back
+abbrev pub undone : List Held → Change → List Held
+undone tables (Inserted table slot) = with_one tables table (λ h. removed h slot) (slice_get tables table)
+undone tables (Deleted table slot) = with_one tables table (λ h. unmarked h slot) (slice_get tables table)
+undone tables (Replaced table slot row) = with_one tables table (λ h. replaced h slot row) (slice_get tables table)
+
+-- a change can be taken back: its slot is live; or dead, and no live row has the key
+abbrev pub CanUndo : List Held → Change → Type 0
+CanUndo tables (Inserted table slot) = IsSomeAnd (slice_get tables table) (λ h. IsSome (row_at h.live slot))
+CanUndo tables (Deleted table slot) = IsSomeAnd (slice_get tables table) (λ h. IsSomeAnd (finite.get h.dead slot) (λ row. finite.get h.live (key_of h.key row) ≡ None))
+CanUndo tables (Replaced table slot row) = IsSomeAnd (slice_get tables table) (λ h. IsSomeAnd (row_at h.live slot) (λ now. key_of h.key row ≡ key_of h.key now))
+
+-- tables with a change made final: a deleted row's slot is given up
+abbrev pub settled : List Held → Change → List Held
+settled tables (Inserted table slot) = tables
+settled tables (Deleted table slot) = with_one tables table (λ h. purged h slot) (slice_get tables table)
+settled tables (Replaced table slot row) = tables
+
+-- a change can be made final: a deleted row's slot is dead
+abbrev pub CanSettle : List Held → Change → Type 0
+CanSettle tables (Inserted table slot) = Unit {0}
+CanSettle tables (Deleted table slot) = IsSomeAnd (slice_get tables table) (λ h. IsSome (finite.get h.dead slot))
+CanSettle tables (Replaced table slot row) = Unit {0}
