@@ -3,6 +3,7 @@
 mod bodies;
 mod builder;
 mod executions;
+mod given;
 mod printing;
 mod queries;
 mod scripts;

@@ -5,7 +5,7 @@ use Rattle.ss_value.specs.Rows.{Row, Rows}
 use Rattle.ss_value.specs.Order.{values_equal}
 use Rattle.ss_sql_lex.specs.declared.typed.Joined.{Joined}
 use Rattle.ss_model.specs.Queries.{source_column, join_rows}
-use Rattle.ss_plain_sql.proofs.Steps.{next}
+use Rattle.ss_operators.proofs.Walks.{next}
 
 abbrev pub pairs_of : Joined → Row → Rows → List Rows
 pairs_of j left inner = filter (λ here. values_equal (source_column j.left here) (source_column j.right here)) (map (λ r. left ∷ r ∷ []) inner)

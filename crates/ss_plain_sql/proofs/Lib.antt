@@ -1,4 +1,2 @@
-pub mod Steps
 pub mod Joining
-pub mod Grouping
 pub mod Sorting

@@ -1,3 +1,1 @@
-pub mod Stops
-pub mod Extremes
 pub mod Phases

@@ -2,11 +2,11 @@
 
 ghost use Rattle.std.specs.Prelude.{◌≡◌, IfOk, IfErr, Ok};
 ghost use Rattle.ss_model.specs.Expressions.{expr_value, expr_test};
-ghost use Rattle.ss_plain_sql.specs.Stops.{StopsAs};
+ghost use Rattle.ss_operators.specs.Stops.{StopsAs};
 
 use crate::columns::{column_value, source_column};
-use crate::operators::{apply_binary, cmp_holds, int_of, negated};
-use crate::stop::Stop;
+use ss_operators::operators::{apply_binary, cmp_holds, int_of, negated};
+use ss_operators::run_error::RunError;
 use ss_sql_lex::typed::{BinaryOp, ColAt, Expr};
 use ss_value::order::compare;
 use ss_value::value::{Row, Rows, Value};
@@ -16,7 +16,7 @@ use std::alloc::Global;
 ///
 /// Aborts as its operators do: the left side first, then the right side, then the operator. Linear in the tree and
 /// the bytes of the texts at its leaves, and in the texts that it joins; the stack is as deep as the tree.
-pub fn evaluate(alloc: Global, tree: &Expr, here: &Rows, params: &Row) -> Result<Value, Stop>
+pub fn evaluate(alloc: Global, tree: &Expr, here: &Rows, params: &Row) -> Result<Value, RunError>
     ensures value { IfOk result (λ v. expr_value here.now params.now tree.now ≡ Ok v) }
     ensures stops { IfErr result (λ stop. StopsAs (expr_value here.now params.now tree.now) stop) }
 {
@@ -46,7 +46,7 @@ pub fn evaluate(alloc: Global, tree: &Expr, here: &Rows, params: &Row) -> Result
 ///
 /// AND and OR look at their right side only where the left one has not decided, so it aborts nothing there. Costs
 /// as `evaluate` does.
-pub fn holds(alloc: Global, tree: &Expr, here: &Rows, params: &Row) -> Result<bool, Stop>
+pub fn holds(alloc: Global, tree: &Expr, here: &Rows, params: &Row) -> Result<bool, RunError>
     ensures test { IfOk result (λ b. expr_test here.now params.now tree.now ≡ Ok b) }
     ensures stops { IfErr result (λ stop. StopsAs (expr_test here.now params.now tree.now) stop) }
 {

@@ -5,8 +5,7 @@
 //! tried against them, and the definitions are seen to compute. They are total as the definitions are: a column
 //! past the end of a row is 0, and a text counts as 0 where a number is asked for.
 //!
-//! - `stop`: why an evaluation ends without a result
-//! - `columns`, `operators`: columns of rows, and operators on values
+//! - `columns`: columns of rows
 //! - `expressions`: expressions as values and as tests
 //! - `queries`: queries in phases, each in a module of its own: `join`, `filter`, `groups`, `items` (with `extreme`),
 //!   `sort` and `limit`
@@ -14,8 +13,6 @@
 
 pub mod columns;
 pub mod expressions;
-mod operators;
 pub mod queries;
-pub mod stop;
 #[cfg(test)]
 mod tests;

@@ -4,7 +4,7 @@ ghost use Rattle.std.specs.Prelude.{◌≡◌, IfOk, IfErr, Ok};
 ghost use Rattle.std.specs.List.{list_any};
 ghost use Rattle.ss_sql_rules.specs.WellTyped.{is_aggregate, query_aggregated};
 ghost use Rattle.ss_model.specs.Queries.{join_source, query_result};
-ghost use Rattle.ss_plain_sql.specs.Stops.{StopsAs};
+ghost use Rattle.ss_operators.specs.Stops.{StopsAs};
 ghost use Rattle.ss_plain_sql.specs.Phases.{results_of, ordered_of};
 
 mod extreme;
@@ -24,7 +24,7 @@ use crate::queries::items::group_results;
 use crate::queries::join::join_rows;
 use crate::queries::limit::take_limit;
 use crate::queries::sort::sort_rows;
-use crate::stop::Stop;
+use ss_operators::run_error::RunError;
 use ss_sql_lex::typed::{Item, Query};
 use ss_value::NoMemory;
 use ss_value::seq::Seq;
@@ -53,7 +53,12 @@ fn is_aggregated(query: &Query) -> bool
 }
 
 /// The rows of the groups of these tuples. Aborts as the items of the first group that does.
-fn result_rows(alloc: Global, query: &Query, found: &Seq<Rows>, params: &Row) -> Result<Rows, Stop>
+fn result_rows(
+    alloc: Global,
+    query: &Query,
+    found: &Seq<Rows>,
+    params: &Row,
+) -> Result<Rows, RunError>
     ensures rows { IfOk result (λ rows. results_of params.now query.now found.now ≡ Ok rows) }
     ensures stops { IfErr result (λ stop. StopsAs (results_of params.now query.now found.now) stop) }
 {
@@ -82,7 +87,7 @@ pub fn query_rows(
     outer: &Rows,
     joined: &Rows,
     params: &Row,
-) -> Result<Rows, Stop>
+) -> Result<Rows, RunError>
     ensures rows { IfOk result (λ rows. query_result outer.now (join_source (λ _. joined.now) query.now.joined) params.now query.now ≡ Ok rows) }
     ensures stops { IfErr result (λ stop. StopsAs (query_result outer.now (join_source (λ _. joined.now) query.now.joined) params.now query.now) stop) }
 {

@@ -2,8 +2,8 @@
 
 use crate::expressions::{evaluate, holds};
 use crate::queries::{column_value, query_rows, where_passes};
-use crate::stop::Stop;
 use ss_model::entry::Reason;
+use ss_operators::run_error::RunError;
 use ss_sql_lex::typed::{BinaryOp, Cmp, ColAt, Expr, Item, Joined, OrderBy, Query, SourceId};
 use ss_value::keep::Keep;
 use ss_value::seq::Seq;
@@ -63,7 +63,7 @@ fn expressions_have_values(rt: HostRuntime) -> Result<(), Fail> {
     assert!(rt; value == Value::Int(3));
     let tree = binary(alloc, BinaryOp::Rem, col(0, 0), col(1, 1))?;
     let stop = evaluate(alloc, &tree, &here, &Seq::new(alloc)).err();
-    assert!(rt; stop == Some(Stop::Abort(Reason::DivideByZero)));
+    assert!(rt; stop == Some(RunError::Abort(Reason::DivideByZero)));
     Ok(())
 }
 

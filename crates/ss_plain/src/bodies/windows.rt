@@ -3,14 +3,14 @@
 ghost use Rattle.std.specs.Prelude.{◌≡◌, IfOk, OnOk, IfErr, Ok, Some};
 ghost use Rattle.ss_model.specs.Results.{try_fold};
 ghost use Rattle.ss_model.specs.Bodies.{is_batches_unit, is_closed_by, owned_batch_windows, close_window};
-ghost use Rattle.ss_plain_sql.specs.Stops.{StopsAs};
+ghost use Rattle.ss_operators.specs.Stops.{StopsAs};
 ghost use Rattle.ss_plain.specs.State.{context_of, execution_of};
 
 use crate::contents::{Context, Execution};
 use crate::lists::copy_at;
 use crate::triggers::close_unit;
 use ss_model::catalog::{Catalog, WindowDef};
-use ss_plain_sql::stop::Stop;
+use ss_operators::run_error::RunError;
 use ss_value::seq::Seq;
 use ss_value::{NoMemory, Unit};
 use std::alloc::Global;
@@ -62,7 +62,7 @@ fn close_window(
     context: &Context,
     window: u16,
     execution: &mut Execution,
-) -> Result<(), Stop>
+) -> Result<(), RunError>
     ensures done { OnOk result (close_window (context_of context.now) window (execution_of execution.old) ≡ Ok (execution_of execution.new)) }
     ensures stops { IfErr result (StopsAs (close_window (context_of context.now) window (execution_of execution.old))) }
 {
@@ -76,7 +76,7 @@ fn close_each(
     context: &Context,
     windows: &[u16],
     execution: &mut Execution,
-) -> Result<(), Stop>
+) -> Result<(), RunError>
     ensures done { OnOk result (try_fold (close_window (context_of context.now)) windows.now (execution_of execution.old) ≡ Ok (execution_of execution.new)) }
     ensures stops { IfErr result (StopsAs (try_fold (close_window (context_of context.now)) windows.now (execution_of execution.old))) }
 {
@@ -87,7 +87,11 @@ fn close_each(
 }
 
 /// Closes the unit of each window of batches that the procedure owns, in written order, up to the first abort.
-pub fn close_owned(alloc: Global, context: &Context, execution: &mut Execution) -> Result<(), Stop>
+pub fn close_owned(
+    alloc: Global,
+    context: &Context,
+    execution: &mut Execution,
+) -> Result<(), RunError>
     ensures done { OnOk result (try_fold (close_window (context_of context.now)) (owned_batch_windows context.now.catalog.now context.now.procedure) (execution_of execution.old) ≡ Ok (execution_of execution.new)) }
     ensures stops { IfErr result (StopsAs (try_fold (close_window (context_of context.now)) (owned_batch_windows context.now.catalog.now context.now.procedure) (execution_of execution.old))) }
 {

@@ -2,7 +2,7 @@
 
 use ss_model::catalog::Catalog;
 use ss_model::entry::{Outcome, Reason};
-use ss_plain_sql::stop::Stop;
+use ss_operators::run_error::RunError;
 use ss_value::seq::Seq;
 use ss_value::value::{Row, Rows, Value};
 use std::alloc::Global;
@@ -101,10 +101,10 @@ fn stream_reason(alloc: Global, catalog: &Catalog, stream: u16) -> Result<String
 }
 
 /// Why an evaluation ended.
-pub fn stop(alloc: Global, catalog: &Catalog, stop: Stop) -> Result<String, Fail> {
+pub fn stop(alloc: Global, catalog: &Catalog, stop: RunError) -> Result<String, Fail> {
     match stop {
-        Stop::NoMemory => Ok(format!(in alloc; "no memory")?),
-        Stop::Abort(why) => reason(alloc, catalog, why),
+        RunError::NoMemory => Ok(format!(in alloc; "no memory")?),
+        RunError::Abort(why) => reason(alloc, catalog, why),
     }
 }
 

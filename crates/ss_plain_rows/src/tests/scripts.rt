@@ -15,11 +15,11 @@ use crate::tests::words::{first_word, name, row, rows};
 use crate::tests::{printing, texts};
 use ss_model::catalog::Catalog;
 use ss_model::entry::Entry;
+use ss_operators::run_error::RunError;
 use ss_plain::contents::{Contents, Context};
 use ss_plain::entries::apply;
 use ss_plain::entries::database::Database;
 use ss_plain::statements::context_query;
-use ss_plain_sql::stop::Stop;
 use ss_sql_lex::typed::Query;
 use ss_value::seq::Seq;
 use ss_value::value::{Row, Rows};
@@ -81,7 +81,7 @@ fn rows_between<'a>(
     batches: &'a Seq<Rows>,
     query: &Query,
     contents: &Contents,
-) -> Result<Rows, Stop> {
+) -> Result<Rows, RunError> {
     let context = Context {
         catalog,
         procedure: 0,

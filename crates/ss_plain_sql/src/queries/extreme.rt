@@ -3,34 +3,15 @@
 ghost use Rattle.std.specs.Prelude.{◌≡◌, ◌∷◌, fold, cond, IfOk, IfErr, Ok};
 ghost use Rattle.ss_value.specs.Order.{value_cmp};
 ghost use Rattle.ss_model.specs.Queries.{extreme_value};
-ghost use Rattle.ss_plain_sql.specs.Stops.{StopsAs};
-ghost use Rattle.ss_plain_sql.specs.Extremes.{beats};
+ghost use Rattle.ss_operators.specs.Stops.{StopsAs};
+ghost use Rattle.ss_operators.specs.Extremes.{beats};
 
-use crate::stop::Stop;
 use ss_model::entry::Reason;
+use ss_operators::extreme::{Extreme, beats};
+use ss_operators::run_error::RunError;
 use ss_value::order::compare;
 use ss_value::value::Value;
 use std::alloc::Global;
-use std::cmp::Ordering;
-
-/// Which value is looked for.
-#[derive(Clone, Copy, Debug, PartialEq, Eq, Drop)]
-pub enum Extreme {
-    /// The least one, of MIN.
-    Least,
-    /// The greatest one, of MAX.
-    Greatest,
-}
-
-/// Whether a value in this order to the best one so far takes its place.
-fn beats(extreme: Extreme, order: Ordering) -> bool
-    ensures { result ≡ beats extreme order }
-{
-    match extreme {
-        Extreme::Least => order.is_lt(),
-        Extreme::Greatest => order.is_gt(),
-    }
-}
 
 /// The first of these values and `first` that no other one beats: a comparison for each.
 fn best_value<'a>(extreme: Extreme, first: &'a Value, values: &'a [Value]) -> &'a Value
@@ -47,12 +28,12 @@ fn best_value<'a>(extreme: Extreme, first: &'a Value, values: &'a [Value]) -> &'
 
 /// A copy of the value that no other one beats, the first of equal ones. Aborts with `EmptyAggregate` where there is
 /// none. A comparison for each value.
-pub fn extreme_value(alloc: Global, extreme: Extreme, values: &[Value]) -> Result<Value, Stop>
+pub fn extreme_value(alloc: Global, extreme: Extreme, values: &[Value]) -> Result<Value, RunError>
     ensures value { IfOk result (λ v. extreme_value (beats extreme) values.now ≡ Ok v) }
     ensures stops { IfErr result (λ stop. StopsAs (extreme_value (beats extreme) values.now) stop) }
 {
     match values.split_first() {
         Some((first, rest)) => Ok(best_value(extreme, first, rest).copy(alloc)?),
-        None => Err(Stop::Abort(Reason::EmptyAggregate)),
+        None => Err(RunError::Abort(Reason::EmptyAggregate)),
     }
 }

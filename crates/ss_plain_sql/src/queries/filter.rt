@@ -3,10 +3,10 @@
 ghost use Rattle.std.specs.Prelude.{◌≡◌, IfOk, IfErr, Ok};
 ghost use Rattle.ss_model.specs.Results.{try_filter};
 ghost use Rattle.ss_model.specs.Queries.{where_passes};
-ghost use Rattle.ss_plain_sql.specs.Stops.{StopsAs};
+ghost use Rattle.ss_operators.specs.Stops.{StopsAs};
 
 use crate::expressions::holds;
-use crate::stop::Stop;
+use ss_operators::run_error::RunError;
 use ss_sql_lex::typed::Expr;
 use ss_value::NoMemory;
 use ss_value::copies::Copies;
@@ -20,7 +20,7 @@ pub fn where_passes(
     test: &Option<Expr>,
     here: &Rows,
     params: &Row,
-) -> Result<bool, Stop>
+) -> Result<bool, RunError>
     ensures passes { IfOk result (λ b. where_passes params.now test.now here.now ≡ Ok b) }
     ensures stops { IfErr result (λ stop. StopsAs (where_passes params.now test.now here.now) stop) }
 {
@@ -36,7 +36,7 @@ pub fn passing_tuples(
     test: &Option<Expr>,
     tuples: &[Rows],
     params: &Row,
-) -> Result<Seq<Rows>, Stop>
+) -> Result<Seq<Rows>, RunError>
     ensures found { IfOk result (λ found. try_filter (where_passes params.now test.now) tuples.now ≡ Ok found) }
     ensures stops { IfErr result (λ stop. StopsAs (try_filter (where_passes params.now test.now) tuples.now) stop) }
 {
@@ -45,7 +45,7 @@ pub fn passing_tuples(
         if where_passes(alloc, test, here, params)? {
             let here = here.duplicate(alloc)?;
             if found.push(here).is_err() {
-                return Err(Stop::NoMemory);
+                return Err(RunError::NoMemory);
             }
         }
     }

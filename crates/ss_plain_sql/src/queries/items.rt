@@ -5,12 +5,13 @@ ghost use Rattle.ss_value.specs.declared.value.Value.TheVariants.{Int};
 ghost use Rattle.ss_model.specs.Results.{try_map};
 ghost use Rattle.ss_model.specs.Expressions.{expr_value};
 ghost use Rattle.ss_model.specs.Queries.{sum_values, item_value};
-ghost use Rattle.ss_plain_sql.specs.Stops.{StopsAs};
+ghost use Rattle.ss_operators.specs.Stops.{StopsAs};
 
 use crate::expressions::evaluate;
-use crate::operators::{checked_int, int_of};
-use crate::queries::extreme::{Extreme, extreme_value};
-use crate::stop::Stop;
+use crate::queries::extreme::extreme_value;
+use ss_operators::extreme::Extreme;
+use ss_operators::operators::{checked_int, int_of};
+use ss_operators::run_error::RunError;
 use ss_sql_lex::typed::{Expr, Item};
 use ss_value::NoMemory;
 use ss_value::seq::Seq;
@@ -23,7 +24,7 @@ fn group_values(
     tree: &Expr,
     group: &[Rows],
     params: &Row,
-) -> Result<Seq<Value>, Stop>
+) -> Result<Seq<Value>, RunError>
     ensures values { IfOk result (λ vs. try_map (λ here. expr_value here params.now tree.now) group.now ≡ Ok vs) }
     ensures stops { IfErr result (λ stop. StopsAs (try_map (λ here. expr_value here params.now tree.now) group.now) stop) }
 {
@@ -31,7 +32,7 @@ fn group_values(
     for here in group {
         let value = evaluate(alloc, tree, here, params)?;
         if values.push(value).is_err() {
-            return Err(Stop::NoMemory);
+            return Err(RunError::NoMemory);
         }
     }
     Ok(values)
@@ -62,7 +63,7 @@ fn count(group: &[Rows]) -> Result<Value, NoMemory>
 }
 
 /// The value of an expression on the first tuple, and on no row where there is none.
-fn first_value(alloc: Global, tree: &Expr, group: &[Rows], params: &Row) -> Result<Value, Stop>
+fn first_value(alloc: Global, tree: &Expr, group: &[Rows], params: &Row) -> Result<Value, RunError>
     ensures value { IfOk result (λ v. expr_value (get_or group.now 0 []) params.now tree.now ≡ Ok v) }
     ensures stops { IfErr result (λ stop. StopsAs (expr_value (get_or group.now 0 []) params.now tree.now) stop) }
 {
@@ -76,7 +77,7 @@ fn first_value(alloc: Global, tree: &Expr, group: &[Rows], params: &Row) -> Resu
 ///
 /// Aborts as the first of the evaluations does, and then with `Overflow` for a sum that is no Int and with
 /// `EmptyAggregate` for the least or the greatest of no tuple.
-fn item_value(alloc: Global, item: &Item, group: &[Rows], params: &Row) -> Result<Value, Stop>
+fn item_value(alloc: Global, item: &Item, group: &[Rows], params: &Row) -> Result<Value, RunError>
     ensures value { IfOk result (λ v. item_value params.now group.now item.now ≡ Ok v) }
     ensures stops { IfErr result (λ stop. StopsAs (item_value params.now group.now item.now) stop) }
 {
@@ -100,7 +101,7 @@ fn item_value(alloc: Global, item: &Item, group: &[Rows], params: &Row) -> Resul
 }
 
 /// The row of a group: its items in order. Aborts as the first item that does.
-fn group_row(alloc: Global, items: &[Item], group: &[Rows], params: &Row) -> Result<Row, Stop>
+fn group_row(alloc: Global, items: &[Item], group: &[Rows], params: &Row) -> Result<Row, RunError>
     ensures row { IfOk result (λ row. try_map (item_value params.now group.now) items.now ≡ Ok row) }
     ensures stops { IfErr result (λ stop. StopsAs (try_map (item_value params.now group.now) items.now) stop) }
 {
@@ -108,7 +109,7 @@ fn group_row(alloc: Global, items: &[Item], group: &[Rows], params: &Row) -> Res
     for item in items {
         let value = item_value(alloc, item, group, params)?;
         if row.push(value).is_err() {
-            return Err(Stop::NoMemory);
+            return Err(RunError::NoMemory);
         }
     }
     Ok(row)
@@ -122,7 +123,7 @@ pub fn group_results(
     items: &[Item],
     groups: &[Seq<Rows>],
     params: &Row,
-) -> Result<Rows, Stop>
+) -> Result<Rows, RunError>
     ensures rows { IfOk result (λ rows. try_map (λ group. try_map (item_value params.now group) items.now) groups.now ≡ Ok rows) }
     ensures stops { IfErr result (λ stop. StopsAs (try_map (λ group. try_map (item_value params.now group) items.now) groups.now) stop) }
 {
@@ -130,7 +131,7 @@ pub fn group_results(
     for group in groups {
         let row = group_row(alloc, items, group.as_slice(), params)?;
         if rows.push(row).is_err() {
-            return Err(Stop::NoMemory);
+            return Err(RunError::NoMemory);
         }
     }
     Ok(rows)

@@ -4,7 +4,7 @@ use Rattle.ss_sql_lex.specs.declared.typed.Item.{Item}
 use Rattle.ss_sql_rules.specs.WellTyped.{query_aggregated}
 use Rattle.ss_model.specs.Results.{OrAbort, try_map}
 use Rattle.ss_model.specs.Queries.{query_groups, item_value}
-use Rattle.ss_plain_sql.specs.Stops.{StopsAs}
+use Rattle.ss_operators.specs.Stops.{StopsAs}
 use Rattle.ss_plain_sql.specs.Phases.{results_of}
 use Rattle.ss_plain_sql.proofs.queries.result_rows.Goals as goal
 

@@ -1,5 +1,5 @@
 use Rattle.std.proofs.Common.{◌≡◌, drop}
-use Rattle.ss_plain_sql.proofs.Steps.{best}
+use Rattle.ss_operators.proofs.Walks.{best}
 use Rattle.ss_plain_sql.proofs.queries.extreme.best_value.Given as goal
 
 abbrev pub invariant-loop-value : goal.invariant-loop-value

@@ -3,8 +3,8 @@ use Rattle.std.specs.List.{position}
 use Rattle.std.specs.Ordering.{eq_by_cmp}
 use Rattle.ss_value.specs.Rows.{Row, Rows}
 use Rattle.ss_value.specs.Order.{row_cmp}
-use Rattle.ss_plain_sql.proofs.Grouping.{into_group, new_group}
-use Rattle.ss_plain_sql.proofs.Steps.{on_ok}
+use Rattle.ss_operators.proofs.Grouping.{into_group, new_group}
+use Rattle.ss_operators.proofs.Walks.{on_ok}
 use Rattle.ss_plain_sql.proofs.queries.groups.add_to_group.Goals as goal
 
 pub returns-in-Some-get_mut : goal.returns-in-Some-get_mut

@@ -1,7 +1,7 @@
 use Rattle.std.proofs.Common.{◌≡◌, [], IfOk, List, ap, ◌∙◌, subst, rules}
 use Rattle.ss_value.specs.Rows.{Rows}
 use Rattle.ss_model.specs.Queries.{group_rows}
-use Rattle.ss_plain_sql.proofs.Grouping.{members_of, grouped_onto, grouped}
+use Rattle.ss_operators.proofs.Grouping.{members_of, grouped_onto, grouped}
 use Rattle.ss_plain_sql.proofs.queries.groups.group_rows.Goals as goal
 
 pub returns : goal.returns

@@ -1,5 +1,5 @@
 use Rattle.std.proofs.Common.{◌≡◌, [], drop}
-use Rattle.ss_plain_sql.proofs.Grouping.{grouped_onto}
+use Rattle.ss_operators.proofs.Grouping.{grouped_onto}
 use Rattle.ss_plain_sql.proofs.queries.groups.keyed_groups.Given as goal
 
 abbrev pub invariant-loop-here : goal.invariant-loop-here

@@ -1,5 +1,5 @@
 use Rattle.std.proofs.Common.{◌≡◌, ◌++◌, drop}
-use Rattle.ss_plain_sql.proofs.Grouping.{members_of}
+use Rattle.ss_operators.proofs.Grouping.{members_of}
 use Rattle.ss_plain_sql.proofs.queries.groups.members.Given as goal
 
 abbrev pub invariant-loop-group : goal.invariant-loop-group

@@ -3,7 +3,7 @@ use Rattle.std.proofs.lemmas.Result.{err_from_is_err_and}
 use Rattle.ss_value.specs.Rows.{Rows}
 use Rattle.ss_model.specs.Results.{try_map}
 use Rattle.ss_model.specs.Queries.{item_value}
-use Rattle.ss_plain_sql.proofs.Steps.{maps_more, maps_stopped}
+use Rattle.ss_operators.proofs.Walks.{maps_more, maps_stopped}
 use Rattle.ss_plain_sql.proofs.queries.items.group_results.Goals as goal
 
 pub returns-in_err-row-clause-stops : goal.returns-in_err-row-clause-stops

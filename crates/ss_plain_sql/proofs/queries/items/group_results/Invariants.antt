@@ -1,6 +1,6 @@
 use Rattle.ss_model.specs.Results.{try_map}
 use Rattle.ss_model.specs.Queries.{item_value}
-use Rattle.ss_plain_sql.proofs.Steps.{Maps}
+use Rattle.ss_operators.proofs.Walks.{Maps}
 use Rattle.ss_plain_sql.proofs.queries.items.group_results.Given as goal
 
 abbrev pub invariant-loop-group : goal.invariant-loop-group

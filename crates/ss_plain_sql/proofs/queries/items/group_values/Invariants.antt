@@ -1,5 +1,5 @@
 use Rattle.ss_model.specs.Expressions.{expr_value}
-use Rattle.ss_plain_sql.proofs.Steps.{Maps}
+use Rattle.ss_operators.proofs.Walks.{Maps}
 use Rattle.ss_plain_sql.proofs.queries.items.group_values.Given as goal
 
 abbrev pub invariant-loop-here : goal.invariant-loop-here

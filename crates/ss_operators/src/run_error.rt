@@ -1,0 +1,35 @@
+//! Why an evaluation ends without a result.
+
+use ss_model::entry::Reason;
+use ss_value::NoMemory;
+
+/// Why an evaluation ends without a result.
+#[derive(Clone, Copy, Debug, PartialEq, Eq, Drop)]
+pub enum RunError {
+    /// Want of memory, which says nothing of the meaning.
+    NoMemory,
+    /// The abort that the evaluation means.
+    Abort(Reason),
+}
+
+impl From<NoMemory> for RunError {
+    ghost use Rattle.std.specs.Prelude.{◌≡◌};
+    ghost use Rattle.ss_operators.specs.declared.run_error.RunError.TheVariants.{NoMemory as OutOfMemory};
+
+    ghost from_gives = { λ _ stop. stop ≡ OutOfMemory };
+
+    fn from(_: NoMemory) -> RunError {
+        RunError::NoMemory
+    }
+}
+
+impl From<Reason> for RunError {
+    ghost use Rattle.std.specs.Prelude.{◌≡◌};
+    ghost use Rattle.ss_operators.specs.declared.run_error.RunError.TheVariants.{Abort};
+
+    ghost from_gives = { λ reason stop. stop ≡ Abort reason };
+
+    fn from(reason: Reason) -> RunError {
+        RunError::Abort(reason)
+    }
+}

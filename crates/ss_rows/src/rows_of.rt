@@ -1,0 +1,33 @@
+//! What gives the rows of sources.
+
+ghost use Rattle.std.specs.Prelude.{◌≡◌, true, false, None, Some};
+ghost use Rattle.std.specs.Option.{option_copied};
+ghost use Rattle.ss_value.specs.Rows.{Row};
+ghost use Rattle.ss_sql_lex.specs.declared.typed.SourceId.{SourceId};
+ghost use Rattle.ss_rows.specs.Sources.{Placed, has_place, first_place, StandsAt};
+
+use ss_sql_lex::typed::SourceId;
+use ss_value::value::Row;
+
+/// What gives the rows of sources.
+///
+/// Each source is a list of rows in an order, and each row of it stands at a position of its own. A walk from
+/// `first` by `after` meets them all. What the calls cost, the implementor says; a query asks `after` and `row` once
+/// for each row of its sources.
+pub trait RowsOf {
+    ghost placed: { Self → SourceId → Placed };
+
+    /// The position of a source's first row, and None exactly where it has none.
+    fn first(&self, source: &SourceId) -> Option<usize>
+        ensures { result ≡ first_place (placed self.now source.now) };
+
+    /// The position of the row behind the one at a position, and None exactly behind the last.
+    fn after(&self, source: &SourceId, at: usize) -> Option<usize>
+        requires { has_place (placed self.now source.now) at ≡ true }
+        ensures { (row : Row) (behind : Placed) → StandsAt (placed self.now source.now) at row behind → result ≡ first_place behind };
+
+    /// The row at a position, and None exactly where it is none of the source's positions.
+    fn row(&self, source: &SourceId, at: usize) -> Option<&Row>
+        ensures some { (row : Row) (behind : Placed) → StandsAt (placed self.now source.now) at row behind → option_copied result ≡ Some row }
+        ensures none { has_place (placed self.now source.now) at ≡ false → result ≡ None };
+}

@@ -1,0 +1,158 @@
+//! The first two phases: the tuples of FROM and JOIN that pass WHERE.
+//!
+//! One walk over FROM. Of each of its rows only the partners are met, and the walk ends where enough tuples are found.
+
+ghost use Rattle.std.specs.Prelude.{◌≡◌, ◌↔◌, [], ◌∷◌, map, Option, IsTrue, IfOk, IfErr, OnOk, Ok};
+ghost use Rattle.ss_value.specs.Rows.{Rows};
+ghost use Rattle.ss_sql_lex.specs.declared.typed.Joined.{Joined};
+ghost use Rattle.ss_model.specs.Results.{try_filter};
+ghost use Rattle.ss_model.specs.Queries.{where_passes, join_rows, join_source};
+ghost use Rattle.ss_operators.specs.Stops.{StopsAs};
+ghost use Rattle.ss_rows.specs.Sources.{rows_in};
+ghost use Rattle.ss_rows.specs.Tuples.{tuple_of, tuples_of, rows_behind};
+ghost use Rattle.ss_rows.specs.Found.{Reaches, FirstOf};
+ghost use Rattle.ss_rows.specs.Adding.{onto, CanEndEarly, IndexesJoin};
+ghost use Rattle.ss_rows.specs.Meaning.{passing};
+
+use crate::expressions::passes;
+use crate::join::{JoinIndex, Truths};
+use crate::rows_of::RowsOf;
+use crate::tuple::Tuple;
+use crate::walk::row_at;
+use ss_operators::run_error::RunError;
+use ss_sql_lex::typed::{Expr, Joined, Query};
+use ss_value::NoMemory;
+use ss_value::value::Row;
+use std::alloc::Global;
+
+/// Which tuples are wanted.
+#[derive(Clone, Copy, Drop)]
+struct Wanted<'a> {
+    /// What stands behind WHERE, if there is one.
+    test: &'a Option<Expr>,
+    /// The parameters.
+    params: &'a Row,
+    /// How many are enough, where not all are wanted.
+    enough: Option<u64>,
+}
+
+/// Whether so many tuples are enough. Constant.
+fn is_enough(enough: Option<u64>, count: usize) -> bool
+    ensures { IsTrue result ↔ Reaches enough count }
+{
+    match enough {
+        Some(enough) => enough <= count as u64,
+        None => false,
+    }
+}
+
+/// Adds a tuple where it passes WHERE. Aborts as the test does.
+fn add_tuple<'a>(
+    alloc: Global,
+    wanted: Wanted<'a>,
+    here: Tuple<'a>,
+    found: &mut Vec<Tuple<'a>>,
+) -> Result<(), RunError>
+    ensures added { OnOk result (onto (tuples_of found.old.items) (try_filter (where_passes wanted.entry.params.now wanted.entry.test.now) (tuple_of here.entry ∷ [])) ≡ Ok (tuples_of found.new.items)) }
+    ensures stops { IfErr result (λ stop. StopsAs (try_filter (where_passes wanted.entry.params.now wanted.entry.test.now) (tuple_of here.entry ∷ [])) stop) }
+{
+    if passes(alloc, wanted.test, here, wanted.params)? {
+        if found.push(here).is_err() {
+            return Err(RunError::NoMemory);
+        }
+    }
+    Ok(())
+}
+
+/// Adds the pairs of an outer row that pass WHERE, until enough are found. Aborts as the first test that does.
+fn add_pairs<'a>(
+    alloc: Global,
+    wanted: Wanted<'a>,
+    outer: &'a Row,
+    partners: &[&'a Row],
+    found: &mut Vec<Tuple<'a>>,
+) -> Result<(), RunError>
+    requires { CanEndEarly wanted.enough wanted.test.now }
+    ensures added { OnOk result (FirstOf wanted.entry.enough (onto (tuples_of found.old.items) (try_filter (where_passes wanted.entry.params.now wanted.entry.test.now) (map (λ r. outer.now ∷ r ∷ []) (rows_behind partners.now)))) (tuples_of found.new.items)) }
+    ensures stops { IfErr result (λ stop. StopsAs (try_filter (where_passes wanted.entry.params.now wanted.entry.test.now) (map (λ r. outer.now ∷ r ∷ []) (rows_behind partners.now))) stop) }
+{
+    for inner in partners {
+        add_tuple(alloc, wanted, Tuple::Pair(outer, *inner), found)?;
+        if is_enough(wanted.enough, found.len()) {
+            return Ok(());
+        }
+    }
+    Ok(())
+}
+
+/// Adds the tuples of an outer row that pass WHERE, until enough are found. Aborts as the first test that does.
+fn add_row<'a>(
+    alloc: Global,
+    wanted: Wanted<'a>,
+    index: &Option<JoinIndex<'a>>,
+    outer: &'a Row,
+    found: &mut Vec<Tuple<'a>>,
+) -> Result<(), RunError>
+    requires { CanEndEarly wanted.enough wanted.test.now }
+    ensures added { OnOk result ((join : Option (Joined × Rows)) → IndexesJoin join index.now → FirstOf wanted.entry.enough (onto (tuples_of found.old.items) (try_filter (where_passes wanted.entry.params.now wanted.entry.test.now) (join_rows (outer.now ∷ []) join))) (tuples_of found.new.items)) }
+    ensures stops { IfErr result (λ stop. (join : Option (Joined × Rows)) → IndexesJoin join index.now → StopsAs (try_filter (where_passes wanted.entry.params.now wanted.entry.test.now) (join_rows (outer.now ∷ []) join)) stop) }
+{
+    match index {
+        None => add_tuple(alloc, wanted, Tuple::Single(outer), found),
+        Some(index) => add_pairs(alloc, wanted, outer, index.partners(outer), found),
+    }
+}
+
+/// The index of a JOIN, and None where there is no JOIN. Fails only for want of memory.
+fn join_index<'a, X: RowsOf>(
+    alloc: Global,
+    from: &'a X,
+    joined: Option<Joined>,
+    truths: &'a Truths,
+) -> Result<Option<JoinIndex<'a>>, NoMemory>
+    ensures { IfOk result (IndexesJoin (join_source (λ s. rows_in (X.placed from.now s)) joined)) }
+{
+    match joined {
+        None => Ok(None),
+        Some(joined) => {
+            let index = JoinIndex::new(alloc, from, joined, truths)?;
+            Ok(Some(index))
+        }
+    }
+}
+
+/// The tuples of FROM and JOIN that pass WHERE, in order, or as many of the first ones as are enough.
+///
+/// Aborts as the first test that does; where not all are wanted, WHERE has to be one that never aborts. A test for
+/// each row of FROM and each partner of it up to the end, a search for each row of FROM, and of a JOIN one walk over
+/// its source. Takes memory for the index of a JOIN, and a reference or two for each tuple that is found.
+pub fn passing_tuples<'a, X: RowsOf>(
+    alloc: Global,
+    from: &'a X,
+    query: &'a Query,
+    params: &'a Row,
+    truths: &'a Truths,
+    enough: Option<u64>,
+) -> Result<Vec<Tuple<'a>>, RunError>
+    requires { CanEndEarly enough query.now.test }
+    ensures found { IfOk result (λ found. FirstOf enough (passing (λ s. rows_in (X.placed from.now s)) params.now query.now) (tuples_of found.items)) }
+    ensures stops { IfErr result (λ stop. StopsAs (passing (λ s. rows_in (X.placed from.now s)) params.now query.now) stop) }
+{
+    let wanted = Wanted {
+        test: &query.test,
+        params,
+        enough,
+    };
+    let index = join_index(alloc, from, query.joined, truths)?;
+    let mut found = Vec::new(alloc);
+    let mut at = from.first(&query.from);
+    while let Some(place) = at {
+        let outer = row_at(from, &query.from, place);
+        add_row(alloc, wanted, &index, outer, &mut found)?;
+        if is_enough(enough, found.len()) {
+            return Ok(found);
+        }
+        at = from.after(&query.from, place);
+    }
+    Ok(found)
+}
