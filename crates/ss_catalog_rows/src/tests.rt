@@ -22,8 +22,18 @@ use ss_value::seq::Seq;
 use std::alloc::{AllocError, Global};
 use std::test::Fail;
 
-/// The line for a catalogue that is accepted and isn't built yet, since it isn't plain.
-const ACCEPTED: &str = r#"["not_built",1]"#;
+/// The mark of an input whose catalogue is accepted, whether it has a stream and isn't built yet, or runs.
+const ACCEPTED: &str = "accepted";
+
+/// Whether an input's first line is the one that its row says.
+fn is_so(told: &str, line: &str) -> bool {
+    if line == ACCEPTED {
+        return told == "[\"not_built\",1]"
+            || told.starts_with("[\"table\",")
+            || told.starts_with("[\"done\",");
+    }
+    told == line
+}
 
 /// The words of a command line that has one.
 fn words_of(alloc: Global, word: &str) -> Result<Vec<String>, AllocError> {
@@ -85,7 +95,7 @@ fn wrong_input(alloc: Global, rows: &[(&str, &str)]) -> Result<String, Fail> {
     for row in rows {
         let (input, line) = *row;
         let told = line_for(alloc, input)?;
-        if told.as_str() != line {
+        if !is_so(told.as_str(), line) {
             return Ok(format!(in alloc; "{input} is {told}")?);
         }
     }
@@ -98,7 +108,7 @@ fn wrong_piece(alloc: Global, base: &str, rows: &[(&str, &str)]) -> Result<Strin
         let (piece, line) = *row;
         let input = filled(alloc, base, piece)?;
         let told = line_for(alloc, input.as_str())?;
-        if told.as_str() != line {
+        if !is_so(told.as_str(), line) {
             return Ok(format!(in alloc; "{piece} is {told}")?);
         }
     }
@@ -111,7 +121,7 @@ fn wrong_edit(alloc: Global, base: &str, rows: &[(&str, &str, &str)]) -> Result<
         let (from, to, line) = *row;
         let input = edited(alloc, base, from, to)?;
         let told = line_for(alloc, input.as_str())?;
-        if told.as_str() != line {
+        if !is_so(told.as_str(), line) {
             return Ok(format!(in alloc; "{to} is {told}")?);
         }
     }

@@ -1,15 +1,8 @@
-pub mod PlainRuns
 pub mod InputDepth
 pub mod InputRequests
-pub mod RunSources
-pub mod RunStores
-pub mod RunUndone
-pub mod RunReplies
-pub mod RunCalls
-pub mod RunMeaning
-pub mod RunApplies
 pub mod RunNumbers
 pub mod RunProgress
-pub mod RunExample
+pub mod RunShards
+pub mod RunPremises
 pub mod TopReplies
 pub mod TopRefusals

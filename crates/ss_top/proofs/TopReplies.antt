@@ -1,16 +1,9 @@
 -- What is told by places is the report.
-use Rattle.std.proofs.Common.{◌≡◌, ◌∙◌, ◌==◌, ◌<◌, ◌≤◌, ℕ, suc, ◌+◌, List, [], ◌∷◌, ◌++◌, length, map, refl, ap, sym, subst, cond, Bool, true, false, append_assoc, append-nil, add-one, length-append, Option, Some, None, slice_get, arith, inl, inr, flat_map}
+use Rattle.std.proofs.Common.{◌≡◌, ◌∙◌, ◌==◌, ◌<◌, ◌≤◌, ℕ, suc, ◌+◌, List, [], ◌∷◌, ◌++◌, length, map, refl, ap, sym, subst, cond, Bool, true, false, append_assoc, add-one, length-append, Option, Some, None, slice_get, arith, inl, inr}
 use Rattle.std.specs.Option.{option_map}
 use Rattle.std.specs.List.{filter_map, cons_option, Contains, AllByRecursion}
-use Rattle.std.specs.Ordering.{nat_cmp}
-use Rattle.std.specs.Cmp.Lexicographic.{slice_cmp, nat_list_cmp_total}
-use Rattle.std.specs.FinMap as finmap
-use Rattle.std.specs.FinMap.{entries-insert, len-entries, len-empty, put}
 use Rattle.std.proofs.lemmas.List.{length-map}
-use Rattle.std.proofs.lemmas.Bool.Decides.{nat_tests}
-use Rattle.ss_value.specs.Rows.{Rows}
 use Rattle.ss_model.specs.declared.catalog.Catalog.{Catalog}
-use Rattle.ss_model.specs.declared.catalog.TableDef.{TableDef}
 use Rattle.ss_model.specs.declared.entry.Answer.{Answer}
 use Rattle.ss_model.specs.declared.entry.Answer.TheVariants.{Listed as ListedAnswer, NoMemory}
 use Rattle.ss_model.specs.declared.entry.Asked.{Asked}
@@ -20,18 +13,13 @@ use Rattle.ss_model.specs.declared.entry.Entry.TheVariants.{Call, Push, Step as 
 use Rattle.ss_model.specs.declared.entry.Listed.{Listed}
 use Rattle.ss_model.specs.declared.entry.Outcome.{Outcome}
 use Rattle.ss_model.specs.declared.entry.Request.{Request}
-use Rattle.ss_model.specs.Contents.{Table}
 use Rattle.ss_model.specs.Database.{Database}
 use Rattle.ss_model.specs.Replays.{after}
 use Rattle.ss_model.specs.Report.{asked_entry, entries_behind, asked_entries, IsAsked, client_index, Rising, find_listed, is_same_request, IsAnswer, AreAnswers, Unlisted, Whole, Report}
-use Rattle.ss_model.specs.ReportLines.{list_lines, table_line, row_line, table_lines, tables_by_name, database_lines, done_line, lines_text}
-use Rattle.ss_report.specs.Told.{answer_of, answer_at, told_replies, rows_lines, rows_by_name, tables_lines, told_text}
-use Rattle.ss_report.proofs.Steps.{one_table}
-use Rattle.ss_top.specs.Runnable.{is_runnable}
+use Rattle.ss_model.specs.ReportLines.{list_lines, database_lines, done_line, lines_text}
+use Rattle.ss_report.specs.Told.{answer_of, answer_at, told_replies, told_text}
 use Rattle.ss_top.specs.RunAnswers.{IsPartOf, listed_entries, AnswersInOrder}
-use Rattle.ss_top.specs.RunPlain.{table_rows}
 use Rattle.ss_top.specs.RunSessions.{one_client, places_in}
-use Rattle.ss_top.proofs.RunReplies.{number_of_rows}
 use Rattle.ss_top.proofs.RunNumbers.{numbered, asked_numbered}
 
 -- ---- answers
@@ -131,41 +119,18 @@ part_from client n (l ∷ ls) (r ∷ rs) (inl p) =
     subst (λ o. From n (cons_option o (filter_map (λ (l : Listed). client_index client l.entry) ls))) (sym (ap (client_index client) p.0 ∙ index_of client r.client n r.what)) (one_from (r.client == client) n _ rest)
 part_from client n (l ∷ ls) (r ∷ rs) (inr q) = from_less n (n + 1) _ (omega arith) (part_from client (n + 1) (l ∷ ls) rs q)
 
--- ---- tables
-
-nothing_left : {A : Type 0} (xs : List A) → length xs ≡ 0 → xs ≡ []
-nothing_left [] h = refl
-nothing_left (x ∷ xs) h = absurd (omega arith)
-
-named_once : (def : TableDef) (table : Table) → finmap.values (tables_by_name (def ∷ []) (table ∷ [])) ≡ (def, table) ∷ []
-named_once def table =
-    ap (map (λ e. e.1)) (entries-insert nat_list_cmp_total finmap.empty def.name (def, table)
-    ∙ ap (put (slice_cmp nat_cmp) def.name (def, table)) (nothing_left _ (sym (len-entries finmap.empty) ∙ len-empty (slice_cmp nat_cmp) (TableDef × Table))))
-
-one_each : (defs : List TableDef) (tables : List Table) → length defs ≡ 1 → length (map table_rows tables) ≡ 1
-    → flat_map (λ t. rows_lines t.0 t.1) (finmap.values (rows_by_name defs (map table_rows tables))) ≡ flat_map (λ t. table_lines t.0 t.1) (finmap.values (tables_by_name defs tables))
-one_each [] tables h k = absurd (omega arith)
-one_each (def ∷ []) [] h k = absurd (omega arith)
-one_each (def ∷ []) (table ∷ []) h k =
-    one_table (def ∷ []) def (table_rows table) refl
-    ∙ ap (λ n. table_line def.name n ∷ map (row_line def.name) (table_rows table)) (number_of_rows table)
-    ∙ sym (rw (named_once def table, append-nil) refl)
-one_each (def ∷ []) (table ∷ more ∷ tables) h k = absurd (omega arith)
-one_each (def ∷ other ∷ defs) tables h k = absurd (omega arith)
-
 -- ---- the report
 
 -- by the places of the requests the report is told
-pub told_report : (catalog : Catalog) (requests : List Request) (places : List (Option ℕ)) (list : List Listed) (tables : List Rows) (db : Database)
-    → one_client requests ≡ true → AnswersInOrder requests list → places ≡ places_in list (asked_entries requests) → tables ≡ map table_rows (after catalog db list).contents.tables
-    → length catalog.tables ≡ 1 → length tables ≡ 1 → Report catalog requests db 0 list Whole (told_text catalog requests places list tables)
-told_report catalog requests places list tables db client in_order p t defs count = record {
+pub told_report : (catalog : Catalog) (requests : List Request) (places : List (Option ℕ)) (list : List Listed) (db now : Database)
+    → one_client requests ≡ true → AnswersInOrder requests list → places ≡ places_in list (asked_entries requests) → now ≡ after catalog db list
+    → Report catalog requests db 0 list Whole (told_text catalog requests places list now)
+told_report catalog requests places list db now client in_order p ends = record {
   asked = all_asked requests list (part_contained (listed_entries list) (asked_entries requests) in_order);
   in_turn = λ c. from_rises 0 _ (part_from c 0 list requests (subst (IsPartOf (listed_entries list)) (asked_numbered requests client) in_order));
   answers = map (answer_at list) places;
   answered = subst (λ ps. AreAnswers (Unlisted Whole) 0 list (asked_entries requests) (map (answer_at list) ps)) (sym p) (answers_are list (asked_entries requests));
-  text = ap (λ ls. lines_text (told_replies catalog list requests places ++ list_lines catalog 0 list ++ ls ++ done_line (length list) ∷ []))
-      (ap (tables_lines catalog) t ∙ one_each catalog.tables (after catalog db list).contents.tables defs (ap length (sym t) ∙ count))
+  text = ap (told_text catalog requests places list) ends
       ∙ ap lines_text (append_assoc (told_replies catalog list requests places ++ list_lines catalog 0 list) (database_lines catalog (after catalog db list)) (done_line (length list) ∷ []));
 }
 
@@ -176,7 +141,3 @@ asked_count earlier (r ∷ rs) = ap suc (asked_count (earlier ++ r ∷ []) rs)
 -- each request has a place, or none
 pub places_count : (list : List Listed) (requests : List Request) → length (places_in list (asked_entries requests)) ≡ length requests
 places_count list requests = length-map (asked_entries requests) (λ e. option_map (λ found. found.0) (find_listed 0 e list)) ∙ asked_count [] requests
-
--- a runnable catalogue has one table
-pub runnable_one : (catalog : Catalog) → is_runnable catalog ≡ true → length catalog.tables ≡ 1
-runnable_one catalog h = grind (arith, nat_tests)

@@ -1,13 +1,6 @@
-pub mod Plain
-pub mod Runnable
 pub mod Starts
 pub mod Refused
-pub mod RunCodes
-pub mod RunPlain
-pub mod RunTables
-pub mod RunBodies
 pub mod RunAnswers
 pub mod RunSessions
-pub mod RunExample
 pub mod Statuses
 pub mod Top

@@ -15,7 +15,7 @@ use Rattle.ss_requests.specs.declared.request.RequestError.{RequestError}
 use Rattle.ss_requests.specs.Requests.{request_of, RefusesAs as RefusesRequestAs}
 use Rattle.ss_top.specs.declared.input.ReadError.{ReadError}
 use Rattle.ss_top.specs.declared.input.ReadError.TheVariants.{Line as OfLine, NoCatalog, Catalog as OfCatalog, Request as OfRequest, NotBuilt}
-use Rattle.ss_top.specs.Plain.{is_plain}
+use Rattle.ss_proc.specs.Executions.{is_of_tables}
 use Rattle.ss_top.specs.Starts.{SaysCatalog, AsksFor, AskInOrder}
 
 -- ---- the catalogue's line
@@ -27,19 +27,19 @@ pub record RefusesCatalog (l : Line) (line : ℕ) (e : CatalogError) : Type 0 wh
   pub json : value_at l ≡ Ok value
   pub refused : Refuses value e
 
--- its catalogue is accepted, and isn't plain
-pub record IsNotPlain (l : Line) (line : ℕ) : Type 0 where
+-- its catalogue is accepted, and has a stream
+pub record HasStream (l : Line) (line : ℕ) : Type 0 where
   pub here : line ≡ l.number
   pub catalog : Catalog
   pub says : SaysCatalog l catalog
   pub accepted : Accepted catalog
-  pub not_plain : is_plain catalog ≡ false
+  pub streams : is_of_tables catalog ≡ false
 
 -- the catalogue's line is refused so: for its bytes, then for its value, then for what isn't built
 abbrev pub RefusesFirst : Line → ReadError → Type 0
 RefusesFirst l (OfLine e) = RefusesAs (value_at l) e
 RefusesFirst l (OfCatalog line e) = RefusesCatalog l line e
-RefusesFirst l (NotBuilt line) = IsNotPlain l line
+RefusesFirst l (NotBuilt line) = HasStream l line
 RefusesFirst l NoCatalog = ⊥
 RefusesFirst l (OfRequest e) = ⊥
 
@@ -78,11 +78,11 @@ pub record RefusesAmong (catalog : Catalog) (lines : List Line) (e : ReadError) 
 
 -- ---- inputs
 
--- the first line is a plain catalogue, and one behind it is refused so
+-- the first line is a catalogue without a stream, and one behind it is refused so
 pub record RefusesBehind (l : Line) (ls : List Line) (e : ReadError) : Type 0 where
   pub catalog : Catalog
   pub says : SaysCatalog l catalog
-  pub plain : is_plain catalog ≡ true
+  pub tables_alone : is_of_tables catalog ≡ true
   pub refused : RefusesAmong catalog ls e
 
 -- the first refusal of lines; where there are none, the catalogue is missing

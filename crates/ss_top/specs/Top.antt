@@ -72,7 +72,7 @@ pub record IsRefused (input : List ℕ) (status : Status) (w : Sunk) : Type 0 wh
   pub is : refusal_status refusal ≡ status
   pub told : Tells (refusal_text refusal) w
 
--- the bytes are a plain catalogue that is accepted, and requests; there is one list that replays from the empty database and answers the requests in order, and the text is its report
+-- the bytes are a catalogue that is accepted and has no stream, and requests; there is one list that replays from the empty database and answers the requests in order, and the text is its report
 pub record IsRun (input text : List ℕ) : Type 0 where
   pub catalog : Catalog
   pub requests : List Request

@@ -4,14 +4,12 @@ ghost use Rattle.std.specs.Prelude.{◌≡◌, IfOk, IfErr, true};
 ghost use Rattle.ss_model.specs.Accepted.{Accepted};
 ghost use Rattle.ss_model.specs.Database.{fits_entry};
 ghost use Rattle.ss_model.specs.Report.{asked_entry};
-ghost use Rattle.ss_top.specs.Plain.{is_plain};
-ghost use Rattle.ss_top.specs.Runnable.{is_runnable};
+ghost use Rattle.ss_proc.specs.Executions.{is_of_tables};
 ghost use Rattle.ss_top.specs.RunAnswers.{all_fit};
 ghost use Rattle.ss_top.specs.RunSessions.{one_client};
 ghost use Rattle.ss_top.specs.Starts.{SaysCatalog, AsksFor, AskInOrder, StartLines};
 ghost use Rattle.ss_top.specs.Refused.{RefusesFirst, RefusesLater, RefusesAmong, RefusesLines, ComesOfLines};
 
-use crate::plain::is_plain;
 use ss_catalog::error::CatalogError;
 use ss_catalog::read::read_catalog;
 use ss_lines::{Line, LineError, line_value};
@@ -36,7 +34,7 @@ pub enum ReadError {
     },
     /// The value of a later line isn't a request of the catalogue, or memory is wanting.
     Request(RequestError),
-    /// The catalogue may run and isn't plain, or a request is of another client than 0.
+    /// The catalogue may run and has a stream, or a request is of another client than 0.
     NotBuilt {
         /// The line's number.
         line: u64,
@@ -56,11 +54,18 @@ fn not_built(line: &Line) -> ReadError
     ReadError::NotBuilt { line: line.number }
 }
 
-/// The plain catalogue of the first line, or the line's first refusal.
+/// Whether a catalogue has no stream, and so tables and calls alone, which is what runs so far. Constant.
+fn is_of_tables(catalog: &Catalog) -> bool
+    ensures { result ≡ is_of_tables catalog.now }
+{
+    catalog.streams.len() == 0
+}
+
+/// The catalogue of the first line, which has no stream, or the line's first refusal.
 fn catalog_at(alloc: Global, line: &Line) -> Result<Catalog, ReadError>
     ensures says { IfOk result (SaysCatalog line.now) }
     ensures accepted { IfOk result Accepted }
-    ensures plain { IfOk result (λ c. is_plain c ≡ true) }
+    ensures tables_alone { IfOk result (λ c. is_of_tables c ≡ true) }
     ensures refused { IfErr result (RefusesFirst line.now) }
     ensures others { IfErr result ComesOfLines }
 {
@@ -70,7 +75,7 @@ fn catalog_at(alloc: Global, line: &Line) -> Result<Catalog, ReadError>
     };
     match read_catalog(alloc, &value) {
         Ok(catalog) => {
-            if is_plain(&catalog) {
+            if is_of_tables(&catalog) {
                 Ok(catalog)
             } else {
                 Err(not_built(line))
@@ -136,7 +141,7 @@ fn requests_at(alloc: Global, catalog: &Catalog, lines: &[Line]) -> Result<Seq<R
 pub fn read_plan(alloc: Global, lines: &[Line]) -> Result<Plan, ReadError>
     ensures starts { IfOk result (λ p. StartLines lines.now p.catalog p.requests) }
     ensures accepted { IfOk result (λ p. Accepted p.catalog) }
-    ensures runnable { IfOk result (λ p. is_runnable p.catalog ≡ true) }
+    ensures tables_alone { IfOk result (λ p. is_of_tables p.catalog ≡ true) }
     ensures clients { IfOk result (λ p. one_client p.requests ≡ true) }
     ensures fit { IfOk result (λ p. all_fit p.catalog p.requests ≡ true) }
     ensures refused { IfErr result (RefusesLines lines.now) }

@@ -2,13 +2,12 @@
 //! and the tables out.
 //!
 //! - `top`: the one call `sstore`, whose contract is the program's promise
-//! - `input`: reads the input's lines; `plain`: which catalogues the running code takes
+//! - `input`: reads the input's lines
 //! - `run`: runs the requests
 //! - `refusals`, `status`: what is told where nothing ran, and how a run ends
 #![tactic(auto)]
 
 mod input;
-mod plain;
 mod refusals;
 mod run;
 pub mod status;

@@ -1,13 +1,9 @@
 //! Runs requests one after another.
 //!
-//! A table is a tree of rows by key (`store`). An execution changes the tables in place and notes which keys it
-//! puts in (`tables`), so that an abort takes them out again: nothing is copied up front. `body` runs the steps of
-//! one procedure, from the values that `values` makes, and `session` all requests. `laws` has an example by which
-//! the premises of all this can be met.
+//! - `request`: the entry of one request, and its execution
+//! - `session`: all requests, over one database
+//!
+//! A request's execution joins the list before its changes are final: what finds no memory on the way is taken back.
 
-pub mod body;
-pub mod laws;
+pub mod request;
 pub mod session;
-pub mod store;
-pub mod tables;
-pub mod values;

@@ -10,11 +10,11 @@ ghost use Rattle.ss_model.specs.Replays.{Replays};
 ghost use Rattle.ss_top.specs.RunAnswers.{all_fit, AnswersInOrder};
 ghost use Rattle.ss_model.specs.Report.{Report, Whole};
 ghost use Rattle.ss_top.specs.RunSessions.{one_client};
-ghost use Rattle.ss_top.specs.Runnable.{is_runnable};
+ghost use Rattle.ss_proc.specs.Executions.{is_of_tables};
 ghost use Rattle.ss_top.specs.Starts.{Starts};
 ghost use Rattle.ss_top.specs.Refused.{IsRefusedBy};
 ghost use Rattle.ss_top.specs.Statuses.{usage_text, read_fault_text, no_memory_text};
-ghost use Rattle.ss_top.specs.Top.{is_run, sunk, Tells, EndsRefused, LeavesAt, IsRefused, IsToldRun, IsCutRun, Empties};
+ghost use Rattle.ss_top.specs.Top.{is_run, sunk, Tells, LeavesAt, IsRefused, IsToldRun, IsCutRun, Empties};
 
 use crate::input::{Plan, ReadError, read_plan};
 use crate::refusals::{NO_MEMORY, USAGE, refuse, tell};
@@ -44,7 +44,7 @@ fn read_input<S: Source>(alloc: Global, source: &mut S) -> Result<Plan, ReadErro
     ensures end { OnOk result (IsAtEnd (S.left source.new)) }
     ensures starts { IfOk result (λ p. IfSome (S.left source.old) (λ input. Starts input p.catalog p.requests)) }
     ensures accepted { IfOk result (λ p. Accepted p.catalog) }
-    ensures runnable { IfOk result (λ p. is_runnable p.catalog ≡ true) }
+    ensures tables_alone { IfOk result (λ p. is_of_tables p.catalog ≡ true) }
     ensures clients { IfOk result (λ p. one_client p.requests ≡ true) }
     ensures fit { IfOk result (λ p. all_fit p.catalog p.requests ≡ true) }
     ensures refused { IfErr result (λ e. IfSome (S.left source.old) (λ input. IsRefusedBy input e)) }
@@ -66,7 +66,8 @@ struct ToldRun {
 
 /// Runs what was asked for, and makes the report. Fails only for want of memory of the run as a whole.
 fn run_plan(alloc: Global, plan: &Plan) -> Result<ToldRun, NoMemory>
-    requires runnable { is_runnable plan.now.catalog ≡ true }
+    requires accepted { Accepted plan.now.catalog }
+    requires tables_alone { is_of_tables plan.now.catalog ≡ true }
     requires fit { all_fit plan.now.catalog plan.now.requests ≡ true }
     requires clients { one_client plan.now.requests ≡ true }
     ensures replays { IfOk result (λ t. Replays plan.now.catalog (empty_database plan.now.catalog) t.list) }
@@ -76,7 +77,7 @@ fn run_plan(alloc: Global, plan: &Plan) -> Result<ToldRun, NoMemory>
     let Session {
         list,
         places,
-        tables,
+        database,
     } = run_requests(alloc, &plan.catalog, &plan.requests)?;
     let text = write_report(
         alloc,
@@ -84,14 +85,14 @@ fn run_plan(alloc: Global, plan: &Plan) -> Result<ToldRun, NoMemory>
         &plan.requests,
         &places,
         &list,
-        &tables,
+        &database,
     )?;
     Ok(ToldRun { list, text })
 }
 
 /// Does all that the program does: reads a catalogue and requests, runs them, and reports.
 ///
-/// Linear in the input's bytes, and logarithmic in the table's rows for each step that runs. Memory is that of the
+/// Linear in the input's bytes and the report's, and beside that what the executions cost. Memory is that of the
 /// input's lines, or of its values with the tables and the report, whichever is more.
 pub fn sstore<S: Source, K: Sink>(
     alloc: Global,

@@ -1,7 +1,7 @@
 //! Counts and lengths at their limit, and one over it.
 
 use super::bases::SLIDING;
-use super::{ACCEPTED, around, line_for, wrong_edit};
+use super::{ACCEPTED, around, is_so, line_for, wrong_edit};
 use std::alloc::{AllocError, Global};
 use std::test::Fail;
 
@@ -46,7 +46,7 @@ fn wrong_count(alloc: Global, rows: &[(&str, usize, &str)]) -> Result<String, Fa
         let (text, count, line) = *row;
         let input = repeated(alloc, text, count)?;
         let told = line_for(alloc, input.as_str())?;
-        if told.as_str() != line {
+        if !is_so(told.as_str(), line) {
             return Ok(format!(in alloc; "{count} of {text} is {told}")?);
         }
     }
@@ -433,7 +433,7 @@ fn lengths(rt: HostRuntime) -> Result<(), Fail> {
     for (front, piece, count, back, line) in LENGTHS {
         let input = around(rt.alloc(), front, piece, count, back)?;
         let told = line_for(rt.alloc(), input.as_str())?;
-        assert_eq!(rt; told.as_str(), line, "at {count} of {piece}");
+        assert!(rt; is_so(told.as_str(), line), "at {count} of {piece}: {told}");
     }
     Ok(())
 }

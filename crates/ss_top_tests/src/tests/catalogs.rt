@@ -23,15 +23,6 @@ fn run_pieces(alloc: Global, pieces: &[&str]) -> Result<Ended, NoMemory> {
     run_on(alloc, input.as_slice(), b"")
 }
 
-/// Whether an input runs, or isn't built.
-fn is_as_built(ended: &Ended, built: bool) -> bool {
-    if built {
-        ended.is(Done, NOTHING)
-    } else {
-        ended.is(NotBuilt, NOT_BUILT)
-    }
-}
-
 /// Lines of an input that has no catalogue that runs.
 const INPUTS: [(&[u8], &str); 8] = [
     (b"", "[\"input\",1,\"C1\",\"$\"]\n"),
@@ -58,115 +49,82 @@ fn inputs_without_catalogue(rt: HostRuntime) -> Result<(), Fail> {
     Ok(())
 }
 
-/// Whether each, as the only table, is built.
-const TABLES: [(&str, bool); 6] = [
-    (ACCT, true),
-    (
-        r#"{"name":"acct","columns":[["a","text"],["b","int"]],"key":["b","a"],"part":0}"#,
-        true,
-    ),
-    (
-        r#"{"name":"acct","columns":[["a","int"]],"key":["a"],"part":0,"indexes":[]}"#,
-        true,
-    ),
-    (
-        r#"{"name":"acct","columns":[["a","int"],["b","int"]],"key":["a"],"part":0,"indexes":[["b"],["b","a"]]}"#,
-        true,
-    ),
-    (
-        r#"{"name":"acct","columns":[["a","int"]],"key":["a"],"part":1}"#,
-        false,
-    ),
-    (
-        r#"{"name":"acct","columns":[["a","int"]],"key":["a"],"by":"a"}"#,
-        false,
-    ),
+/// Each runs as the only table.
+const TABLES: [&str; 6] = [
+    ACCT,
+    r#"{"name":"acct","columns":[["a","text"],["b","int"]],"key":["b","a"],"part":0}"#,
+    r#"{"name":"acct","columns":[["a","int"]],"key":["a"],"part":0,"indexes":[]}"#,
+    r#"{"name":"acct","columns":[["a","int"],["b","int"]],"key":["a"],"part":0,"indexes":[["b"],["b","a"]]}"#,
+    r#"{"name":"acct","columns":[["a","int"]],"key":["a"],"part":7}"#,
+    r#"{"name":"acct","columns":[["a","int"]],"key":["a"],"by":"a"}"#,
 ];
+
+/// A table that stands behind that of accounts by its name.
+const OTHER: &str = r#"{"name":"other","columns":[["a","int"]],"key":["a"],"part":0}"#;
 
 #[test]
 fn tables(rt: HostRuntime) -> Result<(), Fail> {
-    for (table, built) in TABLES {
+    for table in TABLES {
         let ended = run_pieces(rt.alloc(), &[r#"{"tables":["#, table, "]}"])?;
-        assert!(rt; is_as_built(&ended, built), "{table}");
+        assert!(rt; ended.is(Done, NOTHING), "{table}");
     }
-    let other = r#"{"name":"other","columns":[["a","int"]],"key":["a"],"part":0}"#;
-    let two = run_pieces(rt.alloc(), &[r#"{"tables":["#, ACCT, ",", other, "]}"])?;
-    assert!(rt; is_as_built(&two, false));
-    assert!(rt; is_as_built(&run_pieces(rt.alloc(), &["{}"])?, false));
-    assert!(rt; is_as_built(&run_pieces(rt.alloc(), &["{}\n{"])?, false));
+    // Told by their names, whatever their order in the catalogue is.
+    let two = run_pieces(rt.alloc(), &[r#"{"tables":["#, OTHER, ",", ACCT, "]}"])?;
+    let told = "[\"table\",\"acct\",0]\n[\"table\",\"other\",0]\n[\"done\",0]\n";
+    assert!(rt; two.is(Done, told));
+    let none = run_pieces(rt.alloc(), &["{}"])?;
+    assert!(rt; none.is(Done, "[\"done\",0]\n"));
+    let behind = run_pieces(rt.alloc(), &["{}\n{"])?;
+    assert!(rt; behind.is(Input, "[\"input\",2,\"L4\"]\n"));
     Ok(())
 }
 
-/// Whether each, as the only procedure beside the table of accounts, is built.
-const PROCEDURES: [(&str, bool); 4] = [
-    (
-        r#"{"name":"p","kind":"call","touch":{"part":0},"body":[]}"#,
-        true,
-    ),
-    (
-        r#"{"name":"p","kind":"call","touch":{"part":1},"body":[]}"#,
-        false,
-    ),
-    (
-        r#"{"name":"p","kind":"call","touch":"all","body":[]}"#,
-        false,
-    ),
-    (
-        r#"{"name":"p","kind":"call","touch":{"multi":[0]},"body":[]}"#,
-        false,
-    ),
+/// Each runs as the only procedure beside the table of accounts.
+const PROCEDURES: [&str; 5] = [
+    r#"{"name":"p","kind":"call","touch":{"part":0},"body":[]}"#,
+    r#"{"name":"p","kind":"call","touch":{"part":1},"body":[]}"#,
+    r#"{"name":"p","kind":"call","touch":"all","body":[]}"#,
+    r#"{"name":"p","kind":"call","touch":{"multi":[0]},"body":[]}"#,
+    r#"{"name":"p","kind":"call","args":[["a","int"]],"touch":{"arg":"a"},"body":[]}"#,
 ];
+
+/// A stream and its border procedure, behind the table of accounts.
+const STREAM: &str =
+    r#"],"streams":[{"name":"s","columns":[["a","int"]]}],"procedures":[{"name":"p","kind":"border","inputs":["s"],"touch":{"part":0},"body":[]}]}"#;
 
 #[test]
 fn procedures(rt: HostRuntime) -> Result<(), Fail> {
-    for (procedure, built) in PROCEDURES {
-        let ended = run_pieces(
-            rt.alloc(),
-            &[
-                r#"{"tables":["#,
-                ACCT,
-                r#"],"procedures":["#,
-                procedure,
-                "]}",
-            ],
-        )?;
-        assert!(rt; is_as_built(&ended, built), "{procedure}");
+    for procedure in PROCEDURES {
+        let pieces = [
+            r#"{"tables":["#,
+            ACCT,
+            r#"],"procedures":["#,
+            procedure,
+            "]}",
+        ];
+        let ended = run_pieces(rt.alloc(), &pieces)?;
+        assert!(rt; ended.is(Done, NOTHING), "{procedure}");
     }
-    let border =
-        r#"],"streams":[{"name":"s","columns":[["a","int"]]}],"procedures":[{"name":"p","kind":"border","inputs":["s"],"touch":{"part":0},"body":[]}]}"#;
-    let ended = run_pieces(rt.alloc(), &[r#"{"tables":["#, ACCT, border])?;
-    assert!(rt; is_as_built(&ended, false));
+    // A stream isn't built yet, and no line behind it is looked at.
+    let ended = run_pieces(rt.alloc(), &[r#"{"tables":["#, ACCT, STREAM, "\n{"])?;
+    assert!(rt; ended.is(NotBuilt, NOT_BUILT));
     Ok(())
 }
 
-/// Whether each, as the only step of a procedure with an Int `a` and a text `w`, is built.
-const STEPS: [(&str, bool); 17] = [
-    (r#"{"insert":"acct","values":[{"arg":"a"},7]}"#, true),
-    (r#"{"insert":"acct","values":[-1,{"arg":"a"}]}"#, true),
-    (r#"{"return_all":"acct"}"#, true),
-    (r#"{"sql":"INSERT INTO acct VALUES (7, :a)"}"#, true),
-    (r#"{"return":"SELECT id, bal FROM acct"}"#, true),
-    (r#"{"return":"SELECT acct.id, bal FROM acct"}"#, true),
-    (r#"{"sql":"INSERT INTO acct VALUES (:a + 1, 7)"}"#, false),
-    (
-        r#"{"sql":"INSERT INTO acct SELECT id, bal FROM acct"}"#,
-        false,
-    ),
-    (r#"{"sql":"UPDATE acct SET bal = 0"}"#, false),
-    (r#"{"sql":"DELETE FROM acct"}"#, false),
-    (r#"{"return":"SELECT id FROM acct"}"#, false),
-    (r#"{"return":"SELECT bal, id FROM acct"}"#, false),
-    (r#"{"return":"SELECT id, bal, id FROM acct"}"#, false),
-    (
-        r#"{"return":"SELECT id, bal FROM acct WHERE id = :a"}"#,
-        false,
-    ),
-    (r#"{"return":"SELECT id, bal FROM acct ORDER BY 1"}"#, false),
-    (r#"{"return":"SELECT id, bal FROM acct LIMIT 9"}"#, false),
-    (
-        r#"{"abort_if":"(SELECT COUNT(*) FROM acct) > 9","code":1}"#,
-        false,
-    ),
+/// Each runs as the only step of a procedure with an Int `a` and a text `w`.
+const STEPS: [&str; 12] = [
+    r#"{"insert":"acct","values":[{"arg":"a"},7]}"#,
+    r#"{"return_all":"acct"}"#,
+    r#"{"sql":"INSERT INTO acct VALUES (:a + 1, 7)"}"#,
+    r#"{"sql":"INSERT INTO acct SELECT id, bal FROM acct"}"#,
+    r#"{"sql":"UPDATE acct SET bal = 0"}"#,
+    r#"{"sql":"DELETE FROM acct"}"#,
+    r#"{"return":"SELECT id, bal FROM acct"}"#,
+    r#"{"return":"SELECT bal, id, bal FROM acct"}"#,
+    r#"{"return":"SELECT id, bal FROM acct WHERE id = :a"}"#,
+    r#"{"return":"SELECT id, bal FROM acct ORDER BY 1"}"#,
+    r#"{"return":"SELECT id, bal FROM acct LIMIT 9"}"#,
+    r#"{"abort_if":"(SELECT COUNT(*) FROM acct) > 9","code":1}"#,
 ];
 
 const STEP_HEAD: &str =
@@ -174,12 +132,10 @@ const STEP_HEAD: &str =
 
 #[test]
 fn steps(rt: HostRuntime) -> Result<(), Fail> {
-    for (step, built) in STEPS {
-        let ended = run_pieces(
-            rt.alloc(),
-            &[r#"{"tables":["#, ACCT, STEP_HEAD, step, "]}]}"],
-        )?;
-        assert!(rt; is_as_built(&ended, built), "{step}");
+    for step in STEPS {
+        let pieces = [r#"{"tables":["#, ACCT, STEP_HEAD, step, "]}]}"];
+        let ended = run_pieces(rt.alloc(), &pieces)?;
+        assert!(rt; ended.is(Done, NOTHING), "{step}");
     }
     Ok(())
 }

@@ -1,0 +1,71 @@
+//! The rows that UPDATE and DELETE choose.
+
+ghost use Rattle.std.specs.Prelude.{◌<◌, length, IfOk, IfErr};
+ghost use Rattle.ss_value.specs.declared.value.Value.TheVariants.{Int};
+ghost use Rattle.ss_model.specs.Contents.{visible_table};
+ghost use Rattle.ss_model.specs.Statements.{matching_entries};
+ghost use Rattle.ss_operators.specs.Stops.{StopsAs};
+ghost use Rattle.ss_rows.specs.Frames.{params_of};
+ghost use Rattle.ss_shard.specs.Contents.{contents_of};
+ghost use Rattle.ss_shard.specs.Shards.{HasTables};
+ghost use Rattle.ss_plan.specs.Seen.{value_behind};
+ghost use Rattle.ss_plan.specs.Statements.{split_of, SplitByKeys, Matches};
+
+use crate::plan::{plan_of, planned_places};
+use crate::source::{ShardRows, rows_seen};
+use ss_model::catalog::Catalog;
+use ss_operators::run_error::RunError;
+use ss_rows::frame::Frame;
+use ss_shard::shard::Shard;
+use ss_sql_lex::typed::{Expr, SourceId};
+use ss_table::table::Slot;
+use ss_value::value::{Row, Value};
+use std::alloc::Global;
+
+/// The slots of those of these rows of a table that pass WHERE, by key. Aborts as the first test that does.
+fn matching_slots<'a>(
+    alloc: Global,
+    from: ShardRows<'a>,
+    table: u16,
+    test: &Option<Expr>,
+    params: &Row,
+) -> Result<Vec<Slot>, RunError>
+    requires tables { HasTables from.catalog.now from.shard.now.tables }
+    requires keyed { SplitByKeys from.catalog.now }
+    requires there { table < length from.catalog.now.tables }
+    ensures found { IfOk result (λ slots. Matches from.entry.catalog.now (value_behind from.entry.split) from.entry.shard.now.tables table params.now test.now slots.items) }
+    ensures stops { IfErr result (λ stop. StopsAs (matching_entries params.now test.now (visible_table from.entry.catalog.now (value_behind from.entry.split) (contents_of from.entry.shard.now.tables) table)) stop) }
+{
+    planned_places(
+        alloc,
+        plan_of(test),
+        &from,
+        &SourceId::Table(table),
+        test,
+        params,
+    )
+}
+
+/// The slots of the rows of a table that the execution sees and that pass WHERE, by key. Aborts as the first test that
+/// does.
+///
+/// Costs what the plan for WHERE costs: so far a walk over the table with a test for each row that is seen. Takes memory
+/// for the slots alone.
+pub fn chosen_slots(
+    alloc: Global,
+    catalog: &Catalog,
+    shard: &Shard,
+    table: u16,
+    test: &Option<Expr>,
+    frame: &Frame,
+) -> Result<Vec<Slot>, RunError>
+    requires tables { HasTables catalog.now shard.now.tables }
+    requires keyed { SplitByKeys catalog.now }
+    requires there { table < length catalog.now.tables }
+    ensures found { IfOk result (λ slots. Matches catalog.now (split_of frame.now) shard.now.tables table (params_of frame.now) test.now slots.items) }
+    ensures stops { IfErr result (λ stop. StopsAs (matching_entries (params_of frame.now) test.now (visible_table catalog.now (split_of frame.now) (contents_of shard.now.tables) table)) stop) }
+{
+    let zero = Value::Int(0);
+    let from = rows_seen(catalog, shard, *frame, &zero);
+    matching_slots(alloc, from, table, test, frame.params())
+}

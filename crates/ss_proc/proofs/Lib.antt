@@ -1,0 +1,6 @@
+pub mod OfTables
+pub mod Fitting
+mod Folds
+mod Meant
+mod Calls
+pub mod Premises

@@ -1,0 +1,115 @@
+-- A catalogue without a stream has no window, and calls alone.
+use Rattle.std.proofs.Common.{◌≡◌, ℕ, zero, suc, Bool, true, false, ◌&&◌, ◌||◌, List, [], ◌∷◌, length, nat_lt, refl, ap, subst, Some, slice_get, arith}
+use Rattle.std.proofs.lemmas.Bool.Decides.{Decides-eqb, Decides-ltb}
+use Rattle.std.specs.List.{AllByRecursion, list_all, list_any}
+use Rattle.ss_value.specs.Rows.{Row, Rows}
+use Rattle.ss_model.specs.declared.catalog.Kind.{Kind}
+use Rattle.ss_model.specs.declared.catalog.Kind.TheVariants.{Call as CallKind, Border, Interior}
+use Rattle.ss_model.specs.declared.catalog.Procedure.{Procedure}
+use Rattle.ss_model.specs.declared.catalog.WindowDef.{WindowDef}
+use Rattle.ss_model.specs.declared.catalog.Catalog.{Catalog}
+use Rattle.ss_model.specs.declared.entry.Entry.{Entry}
+use Rattle.ss_model.specs.declared.entry.Entry.TheVariants.{Call, Push, Step as StepEntry}
+use Rattle.ss_model.specs.Accepted.{Accepted}
+use Rattle.ss_model.specs.CatalogForm.{inputs_of_kind, is_of_kind, touch_in_range, numbers_in_range}
+use Rattle.ss_model.specs.Contents.{owner_from}
+use Rattle.ss_model.specs.Database.{is_call, is_streaming, is_border, takes_stream, has_step, fits_entry}
+use Rattle.ss_model.specs.Orders.{procedure_has}
+use Rattle.ss_proc.specs.Executions.{is_of_tables}
+
+first : (a b : Bool) → (a && b) ≡ true → a ≡ true
+first true b e = refl
+first false b e = e
+
+second : (a b : Bool) → (a && b) ≡ true → b ≡ true
+second true b e = e
+second false b e = cc
+
+-- no number is below the count of nothing
+none_below : (n s : ℕ) → n ≡ 0 → nat_lt s n ≡ true → ⊥
+none_below n s none below = let within = (Decides-ltb s n).0 below in omega (arith, none)
+
+-- what streams has an input
+input_there : (kind : Kind) (n : ℕ) (inputs : List ℕ) → n ≡ 0 → inputs_of_kind kind inputs ≡ true → list_all (λ s. nat_lt s n) inputs ≡ true → is_call kind ≡ true
+input_there CallKind n inputs none some within = refl
+input_there Border n [] none some within = cc
+input_there Border n (s ∷ inputs) none some within = absurd (none_below n s none (first _ _ within))
+input_there Interior n [] none some within = cc
+input_there Interior n (s ∷ inputs) none some within = absurd (none_below n s none (first _ _ within))
+
+calls_in : (n : ℕ) (ps : List Procedure) → n ≡ 0 → list_all is_of_kind ps ≡ true → list_all (λ p. list_all (λ s. nat_lt s n) p.inputs && touch_in_range p.args p.touch) ps ≡ true → AllByRecursion (λ (p : Procedure). is_call p.kind ≡ true) ps
+calls_in n [] none kinds within = tt
+calls_in n (p ∷ ps) none kinds within = (
+  input_there p.kind n p.inputs none (first _ _ (first _ _ (first _ _ kinds))) (first _ _ (first _ _ within)),
+  calls_in n ps none (second (is_of_kind p) _ kinds) (second (list_all (λ s. nat_lt s n) p.inputs && touch_in_range p.args p.touch) _ within),
+)
+
+one_of : (ps : List Procedure) (q : ℕ) (p : Procedure) → AllByRecursion (λ (p : Procedure). is_call p.kind ≡ true) ps → slice_get ps q ≡ Some p → is_call p.kind ≡ true
+one_of [] q p all here = cc
+one_of (x ∷ xs) zero p all here = let same : x ≡ p = cc in subst (λ (p : Procedure). is_call p.kind ≡ true) same all.0
+one_of (x ∷ xs) (suc q) p all here = one_of xs q p all.1 here
+
+-- a call procedure streams nothing
+not_both : (kind : Kind) → is_call kind ≡ true → is_streaming kind ≡ true → ⊥
+not_both CallKind call streams = cc
+not_both Border call streams = cc
+not_both Interior call streams = cc
+
+not_border : (kind : Kind) → is_call kind ≡ true → is_border kind ≡ true → ⊥
+not_border CallKind call border = cc
+not_border Border call border = cc
+not_border Interior call border = cc
+
+border_here : (b c rest : Bool) → (b ≡ true → ⊥) → (b && c || rest) ≡ true → rest ≡ true
+border_here true c rest never some = absurd (never refl)
+border_here false c rest never some = some
+
+no_border : (s : ℕ) (ps : List Procedure) → AllByRecursion (λ (p : Procedure). is_call p.kind ≡ true) ps → list_any (λ p. is_border p.kind && takes_stream s p) ps ≡ true → ⊥
+no_border s [] all some = cc
+no_border s (p ∷ ps) all some = no_border s ps all.1 (border_here (is_border p.kind) (takes_stream s p) _ (not_border p.kind all.0) some)
+
+streams_none : (ps : List Procedure) (q : ℕ) → AllByRecursion (λ (p : Procedure). is_call p.kind ≡ true) ps → procedure_has (λ p. is_streaming p.kind) (slice_get ps q) ≡ true → ⊥
+streams_none [] q all has = cc
+streams_none (p ∷ ps) zero all has = not_both p.kind all.0 has
+streams_none (p ∷ ps) (suc q) all has = streams_none ps q all.1 has
+
+steps_none : (ps : List Procedure) (q : ℕ) → AllByRecursion (λ (p : Procedure). is_call p.kind ≡ true) ps → has_step (slice_get ps q) ≡ true → ⊥
+steps_none [] q all has = cc
+steps_none (p ∷ ps) zero all has = not_both p.kind all.0 has
+steps_none (p ∷ ps) (suc q) all has = steps_none ps q all.1 has
+
+module _ (catalog : Catalog) (accepted : Accepted catalog) (alone : is_of_tables catalog ≡ true) where
+  no_stream : length catalog.streams ≡ 0
+  no_stream = (Decides-eqb (length catalog.streams) 0).0 alone
+
+  calls : AllByRecursion (λ (p : Procedure). is_call p.kind ≡ true) catalog.procedures
+  calls =
+      let kinds : list_all is_of_kind catalog.procedures ≡ true = second _ _ accepted.form in
+      let numbers : numbers_in_range catalog ≡ true = second _ _ (first _ _ (first _ _ (first _ _ (first _ _ (first _ _ accepted.form))))) in
+      calls_in (length catalog.streams) catalog.procedures no_stream kinds (second _ _ numbers)
+
+  -- each procedure is one that clients call
+  pub all_calls : (q : ℕ) (p : Procedure) → slice_get catalog.procedures q ≡ Some p → is_call p.kind ≡ true
+  all_calls q p here = one_of catalog.procedures q p calls here
+
+  owned_none : (ws : List WindowDef) → catalog.windows ≡ ws → ws ≡ []
+  owned_none [] is = refl
+  owned_none (w ∷ ws) is = absurd (streams_none catalog.procedures w.owner calls (accepted.owned 0 w.owner (ap (λ ws. owner_from (slice_get ws 0)) is)))
+
+  -- no window
+  pub no_windows : catalog.windows ≡ []
+  no_windows = owned_none catalog.windows refl
+
+  -- no push fits
+  pub no_push : (client index s : ℕ) (source : List ℕ) (seq : ℕ) (rows : Rows) → fits_entry catalog (Push client index s source seq rows) ≡ true → ⊥
+  no_push client index s source seq rows fits = no_border s catalog.procedures calls (second _ _ (first _ _ (first _ _ (first _ _ fits))))
+
+  -- and no step
+  pub no_step : (q batch : ℕ) → fits_entry catalog (StepEntry q batch) ≡ true → ⊥
+  no_step q batch fits = steps_none catalog.procedures q calls fits
+
+  -- so an entry that fits is a call
+  pub is_a_call : (e : Entry) → fits_entry catalog e ≡ true → ((client index q : ℕ) (args : Row) → e ≡ Call client index q args → ⊥) → ⊥
+  is_a_call (Call client index q args) fits other = other client index q args refl
+  is_a_call (Push client index s source seq rows) fits other = no_push client index s source seq rows fits
+  is_a_call (StepEntry q batch) fits other = no_step q batch fits

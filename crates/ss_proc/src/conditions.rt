@@ -1,0 +1,72 @@
+//! The test of an `abort_if`.
+
+ghost use Rattle.std.specs.Prelude.{◌≡◌, ℕ, OnOk, IfErr, Ok};
+ghost use Rattle.ss_value.specs.Rows.{Rows};
+ghost use Rattle.ss_model.specs.Statements.{Execution};
+ghost use Rattle.ss_model.specs.Bodies.{check_condition, execute_abort_if};
+ghost use Rattle.ss_operators.specs.Stops.{StopsAs};
+ghost use Rattle.ss_rows.specs.Frames.{params_of};
+ghost use Rattle.ss_shard.specs.Shards.{HasTables};
+ghost use Rattle.ss_plan.specs.Statements.{context_for, SplitByKeys};
+ghost use Rattle.ss_proc.specs.Executions.{execution_of};
+
+use ss_model::catalog::Catalog;
+use ss_model::entry::Reason;
+use ss_operators::operators::cmp_holds;
+use ss_operators::run_error::RunError;
+use ss_plan::query::query_shard;
+use ss_rows::expressions::evaluate;
+use ss_rows::frame::Frame;
+use ss_rows::operand::lent_or_zero;
+use ss_rows::tuple::{Tuple, column_in};
+use ss_shard::shard::Shard;
+use ss_sql_lex::typed::Condition;
+use ss_value::order::compare;
+use ss_value::value::{Row, Rows};
+use std::alloc::Global;
+
+/// Compares the first value of a query's one row with the right side, which is evaluated on no row, and aborts with
+/// the code where the comparison holds.
+///
+/// Any other number of rows than one is an abort of its own. An empty row counts as 0. Costs the right side.
+fn check_condition<'a>(
+    alloc: Global,
+    params: &'a Row,
+    test: &'a Condition,
+    code: i64,
+    rows: &Rows,
+) -> Result<(), RunError>
+    ensures done { OnOk result ((w : Execution) → check_condition params.now test.now code rows.now w ≡ Ok w) }
+    ensures stops { IfErr result (λ stop. (w : Execution) → StopsAs (check_condition params.now test.now code rows.now w) stop) }
+{
+    let [row] = rows.as_slice() else {
+        return Err(RunError::Abort(Reason::NotOneRow));
+    };
+    let right = evaluate(alloc, &test.right, Tuple::Empty, params)?;
+    let left = lent_or_zero(column_in(row, 0));
+    if cmp_holds(test.cmp, compare(left.as_value(), right.as_value())) {
+        return Err(RunError::Abort(Reason::Raised(code)));
+    }
+    Ok(())
+}
+
+/// Runs a condition's query, then compares its one row with the right side.
+///
+/// Aborts as the query and the right side do, with `NotOneRow`, or with the code. Writes nothing. Costs the query and
+/// the right side.
+pub fn abort_if(
+    alloc: Global,
+    catalog: &Catalog,
+    shard: &Shard,
+    test: &Condition,
+    code: i64,
+    frame: &Frame,
+) -> Result<(), RunError>
+    requires tables { HasTables catalog.now shard.now.tables }
+    requires keyed { SplitByKeys catalog.now }
+    ensures done { OnOk result ((procedure : ℕ) (reply : Rows) → execute_abort_if (context_for catalog.now procedure frame.now) (params_of frame.now) test.now code (execution_of catalog.now shard.now reply) ≡ Ok (execution_of catalog.now shard.now reply)) }
+    ensures stops { IfErr result (λ stop. (procedure : ℕ) (reply : Rows) → StopsAs (execute_abort_if (context_for catalog.now procedure frame.now) (params_of frame.now) test.now code (execution_of catalog.now shard.now reply)) stop) }
+{
+    let rows = query_shard(alloc, catalog, shard, &test.query, frame)?;
+    check_condition(alloc, frame.params(), test, code, &rows)
+}

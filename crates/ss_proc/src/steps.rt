@@ -1,0 +1,100 @@
+//! The steps of a body.
+
+ghost use Rattle.std.specs.Prelude.{◌≡◌, ℕ, None, OnOk, IfErr, Ok};
+ghost use Rattle.std.specs.List.{AllByRecursion};
+ghost use Rattle.ss_value.specs.Rows.{Rows};
+ghost use Rattle.ss_model.specs.declared.catalog.Step.TheVariants.{Sql};
+ghost use Rattle.ss_model.specs.Results.{try_fold};
+ghost use Rattle.ss_model.specs.Bodies.{execute_step};
+ghost use Rattle.ss_operators.specs.Stops.{StopsAs};
+ghost use Rattle.ss_shard.specs.Shards.{HasTables, Changed};
+ghost use Rattle.ss_plan.specs.Statements.{context_for, SplitByKeys, FitsTables};
+ghost use Rattle.ss_proc.specs.Executions.{execution_of, StepRuns, WritesTables};
+
+use crate::conditions::abort_if;
+use crate::replies::return_rows;
+use ss_model::catalog::{Catalog, Step};
+use ss_operators::run_error::RunError;
+use ss_plan::statement::{Wrote, run_statement};
+use ss_rows::frame::Frame;
+use ss_shard::shard::Shard;
+use ss_sql_lex::typed::Statement;
+use ss_value::value::Rows;
+use std::alloc::Global;
+
+/// Runs a statement of a body, whose target is a table and whose parameters are the arguments. Aborts as it does, and
+/// costs what it costs.
+fn execute_statement(
+    alloc: Global,
+    catalog: &Catalog,
+    shard: &mut Shard,
+    statement: &Statement,
+    frame: &Frame,
+) -> Result<(), RunError>
+    requires tables { HasTables catalog.now shard.old.tables }
+    requires keyed { SplitByKeys catalog.now }
+    requires fits { FitsTables catalog.now statement.now }
+    requires writes { WritesTables statement.now }
+    requires by_args { frame.now.current ≡ None }
+    ensures done { OnOk result ((procedure : ℕ) (reply : Rows) → execute_step (context_for catalog.now procedure frame.now) (Sql statement.now) (execution_of catalog.now shard.old reply) ≡ Ok (execution_of catalog.now shard.new reply)) }
+    ensures stops { IfErr result (λ stop. (procedure : ℕ) (reply : Rows) → StopsAs (execute_step (context_for catalog.now procedure frame.now) (Sql statement.now) (execution_of catalog.now shard.old reply)) stop) }
+    ensures changed { Changed shard.old shard.new }
+{
+    match run_statement(alloc, catalog, shard, statement, frame)? {
+        Wrote::Tables => Ok(()),
+        // the target is a table
+        Wrote::Stage { .. } => unreachable!(),
+    }
+}
+
+/// Runs a step of a body, which is a call procedure's, on the rows that the execution sees.
+///
+/// Aborts exactly where the step does, and with the same reason. What it changed by then is noted in the shard.
+fn execute_step(
+    alloc: Global,
+    catalog: &Catalog,
+    shard: &mut Shard,
+    step: &Step,
+    frame: &Frame,
+    reply: &mut Rows,
+) -> Result<(), RunError>
+    requires tables { HasTables catalog.now shard.old.tables }
+    requires keyed { SplitByKeys catalog.now }
+    requires runs { StepRuns catalog.now step.now }
+    requires by_args { frame.now.current ≡ None }
+    ensures done { OnOk result ((procedure : ℕ) → execute_step (context_for catalog.now procedure frame.now) step.now (execution_of catalog.now shard.old reply.old) ≡ Ok (execution_of catalog.now shard.new reply.new)) }
+    ensures stops { IfErr result (λ stop. (procedure : ℕ) → StopsAs (execute_step (context_for catalog.now procedure frame.now) step.now (execution_of catalog.now shard.old reply.old)) stop) }
+    ensures changed { Changed shard.old shard.new }
+{
+    match step {
+        Step::Sql(statement) => execute_statement(alloc, catalog, shard, statement, frame),
+        Step::AbortIf { test, code } => abort_if(alloc, catalog, shard, test, *code, frame),
+        Step::Return(query) => return_rows(alloc, catalog, shard, query, frame, reply),
+        // steps of a streaming procedure
+        Step::ForEach { .. } | Step::Emit { .. } => unreachable!(),
+    }
+}
+
+/// Runs the steps of a call procedure's body in order, up to the first abort, which is theirs. What they changed by
+/// then is noted in the shard. Costs what the steps cost.
+pub fn execute_steps(
+    alloc: Global,
+    catalog: &Catalog,
+    shard: &mut Shard,
+    steps: &[Step],
+    frame: &Frame,
+    reply: &mut Rows,
+) -> Result<(), RunError>
+    requires tables { HasTables catalog.now shard.old.tables }
+    requires keyed { SplitByKeys catalog.now }
+    requires runs { AllByRecursion (StepRuns catalog.now) steps.now }
+    requires by_args { frame.now.current ≡ None }
+    ensures done { OnOk result ((procedure : ℕ) → try_fold (execute_step (context_for catalog.now procedure frame.now)) steps.now (execution_of catalog.now shard.old reply.old) ≡ Ok (execution_of catalog.now shard.new reply.new)) }
+    ensures stops { IfErr result (λ stop. (procedure : ℕ) → StopsAs (try_fold (execute_step (context_for catalog.now procedure frame.now)) steps.now (execution_of catalog.now shard.old reply.old)) stop) }
+    ensures changed { Changed shard.old shard.new }
+{
+    for step in steps {
+        execute_step(alloc, catalog, shard, step, frame, reply)?;
+    }
+    Ok(())
+}

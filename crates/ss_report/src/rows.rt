@@ -1,0 +1,41 @@
+//! The rows of a table, lent in the order of their keys.
+
+ghost use Rattle.std.specs.FinMap as finmap;
+ghost use Rattle.std.specs.Prelude.{◌≡◌, IfOk, IsSome, Some};
+ghost use Rattle.ss_table.specs.Held.{row_at};
+ghost use Rattle.ss_shard.specs.Contents.{rows_by_key};
+ghost use Rattle.ss_report.specs.Lent.{rows_behind};
+
+use ss_table::table::{Slot, Table};
+use ss_value::NoMemory;
+use ss_value::value::Row;
+use std::alloc::Global;
+
+/// The row in a live slot. Constant.
+fn live_row(table: &Table, slot: Slot) -> &Row
+    requires { IsSome (row_at table.now.live slot) }
+    ensures { row_at table.now.live slot ≡ Some result.now }
+{
+    match table.row(slot) {
+        Some(row) => row,
+        None => unreachable!(),
+    }
+}
+
+/// The rows of a table in the order of their keys, where they stand: none is copied.
+///
+/// One walk, so n steps for n rows, each a search of the table, and the memory of a reference a row. Fails only for
+/// want of memory.
+pub fn rows_in_order<'a>(alloc: Global, table: &'a Table) -> Result<Vec<&'a Row>, NoMemory>
+    ensures { IfOk result (λ rows. rows_behind rows.items ≡ finmap.values (rows_by_key table.now.live)) }
+{
+    // So no two rows have one slot, and a step from a slot is a step from its row.
+    table.rows_are_keyed();
+    let mut rows = Vec::new(alloc);
+    let mut at = table.first();
+    while let Some(slot) = at {
+        rows.push(live_row(table, slot))?;
+        at = table.after(slot);
+    }
+    Ok(rows)
+}

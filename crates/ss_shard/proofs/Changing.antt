@@ -1,0 +1,100 @@
+-- One change of a shard, noted.
+use Rattle.std.proofs.Common.{◌≡◌, ℕ, Bool, true, false, cond, List, [], ◌∷◌, ◌++◌, refl, sym, ap, subst, ◌∙◌, Option, Some, slice_get, slice_set}
+use Rattle.std.specs.Prelude.{IsSomeAnd}
+use Rattle.std.specs.List.{AllByRecursion}
+use Rattle.std.specs.Ordering.{eq_by_cmp}
+use Rattle.std.specs.FinMap as finite
+use Rattle.std.specs.FinMap.Entries as entries
+use Rattle.ss_value.specs.Rows.{Row}
+use Rattle.ss_value.specs.Order.{row_cmp}
+use Rattle.ss_table.specs.Held.{Held, LiveRows, key_of, replaced}
+use Rattle.ss_table.specs.Keyed.{SlotsDiffer, AreKeyed}
+use Rattle.ss_table.specs.Steps.{WasDeleted, WasReplaced}
+use Rattle.ss_table.proofs.Maps.{rows_antisymmetric, ties}
+use Rattle.ss_undo.specs.declared.change.Change.{Change}
+use Rattle.ss_undo.specs.Came.{Step, Came}
+use Rattle.ss_undo.proofs.Back.{came_more}
+use Rattle.ss_shard.specs.declared.shard.Shard.{Shard}
+use Rattle.ss_shard.specs.Rows.{StandsIn, RowPut, RowTaken}
+use Rattle.ss_shard.specs.Shards.{shapes_of, AllKeyed, Changed}
+
+-- a change that is made and noted
+pub noted : (old new : Shard) (c : Change) → Step old.tables c new.tables → new.undo.items ≡ old.undo.items ++ c ∷ [] → new.number ≡ old.number → shapes_of new.tables ≡ shapes_of old.tables → (AllKeyed old.tables → AllKeyed new.tables) → Changed old new
+noted old new c step items number shapes keyed = record {
+  number = number;
+  shapes = shapes;
+  keyed = keyed;
+  back = λ before can. record { final = can.final; came = subst (λ cs. Came before cs new.tables) (sym items) (came_more before old.tables new.tables old.undo.items c can.came step) };
+}
+
+-- room that is made, and nothing else
+pub unnoted : (old new : Shard) → new.tables ≡ old.tables → new.undo.items ≡ old.undo.items → new.number ≡ old.number → Changed old new
+unnoted old new tables items number = record {
+  number = number;
+  shapes = ap shapes_of tables;
+  keyed = λ h. subst (λ (tables : List Held). AllKeyed tables) (sym tables) h;
+  back = λ before can. record { final = can.final; came = subst (λ cs. Came before cs new.tables) (sym items) (subst (Came before old.undo.items) (sym tables) can.came) };
+}
+
+-- ---- a slot has one key
+
+module _ (P : ℕ × Row → Type 0) where
+  first_so : (b : Bool) (d : Row × (ℕ × Row)) (rest : Option (ℕ × Row)) (v : ℕ × Row) → P d.1 → (rest ≡ Some v → P v) → cond b (Some d.1) rest ≡ Some v → P v
+  first_so true d rest v p h e = subst P (let r : d.1 ≡ v = cc in r) p
+  first_so false d rest v p h e = h e
+
+  found_so : (q : Row) (es : List (Row × (ℕ × Row))) (v : ℕ × Row) → AllByRecursion (λ d. P d.1) es → entries.find row_cmp q es ≡ Some v → P v
+  found_so q [] v h e = cc
+  found_so q (d ∷ es) v h e = first_so (eq_by_cmp row_cmp q d.0) d (entries.find row_cmp q es) v h.0 (found_so q es v h.1) e
+
+tied : (q k : Row) → eq_by_cmp row_cmp q k ≡ true → q ≡ k
+tied q k e = rows_antisymmetric q k (ties (row_cmp q k) e)
+
+one_key : (p q : Row) (es : List (Row × (ℕ × Row))) (v w : ℕ × Row) → SlotsDiffer es → entries.find row_cmp p es ≡ Some v → entries.find row_cmp q es ≡ Some w → v.0 ≡ w.0 → p ≡ q
+one_key p q [] v w h e f same = cc
+one_key p q (d ∷ es) v w h e f same = by (one_key p q es v w h.1) (eq_by_cmp row_cmp p d.0) refl (eq_by_cmp row_cmp q d.0) refl e f
+  where
+    by : (entries.find row_cmp p es ≡ Some v → entries.find row_cmp q es ≡ Some w → v.0 ≡ w.0 → p ≡ q) → (a : Bool) → eq_by_cmp row_cmp p d.0 ≡ a → (b : Bool) → eq_by_cmp row_cmp q d.0 ≡ b → cond a (Some d.1) (entries.find row_cmp p es) ≡ Some v → cond b (Some d.1) (entries.find row_cmp q es) ≡ Some w → p ≡ q
+    by rest true s true t i j = tied p d.0 s ∙ sym (tied q d.0 t)
+    by rest true s false t i j = absurd (found_so (λ x. x.0 ≡ d.1.0 → ⊥) q es w h.0 j (sym same ∙ sym (ap (λ (x : ℕ × Row). x.0) (let r : d.1 ≡ v = cc in r))))
+    by rest false s true t i j = absurd (found_so (λ x. x.0 ≡ d.1.0 → ⊥) p es v h.0 i (same ∙ sym (ap (λ (x : ℕ × Row). x.0) (let r : d.1 ≡ w = cc in r))))
+    by rest false s false t i j = rest i j same
+
+pub slot_key : (live : LiveRows) (p q : Row) (slot : ℕ) (a b : Row) → SlotsDiffer (finite.entries live) → finite.get live p ≡ Some (slot, a) → finite.get live q ≡ Some (slot, b) → p ≡ q
+slot_key live p q slot a b h e f = one_key p q (finite.entries live) (slot, a) (slot, b) h (sym (finite.get-entries live p) ∙ e) (sym (finite.get-entries live q) ∙ f) refl
+
+pub at_some : {A : Type 0} (o : Option A) (x : A) (P : A → Type 0) → o ≡ Some x → IsSomeAnd o P → P x
+at_some o x P e h = subst (λ o. IsSomeAnd o P) e h
+
+-- of a table that is found by a number
+pub at_table : (tables : List Held) (t u : ℕ) (was : Held) (P : Held → Type 0) → u ≡ t → slice_get tables u ≡ Some was → IsSomeAnd (slice_get tables t) P → P was
+at_table tables t u was P same here h = at_some (slice_get tables t) was P (ap (slice_get tables) (sym same) ∙ here) h
+
+-- ---- what the calls did
+
+module _ (tables : List Held) (t slot : ℕ) (was now : Held) (here : slice_get tables t ≡ Some was) (keyed : AreKeyed was) where
+  pub taken : WasDeleted was now slot → (key row : Row) → StandsIn tables t key slot row → RowTaken tables (slice_set tables t now) t key
+  taken w key row stands =
+      let same : key_of was.key w.row ≡ key = slot_key was.live (key_of was.key w.row) key slot w.row row keyed.apart w.there (at_some (slice_get tables t) was (λ h. finite.get h.live key ≡ Some (slot, row)) here stands) in
+      record {
+        was = was;
+        now = now;
+        here = here;
+        is = refl;
+        key = ap (λ (h : Held). h.key) w.is;
+        limit = ap (λ (h : Held). h.limit) w.is;
+        live = ap (λ (h : Held). h.live) w.is ∙ ap (λ k. finite.remove was.live k) same;
+      }
+
+  pub put : (old row : Row) → WasReplaced was now slot old → now ≡ replaced was slot row → key_of was.key row ≡ key_of was.key old → (key other : Row) → StandsIn tables t key slot other → RowPut tables (slice_set tables t now) t key slot row
+  put old row w is alike key other stands =
+      let same : key_of was.key old ≡ key = slot_key was.live (key_of was.key old) key slot old other keyed.apart w.before (at_some (slice_get tables t) was (λ h. finite.get h.live key ≡ Some (slot, other)) here stands) in
+      record {
+        was = was;
+        now = now;
+        here = here;
+        is = refl;
+        key = ap (λ (h : Held). h.key) is;
+        limit = ap (λ (h : Held). h.limit) is;
+        live = ap (λ (h : Held). h.live) is ∙ ap (λ k. finite.insert was.live k (slot, row)) (alike ∙ same);
+      }

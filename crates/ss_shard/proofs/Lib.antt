@@ -1,0 +1,7 @@
+pub mod ByKey
+pub mod Tables
+pub mod Shapes
+pub mod Changing
+pub mod Inserting
+pub mod Opening
+pub mod Settling

@@ -1,0 +1,4 @@
+pub mod Contents
+pub mod Rows
+pub mod Shards
+pub mod Databases

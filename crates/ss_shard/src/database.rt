@@ -1,0 +1,72 @@
+//! The shard that holds everything.
+
+ghost use Rattle.std.specs.Prelude.{◌≡◌, IfOk, replicate, length};
+ghost use Rattle.std.specs.FinMap as finite;
+ghost use Rattle.ss_shard.specs.Contents.{row_limit, tables_of};
+ghost use Rattle.ss_shard.specs.Databases.{empty_table, empty_tables, IsWhole};
+
+use crate::shard::Shard;
+use ss_model::catalog::{Catalog, Place, TableDef};
+use ss_table::table::Table;
+use ss_undo::undo::Undo;
+use ss_value::NoMemory;
+use ss_value::copies::Copies;
+use ss_value::seq::Seq;
+use std::alloc::Global;
+
+/// The most rows that a placed table has.
+pub const TABLE_ROWS: usize = 1_000_000;
+
+/// A database: one shard that holds all tables.
+#[derive(Drop)]
+pub struct Database {
+    /// The shard.
+    pub whole: Shard,
+}
+
+/// The most rows that a table of this place has, and None of a split one, which has no limit.
+fn row_limit(place: Place) -> Option<usize>
+    ensures { result ≡ row_limit place }
+{
+    match place {
+        Place::Part(_) => Some(TABLE_ROWS),
+        Place::By(_) => None,
+    }
+}
+
+/// A table of this definition, without a row. Linear in its key's columns.
+fn empty_table(alloc: Global, table: &TableDef) -> Result<Table, NoMemory>
+    ensures { IfOk result (λ made. made ≡ empty_table table.now) }
+{
+    let key = table.key.duplicate(alloc)?;
+    Ok(Table::new(alloc, key, row_limit(table.place)))
+}
+
+/// Tables of these definitions, without a row.
+fn empty_tables(alloc: Global, tables: &[TableDef]) -> Result<Seq<Table>, NoMemory>
+    ensures { IfOk result (λ made. made ≡ empty_tables tables.now) }
+{
+    let mut made = Seq::new(alloc);
+    for table in tables {
+        let table = empty_table(alloc, table)?;
+        if made.push(table).is_err() {
+            return Err(NoMemory);
+        }
+    }
+    Ok(made)
+}
+
+/// The database of a catalogue before the first execution. Linear in the catalogue's tables and their keys.
+pub fn opening(alloc: Global, catalog: &Catalog) -> Result<Database, NoMemory>
+    ensures whole { IfOk result (λ db. IsWhole catalog.now db) }
+    ensures number { IfOk result (λ db. db.whole.number ≡ 0) }
+    ensures empty { IfOk result (λ db. tables_of db.whole.tables ≡ replicate (length catalog.now.tables) finite.empty) }
+{
+    let tables = empty_tables(alloc, catalog.tables.as_slice())?;
+    let whole = Shard {
+        number: 0,
+        tables,
+        undo: Undo::new(alloc),
+    };
+    Ok(Database { whole })
+}

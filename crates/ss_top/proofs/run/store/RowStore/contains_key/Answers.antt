@@ -1,7 +1,0 @@
-use Rattle.std.proofs.Common.{sym, ap, ◌∙◌, is_some}
-use Rattle.std.specs.FinMap as finmap
-use Rattle.ss_top.proofs.RunStores.{get_row}
-use Rattle.ss_top.proofs.run.store.RowStore.contains_key.Goals as goal
-
-pub returns : goal.returns
-returns c = c.contains_key.ensures ∙ ap is_some (sym (get_row c.self.inside.rows.entries c.args.key.now)) ∙ ap (λ t. finmap.contains_key t c.args.key.now) c.self.view_is
