@@ -3,3 +3,5 @@ pub mod Checks
 pub mod Reads
 pub mod Told
 pub mod Accepts
+pub mod Answers
+pub use Rattle.ss_model.specs.Accepted

@@ -1,57 +1,53 @@
 //! The checks on a catalogue whose names are numbers and whose SQL is typed.
 
-ghost use Rattle.std.specs.Prelude.{◌≡◌, ◌≤◌, IfOk, IfErr};
-ghost use Rattle.serde_json.specs.Data.{depth};
-ghost use Rattle.serde_json.specs.Read.{max_depth};
-ghost use Rattle.serde_json.specs.View.{view};
-ghost use Rattle.ss_catalog.specs.Checks.{HasWorkflows, HasCascades, IsLocal, HasEnds, HasOwners, site_name, site_number};
+ghost use Rattle.std.specs.Prelude.{◌≡◌, None, IfOk, OnOk, IfErr};
+ghost use Rattle.serde_json.specs.Data.{Data};
+ghost use Rattle.ss_catalog_outline.specs.declared.types.Outline.{Outline};
+ghost use Rattle.ss_catalog_checks.specs.Cascades.{IsOnTriggerCycle};
+ghost use Rattle.ss_catalog_checks.specs.StreamEnds.{refused_stream};
+ghost use Rattle.ss_catalog_checks.specs.Firsts.{IsFirst};
+ghost use Rattle.ss_catalog_checks.specs.Localities.{IsFirstSite};
+ghost use Rattle.ss_catalog_checks.specs.Owners.{refused_window};
+ghost use Rattle.ss_catalog_checks.specs.Workflows.{IsOnCycle};
+ghost use Rattle.ss_catalog.specs.Checks.{IsResolved, HasWorkflows, HasCascades, IsLocal, HasEnds, site_name, site_number};
 ghost use Rattle.ss_catalog.specs.Reads.{Refuses};
-ghost use Rattle.ss_catalog.specs.Texts.{IsCompactTextOf};
 ghost use Rattle.ss_catalog.specs.Told.{IsBrokenAt};
 
 use crate::error::CatalogError;
 use crate::names::{procedure_name, stream_name, trigger_name, window_name};
-use crate::resolved::{Draft, resolved};
-use serde_json::Value as Json;
 use ss_catalog_checks::cascades::trigger_cycle;
 use ss_catalog_checks::cycles::workflow_cycle;
-use ss_catalog_checks::ends::refused_stream;
 use ss_catalog_checks::locality::{Site, refused_site};
 use ss_catalog_checks::owners::refused_window;
+use ss_catalog_checks::stream_ends::refused_stream;
 use ss_model::catalog::Catalog;
 use ss_value::NoMemory;
 use ss_value::text::Name;
 use std::alloc::Global;
 
-/// C5: a draft whose workflows have no cycle, or the first procedure on one.
-fn with_workflows(alloc: Global, value: &Json) -> Result<Draft, CatalogError>
-    requires { depth (view value.now) ≤ max_depth }
-    ensures passes { IfOk result (λ draft. HasWorkflows (view value.now) draft.outline draft.catalog) }
-    ensures text { IfOk result (λ draft. IsCompactTextOf (view value.now) draft.catalog.text) }
-    ensures refused { IfErr result (Refuses (view value.now)) }
+/// C5: no workflow has a cycle.
+pub fn check_workflows(alloc: Global, catalog: &Catalog) -> Result<(), CatalogError>
+    ensures ok { OnOk result (IsFirst (IsOnCycle catalog.now) None) }
+    ensures refused { (d : Data) (o : Outline) → IsResolved d o catalog.now → IfErr result (Refuses d) }
 {
-    let draft = resolved(alloc, value)?;
-    match workflow_cycle(alloc, &draft.catalog)? {
-        None => Ok(draft),
+    match workflow_cycle(alloc, catalog)? {
+        None => Ok(()),
         Some(procedure) => {
-            let name = procedure_name(alloc, &draft.catalog, procedure)?;
+            let name = procedure_name(alloc, catalog, procedure)?;
             Err(CatalogError::WorkflowCycle(name))
         }
     }
 }
 
-/// C6: a draft no trigger of which leads back, or the first that does.
-fn with_cascades(alloc: Global, value: &Json) -> Result<Draft, CatalogError>
-    requires { depth (view value.now) ≤ max_depth }
-    ensures passes { IfOk result (λ draft. HasCascades (view value.now) draft.outline draft.catalog) }
-    ensures text { IfOk result (λ draft. IsCompactTextOf (view value.now) draft.catalog.text) }
-    ensures refused { IfErr result (Refuses (view value.now)) }
+/// C6: no trigger leads back.
+pub fn check_cascades(alloc: Global, catalog: &Catalog) -> Result<(), CatalogError>
+    ensures ok { OnOk result (IsFirst (IsOnTriggerCycle catalog.now) None) }
+    ensures refused { (d : Data) (o : Outline) → HasWorkflows d o catalog.now → IfErr result (Refuses d) }
 {
-    let draft = with_workflows(alloc, value)?;
-    match trigger_cycle(alloc, &draft.catalog)? {
-        None => Ok(draft),
+    match trigger_cycle(alloc, catalog)? {
+        None => Ok(()),
         Some(trigger) => {
-            let name = trigger_name(alloc, &draft.catalog, trigger)?;
+            let name = trigger_name(alloc, catalog, trigger)?;
             Err(CatalogError::TriggerCycle(name))
         }
     }
@@ -77,7 +73,7 @@ fn site_number(site: Site) -> usize
     }
 }
 
-/// C7 at a site. A number over 32 bits, which no line has room for, is told as want of memory.
+/// C7 at a site. A number over 32 bits, which no line has room for, is reported as out of memory.
 fn locality_broken(alloc: Global, catalog: &Catalog, site: Site) -> CatalogError
     ensures { IsBrokenAt catalog.now site result }
 {
@@ -90,49 +86,40 @@ fn locality_broken(alloc: Global, catalog: &Catalog, site: Site) -> CatalogError
     }
 }
 
-/// C7: a draft whose SQL keeps to its touch sets, or the first place that doesn't.
-fn local(alloc: Global, value: &Json) -> Result<Draft, CatalogError>
-    requires { depth (view value.now) ≤ max_depth }
-    ensures passes { IfOk result (λ draft. IsLocal (view value.now) draft.outline draft.catalog) }
-    ensures text { IfOk result (λ draft. IsCompactTextOf (view value.now) draft.catalog.text) }
-    ensures refused { IfErr result (Refuses (view value.now)) }
+/// C7: all SQL keeps to its touch set.
+pub fn check_locality(alloc: Global, catalog: &Catalog) -> Result<(), CatalogError>
+    ensures ok { OnOk result (IsFirstSite catalog.now None) }
+    ensures refused { (d : Data) (o : Outline) → HasCascades d o catalog.now → IfErr result (Refuses d) }
 {
-    let draft = with_cascades(alloc, value)?;
-    match refused_site(alloc, &draft.catalog)? {
-        None => Ok(draft),
-        Some(site) => Err(locality_broken(alloc, &draft.catalog, site)),
+    match refused_site(alloc, catalog)? {
+        None => Ok(()),
+        Some(site) => Err(locality_broken(alloc, catalog, site)),
     }
 }
 
-/// C8: a draft whose streams begin and end as they should, or the first that doesn't.
-fn with_ends(alloc: Global, value: &Json) -> Result<Draft, CatalogError>
-    requires { depth (view value.now) ≤ max_depth }
-    ensures passes { IfOk result (λ draft. HasEnds (view value.now) draft.outline draft.catalog) }
-    ensures text { IfOk result (λ draft. IsCompactTextOf (view value.now) draft.catalog.text) }
-    ensures refused { IfErr result (Refuses (view value.now)) }
+/// C8: streams begin and end as they should.
+pub fn check_stream_ends(alloc: Global, catalog: &Catalog) -> Result<(), CatalogError>
+    ensures ok { OnOk result (refused_stream catalog.now ≡ None) }
+    ensures refused { (d : Data) (o : Outline) → IsLocal d o catalog.now → IfErr result (Refuses d) }
 {
-    let draft = local(alloc, value)?;
-    match refused_stream(alloc, &draft.catalog)? {
-        None => Ok(draft),
+    match refused_stream(alloc, catalog)? {
+        None => Ok(()),
         Some(stream) => {
-            let name = stream_name(alloc, &draft.catalog, stream)?;
+            let name = stream_name(alloc, catalog, stream)?;
             Err(CatalogError::StreamEnds(name))
         }
     }
 }
 
-/// C9: a draft whose windows are their owners' alone, or the first that isn't.
-pub fn with_owners(alloc: Global, value: &Json) -> Result<Draft, CatalogError>
-    requires { depth (view value.now) ≤ max_depth }
-    ensures passes { IfOk result (λ draft. HasOwners (view value.now) draft.outline draft.catalog) }
-    ensures text { IfOk result (λ draft. IsCompactTextOf (view value.now) draft.catalog.text) }
-    ensures refused { IfErr result (Refuses (view value.now)) }
+/// C9: windows are their owners' alone.
+pub fn check_window_owners(alloc: Global, catalog: &Catalog) -> Result<(), CatalogError>
+    ensures ok { OnOk result (refused_window catalog.now ≡ None) }
+    ensures refused { (d : Data) (o : Outline) → HasEnds d o catalog.now → IfErr result (Refuses d) }
 {
-    let draft = with_ends(alloc, value)?;
-    match refused_window(&draft.catalog) {
-        None => Ok(draft),
+    match refused_window(catalog) {
+        None => Ok(()),
         Some(window) => {
-            let name = window_name(alloc, &draft.catalog, window)?;
+            let name = window_name(alloc, catalog, window)?;
             Err(CatalogError::WindowOwner(name))
         }
     }

@@ -2,18 +2,24 @@
 //!
 //! - `read`: the catalogue of a value
 //! - `error`: why a value is no catalogue
-//! - `outlines`: the checks on what is written, before any SQL is read
-//! - `resolved`: the catalogue that it stands for, and its text
+//! - `outline_checks`: the outline of a value, and the checks on what is written, before any SQL is read
+//! - `resolve`: the catalogue that it stands for, and the text of the value
 //! - `checks`: the checks on this catalogue
-//! - `names`: the names that refusals tell
+//! - `names`: the names that refusals report
+//! - `laws`: a value has one answer
 //!
-//! The checks run one after another, each over the whole catalogue, and the first that refuses is told. What passes
-//! them all is accepted (`Accepted` of `ss_model`). That a value has one answer is a law of `ss_catalog_answers`.
+//! The checks run one after another, each over the whole catalogue, and the first refusal is reported. What passes
+//! them all is accepted (`Accepted` of `ss_model`). That a value has one answer is a law (`laws`).
 #![tactic(auto)]
 
 mod checks;
 pub mod error;
+pub mod laws;
 mod names;
-mod outlines;
+mod outline_checks;
 pub mod read;
-mod resolved;
+mod resolve;
+
+pub use error::CatalogError;
+pub use read::read_catalog;
+pub use ss_model::catalog::Catalog;

@@ -8,18 +8,21 @@ ghost use Rattle.ss_model.specs.Accepted.{Accepted};
 ghost use Rattle.ss_catalog.specs.Reads.{Reads, Refuses};
 ghost use Rattle.ss_catalog.specs.Accepts.{Accepts};
 
-use crate::checks::with_owners;
+use crate::checks::{
+    check_cascades, check_locality, check_stream_ends, check_window_owners, check_workflows,
+};
 use crate::error::CatalogError;
-use crate::resolved::Draft;
+use crate::outline_checks::{
+    check_counts, check_names_known, check_names_once, check_numbering, read_shape,
+};
+use crate::resolve::{resolve_sql, text_of};
 use serde_json::Value as Json;
 use ss_catalog_checks::laws::{
     acyclic_workflows_have_levels, unrefused_sql_is_local, unrefused_streams_end_well,
     unrefused_windows_are_owned, unreturning_batches_go_forward, unreturning_triggers_have_ranks,
 };
+use ss_catalog_laws::{resolved_has_form, resolved_is_typed};
 use ss_model::catalog::Catalog;
-use ss_outline_names::limits::over_limit;
-use ss_resolved_form::resolved_has_form;
-use ss_resolved_sql::resolved_is_typed;
 use std::alloc::Global;
 
 /// What passes all checks is accepted.
@@ -44,19 +47,25 @@ fn what_reads_is_accepted()
 /// value's compact text, which reads as the same value.
 ///
 /// Time is linear in the value but for these: each SQL text walks the names of the tables, windows and inputs, and
-/// C5 to C9 take the times that `ss_catalog_checks` tells. `NoMemory` says nothing of the value.
+/// C5 to C9 take the times that the page of each check in `ss_catalog_checks` says. `NoMemory` says nothing of the value.
 pub fn read_catalog(alloc: Global, value: &Json) -> Result<Catalog, CatalogError>
     requires { depth (view value.now) ≤ max_depth }
     ensures reads { IfOk result (Reads (view value.now)) }
     ensures accepted { IfOk result Accepted }
     ensures refused { IfErr result (Refuses (view value.now)) }
 {
-    let Draft { outline, catalog } = with_owners(alloc, value)?;
-    match over_limit(&outline) {
-        Some(counted) => Err(CatalogError::Limit(counted)),
-        None => {
-            what_reads_is_accepted();
-            Ok(catalog)
-        }
-    }
+    let outline = read_shape(alloc, value)?;
+    check_names_once(alloc, &outline)?;
+    check_names_known(alloc, &outline)?;
+    check_numbering(&outline)?;
+    let text = text_of(alloc, value)?;
+    let catalog = resolve_sql(alloc, &outline, text)?;
+    check_workflows(alloc, &catalog)?;
+    check_cascades(alloc, &catalog)?;
+    check_locality(alloc, &catalog)?;
+    check_stream_ends(alloc, &catalog)?;
+    check_window_owners(alloc, &catalog)?;
+    check_counts(&outline)?;
+    what_reads_is_accepted();
+    Ok(catalog)
 }

@@ -20,7 +20,7 @@ use Rattle.ss_model.specs.Orders.{procedure_has, procedure_emits, procedure_take
 use Rattle.ss_model.specs.Scopes.{catalog_in_scope, procedure_in_scope, step_in_scope}
 use Rattle.ss_model.specs.Settling.{procedure_numbers, emitting_procedure, border_stream}
 use Rattle.ss_model.specs.Statements.{is_on_stream}
-use Rattle.ss_catalog_checks.specs.Ends.{is_interior, emitters, consumers, border_consumers, interior_consumers, ends_at_border, ends_inside, ends_badly, has_no_trigger, workflow_of, awaited, is_foreign, foreign_among, foreign_inputs, refused_streams, refused_stream}
+use Rattle.ss_catalog_checks.specs.StreamEnds.{is_interior, emitters, consumers, border_consumers, interior_consumers, ends_at_border, ends_inside, ends_badly, refuses_triggers, workflow_of, awaited_stream, is_foreign, foreign_among, foreign_inputs, refused_streams, refused_stream}
 use Rattle.ss_catalog_checks.specs.Guarantees.{StreamsEndWell}
 use Rattle.ss_catalog_checks.proofs.Counts.{some_same, none_counted, one_counted, some_counted, as_strong, filter_none, empty_left, empty_right}
 use Rattle.ss_catalog_checks.proofs.Firsts.{empty_from_none}
@@ -101,14 +101,14 @@ waits_by h s m rest t true i e is j = absurd (cc)
 waits_by h s m rest t false i e false j = (j, e)
 waits_by h s m rest t false i e true j = let k : h s ≡ h m = ap h (eqb-true s m j) in absurd (cc)
 
-waits : (h : ℕ → Bool) (s : ℕ) (on : On) (rest : List ℕ) → h s ≡ true → filter h (cons_option (awaited on) rest) ≡ [] → (is_on_stream s on ≡ false) × (filter h rest ≡ [])
+waits : (h : ℕ → Bool) (s : ℕ) (on : On) (rest : List ℕ) → h s ≡ true → filter h (cons_option (awaited_stream on) rest) ≡ [] → (is_on_stream s on ≡ false) × (filter h rest ≡ [])
 waits h s (OnStream m) rest t e = waits_by h s m rest t (h m) refl e (s == m) refl
 waits h s (OnWindow w) rest t e = (refl, e)
 
-none_waits : (h : ℕ → Bool) (s : ℕ) (ts : List TriggerDef) → filter h (filter_map (λ t. awaited t.on) ts) ≡ [] → h s ≡ true → filter (λ t. is_on_stream s t.on) ts ≡ []
+none_waits : (h : ℕ → Bool) (s : ℕ) (ts : List TriggerDef) → filter h (filter_map (λ t. awaited_stream t.on) ts) ≡ [] → h s ≡ true → filter (λ t. is_on_stream s t.on) ts ≡ []
 none_waits h s [] e b = refl
 none_waits h s (t ∷ ts) e b =
-    let w = waits h s t.on (filter_map (λ t. awaited t.on) ts) b e in
+    let w = waits h s t.on (filter_map (λ t. awaited_stream t.on) ts) b e in
     ap (λ c. cond c (t ∷ filter (λ t. is_on_stream s t.on) ts) (filter (λ t. is_on_stream s t.on) ts)) w.0 ∙ none_waits h s ts w.1 b
 
 -- kinds
@@ -225,7 +225,7 @@ module _ (catalog : Catalog) (numbers : numbers_in_range catalog ≡ true) (scop
       ]
 
   no_trigger : (s : ℕ) → is_border_stream catalog s ≡ true → filter (λ t. is_on_stream s t.on) catalog.triggers ≡ []
-  no_trigger s b = none_waits (has_no_trigger catalog) s catalog.triggers (empty_right _ _ (empty_left _ _ all_none)) (ap (λ c. c || emitters catalog s == 0) b)
+  no_trigger s b = none_waits (refuses_triggers catalog) s catalog.triggers (empty_right _ _ (empty_left _ _ all_none)) (ap (λ c. c || emitters catalog s == 0) b)
 
   -- a stream that is emitted is of its emitter's workflow
   emitter_found : (p s : ℕ) → procedure_emits catalog p s ≡ true → (o : Option ℕ) → find (λ p. procedure_emits catalog p s) (procedure_numbers catalog) ≡ o → unwrap_or o 0 ≡ p

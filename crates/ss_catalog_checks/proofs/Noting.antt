@@ -4,28 +4,28 @@ use Rattle.std.specs.List.{count_by, list_any, range_with_len}
 use Rattle.std.proofs.lemmas.Bool.{ltb-true, lt-ltb, le-ltb}
 use Rattle.ss_model.specs.declared.catalog.Procedure.{Procedure}
 use Rattle.ss_model.specs.Orders.{procedure_has}
-use Rattle.ss_catalog_checks.specs.declared.tallies.Tally.{Tally}
-use Rattle.ss_catalog_checks.specs.Tallies.{counted, noted, tally_at, StayBelow}
+use Rattle.ss_catalog_checks.specs.declared.tallies.Count.{Count}
+use Rattle.ss_catalog_checks.specs.Tallies.{count_with, noted, count_at, StayBelow}
 use Rattle.ss_catalog_checks.proofs.Counts.{tick, count_cons}
 use Rattle.ss_catalog_checks.proofs.Firsts.{range_on, range_done}
 
 -- a mark that stands counts no more
-pub counted_twice : (m : ℕ) (t : Tally) → counted m (counted m t) ≡ counted m t
+pub counted_twice : (m : ℕ) (t : Count) → count_with m (count_with m t) ≡ count_with m t
 counted_twice m t = by (nat_lt t.below m) refl
   where
-    by : (b : Bool) → nat_lt t.below m ≡ b → counted m (cond b (record { count = suc t.count; below = m }) t) ≡ cond b (record { count = suc t.count; below = m }) t
+    by : (b : Bool) → nat_lt t.below m ≡ b → count_with m (cond b (record { count = suc t.count; below = m }) t) ≡ cond b (record { count = suc t.count; below = m }) t
     by true e = let f = le-ltb m m (omega arith) in ap (λ b. cond b (record { count = suc (suc t.count); below = m }) (record { count = suc t.count; below = m })) f
     by false e = ap (λ b. cond b (record { count = suc t.count; below = m }) t) e
 
 -- a procedure that passes twice counts once
-pub noted_twice : (a b : Bool) (m : ℕ) (t : Tally) → noted b m (noted a m t) ≡ noted (a || b) m t
+pub noted_twice : (a b : Bool) (m : ℕ) (t : Count) → noted b m (noted a m t) ≡ noted (a || b) m t
 noted_twice true true m t = counted_twice m t
 noted_twice true false m t = refl
 noted_twice false true m t = refl
 noted_twice false false m t = refl
 
 -- no more are counted than the mark says
-pub noted_below : (a : Bool) (m : ℕ) (t : Tally) → t.count ≤ t.below → (noted a m t).count ≤ (noted a m t).below
+pub noted_below : (a : Bool) (m : ℕ) (t : Count) → t.count ≤ t.below → (noted a m t).count ≤ (noted a m t).below
 noted_below false m t h = h
 noted_below true m t h = by (nat_lt t.below m) refl
   where
@@ -34,12 +34,12 @@ noted_below true m t h = by (nat_lt t.below m) refl
     by false e = h
 
 -- the tallies that a procedure noted stay below their marks
-pub stay_below : (passes : ℕ → Bool) (m : ℕ) (before after : List Tally) → StayBelow before → ((s : ℕ) → tally_at after s ≡ noted (passes s) m (tally_at before s)) → StayBelow after
-stay_below passes m before after h e = λ s. subst (λ t. t.count ≤ t.below) (sym (e s)) (noted_below (passes s) m (tally_at before s) (h s))
+pub stay_below : (passes : ℕ → Bool) (m : ℕ) (before after : List Count) → StayBelow before → ((s : ℕ) → count_at after s ≡ noted (passes s) m (count_at before s)) → StayBelow after
+stay_below passes m before after h e = λ s. subst (λ t. t.count ≤ t.below) (sym (e s)) (noted_below (passes s) m (count_at before s) (h s))
 
 -- ---- all procedures
 
-module _ (has : ℕ → Bool) (n p total : ℕ) (h : p < n) (t u : Tally) (e : u ≡ noted (has p) (suc p) t) (below : t.below ≤ p) where
+module _ (has : ℕ → Bool) (n p total : ℕ) (h : p < n) (t u : Count) (e : u ≡ noted (has p) (suc p) t) (below : t.below ≤ p) where
   -- one more procedure, of those that are still to be counted
   pub count_on : t.count + count_by has (range_with_len p (n - p)) ≡ total → u.count + count_by has (range_with_len (p + 1) (n - (p + 1))) ≡ total
   count_on c =
@@ -59,7 +59,7 @@ module _ (has : ℕ → Bool) (n p total : ℕ) (h : p < n) (t u : Tally) (e : u
       by false = omega arith
 
 -- where none is left, all are counted
-pub all_counted : (has : ℕ → Bool) (n p total : ℕ) (t : Tally) → n ≤ p → t.count + count_by has (range_with_len p (n - p)) ≡ total → t.count ≡ total
+pub all_counted : (has : ℕ → Bool) (n p total : ℕ) (t : Count) → n ≤ p → t.count + count_by has (range_with_len p (n - p)) ≡ total → t.count ≡ total
 all_counted has n p total t h c =
     let d : count_by has (range_with_len p (n - p)) ≡ 0 = ap (count_by has) (range_done n p h) in
     omega arith
@@ -111,15 +111,15 @@ any_counted test (x ∷ xs) = by (test x) (any_counted test xs) ∙ ap (λ n. na
 
 -- ---- before the first procedure
 
-pub none_below : (ts : List Tally) (s : ℕ) → ts ≡ [] → (tally_at ts s).count ≤ (tally_at ts s).below
-none_below ts s e = subst (λ us. (tally_at us s).count ≤ (tally_at us s).below) (sym e) (omega arith)
+pub none_below : (ts : List Count) (s : ℕ) → ts ≡ [] → (count_at ts s).count ≤ (count_at ts s).below
+none_below ts s e = subst (λ us. (count_at us s).count ≤ (count_at us s).below) (sym e) (omega arith)
 
-pub none_marked : (ts : List Tally) (s : ℕ) → ts ≡ [] → (tally_at ts s).below ≤ 0
-none_marked ts s e = subst (λ us. (tally_at us s).below ≤ 0) (sym e) (omega arith)
+pub none_marked : (ts : List Count) (s : ℕ) → ts ≡ [] → (count_at ts s).below ≤ 0
+none_marked ts s e = subst (λ us. (count_at us s).below ≤ 0) (sym e) (omega arith)
 
-pub all_left : (has : ℕ → Bool) (n total : ℕ) (ts : List Tally) (s : ℕ) → ts ≡ [] → count_by has (range_with_len 0 n) ≡ total → (tally_at ts s).count + count_by has (range_with_len 0 (n - 0)) ≡ total
+pub all_left : (has : ℕ → Bool) (n total : ℕ) (ts : List Count) (s : ℕ) → ts ≡ [] → count_by has (range_with_len 0 n) ≡ total → (count_at ts s).count + count_by has (range_with_len 0 (n - 0)) ≡ total
 all_left has n total ts s e c =
     let z : n - 0 ≡ n = omega arith in
-    let a : (tally_at ts s).count ≡ 0 = ap (λ us. (tally_at us s).count) e in
+    let a : (count_at ts s).count ≡ 0 = ap (λ us. (count_at us s).count) e in
     let b : count_by has (range_with_len 0 (n - 0)) ≡ total = ap (λ k. count_by has (range_with_len 0 k)) z ∙ c in
     omega arith

@@ -17,7 +17,7 @@ use Rattle.ss_model.specs.Scopes.{catalog_in_scope}
 use Rattle.ss_model.specs.Settling.{border_stream}
 use Rattle.ss_model.specs.Statements.{is_on_stream}
 use Rattle.ss_catalog_checks.specs.Cascades.{IsOnTriggerCycle}
-use Rattle.ss_catalog_checks.specs.Ends.{refused_stream}
+use Rattle.ss_catalog_checks.specs.StreamEnds.{refused_stream}
 use Rattle.ss_catalog_checks.specs.Firsts.{IsFirst}
 use Rattle.ss_catalog_checks.specs.Localities.{IsFirstSite}
 use Rattle.ss_catalog_checks.specs.Owners.{refused_window}

@@ -4,7 +4,7 @@ pub mod Workflows
 pub mod Cascades
 pub mod Runs
 pub mod Localities
-pub mod Ends
+pub mod StreamEnds
 pub mod Tallies
 pub mod Owners
 pub mod Guarantees

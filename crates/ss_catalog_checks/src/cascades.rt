@@ -7,7 +7,7 @@ ghost use Rattle.ss_catalog_checks.specs.Cascades.{counts_batches, goes_back, Le
 ghost use Rattle.ss_catalog_checks.specs.Firsts.{IsFirst};
 ghost use Rattle.ss_catalog_checks.specs.Graphs.{edge, IsGraphOf};
 
-use crate::graph::{Edge, add_edge, graph_from, is_set, reached};
+use crate::graph::{Edge, add_edge, graph_from, is_set, reached_nodes};
 use ss_model::catalog::{Catalog, On, TriggerDef};
 use ss_sql_lex::typed::{Statement, Target};
 use ss_value::seq::Seq;
@@ -51,9 +51,7 @@ fn add_target(target: Target, windows: &mut Seq<usize>) -> Result<(), NoMemory>
     match target {
         Target::Table(_) => Ok(()),
         Target::Window(window) => {
-            if windows.push(usize::from(window)).is_err() {
-                return Err(NoMemory);
-            }
+            windows.push(usize::from(window))?;
             Ok(())
         }
     }
@@ -138,7 +136,7 @@ fn leads_back(
             On::Stream(_) => Ok(false),
             On::Window(_) => {
                 let windows = inserted_windows(alloc, found.statements.as_slice())?;
-                let seen = reached(alloc, graph, windows.as_slice())?;
+                let seen = reached_nodes(alloc, graph, windows.as_slice())?;
                 Ok(any_back(catalog, found.on, &seen))
             }
         },
@@ -150,10 +148,10 @@ fn leads_back(
 /// window, or from its own window of batches to a window of batches that isn't later in the catalogue. None where
 /// no trigger does.
 ///
-/// For each trigger linear in the windows and in the INSERTs of all triggers. Fails only for want of memory: linear
-/// in these.
+/// For each trigger linear in the windows and in the INSERTs of all triggers. Takes memory linear in
+/// these.
 pub fn trigger_cycle(alloc: Global, catalog: &Catalog) -> Result<Option<usize>, NoMemory>
-    ensures { IfOk result (λ told. IsFirst (IsOnTriggerCycle catalog.now) told) }
+    ensures { IfOk result (λ found. IsFirst (IsOnTriggerCycle catalog.now) found) }
 {
     let edges = window_edges(alloc, catalog.triggers.as_slice())?;
     let graph = graph_from(alloc, edges.as_slice())?;

@@ -7,7 +7,7 @@ ghost use Rattle.ss_catalog_checks.specs.Firsts.{IsFirst};
 ghost use Rattle.ss_catalog_checks.specs.Graphs.{IsGraphOf};
 ghost use Rattle.ss_catalog_checks.specs.Workflows.{IsOnCycle, emit_edges, take_edge, procedure_edges, workflow_edges};
 
-use crate::graph::{Edge, add_edge, graph_from, is_set, reached};
+use crate::graph::{Edge, add_edge, graph_from, is_set, reached_nodes};
 use ss_model::catalog::{Catalog, Procedure, Step};
 use ss_value::NoMemory;
 use ss_value::seq::Seq;
@@ -109,7 +109,7 @@ fn is_on_cycle(
 {
     match graph.get(procedure) {
         Some(next) => {
-            let seen = reached(alloc, graph, next.as_slice())?;
+            let seen = reached_nodes(alloc, graph, next.as_slice())?;
             Ok(is_set(&seen, procedure))
         }
         None => Ok(false),
@@ -119,12 +119,12 @@ fn is_on_cycle(
 /// The first procedure that leads to itself: it emits a stream that it takes, or that a procedure takes which leads
 /// to it. None where no procedure does.
 ///
-/// For each procedure linear in the procedures, the streams, and the emits and inputs of all bodies. Fails only for
-/// want of memory: linear in these.
+/// For each procedure linear in the procedures, the streams, and the emits and inputs of all bodies. Takes
+/// memory linear in these.
 ///
 /// Source: workflows are directed acyclic graphs, S-Store (Meehan et al., PVLDB 8, 2015), section 2.
 pub fn workflow_cycle(alloc: Global, catalog: &Catalog) -> Result<Option<usize>, NoMemory>
-    ensures { IfOk result (λ told. IsFirst (IsOnCycle catalog.now) told) }
+    ensures { IfOk result (λ found. IsFirst (IsOnCycle catalog.now) found) }
 {
     let edges = workflow_edges(alloc, catalog)?;
     let graph = graph_from(alloc, edges.as_slice())?;

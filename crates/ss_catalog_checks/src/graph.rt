@@ -18,9 +18,7 @@ pub(crate) struct Edge {
 pub(crate) fn add_edge(from: usize, to: usize, edges: &mut Seq<Edge>) -> Result<(), NoMemory>
     ensures { OnOk result (edges.new ≡ edges.old ++ edge from to ∷ []) }
 {
-    if edges.push(Edge { from, to }).is_err() {
-        return Err(NoMemory);
-    }
+    edges.push(Edge { from, to })?;
     Ok(())
 }
 
@@ -31,9 +29,7 @@ fn add_rows(alloc: Global, graph: &mut Seq<Seq<usize>>, node: usize) -> Result<(
     ensures there { OnOk result (node < length graph.new) }
 {
     'rows: while graph.len() <= node {
-        if graph.push(Seq::new(alloc)).is_err() {
-            return Err(NoMemory);
-        }
+        graph.push(Seq::new(alloc))?;
     }
     Ok(())
 }
@@ -49,9 +45,7 @@ fn add_to_row(
     ensures { OnOk result (graph.new ≡ set graph.old from (get_or graph.old from [] ++ to ∷ [])) }
 {
     let mut row = graph.put(from, Seq::new(alloc));
-    if row.push(to).is_err() {
-        return Err(NoMemory);
-    }
+    row.push(to)?;
     let _empty = graph.put(from, row);
     Ok(())
 }
@@ -67,7 +61,7 @@ fn join(alloc: Global, graph: &mut Seq<Seq<usize>>, edge: Edge) -> Result<(), No
 
 /// The graph of these edges: for each node up to the greatest the nodes that its edges lead to.
 ///
-/// Linear in the edges and in the greatest node. Fails only for want of memory: a word an edge, and four a node.
+/// Linear in the edges and in the greatest node. Takes a word an edge, and four a node.
 pub(crate) fn graph_from(alloc: Global, edges: &[Edge]) -> Result<Seq<Seq<usize>>, NoMemory>
     ensures { IfOk result (λ graph. IsGraphOf edges.now graph) }
 {
@@ -94,9 +88,7 @@ fn no_flags(alloc: Global, count: usize) -> Result<Seq<bool>, NoMemory>
 {
     let mut flags = Seq::new(alloc);
     for _ in 0..count {
-        if flags.push(false).is_err() {
-            return Err(NoMemory);
-        }
+        flags.push(false)?;
     }
     Ok(flags)
 }
@@ -108,8 +100,8 @@ fn see(node: usize, seen: &mut Seq<bool>, todo: &mut Seq<usize>) -> Result<(), N
 {
     if node < seen.len() {
         let before = seen.put(node, true);
-        if !before && todo.push(node).is_err() {
-            return Err(NoMemory);
+        if !before {
+            todo.push(node)?;
         }
     }
     Ok(())
@@ -144,9 +136,9 @@ fn follow(
 
 /// Which nodes are reached along the edges from these, themselves among them.
 ///
-/// Linear in the nodes, in the edges that are met and in the starts. Fails only for want of memory: a byte a node,
+/// Linear in the nodes, in the edges that are met and in the starts. Takes a byte a node,
 /// and a word for each node that is reached.
-pub(crate) fn reached(
+pub(crate) fn reached_nodes(
     alloc: Global,
     graph: &Seq<Seq<usize>>,
     starts: &[usize],

@@ -39,9 +39,7 @@ fn is_local_inner(catalog: &Catalog, touch: &Touch, inner: &Inner) -> bool
 fn add(all: &mut Seq<bool>, verdict: bool) -> Result<(), NoMemory>
     ensures { OnOk result (all.new ≡ all.old ++ verdict ∷ []) }
 {
-    if all.push(verdict).is_err() {
-        return Err(NoMemory);
-    }
+    all.push(verdict)?;
     Ok(())
 }
 
@@ -123,7 +121,7 @@ fn refused_step(
 
 /// The first procedure with a step that its touch set does not allow, and the step.
 fn first_step(alloc: Global, catalog: &Catalog) -> Result<Option<(usize, usize)>, NoMemory>
-    ensures { IfOk result (λ told. IsFirstWith (refused_step catalog.now) told) }
+    ensures { IfOk result (λ found. IsFirstWith (refused_step catalog.now) found) }
 {
     for procedure in 0..catalog.procedures.len() {
         match refused_step(alloc, catalog, procedure)? {
@@ -198,10 +196,10 @@ fn first_statement(catalog: &Catalog) -> Option<(usize, usize)>
 /// and DELETE has the conjunct `splitcolumn = :thatargument` for each split table that it reads or changes, and each
 /// INSERT gives just that argument for the split column. A trigger is checked under each procedure in which it runs.
 ///
-/// Linear in all SQL, and in all bodies for each statement of a trigger. Fails only for want of memory: one byte a
-/// step of the longest body.
+/// Linear in all SQL, and in all bodies for each statement of a trigger. Takes one byte a step of
+/// the longest body.
 pub fn refused_site(alloc: Global, catalog: &Catalog) -> Result<Option<Site>, NoMemory>
-    ensures { IfOk result (λ told. IsFirstSite catalog.now told) }
+    ensures { IfOk result (λ found. IsFirstSite catalog.now found) }
 {
     if let Some((procedure, step)) = first_step(alloc, catalog)? {
         return Ok(Some(Site::Step { procedure, step }));

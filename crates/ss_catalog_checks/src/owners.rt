@@ -6,7 +6,7 @@ ghost use Rattle.ss_model.specs.Feeds.{goes_into};
 ghost use Rattle.ss_model.specs.Settling.{procedure_numbers};
 ghost use Rattle.ss_catalog_checks.specs.Owners.{reads_from, joins_with, query_names, statement_names, inner_names, step_names, trigger_names, steps_name, runs_outside, is_named_outside, is_call_procedure, is_misowned, is_refused_window, refused_window};
 
-use crate::procedures::{is_call, runs_in};
+use crate::procedures::runs_in;
 use ss_model::catalog::{Catalog, Inner, On, Step, TriggerDef};
 use ss_sql_lex::typed::{Joined, Query, SourceId, Statement, Target};
 
@@ -72,7 +72,8 @@ fn inner_names(window: usize, inner: &Inner) -> bool
     }
 }
 
-/// Whether a step inside a `for_each` of these names this window.
+/// Whether a step inside a `for_each` of these names this window. A function of its own, since the check doesn't find
+/// the walk inside an arm of a match.
 fn inners_name(window: usize, body: &[Inner]) -> bool
     ensures { result ≡ list_any (inner_names window) body.now }
 {
@@ -103,7 +104,7 @@ fn trigger_names(window: usize, trigger: &TriggerDef) -> bool
         .any(|statement| statement_names(window, statement))
 }
 
-/// Whether a step of a body names this window.
+/// Whether a step of a body names this window. A function of its own, as `inners_name`.
 fn body_names(window: usize, body: &[Step]) -> bool
     ensures { result ≡ list_any (step_names window) body.now }
 {
@@ -158,7 +159,7 @@ fn is_call_procedure(catalog: &Catalog, procedure: usize) -> bool
     ensures { result ≡ is_call_procedure catalog.now procedure }
 {
     match catalog.procedures.get(procedure) {
-        Some(procedure) => is_call(procedure.kind),
+        Some(procedure) => procedure.kind.is_call(),
         None => false,
     }
 }

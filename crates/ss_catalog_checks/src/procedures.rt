@@ -3,34 +3,12 @@
 ghost use Rattle.std.specs.Prelude.{◌≡◌, length, slice_get};
 ghost use Rattle.std.specs.List.{list_any};
 ghost use Rattle.ss_model.specs.Contents.{window_owner};
-ghost use Rattle.ss_model.specs.Database.{emits_to, is_border, is_call};
+ghost use Rattle.ss_model.specs.Database.{emits_to};
 ghost use Rattle.ss_model.specs.Orders.{procedure_emits};
-ghost use Rattle.ss_catalog_checks.specs.Ends.{is_interior};
+ghost use Rattle.ss_catalog_checks.specs.StreamEnds.{is_interior};
 ghost use Rattle.ss_catalog_checks.specs.Runs.{is_owner, runs_in};
 
 use ss_model::catalog::{Catalog, Kind, On, Step};
-
-/// Whether these are call procedures.
-pub(crate) fn is_call(kind: Kind) -> bool
-    ensures { result ≡ is_call kind }
-{
-    match kind {
-        Kind::Call => true,
-        Kind::Border => false,
-        Kind::Interior => false,
-    }
-}
-
-/// Whether these are border procedures.
-pub(crate) fn is_border(kind: Kind) -> bool
-    ensures { result ≡ is_border kind }
-{
-    match kind {
-        Kind::Call => false,
-        Kind::Border => true,
-        Kind::Interior => false,
-    }
-}
 
 /// Whether these are interior procedures.
 pub(crate) fn is_interior(kind: Kind) -> bool

@@ -1,13 +1,13 @@
 //! How many procedures emit to each stream and take it: counted in one pass over all bodies and inputs.
 
-ghost use Rattle.std.specs.Prelude.{◌≡◌, ◌==◌, ◌<◌, ◌≤◌, ◌&&◌, ◌+◌, ◌^◌, ℕ, suc, length, slice_get, IfOk, OnOk};
+ghost use Rattle.std.specs.Prelude.{◌≡◌, ◌==◌, ◌<◌, ◌≤◌, ◌+◌, ◌^◌, ℕ, suc, length, IfOk, OnOk};
 ghost use Rattle.std.specs.List.{list_any};
-ghost use Rattle.ss_model.specs.Database.{emits_to, takes_stream, is_border_stream};
-ghost use Rattle.ss_model.specs.Orders.{procedure_has, procedure_emits};
-ghost use Rattle.ss_catalog_checks.specs.Ends.{emitters, consumers, border_consumers, interior_consumers};
-ghost use Rattle.ss_catalog_checks.specs.Tallies.{counted, noted, tally_at, StayBelow, Tells, is_counted, takers, TellsEnds};
+ghost use Rattle.ss_model.specs.Database.{emits_to, is_border_stream};
+ghost use Rattle.ss_model.specs.Orders.{procedure_emits};
+ghost use Rattle.ss_catalog_checks.specs.StreamEnds.{emitters, consumers, border_consumers, interior_consumers};
+ghost use Rattle.ss_catalog_checks.specs.Tallies.{count_with, noted, count_at, StayBelow, Tells, is_counted, procedure_takes, takers, CountsEnds};
 
-use crate::procedures::{is_border, is_interior};
+use crate::procedures::is_interior;
 use ss_model::catalog::{Catalog, Kind, Step};
 use ss_value::NoMemory;
 use ss_value::seq::Seq;
@@ -15,7 +15,7 @@ use std::alloc::Global;
 
 /// How many procedures are counted at a stream. Their numbers are below the mark, so that none counts twice.
 #[derive(Clone, Copy)]
-pub(crate) struct Tally {
+pub(crate) struct Count {
     pub count: usize,
     pub below: usize,
 }
@@ -32,10 +32,10 @@ enum Takers {
 /// border procedures and the interior ones. Past the end of a table none does.
 #[derive(Drop)]
 pub(crate) struct StreamEnds {
-    pub emitters: Seq<Tally>,
-    pub consumers: Seq<Tally>,
-    pub border_consumers: Seq<Tally>,
-    pub interior_consumers: Seq<Tally>,
+    pub emitters: Seq<Count>,
+    pub consumers: Seq<Count>,
+    pub border_consumers: Seq<Count>,
+    pub interior_consumers: Seq<Count>,
 }
 
 /// Whether procedures of this kind are counted.
@@ -44,41 +44,39 @@ fn is_counted(kinds: Takers, kind: Kind) -> bool
 {
     match kinds {
         Takers::All => true,
-        Takers::Border => is_border(kind),
+        Takers::Border => kind.is_border(),
         Takers::Interior => is_interior(kind),
     }
 }
 
 /// What is counted at a stream. Constant.
-fn tally_at(tallies: &Seq<Tally>, stream: usize) -> Tally
-    ensures { result ≡ tally_at tallies.now stream }
+fn count_at(tallies: &Seq<Count>, stream: usize) -> Count
+    ensures { result ≡ count_at tallies.now stream }
 {
     match tallies.get(stream) {
         Some(tally) => *tally,
-        None => Tally { count: 0, below: 0 },
+        None => Count { count: 0, below: 0 },
     }
 }
 
 /// Adds places where nothing is counted until this stream has a place.
-fn add_places(tallies: &mut Seq<Tally>, stream: usize) -> Result<(), NoMemory>
-    ensures same { OnOk result ((s : ℕ) → tally_at tallies.new s ≡ tally_at tallies.old s) }
+fn add_places(tallies: &mut Seq<Count>, stream: usize) -> Result<(), NoMemory>
+    ensures same { OnOk result ((s : ℕ) → count_at tallies.new s ≡ count_at tallies.old s) }
     ensures there { OnOk result (stream < length tallies.new) }
 {
     'places: while tallies.len() <= stream {
-        if tallies.push(Tally { count: 0, below: 0 }).is_err() {
-            return Err(NoMemory);
-        }
+        tallies.push(Count { count: 0, below: 0 })?;
     }
     Ok(())
 }
 
 /// Counts one more, unless it is counted already.
-fn counted(tally: Tally, mark: usize) -> Tally
+fn count_with(tally: Count, mark: usize) -> Count
     requires { tally.count ≤ tally.below }
-    ensures { result ≡ counted mark tally }
+    ensures { result ≡ count_with mark tally }
 {
     if tally.below < mark {
-        Tally {
+        Count {
             count: tally.count + 1,
             below: mark,
         }
@@ -88,20 +86,20 @@ fn counted(tally: Tally, mark: usize) -> Tally
 }
 
 /// Counts the procedure with this mark at a stream.
-fn note(tallies: &mut Seq<Tally>, stream: usize, mark: usize) -> Result<(), NoMemory>
+fn note(tallies: &mut Seq<Count>, stream: usize, mark: usize) -> Result<(), NoMemory>
     requires { StayBelow tallies.old }
-    ensures { OnOk result ((s : ℕ) → tally_at tallies.new s ≡ noted (s == stream) mark (tally_at tallies.old s)) }
+    ensures { OnOk result ((s : ℕ) → count_at tallies.new s ≡ noted (s == stream) mark (count_at tallies.old s)) }
 {
     add_places(tallies, stream)?;
-    let before = tally_at(tallies, stream);
-    let _before = tallies.put(stream, counted(before, mark));
+    let before = count_at(tallies, stream);
+    let _before = tallies.put(stream, count_with(before, mark));
     Ok(())
 }
 
 /// Counts the procedure with this mark at the stream that a step emits to.
-fn note_step(tallies: &mut Seq<Tally>, step: &Step, mark: usize) -> Result<(), NoMemory>
+fn note_step(tallies: &mut Seq<Count>, step: &Step, mark: usize) -> Result<(), NoMemory>
     requires { StayBelow tallies.old }
-    ensures { OnOk result ((s : ℕ) → tally_at tallies.new s ≡ noted (emits_to s step.now) mark (tally_at tallies.old s)) }
+    ensures { OnOk result ((s : ℕ) → count_at tallies.new s ≡ noted (emits_to s step.now) mark (count_at tallies.old s)) }
 {
     match step {
         Step::Emit { stream, .. } => note(tallies, usize::from(*stream), mark),
@@ -114,9 +112,9 @@ fn note_step(tallies: &mut Seq<Tally>, step: &Step, mark: usize) -> Result<(), N
 
 /// Counts the procedure with this mark at the streams that its body emits to.
 #[tactic(auto, using(crate::proofs::Noting::noted_twice))]
-fn note_body(tallies: &mut Seq<Tally>, body: &[Step], mark: usize) -> Result<(), NoMemory>
+fn note_body(tallies: &mut Seq<Count>, body: &[Step], mark: usize) -> Result<(), NoMemory>
     requires { StayBelow tallies.old }
-    ensures { OnOk result ((s : ℕ) → tally_at tallies.new s ≡ noted (list_any (emits_to s) body.now) mark (tally_at tallies.old s)) }
+    ensures { OnOk result ((s : ℕ) → count_at tallies.new s ≡ noted (list_any (emits_to s) body.now) mark (count_at tallies.old s)) }
 {
     for step in body {
         note_step(tallies, step, mark)?;
@@ -126,9 +124,9 @@ fn note_body(tallies: &mut Seq<Tally>, body: &[Step], mark: usize) -> Result<(),
 
 /// Counts the procedure with this mark at its inputs.
 #[tactic(auto, using(crate::proofs::Noting::noted_twice))]
-fn note_inputs(tallies: &mut Seq<Tally>, inputs: &[u16], mark: usize) -> Result<(), NoMemory>
+fn note_inputs(tallies: &mut Seq<Count>, inputs: &[u16], mark: usize) -> Result<(), NoMemory>
     requires { StayBelow tallies.old }
-    ensures { OnOk result ((s : ℕ) → tally_at tallies.new s ≡ noted (list_any (λ input. input == s) inputs.now) mark (tally_at tallies.old s)) }
+    ensures { OnOk result ((s : ℕ) → count_at tallies.new s ≡ noted (list_any (λ input. input == s) inputs.now) mark (count_at tallies.old s)) }
 {
     for input in inputs {
         note(tallies, usize::from(*input), mark)?;
@@ -137,10 +135,10 @@ fn note_inputs(tallies: &mut Seq<Tally>, inputs: &[u16], mark: usize) -> Result<
 }
 
 /// Counts the procedure of this number at the streams that it emits to.
-fn note_emits(tallies: &mut Seq<Tally>, catalog: &Catalog, procedure: usize) -> Result<(), NoMemory>
+fn note_emits(tallies: &mut Seq<Count>, catalog: &Catalog, procedure: usize) -> Result<(), NoMemory>
     requires below { StayBelow tallies.old }
     requires next { procedure + 1 < 2 ^ 64 }
-    ensures { OnOk result ((s : ℕ) → tally_at tallies.new s ≡ noted (procedure_emits catalog.now procedure s) (suc procedure) (tally_at tallies.old s)) }
+    ensures { OnOk result ((s : ℕ) → count_at tallies.new s ≡ noted (procedure_emits catalog.now procedure s) (suc procedure) (count_at tallies.old s)) }
 {
     match catalog.procedures.get(procedure) {
         Some(found) => note_body(tallies, found.body.as_slice(), procedure + 1),
@@ -150,14 +148,14 @@ fn note_emits(tallies: &mut Seq<Tally>, catalog: &Catalog, procedure: usize) -> 
 
 /// Counts the procedure of this number at its inputs, if procedures of its kind are counted.
 fn note_takes(
-    tallies: &mut Seq<Tally>,
+    tallies: &mut Seq<Count>,
     catalog: &Catalog,
     kinds: Takers,
     procedure: usize,
 ) -> Result<(), NoMemory>
     requires below { StayBelow tallies.old }
     requires next { procedure + 1 < 2 ^ 64 }
-    ensures { OnOk result ((s : ℕ) → tally_at tallies.new s ≡ noted (procedure_has (λ p. is_counted kinds p.kind && takes_stream s p) (slice_get catalog.now.procedures procedure)) (suc procedure) (tally_at tallies.old s)) }
+    ensures { OnOk result ((s : ℕ) → count_at tallies.new s ≡ noted (procedure_takes kinds catalog.now procedure s) (suc procedure) (count_at tallies.old s)) }
 {
     match catalog.procedures.get(procedure) {
         Some(found) => {
@@ -172,7 +170,7 @@ fn note_takes(
 }
 
 /// How many procedures emit to each stream.
-fn count_emitters(alloc: Global, catalog: &Catalog) -> Result<Seq<Tally>, NoMemory>
+fn count_emitters(alloc: Global, catalog: &Catalog) -> Result<Seq<Count>, NoMemory>
     ensures { IfOk result (λ tallies. Tells (emitters catalog.now) tallies) }
 {
     let mut tallies = Seq::new(alloc);
@@ -183,7 +181,7 @@ fn count_emitters(alloc: Global, catalog: &Catalog) -> Result<Seq<Tally>, NoMemo
 }
 
 /// How many procedures of these kinds take each stream.
-fn count_takers(alloc: Global, catalog: &Catalog, kinds: Takers) -> Result<Seq<Tally>, NoMemory>
+fn count_takers(alloc: Global, catalog: &Catalog, kinds: Takers) -> Result<Seq<Count>, NoMemory>
     ensures { IfOk result (λ tallies. Tells (takers kinds catalog.now) tallies) }
 {
     let mut tallies = Seq::new(alloc);
@@ -195,9 +193,9 @@ fn count_takers(alloc: Global, catalog: &Catalog, kinds: Takers) -> Result<Seq<T
 
 /// The ends of all streams, each table up to the last stream that has one.
 ///
-/// Linear in all bodies and inputs, and in the streams. Fails only for want of memory: eight words a stream.
-pub(crate) fn stream_ends(alloc: Global, catalog: &Catalog) -> Result<StreamEnds, NoMemory>
-    ensures { IfOk result (λ ends. TellsEnds catalog.now ends) }
+/// Linear in all bodies and inputs, and in the streams. Takes eight words a stream.
+pub(crate) fn count_stream_ends(alloc: Global, catalog: &Catalog) -> Result<StreamEnds, NoMemory>
+    ensures { IfOk result (λ ends. CountsEnds catalog.now ends) }
 {
     let emitters = count_emitters(alloc, catalog)?;
     let consumers = count_takers(alloc, catalog, Takers::All)?;
@@ -213,39 +211,39 @@ pub(crate) fn stream_ends(alloc: Global, catalog: &Catalog) -> Result<StreamEnds
 
 /// How many procedures emit to a stream. Constant.
 pub(crate) fn emitters(catalog: &Catalog, ends: &StreamEnds, stream: usize) -> usize
-    requires { TellsEnds catalog.now ends.now }
+    requires { CountsEnds catalog.now ends.now }
     ensures { result ≡ emitters catalog.now stream }
 {
-    tally_at(&ends.emitters, stream).count
+    count_at(&ends.emitters, stream).count
 }
 
 /// How many procedures take a stream. Constant.
 pub(crate) fn consumers(catalog: &Catalog, ends: &StreamEnds, stream: usize) -> usize
-    requires { TellsEnds catalog.now ends.now }
+    requires { CountsEnds catalog.now ends.now }
     ensures { result ≡ consumers catalog.now stream }
 {
-    tally_at(&ends.consumers, stream).count
+    count_at(&ends.consumers, stream).count
 }
 
 /// How many border procedures take a stream. Constant.
 pub(crate) fn border_consumers(catalog: &Catalog, ends: &StreamEnds, stream: usize) -> usize
-    requires { TellsEnds catalog.now ends.now }
+    requires { CountsEnds catalog.now ends.now }
     ensures { result ≡ border_consumers catalog.now stream }
 {
-    tally_at(&ends.border_consumers, stream).count
+    count_at(&ends.border_consumers, stream).count
 }
 
 /// How many interior procedures take a stream. Constant.
 pub(crate) fn interior_consumers(catalog: &Catalog, ends: &StreamEnds, stream: usize) -> usize
-    requires { TellsEnds catalog.now ends.now }
+    requires { CountsEnds catalog.now ends.now }
     ensures { result ≡ interior_consumers catalog.now stream }
 {
-    tally_at(&ends.interior_consumers, stream).count
+    count_at(&ends.interior_consumers, stream).count
 }
 
 /// Whether a border procedure takes a stream. Constant.
 pub(crate) fn is_border_stream(catalog: &Catalog, ends: &StreamEnds, stream: usize) -> bool
-    requires { TellsEnds catalog.now ends.now }
+    requires { CountsEnds catalog.now ends.now }
     ensures { result ≡ is_border_stream catalog.now stream }
 {
     border_consumers(catalog, ends, stream) > 0

@@ -5,10 +5,9 @@ ghost use Rattle.std.specs.List.{list_any};
 ghost use Rattle.ss_model.specs.Database.{emits_to, is_border};
 ghost use Rattle.ss_model.specs.Orders.{procedure_has, procedure_emits};
 ghost use Rattle.ss_model.specs.Settling.{first_input, border_stream_from, border_stream};
-ghost use Rattle.ss_catalog_checks.specs.Ends.{TellsEmitters, workflow_of};
-ghost use Rattle.ss_catalog_checks.specs.Tallies.{TellsEnds};
+ghost use Rattle.ss_catalog_checks.specs.StreamEnds.{ListsEmitters, NotesAt, workflow_of};
+ghost use Rattle.ss_catalog_checks.specs.Tallies.{CountsEnds};
 
-use crate::procedures::is_border;
 use crate::tallies::{StreamEnds, is_border_stream};
 use ss_model::catalog::{Catalog, Step};
 use ss_value::NoMemory;
@@ -20,7 +19,7 @@ fn is_border_procedure(catalog: &Catalog, procedure: usize) -> bool
     ensures { result ≡ procedure_has (λ p. is_border p.kind) (slice_get catalog.now.procedures procedure) }
 {
     match catalog.procedures.get(procedure) {
-        Some(procedure) => is_border(procedure.kind),
+        Some(procedure) => procedure.kind.is_border(),
         None => false,
     }
 }
@@ -44,9 +43,7 @@ fn add_places(emitters: &mut Seq<Option<usize>>, stream: usize) -> Result<(), No
     ensures there { OnOk result (stream < length emitters.new) }
 {
     'places: while emitters.len() <= stream {
-        if emitters.push(None).is_err() {
-            return Err(NoMemory);
-        }
+        emitters.push(None)?;
     }
     Ok(())
 }
@@ -97,7 +94,7 @@ fn note_procedure(
     catalog: &Catalog,
     procedure: usize,
 ) -> Result<(), NoMemory>
-    ensures { OnOk result ((s : ℕ) → get_or emitters.new s None ≡ cond (procedure_emits catalog.now procedure s) (Some procedure) (get_or emitters.old s None)) }
+    ensures { OnOk result (NotesAt (procedure_emits catalog.now procedure) procedure emitters.old emitters.new) }
 {
     match catalog.procedures.get(procedure) {
         Some(found) => note_body(emitters, found.body.as_slice(), procedure),
@@ -107,12 +104,12 @@ fn note_procedure(
 
 /// The first procedure that emits to each stream, up to the last that is emitted to.
 ///
-/// Linear in all bodies and in the streams. Fails only for want of memory: two words a stream.
+/// Linear in all bodies and in the streams. Takes two words a stream.
 pub(crate) fn first_emitters(
     alloc: Global,
     catalog: &Catalog,
 ) -> Result<Seq<Option<usize>>, NoMemory>
-    ensures { IfOk result (λ emitters. TellsEmitters catalog.now emitters) }
+    ensures { IfOk result (λ emitters. ListsEmitters catalog.now emitters) }
 {
     let mut emitters = Seq::new(alloc);
     // From the last procedure to the first, so that the first stays noted.
@@ -143,7 +140,7 @@ pub(crate) fn border_stream(
     emitters: &Seq<Option<usize>>,
     procedure: usize,
 ) -> usize
-    requires { TellsEmitters catalog.now emitters.now }
+    requires { ListsEmitters catalog.now emitters.now }
     ensures { result ≡ border_stream catalog.now procedure }
 {
     let mut at = procedure;
@@ -163,8 +160,8 @@ pub(crate) fn workflow_of(
     emitters: &Seq<Option<usize>>,
     stream: usize,
 ) -> usize
-    requires ends { TellsEnds catalog.now ends.now }
-    requires emitters { TellsEmitters catalog.now emitters.now }
+    requires ends { CountsEnds catalog.now ends.now }
+    requires emitters { ListsEmitters catalog.now emitters.now }
     ensures { result ≡ workflow_of catalog.now stream }
 {
     if is_border_stream(catalog, ends, stream) {

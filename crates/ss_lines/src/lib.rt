@@ -12,8 +12,6 @@ mod memory;
 mod outside;
 mod read;
 mod split;
-#[cfg(test)]
-mod tests;
 mod write;
 
 pub use ends::{Sink, Source};

@@ -65,9 +65,7 @@ impl Splitter {
         ensures takes { OnOk result (Takes self.old self.new piece.now) }
         ensures number { self.new.number ≡ self.old.number }
     {
-        if self.current.extend_from_slice(piece).is_err() {
-            return Err(NoMemory);
-        }
+        self.current.extend_from_slice(piece)?;
         Ok(())
     }
 
@@ -86,9 +84,7 @@ impl Splitter {
             number: self.number,
             bytes: Seq::from_vec(bytes),
         };
-        if self.lines.push(line).is_err() {
-            return Err(NoMemory);
-        }
+        self.lines.push(line)?;
         Ok(())
     }
 

@@ -1,11 +1,13 @@
--- One turn of a loop over a list.
-use Rattle.std.proofs.Common.{◌≡◌, ℕ, suc, ◌+◌, ◌<◌, Bool, cond, List, [], ◌∷◌, ◌++◌, length, get_or, drop, drop-cons, fold, refl, sym, ap, ◌∙◌, add-one, append_assoc, Ok, Err}
+-- One turn of a loop over a list, and walks that end at the first abort.
+use Rattle.std.proofs.Common.{◌≡◌, ℕ, suc, ◌+◌, ◌<◌, Bool, cond, List, [], ◌∷◌, ◌++◌, length, get_or, drop, drop-cons, fold, refl, sym, ap, subst, ◌∙◌, add-one, append_assoc, Ok, Err, arith}
+use Rattle.std.proofs.lemmas.List.{drop_all, drop_more}
+use Rattle.std.specs.List.{AllByRecursion}
 use Rattle.std.specs.Prelude.{OnOk}
 use Rattle.std.specs.declared.result.Result.{Result}
 use Rattle.ss_value.specs.declared.value.Value.{Value}
 use Rattle.ss_value.specs.Order.{value_cmp}
 use Rattle.ss_model.specs.declared.entry.Reason.{Reason}
-use Rattle.ss_model.specs.Results.{OrAbort, ◌>>=◌, try_map, try_filter}
+use Rattle.ss_model.specs.Results.{OrAbort, ◌>>=◌, try_map, try_filter, try_fold}
 use Rattle.ss_operators.specs.declared.extreme.Extreme.{Extreme}
 use Rattle.ss_operators.specs.Extremes.{beats}
 use Rattle.ss_operators.specs.declared.run_error.RunError.{RunError}
@@ -19,6 +21,39 @@ next xs i x h e = rw add-one (drop-cons xs i x h ∙ ap (λ y. y ∷ drop (suc i
 pub on_ok : {A E P Q : Type 0} (r : Result A E) → (P → Q) → OnOk r P → OnOk r Q
 on_ok (Ok a) f h = f h
 on_ok (Err e) f h = tt
+
+-- ---- one behind the other
+
+-- a stop of the first is a stop of both
+pub stops_before : {A B : Type 0} (x : OrAbort A) (f : A → OrAbort B) (stop : RunError) → StopsAs x stop → StopsAs (x >>= f) stop
+stops_before x f NoMemory h = tt
+stops_before x f (Abort r) h = ap (λ y. y >>= f) h
+
+-- what is the same stops as the same
+pub stops_same : {A : Type 0} (x y : OrAbort A) (stop : RunError) → x ≡ y → StopsAs y stop → StopsAs x stop
+stops_same x y NoMemory e h = tt
+stops_same x y (Abort r) e h = e ∙ h
+
+-- ---- from state to state
+
+module _ {A S : Type 0} (f : A → S → OrAbort S) (xs : List A) (i : ℕ) (x : A) (s : S) where
+  -- the next element, and then the rest
+  step : i < length xs → x ≡ get_or xs i x → try_fold f (drop i xs) s ≡ (f x s >>= λ t. try_fold f (drop (i + 1) xs) t)
+  step within is = ap (λ ys. try_fold f ys s) (next xs i x within is)
+
+  pub fold_goes_on : (t : S) → i < length xs → x ≡ get_or xs i x → f x s ≡ Ok t → try_fold f (drop (i + 1) xs) t ≡ try_fold f (drop i xs) s
+  fold_goes_on t within is e = sym (step within is ∙ ap (λ r. r >>= λ t. try_fold f (drop (i + 1) xs) t) e)
+
+  pub fold_stops : (stop : RunError) → i < length xs → x ≡ get_or xs i x → StopsAs (f x s) stop → StopsAs (try_fold f (drop i xs) s) stop
+  fold_stops stop within is h = stops_same _ _ stop (step within is) (stops_before (f x s) _ stop h)
+
+-- past the last element nothing happens
+pub fold_ends : {A S : Type 0} (f : A → S → OrAbort S) (xs : List A) (i : ℕ) (s : S) → (i < length xs → ⊥) → try_fold f (drop i xs) s ≡ Ok s
+fold_ends f xs i s ended = ap (λ ys. try_fold f ys s) (drop_all i xs (omega (arith, ended)))
+
+-- what holds of the rest holds of the rest behind its first
+pub rest_of : {A : Type 0} (P : A → Type 0) (xs : List A) (i : ℕ) (x : A) → i < length xs → AllByRecursion P (drop i xs) → AllByRecursion P (drop (i + 1) xs)
+rest_of P xs i x within all = (subst (AllByRecursion P) (drop_more xs i x within) all).1
 
 -- ---- what f gives for each, in order
 

@@ -2,6 +2,7 @@
 
 use ss_model::entry::Reason;
 use ss_value::NoMemory;
+use std::alloc::AllocFailed;
 
 /// Why an evaluation ends without a result.
 #[derive(Clone, Copy, Debug, PartialEq, Eq, Drop)]
@@ -19,6 +20,28 @@ impl From<NoMemory> for RunError {
     ghost from_gives = { λ _ stop. stop ≡ OutOfMemory };
 
     fn from(_: NoMemory) -> RunError {
+        RunError::NoMemory
+    }
+}
+
+impl<T: Drop> From<AllocFailed<T>> for RunError {
+    ghost use Rattle.std.specs.Prelude.{◌≡◌};
+    ghost use Rattle.ss_operators.specs.declared.run_error.RunError.TheVariants.{NoMemory as OutOfMemory};
+
+    ghost from_gives = { λ _ stop. stop ≡ OutOfMemory };
+
+    fn from(_: AllocFailed<T>) -> RunError {
+        RunError::NoMemory
+    }
+}
+
+impl<T: Drop> From<(NoMemory, T)> for RunError {
+    ghost use Rattle.std.specs.Prelude.{◌≡◌};
+    ghost use Rattle.ss_operators.specs.declared.run_error.RunError.TheVariants.{NoMemory as OutOfMemory};
+
+    ghost from_gives = { λ _ stop. stop ≡ OutOfMemory };
+
+    fn from(_: (NoMemory, T)) -> RunError {
         RunError::NoMemory
     }
 }

@@ -1,16 +1,15 @@
-//! Worked runs and cases decided by hand, run by the plain slow program.
+//! Worked runs and executions decided by hand, run by the plain slow program.
 //!
 //! The plain program (`ss_plain_sql` and `ss_plain`) is proved to be what the definitions of `ss_model` say. So a
 //! case here that comes out as a person decided it, from the rules in words, shows that the definitions say what
-//! they mean to say, and that the calls answer at all. Queries run as well on the evaluator that leaves rows where
-//! they stand (`ss_rows`), which has to give the same.
+//! they mean to say, and that the calls answer at all. What the program `sstore` runs by now is a case of `ss_cases`
+//! in place of that: queries, bodies and whole runs over tables.
 //!
 //! The crate has tests alone:
 //!
 //! - `words`, `printing`: rows and outcomes as text; `texts`, `builder`: catalogues from a description, whose SQL
 //!   is read and typed by `ss_sql_parse` and `ss_sql_type`; `scripts`: entries and looks at what they left
-//! - `given`: rows of two sources in two lists, for `ss_rows`
-//! - `queries`, `bodies`: one query and one call a line; `executions`: scripts; `worked`: whole runs
+//! - `executions`: scripts; `worked`: whole runs
 #![tactic(auto)]
 
 #[cfg(test)]

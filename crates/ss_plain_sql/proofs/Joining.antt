@@ -1,14 +1,10 @@
 -- The pairs of one row of FROM.
-use Rattle.std.proofs.Common.{◌≡◌, ℕ, ◌+◌, ◌<◌, List, [], ◌∷◌, ◌++◌, map, drop, get_or, length, sym, ap, ◌∙◌, append_assoc, Some}
-use Rattle.std.specs.List.{filter}
+use Rattle.std.proofs.Common.{◌≡◌, ℕ, ◌+◌, ◌<◌, List, ◌++◌, drop, get_or, length, sym, ap, ◌∙◌, append_assoc, Some}
 use Rattle.ss_value.specs.Rows.{Row, Rows}
-use Rattle.ss_value.specs.Order.{values_equal}
 use Rattle.ss_sql_lex.specs.declared.typed.Joined.{Joined}
-use Rattle.ss_model.specs.Queries.{source_column, join_rows}
+use Rattle.ss_model.specs.Queries.{join_rows}
 use Rattle.ss_operators.proofs.Walks.{next}
-
-abbrev pub pairs_of : Joined → Row → Rows → List Rows
-pairs_of j left inner = filter (λ here. values_equal (source_column j.left here) (source_column j.right here)) (map (λ r. left ∷ r ∷ []) inner)
+use Rattle.ss_plain_sql.specs.Phases.{pairs_of}
 
 -- the pairs of one more row
 pub pairs_more : (j : Joined) (outer : Rows) (inner : Rows) (i : ℕ) (left : Row) (tuples now : List Rows) → i < length outer → left ≡ get_or outer i left → now ≡ tuples ++ pairs_of j left inner → tuples ++ join_rows (drop i outer) (Some (j, inner)) ≡ join_rows outer (Some (j, inner)) → now ++ join_rows (drop (i + 1) outer) (Some (j, inner)) ≡ join_rows outer (Some (j, inner))

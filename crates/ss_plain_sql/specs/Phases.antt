@@ -1,10 +1,17 @@
 -- What the phases of a query make of the tuples that pass WHERE.
-use Rattle.std.specs.Prelude.{List}
+use Rattle.std.specs.Prelude.{List, [], ◌∷◌, map}
+use Rattle.std.specs.List.{filter}
 use Rattle.ss_value.specs.Rows.{Row, Rows}
+use Rattle.ss_value.specs.Order.{values_equal}
+use Rattle.ss_sql_lex.specs.declared.typed.Joined.{Joined}
 use Rattle.ss_sql_lex.specs.declared.typed.Query.{Query}
-use Rattle.ss_sql_rules.specs.WellTyped.{query_aggregated}
+use Rattle.ss_sql_lex.specs.WellTyped.{query_aggregated}
 use Rattle.ss_model.specs.Results.{OrAbort, try_map}
-use Rattle.ss_model.specs.Queries.{query_groups, item_value, order_by_cmp, sort_rows, take_limit}
+use Rattle.ss_model.specs.Queries.{source_column, query_groups, item_value, order_by_cmp, sort_rows, take_limit}
+
+-- the pairs of one row of FROM whose JOIN columns are equal
+abbrev pub pairs_of : Joined → Row → Rows → List Rows
+pairs_of j left inner = filter (λ here. values_equal (source_column j.left here) (source_column j.right here)) (map (λ r. left ∷ r ∷ []) inner)
 
 -- a row for each group
 abbrev pub results_of : Row → Query → List Rows → OrAbort Rows

@@ -14,5 +14,3 @@
 pub mod columns;
 pub mod expressions;
 pub mod queries;
-#[cfg(test)]
-mod tests;

@@ -2,7 +2,7 @@
 
 ghost use Rattle.std.specs.Prelude.{◌≡◌, IfOk, IfErr, Ok};
 ghost use Rattle.std.specs.List.{list_any};
-ghost use Rattle.ss_sql_rules.specs.WellTyped.{is_aggregate, query_aggregated};
+ghost use Rattle.ss_sql_lex.specs.WellTyped.{is_aggregate, query_aggregated};
 ghost use Rattle.ss_model.specs.Queries.{join_source, query_result};
 ghost use Rattle.ss_operators.specs.Stops.{StopsAs};
 ghost use Rattle.ss_plain_sql.specs.Phases.{results_of, ordered_of};

@@ -2,14 +2,11 @@
 
 ghost use Rattle.std.specs.Prelude.{◌<◌, length, IfOk, IfErr};
 ghost use Rattle.ss_value.specs.declared.value.Value.TheVariants.{Int};
-ghost use Rattle.ss_model.specs.Contents.{visible_table};
-ghost use Rattle.ss_model.specs.Statements.{matching_entries};
 ghost use Rattle.ss_operators.specs.Stops.{StopsAs};
 ghost use Rattle.ss_rows.specs.Frames.{params_of};
-ghost use Rattle.ss_shard.specs.Contents.{contents_of};
 ghost use Rattle.ss_shard.specs.Shards.{HasTables};
-ghost use Rattle.ss_plan.specs.Seen.{value_behind};
 ghost use Rattle.ss_plan.specs.Statements.{split_of, SplitByKeys, Matches};
+ghost use Rattle.ss_plan.specs.Runs.{entries_matching, seen_matching, MatchesSeen};
 
 use crate::plan::{plan_of, planned_places};
 use crate::source::{ShardRows, rows_seen};
@@ -33,8 +30,8 @@ fn matching_slots<'a>(
     requires tables { HasTables from.catalog.now from.shard.now.tables }
     requires keyed { SplitByKeys from.catalog.now }
     requires there { table < length from.catalog.now.tables }
-    ensures found { IfOk result (λ slots. Matches from.entry.catalog.now (value_behind from.entry.split) from.entry.shard.now.tables table params.now test.now slots.items) }
-    ensures stops { IfErr result (λ stop. StopsAs (matching_entries params.now test.now (visible_table from.entry.catalog.now (value_behind from.entry.split) (contents_of from.entry.shard.now.tables) table)) stop) }
+    ensures found { IfOk result (λ slots. MatchesSeen from.entry table params.now test.now slots.items) }
+    ensures stops { IfErr result (StopsAs (seen_matching from.entry table params.now test.now)) }
 {
     planned_places(
         alloc,
@@ -63,7 +60,7 @@ pub fn chosen_slots(
     requires keyed { SplitByKeys catalog.now }
     requires there { table < length catalog.now.tables }
     ensures found { IfOk result (λ slots. Matches catalog.now (split_of frame.now) shard.now.tables table (params_of frame.now) test.now slots.items) }
-    ensures stops { IfErr result (λ stop. StopsAs (matching_entries (params_of frame.now) test.now (visible_table catalog.now (split_of frame.now) (contents_of shard.now.tables) table)) stop) }
+    ensures stops { IfErr result (StopsAs (entries_matching catalog.now (split_of frame.now) shard.now.tables table (params_of frame.now) test.now)) }
 {
     let zero = Value::Int(0);
     let from = rows_seen(catalog, shard, *frame, &zero);

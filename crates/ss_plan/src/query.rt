@@ -1,12 +1,9 @@
 //! Queries over the rows that an execution sees.
 
-ghost use Rattle.std.specs.Prelude.{◌≡◌, ℕ, [], IfOk, IfErr, Ok};
-ghost use Rattle.ss_model.specs.Statements.{context_query};
-ghost use Rattle.ss_operators.specs.Stops.{StopsAs};
-ghost use Rattle.ss_rows.specs.Frames.{params_of};
-ghost use Rattle.ss_shard.specs.Contents.{contents_of};
+ghost use Rattle.std.specs.Prelude.{IfOk, IfErr};
 ghost use Rattle.ss_shard.specs.Shards.{HasTables};
-ghost use Rattle.ss_plan.specs.Statements.{context_for, SplitByKeys};
+ghost use Rattle.ss_plan.specs.Statements.{SplitByKeys};
+ghost use Rattle.ss_plan.specs.Runs.{QueryGives, QueryStops};
 
 use crate::source::rows_seen;
 use ss_model::catalog::Catalog;
@@ -28,8 +25,8 @@ pub fn query_shard(
 ) -> Result<Rows, RunError>
     requires tables { HasTables catalog.now shard.now.tables }
     requires keyed { SplitByKeys catalog.now }
-    ensures rows { IfOk result (λ rows. (procedure : ℕ) → context_query (context_for catalog.now procedure frame.now) [] (params_of frame.now) query.now (contents_of shard.now.tables) ≡ Ok rows) }
-    ensures stops { IfErr result (λ stop. (procedure : ℕ) → StopsAs (context_query (context_for catalog.now procedure frame.now) [] (params_of frame.now) query.now (contents_of shard.now.tables)) stop) }
+    ensures rows { IfOk result (QueryGives catalog.now frame.now query.now shard.now.tables) }
+    ensures stops { IfErr result (QueryStops catalog.now frame.now query.now shard.now.tables) }
 {
     let zero = Value::Int(0);
     let from = rows_seen(catalog, shard, *frame, &zero);

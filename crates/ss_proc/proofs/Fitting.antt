@@ -11,7 +11,7 @@ use Rattle.ss_sql_lex.specs.declared.typed.Target.{Target}
 use Rattle.ss_sql_lex.specs.declared.typed.Target.TheVariants.{Table as IntoTable, Window as IntoWindow}
 use Rattle.ss_sql_lex.specs.declared.typed.Statement.{Statement}
 use Rattle.ss_sql_lex.specs.declared.typed.Statement.TheVariants.{InsertValues, InsertQuery, Update, Delete}
-use Rattle.ss_sql_rules.specs.WellTyped.{Schemas, ExprType, expr_type, types_fit, query_types, is_among, sets_typed, statement_typed}
+use Rattle.ss_sql_lex.specs.WellTyped.{Schemas, ExprType, expr_type, types_fit, query_types, is_among, sets_typed, statement_typed}
 use Rattle.ss_model.specs.declared.catalog.Catalog.{Catalog}
 use Rattle.ss_model.specs.declared.catalog.Procedure.{Procedure}
 use Rattle.ss_model.specs.declared.catalog.Step.{Step}

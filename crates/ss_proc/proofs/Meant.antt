@@ -26,7 +26,7 @@ use Rattle.ss_shard.specs.declared.shard.Shard.{Shard}
 use Rattle.ss_shard.specs.Contents.{contents_of}
 use Rattle.ss_plan.specs.Statements.{context_for}
 use Rattle.ss_proc.specs.Executions.{WritesTables, execution_of, longer_reply}
-use Rattle.ss_proc.proofs.Folds.{stops_before, stops_same}
+use Rattle.ss_operators.proofs.Walks.{stops_before, stops_same}
 
 -- outside a `for_each` the parameters are the arguments
 pub by_arguments : (f : Frame) → f.current ≡ None → params_of f ≡ f.args.now

@@ -16,14 +16,7 @@ use Rattle.ss_model.specs.Contents.{owner_from}
 use Rattle.ss_model.specs.Database.{is_call, is_streaming, is_border, takes_stream, has_step, fits_entry}
 use Rattle.ss_model.specs.Orders.{procedure_has}
 use Rattle.ss_proc.specs.Executions.{is_of_tables}
-
-first : (a b : Bool) → (a && b) ≡ true → a ≡ true
-first true b e = refl
-first false b e = e
-
-second : (a b : Bool) → (a && b) ≡ true → b ≡ true
-second true b e = e
-second false b e = cc
+use Rattle.ss_model.proofs.Truths.{first_of_two, second_of_two}
 
 -- no number is below the count of nothing
 none_below : (n s : ℕ) → n ≡ 0 → nat_lt s n ≡ true → ⊥
@@ -33,15 +26,15 @@ none_below n s none below = let within = (Decides-ltb s n).0 below in omega (ari
 input_there : (kind : Kind) (n : ℕ) (inputs : List ℕ) → n ≡ 0 → inputs_of_kind kind inputs ≡ true → list_all (λ s. nat_lt s n) inputs ≡ true → is_call kind ≡ true
 input_there CallKind n inputs none some within = refl
 input_there Border n [] none some within = cc
-input_there Border n (s ∷ inputs) none some within = absurd (none_below n s none (first _ _ within))
+input_there Border n (s ∷ inputs) none some within = absurd (none_below n s none (first_of_two _ _ within))
 input_there Interior n [] none some within = cc
-input_there Interior n (s ∷ inputs) none some within = absurd (none_below n s none (first _ _ within))
+input_there Interior n (s ∷ inputs) none some within = absurd (none_below n s none (first_of_two _ _ within))
 
 calls_in : (n : ℕ) (ps : List Procedure) → n ≡ 0 → list_all is_of_kind ps ≡ true → list_all (λ p. list_all (λ s. nat_lt s n) p.inputs && touch_in_range p.args p.touch) ps ≡ true → AllByRecursion (λ (p : Procedure). is_call p.kind ≡ true) ps
 calls_in n [] none kinds within = tt
 calls_in n (p ∷ ps) none kinds within = (
-  input_there p.kind n p.inputs none (first _ _ (first _ _ (first _ _ kinds))) (first _ _ (first _ _ within)),
-  calls_in n ps none (second (is_of_kind p) _ kinds) (second (list_all (λ s. nat_lt s n) p.inputs && touch_in_range p.args p.touch) _ within),
+  input_there p.kind n p.inputs none (first_of_two _ _ (first_of_two _ _ (first_of_two _ _ kinds))) (first_of_two _ _ (first_of_two _ _ within)),
+  calls_in n ps none (second_of_two (is_of_kind p) _ kinds) (second_of_two (list_all (λ s. nat_lt s n) p.inputs && touch_in_range p.args p.touch) _ within),
 )
 
 one_of : (ps : List Procedure) (q : ℕ) (p : Procedure) → AllByRecursion (λ (p : Procedure). is_call p.kind ≡ true) ps → slice_get ps q ≡ Some p → is_call p.kind ≡ true
@@ -84,9 +77,9 @@ module _ (catalog : Catalog) (accepted : Accepted catalog) (alone : is_of_tables
 
   calls : AllByRecursion (λ (p : Procedure). is_call p.kind ≡ true) catalog.procedures
   calls =
-      let kinds : list_all is_of_kind catalog.procedures ≡ true = second _ _ accepted.form in
-      let numbers : numbers_in_range catalog ≡ true = second _ _ (first _ _ (first _ _ (first _ _ (first _ _ (first _ _ accepted.form))))) in
-      calls_in (length catalog.streams) catalog.procedures no_stream kinds (second _ _ numbers)
+      let kinds : list_all is_of_kind catalog.procedures ≡ true = second_of_two _ _ accepted.form in
+      let numbers : numbers_in_range catalog ≡ true = second_of_two _ _ (first_of_two _ _ (first_of_two _ _ (first_of_two _ _ (first_of_two _ _ (first_of_two _ _ accepted.form))))) in
+      calls_in (length catalog.streams) catalog.procedures no_stream kinds (second_of_two _ _ numbers)
 
   -- each procedure is one that clients call
   pub all_calls : (q : ℕ) (p : Procedure) → slice_get catalog.procedures q ≡ Some p → is_call p.kind ≡ true
@@ -102,7 +95,7 @@ module _ (catalog : Catalog) (accepted : Accepted catalog) (alone : is_of_tables
 
   -- no push fits
   pub no_push : (client index s : ℕ) (source : List ℕ) (seq : ℕ) (rows : Rows) → fits_entry catalog (Push client index s source seq rows) ≡ true → ⊥
-  no_push client index s source seq rows fits = no_border s catalog.procedures calls (second _ _ (first _ _ (first _ _ (first _ _ fits))))
+  no_push client index s source seq rows fits = no_border s catalog.procedures calls (second_of_two _ _ (first_of_two _ _ (first_of_two _ _ (first_of_two _ _ fits))))
 
   -- and no step
   pub no_step : (q batch : ℕ) → fits_entry catalog (StepEntry q batch) ≡ true → ⊥

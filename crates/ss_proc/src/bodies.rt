@@ -1,15 +1,14 @@
 //! The whole body of a call procedure.
 
-ghost use Rattle.std.specs.Prelude.{◌≡◌, ℕ, [], length, replicate, None, IfOk, OnErr};
+ghost use Rattle.std.specs.Prelude.{◌≡◌, [], None, IfOk, OnErr};
 ghost use Rattle.std.specs.List.{AllByRecursion};
 ghost use Rattle.std.specs.Option.{option_map};
 ghost use Rattle.ss_value.specs.Rows.{Row, column_value};
-ghost use Rattle.ss_model.specs.Bodies.{run_body};
-ghost use Rattle.ss_model.specs.Database.{body_result, split_value_for};
-ghost use Rattle.ss_shard.specs.Contents.{contents_of};
+ghost use Rattle.ss_model.specs.Database.{split_value_for};
 ghost use Rattle.ss_shard.specs.Shards.{HasTables, CanGoBack, IsSettled};
-ghost use Rattle.ss_plan.specs.Statements.{context_for, SplitByKeys};
+ghost use Rattle.ss_plan.specs.Statements.{SplitByKeys};
 ghost use Rattle.ss_proc.specs.Executions.{StepRuns};
+ghost use Rattle.ss_proc.specs.Steps.{BodyRan};
 
 use crate::steps::execute_steps;
 use ss_model::catalog::{Catalog, Step, Touch};
@@ -50,7 +49,7 @@ pub fn run_body(
     requires keyed { SplitByKeys catalog.now }
     requires runs { AllByRecursion (StepRuns catalog.now) body.now }
     requires by_args { frame.now.current ≡ None }
-    ensures ran { IfOk result (λ outcome. (procedure : ℕ) → body_result catalog.now (contents_of shard.old.tables) (run_body (context_for catalog.now procedure frame.now) body.now (contents_of shard.old.tables)) ≡ record { contents = contents_of shard.new.tables; outcome = outcome; emitted = replicate (length catalog.now.streams) [] }) }
+    ensures ran { IfOk result (BodyRan catalog.now frame.now body.now shard.old shard.new) }
     ensures number { shard.new.number ≡ shard.old.number }
     ensures tables { HasTables catalog.now shard.new.tables }
     ensures back { IfOk result (λ outcome. CanGoBack shard.old.tables shard.new) }

@@ -1,14 +1,12 @@
 //! The test of an `abort_if`.
 
-ghost use Rattle.std.specs.Prelude.{◌≡◌, ℕ, OnOk, IfErr, Ok};
-ghost use Rattle.ss_value.specs.Rows.{Rows};
+ghost use Rattle.std.specs.Prelude.{◌≡◌, OnOk, IfErr, Ok};
 ghost use Rattle.ss_model.specs.Statements.{Execution};
-ghost use Rattle.ss_model.specs.Bodies.{check_condition, execute_abort_if};
+ghost use Rattle.ss_model.specs.Bodies.{check_condition};
 ghost use Rattle.ss_operators.specs.Stops.{StopsAs};
-ghost use Rattle.ss_rows.specs.Frames.{params_of};
 ghost use Rattle.ss_shard.specs.Shards.{HasTables};
-ghost use Rattle.ss_plan.specs.Statements.{context_for, SplitByKeys};
-ghost use Rattle.ss_proc.specs.Executions.{execution_of};
+ghost use Rattle.ss_plan.specs.Statements.{SplitByKeys};
+ghost use Rattle.ss_proc.specs.Steps.{GoesOn, AbortIfStops};
 
 use ss_model::catalog::Catalog;
 use ss_model::entry::Reason;
@@ -64,8 +62,8 @@ pub fn abort_if(
 ) -> Result<(), RunError>
     requires tables { HasTables catalog.now shard.now.tables }
     requires keyed { SplitByKeys catalog.now }
-    ensures done { OnOk result ((procedure : ℕ) (reply : Rows) → execute_abort_if (context_for catalog.now procedure frame.now) (params_of frame.now) test.now code (execution_of catalog.now shard.now reply) ≡ Ok (execution_of catalog.now shard.now reply)) }
-    ensures stops { IfErr result (λ stop. (procedure : ℕ) (reply : Rows) → StopsAs (execute_abort_if (context_for catalog.now procedure frame.now) (params_of frame.now) test.now code (execution_of catalog.now shard.now reply)) stop) }
+    ensures done { OnOk result (GoesOn catalog.now frame.now test.now code shard.now) }
+    ensures stops { IfErr result (AbortIfStops catalog.now frame.now test.now code shard.now) }
 {
     let rows = query_shard(alloc, catalog, shard, &test.query, frame)?;
     check_condition(alloc, frame.params(), test, code, &rows)

@@ -1,12 +1,12 @@
 //! Rows that join the reply.
 
-ghost use Rattle.std.specs.Prelude.{◌≡◌, ◌++◌, ℕ, None, OnOk, IfErr, Ok};
+ghost use Rattle.std.specs.Prelude.{◌≡◌, ◌++◌, None, OnOk, IfErr, Ok};
 ghost use Rattle.ss_model.specs.declared.catalog.Step.TheVariants.{Return};
-ghost use Rattle.ss_model.specs.Bodies.{execute_step};
 ghost use Rattle.ss_operators.specs.Stops.{StopsAs};
 ghost use Rattle.ss_shard.specs.Shards.{HasTables};
-ghost use Rattle.ss_plan.specs.Statements.{context_for, SplitByKeys};
-ghost use Rattle.ss_proc.specs.Executions.{execution_of, longer_reply};
+ghost use Rattle.ss_plan.specs.Statements.{SplitByKeys};
+ghost use Rattle.ss_proc.specs.Executions.{longer_reply};
+ghost use Rattle.ss_proc.specs.Steps.{StepDone, StepStops};
 
 use ss_model::catalog::Catalog;
 use ss_model::entry::Reason;
@@ -27,9 +27,7 @@ fn move_rows(rows: Rows, reply: &mut Rows) -> Result<(), NoMemory>
     ensures { OnOk result (reply.new ≡ reply.old ++ rows) }
 {
     for row in rows.into_vec() {
-        if reply.push(row).is_err() {
-            return Err(NoMemory);
-        }
+        reply.push(row)?;
     }
     Ok(())
 }
@@ -61,8 +59,8 @@ pub fn return_rows(
     requires tables { HasTables catalog.now shard.now.tables }
     requires keyed { SplitByKeys catalog.now }
     requires by_args { frame.now.current ≡ None }
-    ensures done { OnOk result ((procedure : ℕ) → execute_step (context_for catalog.now procedure frame.now) (Return query.now) (execution_of catalog.now shard.now reply.old) ≡ Ok (execution_of catalog.now shard.now reply.new)) }
-    ensures stops { IfErr result (λ stop. (procedure : ℕ) → StopsAs (execute_step (context_for catalog.now procedure frame.now) (Return query.now) (execution_of catalog.now shard.now reply.old)) stop) }
+    ensures done { OnOk result (StepDone catalog.now frame.now (Return query.now) shard.now reply.old shard.now reply.new) }
+    ensures stops { IfErr result (StepStops catalog.now frame.now (Return query.now) shard.now reply.old) }
 {
     let rows = query_shard(alloc, catalog, shard, query, frame)?;
     add_rows(rows, reply)

@@ -1,15 +1,11 @@
 //! The steps of a body.
 
-ghost use Rattle.std.specs.Prelude.{◌≡◌, ℕ, None, OnOk, IfErr, Ok};
+ghost use Rattle.std.specs.Prelude.{◌≡◌, None, OnOk, IfErr};
 ghost use Rattle.std.specs.List.{AllByRecursion};
-ghost use Rattle.ss_value.specs.Rows.{Rows};
-ghost use Rattle.ss_model.specs.declared.catalog.Step.TheVariants.{Sql};
-ghost use Rattle.ss_model.specs.Results.{try_fold};
-ghost use Rattle.ss_model.specs.Bodies.{execute_step};
-ghost use Rattle.ss_operators.specs.Stops.{StopsAs};
 ghost use Rattle.ss_shard.specs.Shards.{HasTables, Changed};
-ghost use Rattle.ss_plan.specs.Statements.{context_for, SplitByKeys, FitsTables};
-ghost use Rattle.ss_proc.specs.Executions.{execution_of, StepRuns, WritesTables};
+ghost use Rattle.ss_plan.specs.Statements.{SplitByKeys, FitsTables};
+ghost use Rattle.ss_proc.specs.Executions.{StepRuns, WritesTables};
+ghost use Rattle.ss_proc.specs.Steps.{StepDone, StepStops, SqlDone, SqlStops, StepsDone, StepsStop};
 
 use crate::conditions::abort_if;
 use crate::replies::return_rows;
@@ -36,8 +32,8 @@ fn execute_statement(
     requires fits { FitsTables catalog.now statement.now }
     requires writes { WritesTables statement.now }
     requires by_args { frame.now.current ≡ None }
-    ensures done { OnOk result ((procedure : ℕ) (reply : Rows) → execute_step (context_for catalog.now procedure frame.now) (Sql statement.now) (execution_of catalog.now shard.old reply) ≡ Ok (execution_of catalog.now shard.new reply)) }
-    ensures stops { IfErr result (λ stop. (procedure : ℕ) (reply : Rows) → StopsAs (execute_step (context_for catalog.now procedure frame.now) (Sql statement.now) (execution_of catalog.now shard.old reply)) stop) }
+    ensures done { OnOk result (SqlDone catalog.now frame.now statement.now shard.old shard.new) }
+    ensures stops { IfErr result (SqlStops catalog.now frame.now statement.now shard.old) }
     ensures changed { Changed shard.old shard.new }
 {
     match run_statement(alloc, catalog, shard, statement, frame)? {
@@ -62,8 +58,8 @@ fn execute_step(
     requires keyed { SplitByKeys catalog.now }
     requires runs { StepRuns catalog.now step.now }
     requires by_args { frame.now.current ≡ None }
-    ensures done { OnOk result ((procedure : ℕ) → execute_step (context_for catalog.now procedure frame.now) step.now (execution_of catalog.now shard.old reply.old) ≡ Ok (execution_of catalog.now shard.new reply.new)) }
-    ensures stops { IfErr result (λ stop. (procedure : ℕ) → StopsAs (execute_step (context_for catalog.now procedure frame.now) step.now (execution_of catalog.now shard.old reply.old)) stop) }
+    ensures done { OnOk result (StepDone catalog.now frame.now step.now shard.old reply.old shard.new reply.new) }
+    ensures stops { IfErr result (StepStops catalog.now frame.now step.now shard.old reply.old) }
     ensures changed { Changed shard.old shard.new }
 {
     match step {
@@ -89,8 +85,8 @@ pub fn execute_steps(
     requires keyed { SplitByKeys catalog.now }
     requires runs { AllByRecursion (StepRuns catalog.now) steps.now }
     requires by_args { frame.now.current ≡ None }
-    ensures done { OnOk result ((procedure : ℕ) → try_fold (execute_step (context_for catalog.now procedure frame.now)) steps.now (execution_of catalog.now shard.old reply.old) ≡ Ok (execution_of catalog.now shard.new reply.new)) }
-    ensures stops { IfErr result (λ stop. (procedure : ℕ) → StopsAs (try_fold (execute_step (context_for catalog.now procedure frame.now)) steps.now (execution_of catalog.now shard.old reply.old)) stop) }
+    ensures done { OnOk result (StepsDone catalog.now frame.now steps.now shard.old reply.old shard.new reply.new) }
+    ensures stops { IfErr result (StepsStop catalog.now frame.now steps.now shard.old reply.old) }
     ensures changed { Changed shard.old shard.new }
 {
     for step in steps {

@@ -2,17 +2,15 @@
 //!
 //! One walk over FROM. Of each of its rows only the partners are met, and the walk ends where enough tuples are found.
 
-ghost use Rattle.std.specs.Prelude.{◌≡◌, ◌↔◌, [], ◌∷◌, map, Option, IsTrue, IfOk, IfErr, OnOk, Ok};
-ghost use Rattle.ss_value.specs.Rows.{Rows};
-ghost use Rattle.ss_sql_lex.specs.declared.typed.Joined.{Joined};
-ghost use Rattle.ss_model.specs.Results.{try_filter};
-ghost use Rattle.ss_model.specs.Queries.{where_passes, join_rows, join_source};
+ghost use Rattle.std.specs.Prelude.{◌≡◌, ◌↔◌, [], ◌∷◌, IsTrue, IfOk, IfErr, OnOk, Ok};
+ghost use Rattle.ss_model.specs.Queries.{join_source};
 ghost use Rattle.ss_operators.specs.Stops.{StopsAs};
 ghost use Rattle.ss_rows.specs.Sources.{rows_in};
-ghost use Rattle.ss_rows.specs.Tuples.{tuple_of, tuples_of, rows_behind};
+ghost use Rattle.ss_rows.specs.Tuples.{tuple_of, tuples_of};
 ghost use Rattle.ss_rows.specs.Found.{Reaches, FirstOf};
 ghost use Rattle.ss_rows.specs.Adding.{onto, CanEndEarly, IndexesJoin};
 ghost use Rattle.ss_rows.specs.Meaning.{passing};
+ghost use Rattle.ss_rows.specs.Wanted.{those_wanted, pairs_of, EnoughAdded, RowAdded, RowStops};
 
 use crate::expressions::passes;
 use crate::join::{JoinIndex, Truths};
@@ -53,13 +51,11 @@ fn add_tuple<'a>(
     here: Tuple<'a>,
     found: &mut Vec<Tuple<'a>>,
 ) -> Result<(), RunError>
-    ensures added { OnOk result (onto (tuples_of found.old.items) (try_filter (where_passes wanted.entry.params.now wanted.entry.test.now) (tuple_of here.entry ∷ [])) ≡ Ok (tuples_of found.new.items)) }
-    ensures stops { IfErr result (λ stop. StopsAs (try_filter (where_passes wanted.entry.params.now wanted.entry.test.now) (tuple_of here.entry ∷ [])) stop) }
+    ensures added { OnOk result (onto (tuples_of found.old.items) (those_wanted wanted.entry (tuple_of here.entry ∷ [])) ≡ Ok (tuples_of found.new.items)) }
+    ensures stops { IfErr result (StopsAs (those_wanted wanted.entry (tuple_of here.entry ∷ []))) }
 {
     if passes(alloc, wanted.test, here, wanted.params)? {
-        if found.push(here).is_err() {
-            return Err(RunError::NoMemory);
-        }
+        found.push(here)?;
     }
     Ok(())
 }
@@ -73,8 +69,8 @@ fn add_pairs<'a>(
     found: &mut Vec<Tuple<'a>>,
 ) -> Result<(), RunError>
     requires { CanEndEarly wanted.enough wanted.test.now }
-    ensures added { OnOk result (FirstOf wanted.entry.enough (onto (tuples_of found.old.items) (try_filter (where_passes wanted.entry.params.now wanted.entry.test.now) (map (λ r. outer.now ∷ r ∷ []) (rows_behind partners.now)))) (tuples_of found.new.items)) }
-    ensures stops { IfErr result (λ stop. StopsAs (try_filter (where_passes wanted.entry.params.now wanted.entry.test.now) (map (λ r. outer.now ∷ r ∷ []) (rows_behind partners.now))) stop) }
+    ensures added { OnOk result (EnoughAdded wanted.entry (pairs_of outer.now partners.now) found.old.items found.new.items) }
+    ensures stops { IfErr result (StopsAs (those_wanted wanted.entry (pairs_of outer.now partners.now))) }
 {
     for inner in partners {
         add_tuple(alloc, wanted, Tuple::Pair(outer, *inner), found)?;
@@ -94,8 +90,8 @@ fn add_row<'a>(
     found: &mut Vec<Tuple<'a>>,
 ) -> Result<(), RunError>
     requires { CanEndEarly wanted.enough wanted.test.now }
-    ensures added { OnOk result ((join : Option (Joined × Rows)) → IndexesJoin join index.now → FirstOf wanted.entry.enough (onto (tuples_of found.old.items) (try_filter (where_passes wanted.entry.params.now wanted.entry.test.now) (join_rows (outer.now ∷ []) join))) (tuples_of found.new.items)) }
-    ensures stops { IfErr result (λ stop. (join : Option (Joined × Rows)) → IndexesJoin join index.now → StopsAs (try_filter (where_passes wanted.entry.params.now wanted.entry.test.now) (join_rows (outer.now ∷ []) join)) stop) }
+    ensures added { OnOk result (RowAdded wanted.entry index.now outer.now found.old.items found.new.items) }
+    ensures stops { IfErr result (RowStops wanted.entry index.now outer.now) }
 {
     match index {
         None => add_tuple(alloc, wanted, Tuple::Single(outer), found),

@@ -49,9 +49,7 @@ fn empty_tables(alloc: Global, tables: &[TableDef]) -> Result<Seq<Table>, NoMemo
     let mut made = Seq::new(alloc);
     for table in tables {
         let table = empty_table(alloc, table)?;
-        if made.push(table).is_err() {
-            return Err(NoMemory);
-        }
+        made.push(table)?;
     }
     Ok(made)
 }

@@ -1,14 +1,12 @@
 //! The tables of a partition, with the changes since they were last final.
 
-ghost use Rattle.std.specs.Prelude.{◌≡◌, List, OnOk, IfErr, OnErr, Ok};
-ghost use Rattle.ss_value.specs.Rows.{Row};
+ghost use Rattle.std.specs.Prelude.{◌≡◌, List, OnOk, IfErr, OnErr};
 ghost use Rattle.ss_model.specs.declared.catalog.Catalog.{Catalog};
-ghost use Rattle.ss_model.specs.Statements.{insert_row};
-ghost use Rattle.ss_operators.specs.Stops.{StopsAs};
 ghost use Rattle.ss_table.specs.Held.{Held};
 ghost use Rattle.ss_shard.specs.Contents.{contents_of};
-ghost use Rattle.ss_shard.specs.Rows.{IsKeyed, HasSlot, HasKeyOf, StandsIn, RowPut, RowTaken, refused};
+ghost use Rattle.ss_shard.specs.Rows.{IsKeyed, HasSlot, HasKeyOf, refused};
 ghost use Rattle.ss_shard.specs.Shards.{HasTables, CanGoBack, Changed, IsSettled};
+ghost use Rattle.ss_shard.specs.Changes.{RowInserted, InsertStops, SlotTaken, SlotPut};
 
 use ss_model::entry::Reason;
 use ss_operators::run_error::RunError;
@@ -51,8 +49,8 @@ impl Shard {
     /// has as many rows as it may have. Costs as the table's `insert`. An error changes no row.
     pub fn insert_row(&mut self, table: u16, row: Row) -> Result<(), RunError>
         requires { IsKeyed self.old.tables table row }
-        ensures done { OnOk result ((catalog : Catalog) → HasTables catalog self.old.tables → insert_row catalog table row (contents_of self.old.tables) ≡ Ok (contents_of self.new.tables)) }
-        ensures stops { IfErr result (λ stop. (catalog : Catalog) → HasTables catalog self.old.tables → StopsAs (insert_row catalog table row (contents_of self.old.tables)) stop) }
+        ensures done { OnOk result (RowInserted self.old.tables self.new.tables table row) }
+        ensures stops { IfErr result (InsertStops self.old.tables table row) }
         ensures changed { Changed self.old self.new }
         ensures kept { OnErr result (self.new.tables ≡ self.old.tables) }
     {
@@ -72,7 +70,7 @@ impl Shard {
     /// Deletes the row in a slot of a table. Constant on average. Want of memory changes no row.
     pub fn delete_row(&mut self, table: u16, slot: Slot) -> Result<(), NoMemory>
         requires { HasSlot self.old.tables table slot }
-        ensures done { OnOk result ((key : Row) (row : Row) → StandsIn self.old.tables table key slot row → RowTaken self.old.tables self.new.tables table key) }
+        ensures done { OnOk result (SlotTaken self.old.tables self.new.tables table slot) }
         ensures changed { Changed self.old self.new }
         ensures kept { OnErr result (self.new.tables ≡ self.old.tables) }
     {
@@ -90,7 +88,7 @@ impl Shard {
     /// Puts a row of the same key in a slot of a table. Constant on average. Want of memory changes no row.
     pub fn replace_row(&mut self, table: u16, slot: Slot, row: Row) -> Result<(), NoMemory>
         requires { HasKeyOf self.old.tables table slot row }
-        ensures done { OnOk result ((key : Row) (old : Row) → StandsIn self.old.tables table key slot old → RowPut self.old.tables self.new.tables table key slot row) }
+        ensures done { OnOk result (SlotPut self.old.tables self.new.tables table slot row) }
         ensures changed { Changed self.old self.new }
         ensures kept { OnErr result (self.new.tables ≡ self.old.tables) }
     {

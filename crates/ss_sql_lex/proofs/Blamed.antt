@@ -3,7 +3,7 @@ use Rattle.std.proofs.Common.{◌≡◌, ℕ, zero, suc, ◌+◌, ◌≤◌, ◌
 use Rattle.std.specs.Prelude.{◌&&◌, nat_lt}
 use Rattle.std.specs.List.{list_all}
 use Rattle.std.proofs.lemmas.List.{take-append-drop}
-use Rattle.std.proofs.lemmas.Bool.{eqb-true}
+use Rattle.std.proofs.lemmas.Bool.{eqb-true, and_from, and_parts}
 use Rattle.std.proofs.lemmas.Bool.Decides.{nat_tests}
 use Rattle.ss_value.specs.Words.{is_letter, is_word_byte}
 use Rattle.ss_sql_lex.specs.declared.token.TokenKind.{TokenKind}
@@ -17,7 +17,7 @@ use Rattle.ss_sql_lex.specs.Laws.{FaultsHaveCauses}
 use Rattle.ss_sql_lex.specs.Reading.{run, symbol_scan}
 use Rattle.ss_sql_lex.proofs.Runs.{run_all, run_stops}
 use Rattle.ss_sql_lex.proofs.Lexes.{Stands}
-use Rattle.ss_sql_lex.proofs.Stands.{behind, both, word_stands, name_stands, param_stands, number_stands, symbol_stands}
+use Rattle.ss_sql_lex.proofs.Stands.{behind, word_stands, name_stands, param_stands, number_stands, symbol_stands}
 
 no_stand : (bs : List ℕ) (kind : TokenKind) (n : ℕ) → NoToken bs → Stands bs kind n → ⊥
 no_stand bs kind n none s = none kind s.own s.rest s.parts s.is s.longest
@@ -48,7 +48,7 @@ longer_at p b bs (suc m) true e h more =
     let run_is : run p (b ∷ bs) ≡ suc (run p bs) = rw e refl in
     let l = more m (omega arith) in
     let full = l.full in
-    record { own = b ∷ l.own; next = l.next; rest = l.rest; parts = ap (λ (x : List ℕ). b ∷ x) l.parts; all = both (p b) (list_all p l.own) e l.all; full = omega arith; more = l.more }
+    record { own = b ∷ l.own; next = l.next; rest = l.rest; parts = ap (λ (x : List ℕ). b ∷ x) l.parts; all = and_from (p b) (list_all p l.own) e l.all; full = omega arith; more = l.more }
 longer_at p b bs n false e h more = let run_is : run p (b ∷ bs) ≡ 0 = rw e refl in absurd (omega arith)
 
 longer : (p : ℕ → Bool) (bs : List ℕ) (n : ℕ) → n < run p bs → Longer p bs n
@@ -63,7 +63,7 @@ long_name b bs e h =
     let l = longer is_word_byte bs 31 (grind (arith, nat_tests)) in
     let full = l.full in
     let short : nat_lt (length l.own) 32 ≡ true = rw full refl in
-    record { own = b ∷ l.own; next = l.next; rest = l.rest; parts = in_front_of b bs (l.own ++ l.next ∷ l.rest) l.parts; name = both (is_letter b && nat_lt (length l.own) 32) (list_all is_word_byte l.own) (both (is_letter b) (nat_lt (length l.own) 32) e short) l.all; full = omega arith; more = l.more }
+    record { own = b ∷ l.own; next = l.next; rest = l.rest; parts = in_front_of b bs (l.own ++ l.next ∷ l.rest) l.parts; name = and_from (is_letter b && nat_lt (length l.own) 32) (list_all is_word_byte l.own) (and_from (is_letter b) (nat_lt (length l.own) 32) e short) l.all; full = omega arith; more = l.more }
 
 name_cause : (b : ℕ) (bs : List ℕ) → NoToken (b ∷ bs) → is_letter b ≡ true → IsLongName (b ∷ bs)
 name_cause b bs none e = long_name b bs e (fails (nat_lt (run is_word_byte (b ∷ bs)) 33) (λ h. no_stand (b ∷ bs) k.Name (run is_word_byte (b ∷ bs)) none (name_stands b bs e h)))
@@ -93,7 +93,7 @@ number_cause b bs none e =
       own = b ∷ behind is_digit bs;
       rest = drop (run is_digit bs) bs;
       parts = ap (λ (x : List ℕ). b ∷ x) (sym (take-append-drop (run is_digit bs) bs));
-      digits = both (is_digit b) (list_all is_digit (behind is_digit bs)) e (run_all is_digit bs);
+      digits = and_from (is_digit b) (list_all is_digit (behind is_digit bs)) e (run_all is_digit bs);
       whole = run_stops is_digit bs;
       bad = number_bad b bs small joined refl refl bad;
     }
@@ -135,16 +135,12 @@ no_symbol b (c ∷ bs) none = no_pair b c bs (has (seconds b) c) (has singles b)
 no_word : (b : ℕ) (bs : List ℕ) → NoToken (b ∷ bs) → is_upper b ≡ false
 no_word b bs none = fails (is_upper b) (λ e. no_stand (b ∷ bs) k.Word (run is_upper (b ∷ bs)) none (word_stands b bs e))
 
-parts_true : (b c : Bool) → (b && c) ≡ true → (b ≡ true) × (c ≡ true)
-parts_true true c e = (refl, e)
-parts_true false c e = absurd cc
-
 cause_of : (place b : ℕ) (bs : List ℕ) → NoToken (b ∷ bs) → (letter digit quote param : Bool) → is_letter b ≡ letter → is_digit b ≡ digit → eqb b 39 ≡ quote → (eqb b 58 && next_is is_letter bs) ≡ param
     → HasCause place (b ∷ bs) (cond letter (e.BadCharacter (place + 32)) (cond digit (e.BadNumber place) (cond quote (e.OpenText place) (cond param (e.BadCharacter (place + 33)) (e.BadCharacter place)))))
 cause_of place b bs none true digit quote param l d q p = inr (inl (refl, name_cause b bs none l))
 cause_of place b bs none false true quote param l d q p = (refl, number_cause b bs none d)
 cause_of place b bs none false false true param l d q p = (refl, text_cause b bs none (eqb-true b 39 q))
-cause_of place b bs none false false false true l d q p = let f = parts_true (eqb b 58) (next_is is_letter bs) p in inr (inr (refl, param_cause b bs none f.0 f.1))
+cause_of place b bs none false false false true l d q p = let f = and_parts (eqb b 58) (next_is is_letter bs) p in inr (inr (refl, param_cause b bs none f.0 f.1))
 cause_of place b bs none false false false false l d q p = inl (refl, rw (no_word b bs none, l, d, q, p, no_symbol b bs none) refl)
 
 pub faults_have_causes : FaultsHaveCauses

@@ -1,8 +1,8 @@
 -- Reading tokens one after the other, whatever reads one.
-use Rattle.std.proofs.Common.{◌≡◌, ℕ, zero, suc, ◌+◌, ◌≤◌, ◌<◌, Bool, true, false, cond, List, [], ◌∷◌, ◌++◌, length, drop, Option, Some, None, Result, Ok, Err, refl, sym, ap, ◌∙◌, arith, length-append}
-use Rattle.std.specs.Prelude.{◌&&◌}
+use Rattle.std.proofs.Common.{◌≡◌, ℕ, zero, suc, ◌+◌, ◌≤◌, ◌<◌, true, false, cond, List, [], ◌∷◌, ◌++◌, length, drop, Option, Some, None, Result, Ok, Err, refl, sym, ap, ◌∙◌, arith, length-append}
 use Rattle.std.specs.List.{list_all}
 use Rattle.std.proofs.lemmas.List.{drop_at}
+use Rattle.std.proofs.lemmas.Bool.{and_parts}
 use Rattle.ss_sql_lex.specs.declared.token.Token.{Token}
 use Rattle.ss_sql_lex.specs.declared.token.TokenKind.{TokenKind}
 use Rattle.ss_sql_lex.specs.declared.token.LexError.{LexError}
@@ -41,14 +41,10 @@ lex scan zero at bs = Ok []
 lex scan (suc n) at [] = Ok []
 lex scan (suc n) at (b ∷ bs) = cond (is_blank b) (lex scan n (suc at) bs) (one_token at (b ∷ bs) (lex scan n) (scan (b ∷ bs)))
 
-parts_true : (b c : Bool) → (b && c) ≡ true → (b ≡ true) × (c ≡ true)
-parts_true true c e = (refl, e)
-parts_true false c e = absurd cc
-
 blank_none : (bs : List ℕ) → list_all is_blank bs ≡ true → (scan : List ℕ → Option (TokenKind × ℕ)) (n at : ℕ) → length bs ≤ n → lex scan n at bs ≡ Ok []
 blank_none bs h scan zero at le = refl
 blank_none [] h scan (suc n) at le = refl
-blank_none (b ∷ bs) h scan (suc n) at le = let f = parts_true (is_blank b) (list_all is_blank bs) h in rw f.0 (blank_none bs f.1 scan n (suc at) (omega arith))
+blank_none (b ∷ bs) h scan (suc n) at le = let f = and_parts (is_blank b) (list_all is_blank bs) h in rw f.0 (blank_none bs f.1 scan n (suc at) (omega arith))
 
 first_blank : (scan : List ℕ → Option (TokenKind × ℕ)) (n at b : ℕ) (bs : List ℕ) → is_blank b ≡ true → lex scan (suc n) at (b ∷ bs) ≡ lex scan n (suc at) bs
 first_blank scan n at b bs h = rw h refl
@@ -57,7 +53,7 @@ blank_skip : (gap bs : List ℕ) → list_all is_blank gap ≡ true → (scan : 
 blank_skip [] bs h scan n at le = (n, le, ap (λ (k : ℕ). lex scan n k bs) (omega arith))
 blank_skip (b ∷ gap) bs h scan zero at le = absurd (omega arith)
 blank_skip (b ∷ gap) bs h scan (suc n) at le =
-    let f = parts_true (is_blank b) (list_all is_blank gap) h in
+    let f = and_parts (is_blank b) (list_all is_blank gap) h in
     let r = blank_skip gap bs f.1 scan n (suc at) (omega arith) in
     let one : lex scan (suc n) at (b ∷ (gap ++ bs)) ≡ lex scan n (suc at) (gap ++ bs) = first_blank scan n at b (gap ++ bs) f.0 in
     (r.0, r.1, one ∙ r.2 ∙ ap (λ (k : ℕ). lex scan r.0 k bs) (omega arith))

@@ -1,19 +1,15 @@
 -- The longest run at the front.
 use Rattle.std.proofs.Common.{◌≡◌, ℕ, Bool, true, false, List, [], ◌∷◌, ◌++◌, length, take, drop, refl}
-use Rattle.std.specs.Prelude.{◌&&◌}
 use Rattle.std.specs.List.{list_all}
+use Rattle.std.proofs.lemmas.Bool.{and_parts}
 use Rattle.ss_sql_lex.specs.Bytes.{next_is}
 use Rattle.ss_sql_lex.specs.Reading.{run}
-
-first_true : (b c : Bool) → (b && c) ≡ true → (b ≡ true) × (c ≡ true)
-first_true true c e = (refl, e)
-first_true false c e = absurd cc
 
 -- all of a run, and nothing behind it goes on: it is the run
 pub run_whole : (p : ℕ → Bool) (own rest : List ℕ) → list_all p own ≡ true → next_is p rest ≡ false → run p (own ++ rest) ≡ length own
 run_whole p [] [] h e = refl
 run_whole p [] (b ∷ rest) h e = rw e refl
-run_whole p (b ∷ own) rest h e = let f = first_true (p b) (list_all p own) h in rw (f.0, run_whole p own rest f.1 e) refl
+run_whole p (b ∷ own) rest h e = let f = and_parts (p b) (list_all p own) h in rw (f.0, run_whole p own rest f.1 e) refl
 
 all_at : (p : ℕ → Bool) (b : ℕ) (bs : List ℕ) (c : Bool) → p b ≡ c → list_all p (take (run p bs) bs) ≡ true → list_all p (take (run p (b ∷ bs)) (b ∷ bs)) ≡ true
 all_at p b bs true e h = rw e (rw (e, h) refl)

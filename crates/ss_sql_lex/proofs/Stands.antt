@@ -3,7 +3,7 @@ use Rattle.std.proofs.Common.{◌≡◌, ℕ, suc, ◌+◌, ◌-◌, ◌≤◌, 
 use Rattle.std.specs.Prelude.{◌&&◌, nat_lt, option_map}
 use Rattle.std.specs.List.{list_all}
 use Rattle.std.proofs.lemmas.List.{take-append-drop}
-use Rattle.std.proofs.lemmas.Bool.{eqb-true}
+use Rattle.std.proofs.lemmas.Bool.{eqb-true, and_from, and_parts, not-true}
 use Rattle.std.proofs.lemmas.Bool.Decides.{nat_tests}
 use Rattle.ss_sql_lex.specs.declared.token.TokenKind.{TokenKind}
 use Rattle.ss_sql_lex.specs.declared.token.TokenKind.TheVariants as k
@@ -14,15 +14,11 @@ use Rattle.ss_sql_lex.specs.Reading.{run, scan, number_scan, name_scan, symbol_s
 use Rattle.ss_sql_lex.specs.Faults.{NoToken}
 use Rattle.ss_sql_lex.proofs.Runs.{run_all, run_stops}
 use Rattle.ss_sql_lex.proofs.Lexes.{Stands, Scans}
-use Rattle.ss_sql_lex.proofs.Spelled.{has_all, parts_true, not_true, lower_is_name, all_read}
+use Rattle.ss_sql_lex.proofs.Spelled.{has_all, lower_is_name, all_read}
 
 chosen : {A : Type 0} (b : Bool) (x y z : A) → cond b x y ≡ z → ((b ≡ true) × (x ≡ z)) ⊎ ((b ≡ false) × (y ≡ z))
 chosen true x y z e = inl (refl, e)
 chosen false x y z e = inr (refl, e)
-
-pub both : (b c : Bool) → b ≡ true → c ≡ true → (b && c) ≡ true
-both true c e f = f
-both false c e f = absurd cc
 
 run_long_at : (p : ℕ → Bool) (b : ℕ) (bs : List ℕ) (c : Bool) → p b ≡ c → length (take (run p bs) bs) ≡ run p bs → length (take (run p (b ∷ bs)) (b ∷ bs)) ≡ run p (b ∷ bs)
 run_long_at p b bs true e h = rw e (ap suc h)
@@ -46,14 +42,14 @@ parts_of : (p : ℕ → Bool) (b : ℕ) (bs : List ℕ) → b ∷ bs ≡ (b ∷ 
 parts_of p b bs = ap (λ (x : List ℕ). b ∷ x) (sym (take-append-drop (run p bs) bs))
 
 pub word_stands : (b : ℕ) (bs : List ℕ) → is_upper b ≡ true → Stands (b ∷ bs) k.Word (run is_upper (b ∷ bs))
-word_stands b bs e = record { own = b ∷ behind is_upper bs; rest = drop (run is_upper bs) bs; parts = parts_of is_upper b bs; long = run_cons is_upper b bs e; is = both (is_upper b) (list_all is_upper (behind is_upper bs)) e (run_all is_upper bs); longest = stops is_upper bs }
+word_stands b bs e = record { own = b ∷ behind is_upper bs; rest = drop (run is_upper bs) bs; parts = parts_of is_upper b bs; long = run_cons is_upper b bs e; is = and_from (is_upper b) (list_all is_upper (behind is_upper bs)) e (run_all is_upper bs); longest = stops is_upper bs }
 
 name_is : (b : ℕ) (bs : List ℕ) → is_letter b ≡ true → nat_lt (run is_word_byte (b ∷ bs)) 33 ≡ true → is_name (b ∷ behind is_word_byte bs) ≡ true
 name_is b bs e small =
     let r = run_cons is_word_byte b bs (lower_is_name b e) in
     let s : nat_lt (suc (length (behind is_word_byte bs))) 33 ≡ true = rw r at small in
     let s2 : nat_lt (length (behind is_word_byte bs)) 32 ≡ true = grind (arith, nat_tests) in
-    both (is_letter b && nat_lt (length (behind is_word_byte bs)) 32) (list_all is_word_byte (behind is_word_byte bs)) (both (is_letter b) (nat_lt (length (behind is_word_byte bs)) 32) e s2) (run_all is_word_byte bs)
+    and_from (is_letter b && nat_lt (length (behind is_word_byte bs)) 32) (list_all is_word_byte (behind is_word_byte bs)) (and_from (is_letter b) (nat_lt (length (behind is_word_byte bs)) 32) e s2) (run_all is_word_byte bs)
 
 pub name_stands : (b : ℕ) (bs : List ℕ) → is_letter b ≡ true → nat_lt (run is_word_byte (b ∷ bs)) 33 ≡ true → Stands (b ∷ bs) k.Name (run is_word_byte (b ∷ bs))
 name_stands b bs e small = record { own = b ∷ behind is_word_byte bs; rest = drop (run is_word_byte bs) bs; parts = parts_of is_word_byte b bs; long = run_cons is_word_byte b bs (lower_is_name b e); is = name_is b bs e small; longest = stops is_word_byte bs }
@@ -64,19 +60,19 @@ param_stands b c cs eb e small = record {
   rest = drop (run is_word_byte cs) cs;
   parts = ap (λ (x : List ℕ). b ∷ x) (parts_of is_word_byte c cs);
   long = let r = run_cons is_word_byte c cs (lower_is_name c e) in omega arith;
-  is = both (eqb b 58) (is_name (c ∷ behind is_word_byte cs)) eb (name_is c cs e small);
+  is = and_from (eqb b 58) (is_name (c ∷ behind is_word_byte cs)) eb (name_is c cs e small);
   longest = stops is_word_byte cs;
 }
 
 pub number_stands : (b : ℕ) (bs : List ℕ) → is_digit b ≡ true → (nat_lt (value_from 0 (b ∷ behind is_digit bs)) 9223372036854775808 && not (next_is is_joined (drop (run is_digit bs) bs))) ≡ true → Stands (b ∷ bs) k.Number (run is_digit (b ∷ bs))
 number_stands b bs e h =
-    let f = parts_true (nat_lt (value_from 0 (b ∷ behind is_digit bs)) 9223372036854775808) (not (next_is is_joined (drop (run is_digit bs) bs))) h in
+    let f = and_parts (nat_lt (value_from 0 (b ∷ behind is_digit bs)) 9223372036854775808) (not (next_is is_joined (drop (run is_digit bs) bs))) h in
     record {
       own = b ∷ behind is_digit bs;
       rest = drop (run is_digit bs) bs;
       parts = parts_of is_digit b bs;
       long = run_cons is_digit b bs e;
-      is = both (is_run is_digit (b ∷ behind is_digit bs)) (nat_lt (value_from 0 (b ∷ behind is_digit bs)) 9223372036854775808) (both (is_digit b) (list_all is_digit (behind is_digit bs)) e (run_all is_digit bs)) f.0;
+      is = and_from (is_run is_digit (b ∷ behind is_digit bs)) (nat_lt (value_from 0 (b ∷ behind is_digit bs)) 9223372036854775808) (and_from (is_digit b) (list_all is_digit (behind is_digit bs)) e (run_all is_digit bs)) f.0;
       longest = f.1;
     }
 
@@ -244,12 +240,12 @@ heads : (b c : ℕ) (u v : List ℕ) → b ∷ u ≡ c ∷ v → b ≡ c
 heads b c u v e = cc
 
 no_blank : (kind : TokenKind) (b : ℕ) (own : List ℕ) → IsSpelling kind (b ∷ own) → is_blank b ≡ false
-no_blank k.Word b own is = upper_black b (parts_true (is_upper b) (list_all is_upper own) is).0
-no_blank k.Name b own is = lower_black b (parts_true (is_letter b) (nat_lt (length own) 32) (parts_true (is_letter b && nat_lt (length own) 32) (list_all is_word_byte own) is).0).0
-no_blank k.Number b own is = digit_black b (parts_true (is_digit b) (list_all is_digit own) (parts_true (is_run is_digit (b ∷ own)) (nat_lt (value_from 0 (b ∷ own)) 9223372036854775808) is).0).0
+no_blank k.Word b own is = upper_black b (and_parts (is_upper b) (list_all is_upper own) is).0
+no_blank k.Name b own is = lower_black b (and_parts (is_letter b) (nat_lt (length own) 32) (and_parts (is_letter b && nat_lt (length own) 32) (list_all is_word_byte own) is).0).0
+no_blank k.Number b own is = digit_black b (and_parts (is_digit b) (list_all is_digit own) (and_parts (is_run is_digit (b ∷ own)) (nat_lt (value_from 0 (b ∷ own)) 9223372036854775808) is).0).0
 no_blank k.Text b own is = let e : b ≡ 39 = heads b 39 own (in_quotes is.value) is.spelled in rw e refl
-no_blank k.Param b own is = at_black b 58 refl (parts_true (eqb b 58) (is_name own) is).0
-no_blank k.Symbol b [] is = not_true (is_blank b) (has_all (λ n. not (is_blank n)) singles b refl is)
+no_blank k.Param b own is = at_black b 58 refl (and_parts (eqb b 58) (is_name own) is).0
+no_blank k.Symbol b [] is = not-true (is_blank b) (has_all (λ n. not (is_blank n)) singles b refl is)
 no_blank k.Symbol b (c ∷ []) is = black_second b c (eqb b 60) (eqb b 62) (eqb b 124) refl refl refl is
 no_blank k.Symbol b (c ∷ d ∷ own) is = absurd cc
 

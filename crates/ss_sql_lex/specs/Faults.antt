@@ -41,7 +41,7 @@ pub record FailsFrom (at : ℕ) (text : List ℕ) (fault : LexError) : Type 0 wh
   pub counts : place + length rest ≡ at + length text
   pub which : fault ≡ fault_at place rest
 
--- why a text is refused: its first fault, or want of memory, which says nothing of the text
+-- why a text is refused: its first fault, or out of memory, which says nothing of the text
 abbrev pub IsRefused : List ℕ → LexError → Type 0
 IsRefused text e.NoMemory = Unit {0}
 IsRefused text (e.BadCharacter at) = FailsFrom 0 text (e.BadCharacter at)

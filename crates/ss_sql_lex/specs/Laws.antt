@@ -24,6 +24,6 @@ FailsOnce = (text : List ℕ) (f g : LexError) → FailsFrom 0 text f → FailsF
 abbrev pub QuotesAreTaken : Type 0
 QuotesAreTaken = (value : List ℕ) → text_of (39 ∷ in_quotes value) ≡ value
 
--- where no token stands, the fault that is told has its cause there
+-- where no token stands, the fault that is reported has its cause there
 abbrev pub FaultsHaveCauses : Type 0
 FaultsHaveCauses = (place : ℕ) (bs : List ℕ) → 0 < length bs → NoToken bs → HasCause place bs (fault_at place bs)

@@ -8,3 +8,4 @@ pub mod Reading
 pub mod Spans
 pub mod Spelling
 pub mod Trees
+pub mod WellTyped

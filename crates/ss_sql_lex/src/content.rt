@@ -80,9 +80,7 @@ fn unquoted(alloc: Global, quoted: &[u8]) -> Result<Vec<u8>, NoMemory>
                 _ => return Ok(value),
             }
         }
-        if value.push(*first).is_err() {
-            return Err(NoMemory);
-        }
+        value.push(*first)?;
     }
     Ok(value)
 }

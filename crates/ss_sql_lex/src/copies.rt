@@ -1,7 +1,7 @@
 //! Copies of typed trees, equal to what they copy at any depth.
 //!
-//! Each takes time and memory linear in the tree, and stack by its depth. Only want of memory
-//! refuses one.
+//! Each takes time and memory linear in the tree, and stack by its depth. Each
+//! fails only when memory runs out.
 
 ghost use Rattle.std.specs.Prelude.{◌≡◌, IfOk};
 

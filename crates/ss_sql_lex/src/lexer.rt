@@ -73,9 +73,7 @@ pub fn tokens(alloc: Global, text: &[u8]) -> Result<Seq<Token>, LexError>
             let token = token_at(rest, at)?;
             (_, rest) = rest.split_at(token.to - at);
             at = token.to;
-            if tokens.push(token).is_err() {
-                return Err(LexError::NoMemory);
-            }
+            tokens.push(token)?;
         }
     }
     Ok(tokens)

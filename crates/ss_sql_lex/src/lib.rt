@@ -18,6 +18,10 @@
 //!
 //! [`tree`] has the plain trees that a parser makes, with places, and [`typed`] the trees with numbers in
 //! place of names; [`tree_copies`] and [`copies`] have their exact copies.
+//!
+//! `specs/WellTyped.antt` says what it is for a typed statement, query and condition to be well typed, where the
+//! columns of the sources, of the targets and of the parameters are given. The typing calls give nothing else,
+//! and an engine that runs typed trees may take it as a premise.
 #![tactic(auto)]
 
 pub mod content;
@@ -25,8 +29,6 @@ pub mod copies;
 pub mod laws;
 pub mod lexer;
 mod scan;
-#[cfg(test)]
-mod tests;
 pub mod token;
 pub mod tree;
 pub mod tree_copies;

@@ -3,7 +3,7 @@
 ghost use Rattle.std.specs.Prelude.{◌≡◌, ◌+◌, ◌<◌, ◌≤◌, ◌∷◌, length, option_map, nat_lt, IfSome, if◌then◌else◌};
 ghost use Rattle.ss_value.specs.Words.{is_letter, is_word_byte};
 ghost use Rattle.ss_sql_lex.specs.Bytes.{next_is, is_joined, is_digit};
-ghost use Rattle.ss_sql_lex.specs.Spelling.{value_from, has, singles, seconds};
+ghost use Rattle.ss_sql_lex.specs.Spelling.{value_from, has, seconds};
 ghost use Rattle.ss_sql_lex.specs.Reading.{run, close, scan, number_scan, name_scan, text_scan, symbol_scan, test_of, lengths};
 
 use crate::token::TokenKind;
@@ -149,12 +149,6 @@ fn text_of(after: &[u8]) -> Option<(TokenKind, usize)>
     }
 }
 
-fn is_single(byte: u8) -> bool
-    ensures { result ≡ has singles byte }
-{
-    b"(),.*=<>+-/%".contains(&byte)
-}
-
 /// What makes a symbol of two bytes of a first one.
 fn is_pair(first: u8, second: u8) -> bool
     ensures { result ≡ has (seconds first) second }
@@ -172,7 +166,7 @@ fn symbol_of(first: u8, after: &[u8]) -> Option<(TokenKind, usize)>
 {
     match after.split_first() {
         Some((second, _)) if is_pair(first, *second) => Some((TokenKind::Symbol, 2)),
-        _ if is_single(first) => Some((TokenKind::Symbol, 1)),
+        _ if b"(),.*=<>+-/%".contains(&first) => Some((TokenKind::Symbol, 1)),
         _ => None,
     }
 }

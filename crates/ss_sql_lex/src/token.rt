@@ -1,5 +1,7 @@
 //! Tokens, and why a text has none.
 
+use ss_value::NoMemory;
+
 /// What a token is.
 #[derive(Clone, Copy, Debug, PartialEq, Eq, Drop)]
 pub enum TokenKind {
@@ -31,7 +33,7 @@ pub struct Token {
 /// Why a text has no tokens. A place is the offset of a byte.
 #[derive(Clone, Copy, Debug, PartialEq, Eq, Drop)]
 pub enum LexError {
-    /// Want of memory for the list of tokens.
+    /// Out of memory for the list of tokens.
     NoMemory,
     /// A byte that begins no token, a parameter's colon with no name behind it, or the 33rd
     /// character of a name: the place of that byte.
@@ -41,4 +43,15 @@ pub enum LexError {
     BadNumber(usize),
     /// A text that is not closed, or whose value is over 255 bytes: the place of its opening quote.
     OpenText(usize),
+}
+
+impl<T: Drop> From<(NoMemory, T)> for LexError {
+    ghost use Rattle.std.specs.Prelude.{◌≡◌};
+    ghost use Rattle.ss_sql_lex.specs.declared.token.LexError.TheVariants.{NoMemory as OutOfMemory};
+
+    ghost from_gives = { λ _ e. e ≡ OutOfMemory };
+
+    fn from(_: (NoMemory, T)) -> LexError {
+        LexError::NoMemory
+    }
 }

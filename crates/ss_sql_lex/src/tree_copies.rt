@@ -86,7 +86,7 @@ fn binary_tree(
     })
 }
 
-/// The same expression again. Fails only for want of memory.
+/// The same expression again.
 pub fn copy_expr_tree(alloc: Global, expr: &ExprTree) -> Result<ExprTree, NoMemory>
     ensures { IfOk result (λ copy. copy ≡ expr.now) }
 {

@@ -2,7 +2,7 @@
 use Rattle.std.proofs.Common.{◌≡◌, ℕ, zero, suc, ◌-◌, ◌+◌, ◌≤◌, ◌<◌, true, false, List, ◌∷◌, length, Result, Ok, Err, refl, sym, ◌∙◌, arith}
 use Rattle.ss_sql_parse.specs.declared.lexeme.Lexeme.{Lexeme}
 use Rattle.ss_sql_lex.specs.declared.tree.ExprTree.{ExprTree}
-use Rattle.ss_grammar.specs.Grammar.{◌>>=◌, begins, starts, read}
+use Rattle.ss_sql_grammar.specs.Grammar.{◌>>=◌, begins, starts, read}
 use Rattle.ss_sql_parse.specs.Terminals.{kind}
 use Rattle.ss_sql_parse.specs.declared.stop.Stop.{Stop}
 use Rattle.ss_sql_parse.specs.declared.stop.Stop.TheVariants as stop

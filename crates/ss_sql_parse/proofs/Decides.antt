@@ -1,6 +1,6 @@
 -- One token decides everywhere in the grammar.
 use Rattle.std.proofs.Common.{◌≡◌, true, refl}
-use Rattle.ss_grammar.specs.Grammar.{decides}
+use Rattle.ss_sql_grammar.specs.Grammar.{decides}
 use Rattle.ss_sql_parse.specs.Sql.{sql}
 use Rattle.ss_sql_parse.specs.Statements.{statement, query, condition}
 

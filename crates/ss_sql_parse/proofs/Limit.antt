@@ -3,7 +3,7 @@ use Rattle.std.proofs.Common.{◌≡◌, ℕ, ◌-◌, ◌<◌, List, [], ◌∷
 use Rattle.std.proofs.lemmas.List.{append-nil, drop_at}
 use Rattle.ss_sql_parse.specs.declared.lexeme.Lexeme.{Lexeme}
 use Rattle.ss_sql_parse.specs.Sql.{Sql, Deep}
-use Rattle.ss_grammar.specs.Grammar.{Spells}
+use Rattle.ss_sql_grammar.specs.Grammar.{Spells}
 use Rattle.ss_sql_parse.specs.Terminals.{kind}
 use Rattle.ss_sql_parse.specs.Whole.{Dead, IsTree, IsUnexpected, IsUnexpectedAt, place_at, max_tokens}
 

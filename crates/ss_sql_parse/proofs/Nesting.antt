@@ -1,13 +1,13 @@
 -- What is nested is read by its rule, and exactly, at each depth.
 use Rattle.std.proofs.Common.{◌≡◌, ℕ, zero, suc, ◌≤◌, ◌<◌, true, List, [], ◌∷◌, length, Err, refl, sym, arith}
 use Rattle.ss_sql_parse.specs.declared.lexeme.Lexeme.{Lexeme}
-use Rattle.ss_grammar.specs.Grammar.{IsOne, Spells, token, read, starts, goes_on, decides, guarded}
-use Rattle.ss_grammar.specs.Exact.{Exact}
+use Rattle.ss_sql_grammar.specs.Grammar.{IsOne, Spells, token, read, starts, goes_on, decides, guarded}
+use Rattle.ss_sql_grammar.specs.Exact.{Exact}
 use Rattle.ss_sql_parse.specs.Terminals.{kind, spare, a_number}
 use Rattle.ss_sql_parse.specs.Nodes.{number_tree, number_leaf}
 use Rattle.ss_sql_parse.specs.Sql.{Nest, InExpr, InNot, InUnary, sql, inner, deep, Deep, rule, number, lone_number, first_of, last_of}
-use Rattle.ss_grammar.proofs.Rules.{rules_exact, one_exact, act_exact}
-use Rattle.ss_grammar.proofs.Agree.{widened, agree_guarded}
+use Rattle.ss_sql_grammar.proofs.Rules.{rules_exact, one_exact, act_exact}
+use Rattle.ss_sql_grammar.proofs.Agree.{widened, agree_guarded}
 
 pub rule_decides : (n : Nest) → decides sql (rule n) ≡ true
 rule_decides InExpr = refl

@@ -4,7 +4,7 @@ use Rattle.std.specs.Prelude.{map}
 use Rattle.std.proofs.lemmas.List.{append-nil}
 use Rattle.ss_sql_parse.specs.declared.lexeme.Lexeme.{Lexeme}
 use Rattle.ss_sql_parse.specs.declared.lexeme.Terminal.TheVariants as t
-use Rattle.ss_grammar.specs.Grammar.{◌>>=◌, Reader, begins, token, many, pair}
+use Rattle.ss_sql_grammar.specs.Grammar.{◌>>=◌, Reader, begins, token, many, pair}
 use Rattle.ss_sql_parse.specs.Terminals.{code, kind}
 use Rattle.ss_sql_parse.specs.declared.stop.Stop.{Stop}
 use Rattle.ss_sql_parse.specs.declared.stop.Stop.TheVariants as stop

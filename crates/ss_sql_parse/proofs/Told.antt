@@ -6,7 +6,7 @@ use Rattle.std.proofs.lemmas.List.{drop_at, take-append-drop, length-take, lengt
 use Rattle.ss_sql_parse.specs.declared.lexeme.Lexeme.{Lexeme}
 use Rattle.ss_sql_parse.specs.declared.parse.ParseError.{ParseError}
 use Rattle.ss_sql_parse.specs.declared.parse.ParseError.TheVariants as parse
-use Rattle.ss_grammar.specs.Grammar.{read, decides}
+use Rattle.ss_sql_grammar.specs.Grammar.{read, decides}
 use Rattle.ss_sql_parse.specs.Sql.{Sql, sql, inner}
 use Rattle.ss_sql_parse.specs.Keywords.{lexeme, lexemes}
 use Rattle.ss_sql_parse.specs.Whole.{IsTree, IsUnexpected, IsUnexpectedAt, Told, whole, place_at, max_tokens}
@@ -14,7 +14,7 @@ use Rattle.ss_sql_parse.specs.Texts.{IsTextOf, IsParseError, IsReading, IsStoppe
 use Rattle.ss_sql_parse.proofs.Whole.{told}
 use Rattle.ss_sql_parse.proofs.Limit.{cut_whole, cut_refused}
 
--- what reading with the limit tells
+-- what reading with the limit says
 abbrev LimitTold : {A : Type 0} → Sql A → List Lexeme → ℕ → Result A ℕ → Type 0
 LimitTold g ts end (Ok tree) = IsTree g ts tree × (length ts ≤ max_tokens)
 LimitTold g ts end (Err at) = IsUnexpectedAt g ts end at

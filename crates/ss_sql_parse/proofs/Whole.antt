@@ -1,18 +1,18 @@
--- What reading all tokens tells.
+-- What reading all tokens says of them.
 use Rattle.std.proofs.Common.{◌≡◌, ℕ, zero, suc, ◌≤◌, ◌<◌, true, List, [], ◌∷◌, ◌++◌, length, Option, Some, None, Result, Ok, Err, refl, sym, ap, subst, ◌∙◌, arith, inl, inr}
 use Rattle.std.proofs.lemmas.List.{append-nil}
 use Rattle.ss_sql_parse.specs.declared.lexeme.Lexeme.{Lexeme}
 use Rattle.ss_sql_lex.specs.declared.tree.ExprTree.{ExprTree}
-use Rattle.ss_grammar.specs.Grammar.{Rule, one, nested, act, both, or, maybe, some, Spells, Each, Perhaps, ◌>>=◌, read, starts, goes_on, decides}
-use Rattle.ss_grammar.specs.Exact.{Passed, Exact}
+use Rattle.ss_sql_grammar.specs.Grammar.{Rule, one, nested, act, both, or, maybe, some, Spells, Each, Perhaps, ◌>>=◌, read, starts, goes_on, decides}
+use Rattle.ss_sql_grammar.specs.Exact.{Passed, Exact}
 use Rattle.ss_sql_parse.specs.Terminals.{kind, a_number}
 use Rattle.ss_sql_parse.specs.Nodes.{number_leaf, number_tree}
 use Rattle.ss_sql_parse.specs.Sql.{Nest, InExpr, InNot, InUnary, Sql, sql, inner, deep, Deep, rule}
 use Rattle.ss_sql_parse.specs.Whole.{Spelled, IsTree, Dead, IsUnexpected, ends, whole, Told}
-use Rattle.ss_grammar.proofs.Parts.{ok_is}
+use Rattle.ss_sql_grammar.proofs.Parts.{ok_is}
 use Rattle.std.proofs.lemmas.Bool.{eqb-true}
-use Rattle.ss_grammar.proofs.Rules.{rules_exact}
-use Rattle.ss_grammar.proofs.Agree.{agree}
+use Rattle.ss_sql_grammar.proofs.Rules.{rules_exact}
+use Rattle.ss_sql_grammar.proofs.Agree.{agree}
 use Rattle.ss_sql_parse.proofs.Nesting.{deep_exact, inner_is}
 
 -- ---- deeper nesting keeps what is spelled

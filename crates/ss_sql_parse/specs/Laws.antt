@@ -15,6 +15,6 @@ HasOneTree {A = A} g = (ts : List Lexeme) (a b : A) → Spelled g ts a → Spell
 abbrev pub HasOneText : {A : Type 0} → Sql A → Type 0
 HasOneText {A = A} g = (text : List ℕ) (a b : A) → IsTextOf g text a → IsTextOf g text b → a ≡ b
 
--- a text that has a tree can be refused for want of memory alone
+-- a text that has a tree can be refused only because memory ran out
 abbrev pub IsReadOrRefused : {A : Type 0} → Sql A → Type 0
 IsReadOrRefused {A = A} g = (text : List ℕ) (tree : A) (error : ParseError) → IsTextOf g text tree → IsParseError g text error → error ≡ parse.NoMemory

@@ -5,7 +5,7 @@ use Rattle.ss_sql_lex.specs.declared.typed.BinaryOp.{BinaryOp}
 use Rattle.ss_sql_parse.specs.declared.operators.Level.{Level}
 use Rattle.ss_sql_parse.specs.declared.operators.Level.TheVariants as level
 use Rattle.ss_sql_parse.specs.declared.lexeme.Lexeme.{Lexeme}
-use Rattle.ss_grammar.specs.Grammar.{◌>>=◌, begins, starts, read, many, pair}
+use Rattle.ss_sql_grammar.specs.Grammar.{◌>>=◌, begins, starts, read, many, pair}
 use Rattle.ss_sql_parse.specs.Terminals.{kind}
 use Rattle.ss_sql_parse.specs.Nodes.{grouped}
 use Rattle.ss_sql_parse.specs.Sql.{Sql, sql, inner, or_op, and_op, add_op, mul_op, both_rule, not_rule, term, unary}

@@ -2,7 +2,7 @@
 use Rattle.std.specs.Prelude.{List, [], ◌∷◌, length, Option, Ok}
 use Rattle.ss_sql_parse.specs.declared.lexeme.Lexeme.{Lexeme}
 use Rattle.ss_sql_parse.specs.declared.lexeme.Terminal.TheVariants as t
-use Rattle.ss_grammar.specs.Grammar.{◌>>=◌, Reader, pair, many, perhaps, read, starts, token, begins}
+use Rattle.ss_sql_grammar.specs.Grammar.{◌>>=◌, Reader, pair, many, perhaps, read, starts, token, begins}
 use Rattle.ss_sql_parse.specs.Sql.{Sql, sql, inner}
 use Rattle.ss_sql_parse.specs.Terminals.{code, kind}
 use Rattle.ss_sql_parse.specs.Statements.{listed}

@@ -12,7 +12,7 @@ use Rattle.ss_sql_lex.specs.declared.typed.Cmp.TheVariants as c
 use Rattle.ss_sql_parse.specs.declared.lexeme.Terminal.{Terminal}
 use Rattle.ss_sql_parse.specs.declared.lexeme.Terminal.TheVariants as t
 use Rattle.ss_sql_parse.specs.declared.lexeme.Lexeme.{Lexeme}
-use Rattle.ss_grammar.specs.Grammar.{Rule, Kinds, one, nested, act, both, or, maybe, some, Reader, Spells, read}
+use Rattle.ss_sql_grammar.specs.Grammar.{Rule, Kinds, one, nested, act, both, or, maybe, some, Reader, Spells, read}
 use Rattle.ss_sql_parse.specs.Terminals.{code, kind, spare, a_name, a_number, a_text, a_param}
 use Rattle.ss_sql_parse.specs.Nodes.{name_tree, number_tree, text_tree, column_tree, number_leaf, text_leaf, param_leaf, column_leaf, bracket, negated, denied, grouped, compared}
 

@@ -17,7 +17,7 @@ use Rattle.ss_sql_lex.specs.declared.tree.ConditionTree.{ConditionTree}
 use Rattle.ss_sql_lex.specs.declared.typed.Cmp.{Cmp}
 use Rattle.ss_sql_parse.specs.declared.lexeme.Lexeme.{Lexeme}
 use Rattle.ss_sql_parse.specs.declared.lexeme.Terminal.TheVariants as t
-use Rattle.ss_grammar.specs.Grammar.{act, both, or, maybe, some}
+use Rattle.ss_sql_grammar.specs.Grammar.{act, both, or, maybe, some}
 use Rattle.ss_sql_parse.specs.Sql.{Sql, token, sign, after, name, number, column, expr, sum, cmp}
 
 -- ---- lists and brackets

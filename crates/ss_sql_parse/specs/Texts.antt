@@ -1,6 +1,6 @@
 -- A text against the grammar.
 use Rattle.std.specs.Prelude.{ℕ, ◌≡◌, ◌-◌, ◌≤◌, List, length, take, drop, nat_le, Result, Ok, Err, if◌then◌else◌}
-use Rattle.ss_grammar.specs.Grammar.{Reader}
+use Rattle.ss_sql_grammar.specs.Grammar.{Reader}
 use Rattle.ss_sql_lex.specs.declared.token.Token.{Token}
 use Rattle.ss_sql_lex.specs.Lexing.{Spells}
 use Rattle.ss_sql_lex.specs.Faults.{FailsFrom}
@@ -26,7 +26,7 @@ pub record IsUnexpectedIn {A : Type 0} (g : Sql A) (text : List ℕ) (at : ℕ) 
   pub spelled : Spells text tokens
   pub is : IsUnexpectedAt g (lexemes text tokens) (length text) at
 
--- why a text is refused: its first lexical fault, or the first token that is not expected; want of memory says nothing
+-- why a text is refused: its first lexical fault, or the first token that is not expected; out of memory says nothing
 abbrev pub IsParseError : {A : Type 0} → Sql A → List ℕ → ParseError → Type 0
 IsParseError g text parse.NoMemory = Unit {0}
 IsParseError g text (parse.Lex fault) = FailsFrom 0 text fault
@@ -61,7 +61,7 @@ pub record IsLexemesOf (text : List ℕ) (found : List Lexeme) : Type 0 where
   pub spelled : Spells text tokens
   pub are : found ≡ lexemes text tokens
 
--- a text has no tokens; want of memory says nothing
+-- a text has no tokens; out of memory says nothing
 abbrev pub IsLexical : List ℕ → ParseError → Type 0
 IsLexical text parse.NoMemory = Unit {0}
 IsLexical text (parse.Lex fault) = FailsFrom 0 text fault
@@ -77,7 +77,7 @@ pub record ReadsTo {A : Type 0} (p : Reader Lexeme A) (text : List ℕ) (read : 
 abbrev pub IsReading : {A : Type 0} → Reader Lexeme A → List ℕ → A → Type 0
 IsReading p text tree = ReadsTo p text (Ok tree)
 
--- a text has no tokens, or reading them stops there; want of memory says nothing
+-- a text has no tokens, or reading them stops there; out of memory says nothing
 abbrev pub IsStopped : {A : Type 0} → Reader Lexeme A → List ℕ → ParseError → Type 0
 IsStopped p text parse.NoMemory = Unit {0}
 IsStopped p text (parse.Lex fault) = FailsFrom 0 text fault

@@ -1,7 +1,7 @@
 -- A whole list of tokens against the grammar.
 use Rattle.std.specs.Prelude.{ℕ, ◌≡◌, ◌<◌, List, [], ◌∷◌, ◌++◌, length, Result, Ok, Err}
 use Rattle.std.proofs.Common.{◌⊎◌}
-use Rattle.ss_grammar.specs.Grammar.{Spells, Reader, read, ◌>>=◌}
+use Rattle.ss_sql_grammar.specs.Grammar.{Spells, Reader, read, ◌>>=◌}
 use Rattle.ss_sql_parse.specs.declared.lexeme.Lexeme.{Lexeme}
 use Rattle.ss_sql_parse.specs.Terminals.{kind}
 use Rattle.ss_sql_parse.specs.Sql.{Sql, sql, inner, Deep}
@@ -49,7 +49,7 @@ whole_by p ts = p ts >>= ends
 abbrev pub whole : {A : Type 0} → Sql A → List Lexeme → Result A ℕ
 whole g ts = read sql inner g ts >>= ends
 
--- what reading all tokens tells of them
+-- what reading all tokens says of them
 abbrev pub Told : {A : Type 0} → Sql A → List Lexeme → Result A ℕ → Type 0
 Told g ts (Ok tree) = IsTree g ts tree
 Told g ts (Err n) = IsUnexpected g ts n

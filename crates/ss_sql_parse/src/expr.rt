@@ -4,7 +4,7 @@
 //! opening bracket costs five calls, however many levels of operators there are.
 
 ghost use Rattle.std.specs.Prelude.{◌≡◌, ◌<◌, ◌≤◌, length, IfOk, IfErr};
-ghost use Rattle.ss_grammar.specs.Grammar.{act, read};
+ghost use Rattle.ss_sql_grammar.specs.Grammar.{act, read};
 ghost use Rattle.ss_sql_parse.specs.Gives.{Gives};
 ghost use Rattle.ss_sql_lex.specs.Trees.{moved};
 ghost use Rattle.ss_sql_parse.specs.Nodes.{joined, number_leaf, text_leaf, param_leaf, column_leaf};

@@ -10,8 +10,8 @@ pub fn a_list_has_one_tree()
     ensures conditions { HasOneTree condition }
 {}
 
-/// A text has one answer: one tree at most, and a text that has one is refused for want of memory
-/// alone.
+/// A text has one answer: one tree at most, and a text that has one is refused only because
+/// memory ran out.
 pub fn a_text_has_one_answer()
     ensures statement { HasOneText statement }
     ensures query { HasOneText query }

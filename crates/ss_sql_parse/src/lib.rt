@@ -8,12 +8,12 @@
 //! # What is proved
 //!
 //! `specs/Sql.antt` and `specs/Statements.antt` are the grammar, a line for each rule. What a rule
-//! spells is a definition of `ss_grammar`, apart from any parser. A call that answers Ok gives the
+//! spells is a definition of `ss_sql_grammar`, apart from any parser. A call that answers Ok gives the
 //! tree of the text's tokens, at most 512, and they have no other (`IsTextOf`). A call that refuses a
 //! text gives its first lexical fault, or the place of a token: those before it begin some text of the
 //! grammar, and those with it begin none, or it is token 513 behind 512 that begin one; at the text's
 //! end the whole begins a text and is none (`IsParseError`). By the laws of [`laws`] the two answers
-//! exclude each other. Want of memory says nothing of the text.
+//! exclude each other. `NoMemory` says nothing of the text.
 //!
 //! Both INSERTs share their front in the grammar, since one token is to decide: the texts and the
 //! trees are those of two rules.
@@ -29,7 +29,7 @@
 //! gives, and limit it nowhere. That 512 KB are enough for these, in programs of LLVM and of Rattle's
 //! own compiler, was measured by hand alone.
 //!
-//! The tests stand in `ss_sql_parse_tests`.
+//! The tests are cases of `ss_cases`: texts with the tree that a person reads in them.
 #![tactic(auto)]
 
 pub mod expr;

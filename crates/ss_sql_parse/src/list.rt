@@ -1,14 +1,12 @@
 //! Lists behind commas.
 
-ghost use Rattle.std.specs.Prelude.{◌≡◌, ℕ, List, [], ◌∷◌, ◌++◌, Result, IfErr, OnOk};
+ghost use Rattle.std.specs.Prelude.{ℕ, List, Result};
 ghost use Rattle.ss_sql_parse.specs.declared.lexeme.Lexeme.{Lexeme};
 ghost use Rattle.ss_sql_parse.specs.Gives.{Gives};
 ghost use Rattle.ss_sql_parse.specs.Lists.{list_read};
-ghost use Rattle.ss_sql_parse.specs.declared.stop.Stop.TheVariants.{Memory};
 
 use crate::lexeme::{Lexemes, Terminal};
 use crate::reading::{Read, begins, token};
-use crate::stop::Stop;
 use ss_value::seq::Seq;
 use std::alloc::Global;
 
@@ -28,26 +26,15 @@ pub fn list_of<'t, E: Element>(alloc: Global, tokens: Lexemes<'t>) -> Read<'t, S
 {
     let mut items = Seq::new(alloc);
     let (first, mut rest) = E::read(alloc, tokens)?;
-    push(&mut items, first)?;
+    items.push(first)?;
     for _ in 0..rest.len() {
         if !begins(rest, Terminal::Comma) {
             return Ok((items, rest));
         }
         let (_, after) = token(rest, Terminal::Comma)?;
         let (item, after) = E::read(alloc, after)?;
-        push(&mut items, item)?;
+        items.push(item)?;
         rest = after;
     }
     Ok((items, rest))
-}
-
-/// Puts an item behind a list.
-fn push<E: Drop>(items: &mut Seq<E>, item: E) -> Result<(), Stop>
-    ensures ok { OnOk result (items.new ≡ items.old ++ item ∷ []) }
-    ensures err { IfErr result (λ e. e ≡ Memory) }
-{
-    match items.push(item) {
-        Ok(()) => Ok(()),
-        Err((no_memory, _)) => Err(no_memory.into()),
-    }
 }

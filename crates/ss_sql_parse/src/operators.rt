@@ -1,7 +1,7 @@
 //! Reading operators and comparisons.
 
 ghost use Rattle.std.specs.Prelude.{◌≡◌, ◌<◌, length, IfOk};
-ghost use Rattle.ss_grammar.specs.Grammar.{begins, starts, read};
+ghost use Rattle.ss_sql_grammar.specs.Grammar.{begins, starts, read};
 ghost use Rattle.ss_sql_parse.specs.Terminals.{kind};
 ghost use Rattle.ss_sql_parse.specs.Gives.{Gives};
 ghost use Rattle.ss_sql_parse.specs.Sql.{sql, inner, cmp};

@@ -21,7 +21,7 @@ use std::alloc::Global;
 /// Why a text is refused.
 #[derive(Clone, Copy, Debug, PartialEq, Eq, Drop)]
 pub enum ParseError {
-    /// Want of memory.
+    /// Out of memory.
     NoMemory,
     /// The text has no tokens; its first fault from the left.
     Lex(LexError),

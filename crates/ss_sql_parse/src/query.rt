@@ -1,7 +1,7 @@
 //! Reading queries.
 
 ghost use Rattle.std.specs.Prelude.{◌≡◌, ◌<◌, length, IfOk};
-ghost use Rattle.ss_grammar.specs.Grammar.{read};
+ghost use Rattle.ss_sql_grammar.specs.Grammar.{read};
 ghost use Rattle.ss_sql_parse.specs.Gives.{Gives};
 ghost use Rattle.ss_sql_parse.specs.Lists.{maybe_read};
 ghost use Rattle.ss_sql_parse.specs.Sql.{sql, inner, column, expr};

@@ -1,8 +1,7 @@
 //! Reading one token.
 
 ghost use Rattle.std.specs.Prelude.{◌≡◌, ◌==◌, ◌∷◌, [], ◌<◌, ℕ, List, Result, length, IfOk};
-ghost use Rattle.ss_grammar.specs.Grammar.{begins, read};
-ghost use Rattle.ss_grammar.specs.Grammar.{token as token_at};
+ghost use Rattle.ss_sql_grammar.specs.Grammar.{begins, read, token as token_at};
 ghost use Rattle.ss_sql_parse.specs.Terminals.{code, kind};
 ghost use Rattle.ss_sql_parse.specs.Gives.{Gives};
 ghost use Rattle.ss_sql_parse.specs.Sql.{sql, inner, name, number, text, parameter, column};
@@ -59,14 +58,8 @@ pub fn token<'t>(tokens: Lexemes<'t>, terminal: Terminal) -> Read<'t, &'t Lexeme
     ensures shorter { IfOk result (λ x. length x.1.now < length tokens.now) }
 {
     match tokens.split_first() {
-        Some((first, rest)) => {
-            if kind_of(first) == terminal as u8 {
-                Ok((first, rest))
-            } else {
-                Err(Stop::Left(tokens.len()))
-            }
-        }
-        None => Err(Stop::Left(0)),
+        Some((first, rest)) if kind_of(first) == terminal as u8 => Ok((first, rest)),
+        _ => Err(Stop::Left(tokens.len())),
     }
 }
 
@@ -75,19 +68,12 @@ pub fn name_of<'t>(alloc: Global, tokens: Lexemes<'t>) -> Read<'t, NameTree>
     ensures read { Gives (λ x. (x.0, x.1.now)) result (read sql inner name tokens.now) }
     ensures shorter { IfOk result (λ x. length x.1.now < length tokens.now) }
 {
-    let Some((first, rest)) = tokens.split_first() else {
-        return Err(Stop::Left(0));
-    };
+    let (first, rest) = tokens.split_first().ok_or(Stop::Left(0))?;
+    let at = first.from;
     match &first.content {
         Content::Name(word) => {
             let name = word.name(alloc)?;
-            Ok((
-                NameTree {
-                    at: first.from,
-                    name,
-                },
-                rest,
-            ))
+            Ok((NameTree { at, name }, rest))
         }
         _ => Err(Stop::Left(tokens.len())),
     }
@@ -98,19 +84,12 @@ pub fn param_of<'t>(alloc: Global, tokens: Lexemes<'t>) -> Read<'t, NameTree>
     ensures read { Gives (λ x. (x.0, x.1.now)) result (read sql inner parameter tokens.now) }
     ensures shorter { IfOk result (λ x. length x.1.now < length tokens.now) }
 {
-    let Some((first, rest)) = tokens.split_first() else {
-        return Err(Stop::Left(0));
-    };
+    let (first, rest) = tokens.split_first().ok_or(Stop::Left(0))?;
+    let at = first.from;
     match &first.content {
         Content::Param(word) => {
             let name = word.name(alloc)?;
-            Ok((
-                NameTree {
-                    at: first.from,
-                    name,
-                },
-                rest,
-            ))
+            Ok((NameTree { at, name }, rest))
         }
         _ => Err(Stop::Left(tokens.len())),
     }
@@ -121,16 +100,12 @@ pub fn number_of<'t>(tokens: Lexemes<'t>) -> Read<'t, NumberTree>
     ensures read { Gives (λ x. (x.0, x.1.now)) result (read sql inner number tokens.now) }
     ensures shorter { IfOk result (λ x. length x.1.now < length tokens.now) }
 {
-    let Some((first, rest)) = tokens.split_first() else {
-        return Err(Stop::Left(0));
-    };
+    let (first, rest) = tokens.split_first().ok_or(Stop::Left(0))?;
+    let at = first.from;
     match &first.content {
         Content::Number(value) => {
-            let number = NumberTree {
-                at: first.from,
-                value: *value,
-            };
-            Ok((number, rest))
+            let value = *value;
+            Ok((NumberTree { at, value }, rest))
         }
         _ => Err(Stop::Left(tokens.len())),
     }
@@ -141,19 +116,12 @@ pub fn text_of<'t>(alloc: Global, tokens: Lexemes<'t>) -> Read<'t, TextTree>
     ensures read { Gives (λ x. (x.0, x.1.now)) result (read sql inner text tokens.now) }
     ensures shorter { IfOk result (λ x. length x.1.now < length tokens.now) }
 {
-    let Some((first, rest)) = tokens.split_first() else {
-        return Err(Stop::Left(0));
-    };
+    let (first, rest) = tokens.split_first().ok_or(Stop::Left(0))?;
+    let at = first.from;
     match &first.content {
         Content::Text(quoted) => {
             let value = quoted.text(alloc)?;
-            Ok((
-                TextTree {
-                    at: first.from,
-                    value,
-                },
-                rest,
-            ))
+            Ok((TextTree { at, value }, rest))
         }
         _ => Err(Stop::Left(tokens.len())),
     }

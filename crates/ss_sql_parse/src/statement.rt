@@ -1,7 +1,7 @@
 //! Reading statements and conditions.
 
 ghost use Rattle.std.specs.Prelude.{◌≡◌, ◌<◌, length, IfOk};
-ghost use Rattle.ss_grammar.specs.Grammar.{read};
+ghost use Rattle.ss_sql_grammar.specs.Grammar.{read};
 ghost use Rattle.ss_sql_parse.specs.Gives.{Gives};
 ghost use Rattle.ss_sql_parse.specs.Sql.{sql, inner, expr};
 ghost use Rattle.ss_sql_parse.specs.Statements.{statement, insert, condition, delete, update, set_rule, list, in_brackets};

@@ -5,10 +5,10 @@ ghost use Rattle.ss_sql_parse.specs.declared.stop.Stop.TheVariants.{Memory};
 
 use ss_value::NoMemory;
 
-/// Why reading stops: for want of memory, or with so many tokens left.
+/// Why reading stops: out of memory, or with so many tokens left.
 #[derive(Clone, Copy, Debug, PartialEq, Eq, Drop)]
 pub enum Stop {
-    /// Want of memory.
+    /// Out of memory.
     Memory,
     /// So many tokens are left from the first that is not expected.
     Left(usize),
@@ -18,6 +18,14 @@ impl From<NoMemory> for Stop {
     ghost from_gives = { λ _ e. e ≡ Memory };
 
     fn from(_e: NoMemory) -> Stop {
+        Stop::Memory
+    }
+}
+
+impl<T: Drop> From<(NoMemory, T)> for Stop {
+    ghost from_gives = { λ _ e. e ≡ Memory };
+
+    fn from(_: (NoMemory, T)) -> Stop {
         Stop::Memory
     }
 }

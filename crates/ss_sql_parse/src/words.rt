@@ -11,7 +11,7 @@ use ss_sql_lex::token::{Token, TokenKind};
 use ss_value::NoMemory;
 use std::alloc::Global;
 
-/// Whether the bytes are these.
+/// Whether the bytes are these. A function of its own, since the search gives up on a match over many words.
 fn spells(own: &[u8], word: &[u8]) -> bool
     ensures { result ≡ bytes_eq own.now word.now }
 {
@@ -208,9 +208,7 @@ pub fn lexemes_of<'t>(
 {
     let mut found = Vec::new(alloc);
     for token in tokens {
-        if found.push(lexeme_of(text, token)).is_err() {
-            return Err(NoMemory);
-        }
+        found.push(lexeme_of(text, token))?;
     }
     Ok(found)
 }

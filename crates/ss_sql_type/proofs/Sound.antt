@@ -22,8 +22,8 @@ use Rattle.ss_sql_lex.specs.declared.tree.ColumnTree.{ColumnTree}
 use Rattle.ss_sql_lex.specs.declared.tree.ExprTree.{ExprTree, map-ExprTree, roll-ExprTree}
 use Rattle.ss_sql_lex.specs.declared.tree.ExprTree.TheFolds.{fold-roll-ExprTree, ind-ExprTree}
 use Rattle.ss_sql_lex.specs.declared.tree.ExprTree.TheOpen.{ExprTree-F}
-use Rattle.ss_sql_rules.specs.WellTyped.{ExprType, are_comparable, column_type, schema_type, typed_when, level_type, expr_type, level_grouped}
-use Rattle.ss_sql_rules.specs.WellTyped.ExprType.{IntType, TextType, BoolType}
+use Rattle.ss_sql_lex.specs.WellTyped.{ExprType, are_comparable, column_type, schema_type, typed_when, level_type, expr_type, level_grouped}
+use Rattle.ss_sql_lex.specs.WellTyped.ExprType.{IntType, TextType, BoolType}
 use Rattle.ss_sql_type.specs.declared.scope.TypeError.{TypeError}
 use Rattle.ss_sql_type.specs.declared.kinds.Kind.{Kind}
 use Rattle.ss_sql_type.specs.declared.kinds.Kind.TheVariants.{Int, Text, Bool as Truth}

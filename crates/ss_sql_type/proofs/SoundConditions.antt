@@ -9,8 +9,8 @@ use Rattle.ss_sql_lex.specs.declared.tree.ItemTree.{ItemTree}
 use Rattle.ss_sql_lex.specs.declared.tree.ItemTree.TheVariants as tree
 use Rattle.ss_sql_lex.specs.declared.tree.ConditionTree.{ConditionTree}
 use Rattle.ss_sql_lex.specs.declared.typed.ColAt.{ColAt}
-use Rattle.ss_sql_rules.specs.WellTyped.{ExprType, Schemas, is_type, are_comparable, expr_type, item_type, typed_when, query_types, condition_typed}
-use Rattle.ss_sql_rules.specs.WellTyped.ExprType.{IntType}
+use Rattle.ss_sql_lex.specs.WellTyped.{ExprType, Schemas, is_type, are_comparable, expr_type, item_type, typed_when, query_types, condition_typed}
+use Rattle.ss_sql_lex.specs.WellTyped.ExprType.{IntType}
 use Rattle.ss_sql_type.specs.declared.scope.Scope.{Scope}
 use Rattle.ss_sql_type.specs.declared.scope.TypeError.TheVariants.{WrongType, WrongCount}
 use Rattle.ss_sql_type.specs.declared.kinds.Needs.{Needs}
@@ -21,7 +21,7 @@ use Rattle.ss_sql_type.specs.Refusals.{fault_unless}
 use Rattle.ss_sql_type.specs.Kinds.{fits, first_needs, others, may_be_value, may_compare, value_kind}
 use Rattle.ss_sql_type.specs.Names.{Reach}
 use Rattle.ss_sql_type.specs.Expressions.{Typed, level, typed_expr, expr_faults}
-use Rattle.ss_sql_type.specs.Items.{item_kind, typed_item, given_faults, item_faults, items_faults, groups_faults, crowd_faults, test_faults, order_faults}
+use Rattle.ss_sql_type.specs.Items.{item_kind, typed_item, given_faults, item_faults, items_faults, groups_faults, item_limit_faults, test_faults, order_faults}
 use Rattle.ss_sql_type.specs.Queries.{query_reach, unknown_faults, join_faults, grouped_columns, query_faults, typed_query}
 use Rattle.ss_sql_type.specs.Statements.{bare, first_kind, right_faults, condition_faults, typed_condition}
 use Rattle.ss_sql_type.specs.Agrees.{Agrees}
@@ -115,7 +115,7 @@ module _ (scope : Scope) (s : Schemas) (agrees : Agrees scope s) where
       let f2 = join_faults reach q.from q.joined in
       let f3 = groups_faults reach q.groups in
       let f5 = items_faults reach g [] q.items in
-      let rest = crowd_faults (slice_get q.items 16) ++ (test_faults reach q.test ++ flat_map (order_faults (length q.items)) q.order) in
+      let rest = item_limit_faults (slice_get q.items 16) ++ (test_faults reach q.test ++ flat_map (order_faults (length q.items)) q.order) in
       let h1 = none_right f1 (f2 ++ (f3 ++ (f5 ++ rest))) e0 in
       let h2 = none_right f2 (f3 ++ (f5 ++ rest)) h1 in
       let h3 = none_right f3 (f5 ++ rest) h2 in

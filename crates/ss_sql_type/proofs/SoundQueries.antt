@@ -1,10 +1,10 @@
 -- A query without faults is well typed.
-use Rattle.std.proofs.Common.{◌≡◌, ℕ, zero, suc, refl, sym, ap, ◌∙◌, subst, arith, Bool, true, false, List, [], ◌∷◌, ◌++◌, map, Option, Some, None, get_or, length, inl, inr}
+use Rattle.std.proofs.Common.{◌≡◌, ℕ, zero, suc, refl, sym, ap, ◌∙◌, subst, arith, Bool, true, false, List, [], ◌∷◌, ◌++◌, map, Option, Some, None, get_or, length, inl, inr, eqb-true}
 use Rattle.std.specs.Prelude.{slice_get, find, Contains, ◌&&◌, ◌||◌, ◌==◌, not, nat_le, Result, Ok, Err, cond, min}
 use Rattle.std.specs.Option.{option_map}
 use Rattle.std.specs.List.{list_any, list_all, flat_map, cons_option}
 use Rattle.std.proofs.lemmas.Bool.Decides.{nat_tests}
-use Rattle.std.proofs.Common.{eqb-true}
+use Rattle.std.proofs.lemmas.Bool.{and_from, or_parts}
 use Rattle.ss_value.specs.declared.schema.Column.{Column}
 use Rattle.ss_value.specs.declared.schema.ColType.{ColType}
 use Rattle.ss_value.specs.declared.schema.ColType.TheVariants as column
@@ -17,8 +17,8 @@ use Rattle.ss_sql_lex.specs.declared.tree.JoinTree.{JoinTree}
 use Rattle.ss_sql_lex.specs.declared.tree.OrderTree.{OrderTree}
 use Rattle.ss_sql_lex.specs.declared.tree.QueryTree.{QueryTree}
 use Rattle.ss_sql_lex.specs.declared.typed.ColAt.{ColAt}
-use Rattle.ss_sql_rules.specs.WellTyped.{ExprType, Schemas, is_type, is_value_type, are_comparable, schema_type, typed_when, expr_type, test_typed, item_type, query_aggregated, item_grouped, types_fit, query_sources, column_at, join_typed, query_types, order_typed, query_typed, column_type, is_aggregate as is_typed_aggregate}
-use Rattle.ss_sql_rules.specs.WellTyped.ExprType.{IntType, TextType, BoolType}
+use Rattle.ss_sql_lex.specs.WellTyped.{ExprType, Schemas, is_type, is_value_type, are_comparable, schema_type, typed_when, expr_type, test_typed, item_type, query_aggregated, item_grouped, types_fit, query_sources, column_at, join_typed, query_types, order_typed, query_typed, column_type, is_aggregate as is_typed_aggregate}
+use Rattle.ss_sql_lex.specs.WellTyped.ExprType.{IntType, TextType, BoolType}
 use Rattle.ss_sql_type.specs.declared.scope.Named.{Named}
 use Rattle.ss_sql_type.specs.declared.scope.Scope.{Scope}
 use Rattle.ss_sql_type.specs.declared.scope.TypeError.{TypeError}
@@ -31,10 +31,9 @@ use Rattle.ss_sql_type.specs.Refusals.{fault_unless}
 use Rattle.ss_sql_type.specs.Kinds.{kind_of, may_be_value, may_compare, fits, first_needs, others, value_kind}
 use Rattle.ss_sql_type.specs.Names.{Reach, same_name, named, columns_of, resolve, known, name_faults, known_kind, source_columns, column_place}
 use Rattle.ss_sql_type.specs.Expressions.{typed_expr, expr_faults}
-use Rattle.ss_sql_type.specs.Items.{typed_item, given_faults, item_faults, items_faults, crowd_faults, is_aggregate, typed_value, values_faults, test_faults, typed_groups, groups_faults, nat_of, typed_order, order_faults}
+use Rattle.ss_sql_type.specs.Items.{typed_item, given_faults, item_faults, items_faults, item_limit_faults, is_aggregate, typed_value, values_faults, test_faults, typed_groups, groups_faults, nat_of, typed_order, order_faults}
 use Rattle.ss_sql_type.specs.Queries.{joined_source, query_reach, source_id, unknown_faults, column_or_first, typed_join, join_faults, is_aggregated, grouped_columns, count_faults, wanted, faults_within, typed_within}
 use Rattle.ss_sql_type.specs.Agrees.{Agrees, out_fits}
-use Rattle.ss_sql_type.proofs.FewColumns.{true_both}
 use Rattle.ss_sql_type.proofs.Sound.{none_left, none_right, no_fault, type_of, same_kind, compared, HasKind, resolved, Covers, all_grouped, expr_sound}
 
 -- ---- what a place needs
@@ -133,7 +132,7 @@ module _ (sources : List (List Column)) (reach : Reach) (grouped : Option (List 
   items_values : (columns : List Column) (items : List ItemTree) → items_faults reach grouped columns items ≡ [] → list_all is_value_type (types_of items) ≡ true
   items_values columns [] e = refl
   items_values columns (item ∷ items) e =
-      true_both (is_value_type (item_type sources reach.params (typed_item reach grouped item))) (list_all is_value_type (types_of items))
+      and_from (is_value_type (item_type sources reach.params (typed_item reach grouped item))) (list_all is_value_type (types_of items))
       (needs_value columns _ (item_sound (first_needs columns) item (none_left (item_faults reach grouped (first_needs columns) item) (items_faults reach grouped (others columns) items) e)))
       (items_values (others columns) items (none_right (item_faults reach grouped (first_needs columns) item) (items_faults reach grouped (others columns) items) e))
 
@@ -142,7 +141,7 @@ module _ (sources : List (List Column)) (reach : Reach) (grouped : Option (List 
   items_fit (c ∷ columns) [] n e = absurd (omega arith)
   items_fit [] (item ∷ items) n e = absurd (omega arith)
   items_fit (c ∷ columns) (item ∷ items) n e =
-      true_both (is_type (column_type c.kind) (item_type sources reach.params (typed_item reach grouped item))) (types_fit (types_of items) columns)
+      and_from (is_type (column_type c.kind) (item_type sources reach.params (typed_item reach grouped item))) (types_fit (types_of items) columns)
       (column_needed c.kind _ (item_sound (Only (kind_of c.kind)) item (none_left (item_faults reach grouped (Only (kind_of c.kind)) item) (items_faults reach grouped columns items) e)))
       (items_fit columns items (omega arith) (none_right (item_faults reach grouped (Only (kind_of c.kind)) item) (items_faults reach grouped columns items) e))
 
@@ -151,7 +150,7 @@ module _ (sources : List (List Column)) (reach : Reach) (grouped : Option (List 
   values_fit (c ∷ columns) [] n e = absurd (omega arith)
   values_fit [] (x ∷ values) n e = absurd (omega arith)
   values_fit (c ∷ columns) (x ∷ values) n e =
-      true_both (is_type (column_type c.kind) (expr_type sources reach.params (typed_value reach x))) (types_fit (map (expr_type sources reach.params) (map (typed_value reach) values)) columns)
+      and_from (is_type (column_type c.kind) (expr_type sources reach.params (typed_value reach x))) (types_fit (map (expr_type sources reach.params) (map (typed_value reach) values)) columns)
       (column_needed c.kind _ (placed_sound sources reach None covers (Only (kind_of c.kind)) x (none_left (expr_faults reach None (Only (kind_of c.kind)) x) (values_faults reach columns values) e)))
       (values_fit columns values (omega arith) (none_right (expr_faults reach None (Only (kind_of c.kind)) x) (values_faults reach columns values) e))
 
@@ -167,7 +166,7 @@ module _ (sources : List (List Column)) (reach : Reach) (groups : List ColAt) (c
   items_grouped : (columns : List Column) (items : List ItemTree) → items_faults reach (Some groups) columns items ≡ [] → list_all (item_grouped groups) (map (typed_item reach (Some groups)) items) ≡ true
   items_grouped columns [] e = refl
   items_grouped columns (item ∷ items) e =
-      true_both (item_grouped groups (typed_item reach (Some groups) item)) (list_all (item_grouped groups) (map (typed_item reach (Some groups)) items))
+      and_from (item_grouped groups (typed_item reach (Some groups) item)) (list_all (item_grouped groups) (map (typed_item reach (Some groups)) items))
       (item_is_grouped (first_needs columns) item (none_left (item_faults reach (Some groups) (first_needs columns) item) (items_faults reach (Some groups) (others columns) items) e))
       (items_grouped (others columns) items (none_right (item_faults reach (Some groups) (first_needs columns) item) (items_faults reach (Some groups) (others columns) items) e))
 
@@ -203,7 +202,7 @@ one_order count o e =
 orders_sound : (count : ℕ) (orders : List OrderTree) → flat_map (order_faults count) orders ≡ [] → list_all (order_typed count) (map typed_order orders) ≡ true
 orders_sound count [] e = refl
 orders_sound count (o ∷ orders) e =
-    true_both (order_typed count (typed_order o)) (list_all (order_typed count) (map typed_order orders))
+    and_from (order_typed count (typed_order o)) (list_all (order_typed count) (map typed_order orders))
     (one_order count o (none_left (order_faults count o) (flat_map (order_faults count) orders) e))
     (orders_sound count orders (none_right (order_faults count o) (flat_map (order_faults count) orders) e))
 
@@ -213,9 +212,9 @@ not_crowded (suc n) [] e = grind (arith, nat_tests)
 not_crowded zero (x ∷ items) e = absurd cc
 not_crowded (suc n) (x ∷ items) e = let h = not_crowded n items e in grind (arith, nat_tests)
 
-no_crowd : (o : Option ItemTree) → crowd_faults o ≡ [] → o ≡ None
-no_crowd None e = refl
-no_crowd (Some item) e = absurd cc
+within_item_limit : (o : Option ItemTree) → item_limit_faults o ≡ [] → o ≡ None
+within_item_limit None e = refl
+within_item_limit (Some item) e = absurd cc
 
 -- ---- sources
 
@@ -304,7 +303,7 @@ group_step : (sources : List (List Column)) (reach : Reach) → Covers sources r
 group_step sources reach covers tree rest (Err f) is h = h
 group_step sources reach covers tree rest (Ok c) is h =
     let stands = resolved reach tree c is in
-    true_both (is_value_type (column_at sources c)) (list_all (λ c. is_value_type (column_at sources c)) rest)
+    and_from (is_value_type (column_at sources c)) (list_all (λ c. is_value_type (column_at sources c)) rest)
     (ap (λ (l : List Column). is_value_type (schema_type l c.column)) (covers.source c.source stands.which) ∙ column_value (source_columns reach c.source) c.column stands.has) h
 
 groups_sound : (sources : List (List Column)) (reach : Reach) → Covers sources reach → (groups : List ColumnTree) → list_all (λ c. is_value_type (column_at sources c)) (typed_groups reach groups) ≡ true
@@ -317,10 +316,6 @@ or_true : (a b : Bool) → b ≡ true → (a || b) ≡ true
 or_true true b e = refl
 or_true false b e = e
 
-both_false : (a b : Bool) → (a || b) ≡ false → (a ≡ false) × (b ≡ false)
-both_false true b e = absurd cc
-both_false false b e = (refl, e)
-
 not_aggregated : (a b c : Bool) → a ≡ false → b ≡ false → (not (a || b) || c) ≡ true
 not_aggregated a b c e f = rw (e, f) refl
 
@@ -331,7 +326,7 @@ items_are_grouped : (sources : List (List Column)) (reach : Reach) → Covers so
     → (not (list_any is_typed_aggregate (map (typed_item reach (cond b (Some (typed_groups reach groups)) None)) items) || nat_le 1 (length (typed_groups reach groups))) || list_all (item_grouped (typed_groups reach groups)) (map (typed_item reach (cond b (Some (typed_groups reach groups)) None)) items)) ≡ true
 items_are_grouped sources reach covers columns items groups true is e = or_true _ _ (items_grouped sources reach (typed_groups reach groups) covers columns items e)
 items_are_grouped sources reach covers columns items groups false is e =
-    let parts = both_false (list_any is_aggregate items) (nat_le 1 (length groups)) is in
+    let parts = or_parts (list_any is_aggregate items) (nat_le 1 (length groups)) is in
     not_aggregated _ _ _ (same_aggregates reach None items ∙ parts.0) (no_groups reach groups parts.1)
 
 module _ (scope : Scope) (s : Schemas) (agrees : Agrees scope s) where
@@ -372,7 +367,7 @@ module _ (scope : Scope) (s : Schemas) (agrees : Agrees scope s) where
       let f3 = groups_faults reach q.groups in
       let f4 = count_faults columns (length q.items) at in
       let f5 = items_faults reach g (wanted columns) q.items in
-      let f6 = crowd_faults (slice_get q.items 16) in
+      let f6 = item_limit_faults (slice_get q.items 16) in
       let f7 = test_faults reach q.test in
       let f8 = flat_map (order_faults (length q.items)) q.order in
       let e1 = none_right f1 (f2 ++ (f3 ++ (f4 ++ (f5 ++ (f6 ++ (f7 ++ f8)))))) e in
@@ -395,7 +390,7 @@ module _ (scope : Scope) (s : Schemas) (agrees : Agrees scope s) where
       let groups : list_all (λ c. is_value_type (column_at sources c)) t.groups ≡ true = groups_sound sources reach covers q.groups in
       let grouped : (not (query_aggregated t) || list_all (item_grouped t.groups) t.items) ≡ true = items_are_grouped sources reach covers (wanted columns) q.items q.groups (is_aggregated q) refl n5 in
       let orders : list_all (order_typed (length t.items)) t.order ≡ true = subst (λ (n : ℕ). list_all (order_typed n) t.order ≡ true) (sym (long_map (typed_item reach g) q.items)) (orders_sound (length q.items) q.order n8) in
-      let few : nat_le (length t.items) 16 ≡ true = subst (λ (n : ℕ). nat_le n 16 ≡ true) (sym (long_map (typed_item reach g) q.items)) (not_crowded 16 q.items (no_crowd (slice_get q.items 16) n6)) in
+      let few : nat_le (length t.items) 16 ≡ true = subst (λ (n : ℕ). nat_le n 16 ≡ true) (sym (long_map (typed_item reach g) q.items)) (not_crowded 16 q.items (within_item_limit (slice_get q.items 16) n6)) in
       rw (joins, tests, values, groups, grouped, orders, few) refl
 
   pub query_fits : (cs : List Column) (at : ℕ) (q : QueryTree) → faults_within (query_reach scope q) (Some cs) at q ≡ [] → types_fit (query_types s (typed_within (query_reach scope q) q)) cs ≡ true
@@ -408,7 +403,7 @@ module _ (scope : Scope) (s : Schemas) (agrees : Agrees scope s) where
       let f3 = groups_faults reach q.groups in
       let f4 = count_faults (Some cs) (length q.items) at in
       let f5 = items_faults reach g cs q.items in
-      let rest = crowd_faults (slice_get q.items 16) ++ (test_faults reach q.test ++ flat_map (order_faults (length q.items)) q.order) in
+      let rest = item_limit_faults (slice_get q.items 16) ++ (test_faults reach q.test ++ flat_map (order_faults (length q.items)) q.order) in
       let e1 = none_right f1 (f2 ++ (f3 ++ (f4 ++ (f5 ++ rest)))) e in
       let e2 = none_right f2 (f3 ++ (f4 ++ (f5 ++ rest))) e1 in
       let e3 = none_right f3 (f4 ++ (f5 ++ rest)) e2 in

@@ -1,8 +1,8 @@
 -- A statement or a condition without faults is well typed.
-use Rattle.std.proofs.Common.{◌≡◌, ℕ, refl, sym, ap, ◌∙◌, subst, Bool, true, false, List, [], ◌∷◌, ◌++◌, map, Option, Some, None, get_or, length, inl, inr}
+use Rattle.std.proofs.Common.{◌≡◌, ℕ, refl, sym, ap, ◌∙◌, subst, Bool, true, false, List, [], ◌∷◌, ◌++◌, map, Option, Some, None, get_or, length, inl, inr, eqb-true}
 use Rattle.std.specs.Prelude.{find, ◌&&◌, ◌==◌, not, cond, is_some, unwrap_or}
 use Rattle.std.specs.Option.{option_map}
-use Rattle.std.proofs.Common.{eqb-true}
+use Rattle.std.proofs.lemmas.Bool.{and_from, and_parts}
 use Rattle.ss_value.specs.declared.schema.Column.{Column}
 use Rattle.ss_sql_lex.specs.declared.tree.ExprTree.{ExprTree}
 use Rattle.ss_sql_lex.specs.declared.tree.SetTree.{SetTree}
@@ -13,7 +13,7 @@ use Rattle.ss_sql_lex.specs.declared.typed.SourceId.{SourceId}
 use Rattle.ss_sql_lex.specs.declared.typed.SourceId.TheVariants as source
 use Rattle.ss_sql_lex.specs.declared.typed.Target.{Target}
 use Rattle.ss_sql_lex.specs.declared.typed.Target.TheVariants as target
-use Rattle.ss_sql_rules.specs.WellTyped.{ExprType, Schemas, schema_type, expr_type, test_typed, types_fit, has_type, is_among, sets_typed, query_typed, query_types, statement_typed}
+use Rattle.ss_sql_lex.specs.WellTyped.{ExprType, Schemas, schema_type, expr_type, test_typed, types_fit, has_type, is_among, sets_typed, query_typed, query_types, statement_typed}
 use Rattle.ss_sql_type.specs.declared.scope.Named.{Named}
 use Rattle.ss_sql_type.specs.declared.scope.Scope.{Scope}
 use Rattle.ss_sql_type.specs.declared.scope.TypeError.TheVariants.{KeyIsSet, WrongCount}
@@ -26,7 +26,6 @@ use Rattle.ss_sql_type.specs.Items.{typed_value, values_faults, test_faults}
 use Rattle.ss_sql_type.specs.Queries.{unknown_faults, count_faults, wanted, query_faults, typed_query}
 use Rattle.ss_sql_type.specs.Statements.{target_of, table_of, insert_target, table_named, target_or_first, table_or_first, columns_in, key_of, bare, of_table, has, column_faults, kind_needs, set_needs, with_column, set_column, set_faults, sets_faults, typed_set, insert_faults, statement_faults, typed_statement}
 use Rattle.ss_sql_type.specs.Agrees.{Agrees}
-use Rattle.ss_sql_type.proofs.FewColumns.{both_true, true_both}
 use Rattle.ss_sql_type.proofs.Sound.{none_left, none_right, no_fault, named_kind, Covers}
 use Rattle.ss_sql_type.proofs.SoundQueries.{found_there, known_source, placed_sound, test_sound, values_fit, one_covered, query_sound, query_fits}
 
@@ -52,7 +51,7 @@ module _ (scope : Scope) (s : Schemas) (agrees : Agrees scope s) where
       let test = λ (n : Named). same_name n.name name && is_some (target_of n.source) in
       let k = known_source (insert_target scope name) at e in
       let there = found_there scope.targets test k.0 k.1 in
-      let t = some_is (target_of k.0.source) (both_true (same_name k.0.name name) (is_some (target_of k.0.source)) (found_passes scope.targets test k.0 k.1)).1 in
+      let t = some_is (target_of k.0.source) (and_parts (same_name k.0.name name) (is_some (target_of k.0.source)) (found_passes scope.targets test k.0 k.1)).1 in
       ap (λ (o : Option Named). s.targets (target_or_first o)) k.1
       ∙ ap (λ (o : Option Target). s.targets (unwrap_or o (target.Table 0))) t.1
       ∙ agrees.targets k.0 t.0 there t.1
@@ -70,7 +69,7 @@ module _ (scope : Scope) (s : Schemas) (agrees : Agrees scope s) where
       let test = λ (n : Named). same_name n.name name && is_some (table_of n.source) in
       let k = known_source (table_named scope name) at e in
       let there = found_there scope.targets test k.0 k.1 in
-      let t = some_is (table_of k.0.source) (both_true (same_name k.0.name name) (is_some (table_of k.0.source)) (found_passes scope.targets test k.0 k.1)).1 in
+      let t = some_is (table_of k.0.source) (and_parts (same_name k.0.name name) (is_some (table_of k.0.source)) (found_passes scope.targets test k.0 k.1)).1 in
       let number : table_or_first (table_named scope name) ≡ t.0 = ap table_or_first k.1 ∙ ap (λ (o : Option ℕ). unwrap_or o 0) t.1 in (
         ap (λ (x : ℕ). s.targets (target.Table x)) number ∙ agrees.targets k.0 (target.Table t.0) there (table_is_target k.0.source t.0 t.1) ∙ sym (ap columns_of k.1),
         ap s.keys number ∙ agrees.keys k.0 t.0 there t.1 ∙ sym (ap key_of k.1),
@@ -92,10 +91,6 @@ module _ (scope : Scope) (s : Schemas) (agrees : Agrees scope s) where
   insert_query_sound at q (Some n) u e = query_fits scope s agrees n.schema at q e
 
   -- ---- SET
-
-  no_key : (b : Bool) → not b ≡ true → b ≡ false
-  no_key true e = absurd cc
-  no_key false e = refl
 
   module _ (table : Option Named) where
     one_set : (key earlier : List ℕ) (set : SetTree) (c : Option ℕ) → set_column (of_table scope table) set ≡ c
@@ -153,7 +148,7 @@ module _ (scope : Scope) (s : Schemas) (agrees : Agrees scope s) where
       let u = none_left (unknown_faults given t.at) (query_faults scope (columns_in given) t.at q) e in
       let f = none_right (unknown_faults given t.at) (query_faults scope (columns_in given) t.at q) e in
       let known = target_known t.name t.at u in
-      true_both (query_typed s (typed_query scope q)) (types_fit (query_types s (typed_query scope q)) (s.targets (target_or_first given)))
+      and_from (query_typed s (typed_query scope q)) (types_fit (query_types s (typed_query scope q)) (s.targets (target_or_first given)))
       (query_sound scope s agrees (columns_in given) t.at q f)
       (subst (λ (l : List Column). types_fit (query_types s (typed_query scope q)) l ≡ true) (sym known) (insert_query_sound t.at q given u f))
   statement_sound (tree.Update at t sets test) e =
@@ -167,7 +162,7 @@ module _ (scope : Scope) (s : Schemas) (agrees : Agrees scope s) where
       let test_typed_on = λ (l : List Column). test_typed (l ∷ []) s.params (option_map (typed_value (of_table scope table)) test) in
       let columns = s.targets (target.Table (table_or_first table)) in
       let key = s.keys (table_or_first table) in
-      true_both (sets_typed_on columns key) (test_typed_on columns)
+      and_from (sets_typed_on columns key) (test_typed_on columns)
       (subst (λ (l : List Column). sets_typed_on l key ≡ true) (sym known.0) (subst (λ (k : List ℕ). sets_typed_on (columns_of table) k ≡ true) (sym known.1) (sets_sound table (key_of table) [] sets (none_left b c rest))))
       (subst (λ (l : List Column). test_typed_on l ≡ true) (sym known.0) (where_sound table test (none_right b c rest)))
   statement_sound (tree.Delete at t test) e =

@@ -1,5 +1,5 @@
 -- One turn of a loop over items or values that go into columns.
-use Rattle.std.proofs.Common.{◌≡◌, ℕ, suc, ◌+◌, ◌<◌, sym, ap, ◌∙◌, add-one, List, [], ◌∷◌, ◌++◌, Option, None, Some, refl, length, get_or, map, take, drop, drop-cons}
+use Rattle.std.proofs.Common.{◌≡◌, ℕ, ◌+◌, ◌<◌, sym, ap, ◌∙◌, add-one, List, [], ◌∷◌, ◌++◌, Option, None, Some, refl, length, get_or, map, take}
 use Rattle.std.specs.Prelude.{◌==◌, ◌||◌, not}
 use Rattle.std.proofs.Math.Seq.{take-suc}
 use Rattle.std.proofs.lemmas.List.Folds.{list_any-append}
@@ -19,10 +19,6 @@ use Rattle.ss_sql_type.specs.Expressions.{expr_faults}
 use Rattle.ss_sql_type.specs.Items.{item_faults, items_faults, values_faults}
 use Rattle.ss_sql_type.specs.Statements.{has, column_faults, set_needs, with_column, set_column, set_faults, sets_faults}
 use Rattle.ss_sql_type.proofs.Noted.{all_noted_append}
-
--- the item at hand, and what stands behind it
-pub next : {X : Type 0} (xs : List X) (i : ℕ) (x : X) → i < length xs → x ≡ get_or xs i x → drop i xs ≡ x ∷ drop (i + 1) xs
-next xs i x h e = rw add-one (drop-cons xs i x h ∙ ap (λ y. y ∷ drop (suc i) xs) (sym e))
 
 module _ (reach : Reach) (a b : Option TypeError) (rest cs : List Column) (needs : Needs) where
   pub item_step : (grouped : Option (List ColAt)) (xs ys : List ItemTree) (x : ItemTree) → xs ≡ x ∷ ys → needs ≡ first_needs rest → cs ≡ others rest → b ≡ all_noted a (item_faults reach grouped needs x) → all_noted b (items_faults reach grouped cs ys) ≡ all_noted a (items_faults reach grouped rest xs)

@@ -14,7 +14,7 @@ use Rattle.ss_sql_lex.specs.declared.typed.BinaryOp.TheVariants.{Compare}
 use Rattle.ss_sql_lex.specs.declared.typed.ColAt.{ColAt}
 use Rattle.ss_sql_lex.specs.declared.typed.Expr.{Expr}
 use Rattle.ss_sql_lex.specs.declared.typed.Expr.TheVariants.{Lit, Param, Col, Unary, Binary}
-use Rattle.ss_sql_rules.specs.WellTyped.{is_column}
+use Rattle.ss_sql_lex.specs.WellTyped.{is_column}
 use Rattle.ss_sql_type.specs.declared.scope.TypeError.{TypeError}
 use Rattle.ss_sql_type.specs.declared.scope.TypeError.TheVariants.{UnknownName, WrongType, NotAggregated}
 use Rattle.ss_sql_type.specs.declared.expr.TypedExpr.{TypedExpr}
@@ -64,7 +64,7 @@ typed_column reach grouped at tree found = record {
 abbrev pub side_faults : Kind → Typed → List TypeError
 side_faults kind side = fault_unless (may_be kind side.kind) (WrongType side.at)
 
--- both sides are of the type that it takes, and those of a comparison of one type, told at the right side
+-- both sides are of the type that it takes, and those of a comparison of one type, reported at the right side
 abbrev pub sides_faults : BinaryOp → Typed → Typed → List TypeError
 sides_faults (Compare cmp) left right = fault_unless (may_compare left.kind right.kind) (WrongType right.at)
 sides_faults op left right = side_faults (gives op) left ++ side_faults (gives op) right

@@ -50,7 +50,7 @@ typed_item reach grouped (tree.Min at side) = Min (typed_expr reach None side).e
 typed_item reach grouped (tree.Max at side) = Max (typed_expr reach None side).expr
 typed_item reach grouped (tree.Plain e) = Plain (typed_expr reach grouped e).expr
 
--- an aggregate gives what the place of the item needs, told at its keyword
+-- an aggregate gives what the place of the item needs, reported at its keyword
 abbrev pub given_faults : Needs → Option Kind → ℕ → List TypeError
 given_faults needs kind at = fault_unless (fits needs kind) (WrongType at)
 
@@ -68,9 +68,9 @@ items_faults reach grouped columns [] = []
 items_faults reach grouped columns (item ∷ items) = item_faults reach grouped (first_needs columns) item ++ items_faults reach grouped (others columns) items
 
 -- a 17th item is one too many
-abbrev pub crowd_faults : Option ItemTree → List TypeError
-crowd_faults None = []
-crowd_faults (Some item) = WrongCount (item_place item) ∷ []
+abbrev pub item_limit_faults : Option ItemTree → List TypeError
+item_limit_faults None = []
+item_limit_faults (Some item) = WrongCount (item_place item) ∷ []
 
 -- COUNT, SUM, MIN or MAX
 abbrev pub is_aggregate : ItemTree → Bool

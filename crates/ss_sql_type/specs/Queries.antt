@@ -20,7 +20,7 @@ use Rattle.ss_sql_type.specs.declared.scope.TypeError.TheVariants.{UnknownName, 
 use Rattle.ss_sql_type.specs.Refusals.{fault_unless}
 use Rattle.ss_sql_type.specs.Kinds.{may_compare}
 use Rattle.ss_sql_type.specs.Names.{Reach, same_name, named, resolve, column_place, column_of, known, name_faults, known_kind}
-use Rattle.ss_sql_type.specs.Items.{typed_item, items_faults, crowd_faults, is_aggregate, typed_value, test_faults, typed_groups, groups_faults, nat_of, typed_order, order_faults}
+use Rattle.ss_sql_type.specs.Items.{typed_item, items_faults, item_limit_faults, is_aggregate, typed_value, test_faults, typed_groups, groups_faults, nat_of, typed_order, order_faults}
 
 -- 256 columns at most
 abbrev pub is_short : List Column → Bool
@@ -97,7 +97,7 @@ wanted columns = unwrap_or columns []
 abbrev pub limit_of : NumberTree → ℕ
 limit_of n = nat_of n.value
 
--- the rules that a query breaks whose rows go into these columns; a wrong number of them is told at this place
+-- the rules that a query breaks whose rows go into these columns; a wrong number of them is reported at this place
 abbrev pub faults_within : Reach → Option (List Column) → ℕ → QueryTree → List TypeError
 faults_within reach columns at q =
     unknown_faults reach.first q.from.at
@@ -105,7 +105,7 @@ faults_within reach columns at q =
     ++ (groups_faults reach q.groups
     ++ (count_faults columns (length q.items) at
     ++ (items_faults reach (grouped_columns reach q) (wanted columns) q.items
-    ++ (crowd_faults (slice_get q.items 16)
+    ++ (item_limit_faults (slice_get q.items 16)
     ++ (test_faults reach q.test
     ++ flat_map (order_faults (length q.items)) q.order))))))
 

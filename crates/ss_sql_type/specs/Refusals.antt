@@ -30,7 +30,7 @@ pub record IsLeast (faults : List TypeError) (fault : TypeError) : Type 0 where
   pub among : Contains faults fault
   pub first : (other : TypeError) → Contains faults other → is_before other fault ≡ false
 
--- a refusal is the least fault; want of memory says nothing
+-- a refusal is the least fault; out of memory says nothing
 abbrev pub IsRefusal : List TypeError → TypeError → Type 0
 IsRefusal faults NoMemory = Unit {0}
 IsRefusal faults fault = IsLeast faults fault

@@ -5,6 +5,8 @@ use Rattle.std.specs.Option.{option_map}
 use Rattle.ss_value.specs.declared.schema.Column.{Column}
 use Rattle.ss_sql_lex.specs.declared.tree.ExprTree.{ExprTree}
 use Rattle.ss_sql_lex.specs.declared.tree.ItemTree.{ItemTree}
+use Rattle.ss_sql_lex.specs.declared.tree.NameTree.{NameTree}
+use Rattle.ss_sql_lex.specs.declared.tree.QueryTree.{QueryTree}
 use Rattle.ss_sql_lex.specs.declared.tree.SetTree.{SetTree}
 use Rattle.ss_sql_lex.specs.declared.tree.ConditionTree.{ConditionTree}
 use Rattle.ss_sql_lex.specs.declared.tree.StatementTree.{StatementTree}
@@ -126,15 +128,15 @@ typed_set reach s = record { column = unwrap_or (set_column reach s) 0; value = 
 -- ---- statements
 
 -- the rules that an UPDATE of this table breaks
-abbrev pub update_faults : Scope → Option Named → ℕ → List SetTree → Option ExprTree → List TypeError
-update_faults scope table at sets test =
-    unknown_faults table at
-    ++ (sets_faults (of_table scope table) (key_of table) [] sets
-    ++ test_faults (of_table scope table) test)
+abbrev pub update_faults : Scope → NameTree → List SetTree → Option ExprTree → List TypeError
+update_faults scope table sets test =
+    unknown_faults (table_named scope table.name) table.at
+    ++ (sets_faults (of_table scope (table_named scope table.name)) (key_of (table_named scope table.name)) [] sets
+    ++ test_faults (of_table scope (table_named scope table.name)) test)
 
 -- the rules that a DELETE from this table breaks
-abbrev pub delete_faults : Scope → Option Named → ℕ → Option ExprTree → List TypeError
-delete_faults scope table at test = unknown_faults table at ++ test_faults (of_table scope table) test
+abbrev pub delete_faults : Scope → NameTree → Option ExprTree → List TypeError
+delete_faults scope table test = unknown_faults (table_named scope table.name) table.at ++ test_faults (of_table scope (table_named scope table.name)) test
 
 -- the rules that an INSERT of values into this target breaks
 abbrev pub insert_faults : Scope → Option Named → ℕ → List ExprTree → List TypeError
@@ -143,13 +145,16 @@ insert_faults scope given at values =
     ++ (count_faults (columns_in given) (length values) at
     ++ values_faults (bare scope) (wanted (columns_in given)) values)
 
+-- the rules that an INSERT of a query's rows into this target breaks
+abbrev pub insert_query_faults : Scope → Option Named → ℕ → QueryTree → List TypeError
+insert_query_faults scope given at q = unknown_faults given at ++ query_faults scope (columns_in given) at q
+
 -- the rules that a statement breaks
 abbrev pub statement_faults : Scope → StatementTree → List TypeError
 statement_faults scope (tree.InsertValues at target values) = insert_faults scope (insert_target scope target.name) target.at values
-statement_faults scope (tree.InsertQuery at target q) =
-    unknown_faults (insert_target scope target.name) target.at ++ query_faults scope (columns_in (insert_target scope target.name)) target.at q
-statement_faults scope (tree.Update at table sets test) = update_faults scope (table_named scope table.name) table.at sets test
-statement_faults scope (tree.Delete at table test) = delete_faults scope (table_named scope table.name) table.at test
+statement_faults scope (tree.InsertQuery at target q) = insert_query_faults scope (insert_target scope target.name) target.at q
+statement_faults scope (tree.Update at table sets test) = update_faults scope table sets test
+statement_faults scope (tree.Delete at table test) = delete_faults scope table test
 
 -- the typed tree of an UPDATE of this table
 abbrev pub typed_update : Scope → Option Named → List SetTree → Option ExprTree → Statement

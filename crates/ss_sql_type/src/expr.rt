@@ -7,7 +7,7 @@ ghost use Rattle.ss_sql_type.specs.Refusals.{all_noted};
 ghost use Rattle.ss_sql_type.specs.Names.{is_narrow, resolve, column_named};
 ghost use Rattle.ss_sql_type.specs.Expressions.{typed_param, typed_column, typed_expr, is_grouped, side_faults, sides_faults, grouping, shown, Shows, expr_faults};
 
-use crate::found::{check, note};
+use crate::first_fault::{check, note};
 use crate::grouped::Grouped;
 use crate::kinds::{Kind, Needs, fits, gives, may_be, may_compare, sign_kind};
 use crate::names::{Names, column_place, kind_at, kind_in, resolve};

@@ -2,7 +2,7 @@
 
 ghost use Rattle.std.specs.Prelude.{◌≡◌, IfOk};
 ghost use Rattle.std.specs.List.{list_any};
-ghost use Rattle.ss_sql_rules.specs.WellTyped.{is_column};
+ghost use Rattle.ss_sql_lex.specs.WellTyped.{is_column};
 ghost use Rattle.ss_sql_type.specs.Hashed.{IsSetOf};
 
 use indexmap::IndexSet;
@@ -43,7 +43,7 @@ fn places_of(alloc: Global, columns: &[ColAt]) -> Result<IndexSet<(u8, u8)>, NoM
 }
 
 impl<'a> Grouped<'a> {
-    /// The columns with their set, in time linear in them. Fails only for want of memory.
+    /// The columns with their set, in time linear in them.
     pub fn new(alloc: Global, list: &'a [ColAt]) -> Result<Grouped<'a>, NoMemory>
         ensures { IfOk result (λ columns. columns ≡ list.now) }
     {

@@ -7,13 +7,12 @@ ghost use Rattle.ss_sql_type.specs.Refusals.{all_noted};
 ghost use Rattle.ss_sql_type.specs.Names.{is_narrow};
 ghost use Rattle.ss_sql_type.specs.Expressions.{grouping};
 ghost use Rattle.ss_sql_lex.specs.declared.tree.ItemTree.TheVariants.{Sum, Min};
-ghost use Rattle.ss_sql_type.specs.Items.{item_place, item_kind, typed_item, item_faults, items_faults, crowd_faults, is_aggregate, typed_value, values_faults, test_faults, typed_groups, groups_faults, nat_of, typed_order, order_faults};
+ghost use Rattle.ss_sql_type.specs.Items.{item_place, item_kind, typed_item, item_faults, items_faults, item_limit_faults, is_aggregate, typed_value, values_faults, test_faults, typed_groups, groups_faults, nat_of, typed_order, order_faults};
 
 use crate::expr::{expr_at, kind_of_expr};
-use crate::found::{check, note};
+use crate::first_fault::{check, note};
 use crate::grouped::Grouped;
 use crate::kinds::{Kind, Needs, first_needs, fits, value_kind};
-use crate::lists::push;
 use crate::names::{Names, resolve};
 use crate::scope::TypeError;
 use ss_sql_lex::tree::{ColumnTree, ExprTree, ItemTree, OrderTree};
@@ -153,15 +152,15 @@ pub fn items_of(
     for item in items {
         let (needs, others) = first_needs(rest);
         let item = item_of(alloc, names, grouped, needs, item, found)?;
-        push(&mut typed, item)?;
+        typed.push(item)?;
         rest = others;
     }
     Ok(typed)
 }
 
 /// Notes a 17th item.
-pub fn check_crowd(items: &[ItemTree], found: &mut Option<TypeError>)
-    ensures { found.new ≡ all_noted found.old (crowd_faults (slice_get items.now 16)) }
+pub fn check_item_limit(items: &[ItemTree], found: &mut Option<TypeError>)
+    ensures { found.new ≡ all_noted found.old (item_limit_faults (slice_get items.now 16)) }
 {
     match items.get(16) {
         Some(item) => note(found, TypeError::WrongCount(item_place(item))),
@@ -203,7 +202,7 @@ pub fn values_of(
     for value in values {
         let (needs, others) = first_needs(rest);
         let value = expr_at(alloc, names, None, needs, value, found)?;
-        push(&mut typed, value.expr)?;
+        typed.push(value.expr)?;
         rest = others;
     }
     Ok(typed)
@@ -244,7 +243,7 @@ pub fn groups_of(
     for group in groups {
         match resolve(names, group) {
             Ok(column) => {
-                push(&mut typed, column)?;
+                typed.push(column)?;
             }
             Err(fault) => note(found, fault),
         }
@@ -284,7 +283,7 @@ pub fn order_of(
         let number = nat_of(order.number.value);
         let right = 1 <= number && number <= count as u64;
         check(found, right, TypeError::WrongCount(order.number.at));
-        push(&mut typed, order_by(order))?;
+        typed.push(order_by(order))?;
     }
     Ok(typed)
 }

@@ -12,20 +12,20 @@
 //! So typing takes time linear in the tree, in the sources and targets, and in the columns of those that
 //! are named, as far as hashes spread the names. The hasher's seed is fixed. Walked are what is looked up
 //! a few times: the sources at most twice a tree, the targets once, and at each SET the key of its table.
+//! Any call that allocates may instead return `NoMemory`.
 //!
-//! The tests stand in `ss_sql_type_tests`.
+//! The tests are cases of `ss_cases`: texts with the types or faults that a person reads off the rules.
 #![tactic(auto)]
 
+pub mod column_limit;
 pub mod columns;
 pub mod expr;
-pub mod found;
+pub mod first_fault;
 pub mod grouped;
 pub mod items;
 pub mod kinds;
 pub mod laws;
-pub mod lists;
 pub mod names;
-pub mod narrow;
 pub mod query;
 pub mod scope;
 pub mod statement;

@@ -46,7 +46,7 @@ impl<'a> Model for Names<'a> {
 impl<'a> Names<'a> {
     /// The names of at most two sources and of the parameters, in time linear in their columns.
     ///
-    /// Takes a table of hashes for each of these lists. Fails only for want of memory.
+    /// Takes a table of hashes for each of these lists.
     pub fn new(
         alloc: Global,
         first: Option<&'a Named>,

@@ -8,9 +8,11 @@ ghost use Rattle.ss_sql_type.specs.Expressions.{grouping};
 ghost use Rattle.ss_sql_type.specs.Items.{typed_item, items_faults, typed_groups};
 ghost use Rattle.ss_sql_type.specs.Queries.{scope_narrow, query_reach, joined_source, source_id, unknown_faults, column_or_first, typed_join, join_faults, is_aggregated, grouped_columns, count_faults, wanted, columns_shown, limit_of, faults_within, query_faults, typed_within, typed_query};
 
-use crate::found::{check, note};
+use crate::first_fault::{check, note};
 use crate::grouped::Grouped;
-use crate::items::{check_crowd, groups_of, has_aggregate, items_of, nat_of, order_of, test_of};
+use crate::items::{
+    check_item_limit, groups_of, has_aggregate, items_of, nat_of, order_of, test_of,
+};
 use crate::kinds::{Kind, may_compare};
 use crate::names::{Names, column_place, kind_at, named, resolve, same_name};
 use crate::scope::{Named, Scope, TypeError};
@@ -32,7 +34,7 @@ fn joined_source<'a>(sources: &'a [Named], joined: &Option<JoinTree>) -> Option<
 }
 
 /// What the names in a query may stand for, in time linear in the sources, in the columns of those
-/// that it reads and in the parameters. Fails only for want of memory.
+/// that it reads and in the parameters.
 pub fn query_names<'a>(
     alloc: Global,
     scope: &'a Scope,
@@ -202,7 +204,7 @@ pub fn query_within(
     let groups = groups_of(alloc, names, tree.groups.as_slice(), found)?;
     check_count(columns, tree.items.len(), at, found);
     let items = grouped_items(alloc, names, &groups, wanted(columns), tree, found)?;
-    check_crowd(tree.items.as_slice(), found);
+    check_item_limit(tree.items.as_slice(), found);
     let test = test_of(alloc, names, &tree.test, found)?;
     let order = order_of(alloc, tree.items.len(), tree.order.as_slice(), found)?;
     Ok(Query {

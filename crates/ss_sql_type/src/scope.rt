@@ -32,7 +32,7 @@ pub struct Named {
     pub key: Seq<u8>,
 }
 
-/// Why a tree is refused. All but want of memory have the place of the fault.
+/// Why a tree is refused. All but `NoMemory` have the place of the fault.
 #[derive(Clone, Copy, Debug, PartialEq, Eq, Drop)]
 pub enum TypeError {
     /// There was no memory for the typed tree.

@@ -7,13 +7,12 @@ ghost use Rattle.ss_sql_type.specs.Names.{is_narrow, kind_in};
 ghost use Rattle.ss_sql_type.specs.Expressions.{typed_expr};
 ghost use Rattle.ss_sql_type.specs.Items.{typed_value, test_faults};
 ghost use Rattle.ss_sql_type.specs.Queries.{scope_narrow, query_reach, columns_shown, unknown_faults, query_faults, typed_query};
-ghost use Rattle.ss_sql_type.specs.Statements.{target_of, table_of, insert_target, table_named, target_or_first, table_or_first, columns_in, key_of, bare, of_table, has, column_faults, set_needs, kind_needs, with_column, set_column, set_faults, sets_faults, typed_set, update_faults, delete_faults, typed_update, typed_delete, insert_faults, statement_faults, typed_statement, first_kind, right_faults, condition_faults, typed_condition};
+ghost use Rattle.ss_sql_type.specs.Statements.{target_of, table_of, insert_target, table_named, target_or_first, table_or_first, columns_in, key_of, bare, of_table, has, column_faults, set_needs, kind_needs, with_column, set_column, set_faults, sets_faults, typed_set, update_faults, delete_faults, typed_update, typed_delete, insert_faults, insert_query_faults, statement_faults, typed_statement, first_kind, right_faults, condition_faults, typed_condition};
 
 use crate::expr::{expr_at, expr_of};
-use crate::found::{check, note};
+use crate::first_fault::{check, note};
 use crate::items::{item_kind, test_of, values_of};
 use crate::kinds::{Kind, Needs, may_compare};
-use crate::lists::push;
 use crate::names::{Names, columns_of, kind_in, same_name};
 use crate::query::{check_count, check_known, query_names, query_of, query_within, wanted};
 use crate::scope::{Named, Scope, TypeError};
@@ -113,7 +112,7 @@ fn has(columns: &[u8], column: u8) -> bool
     columns.iter().any(|c| *c == column)
 }
 
-/// Whether a column was set before. Takes the time of a hash.
+/// Whether a column was set before. Takes the time of a hash. A function of its own, since the check needs the step.
 fn was_set(earlier: &IndexSet<u8>, column: u8) -> bool
     ensures { result ≡ has earlier.now.keys column }
 {
@@ -213,7 +212,7 @@ fn sets_of(
     for set in sets {
         let to = set_of(alloc, names, key, &earlier, set, found)?;
         add_column(&mut earlier, set_column(names, set))?;
-        push(&mut typed, to)?;
+        typed.push(to)?;
     }
     Ok(typed)
 }
@@ -267,7 +266,7 @@ fn insert_query(
 ) -> Result<Query, NoMemory>
     requires { IsTrue (scope_narrow scope.now) }
     ensures query { IfOk result (λ typed. typed ≡ typed_query scope.now query.now) }
-    ensures faults { OnOk result (found.new ≡ all_noted found.old (unknown_faults (option_copied given.entry) at ++ query_faults scope.now (columns_in (option_copied given.entry)) at query.now)) }
+    ensures faults { OnOk result (found.new ≡ all_noted found.old (insert_query_faults scope.now (option_copied given.entry) at query.now)) }
 {
     check_known(given, at, found);
     query_of(alloc, scope, columns_in(given), at, query, found)
@@ -284,7 +283,7 @@ fn update_of(
 ) -> Result<Statement, NoMemory>
     requires { IsTrue (scope_narrow scope.now) }
     ensures update { IfOk result (λ typed. typed ≡ typed_update scope.now (table_named scope.now table.now.name) sets.now test.now) }
-    ensures faults { OnOk result (found.new ≡ all_noted found.old (update_faults scope.now (table_named scope.now table.now.name) table.now.at sets.now test.now)) }
+    ensures faults { OnOk result (found.new ≡ all_noted found.old (update_faults scope.now table.now sets.now test.now)) }
 {
     let names = table_names(alloc, scope, &table.name)?;
     let given = names.first();
@@ -308,7 +307,7 @@ fn delete_of(
 ) -> Result<Statement, NoMemory>
     requires { IsTrue (scope_narrow scope.now) }
     ensures delete { IfOk result (λ typed. typed ≡ typed_delete scope.now (table_named scope.now table.now.name) test.now) }
-    ensures faults { OnOk result (found.new ≡ all_noted found.old (delete_faults scope.now (table_named scope.now table.now.name) table.now.at test.now)) }
+    ensures faults { OnOk result (found.new ≡ all_noted found.old (delete_faults scope.now table.now test.now)) }
 {
     let names = table_names(alloc, scope, &table.name)?;
     let given = names.first();

@@ -1,7 +1,7 @@
-//! The three calls: a plain tree becomes a typed tree, or its first refusal is told.
+//! The three calls: a plain tree becomes a typed tree, or its first refusal is reported.
 
 ghost use Rattle.std.specs.Prelude.{◌≡◌, [], IsTrue, IfOk, IfErr, None, Some};
-ghost use Rattle.ss_sql_rules.specs.WellTyped.{Schemas, query_typed, statement_typed, condition_typed};
+ghost use Rattle.ss_sql_lex.specs.WellTyped.{Schemas, query_typed, statement_typed, condition_typed};
 ghost use Rattle.ss_sql_type.specs.Agrees.{Agrees, out_fits};
 ghost use Rattle.ss_sql_type.specs.Refusals.{all_noted, IsRefusal};
 ghost use Rattle.ss_sql_type.specs.Queries.{scope_narrow, columns_shown, query_faults, typed_query};

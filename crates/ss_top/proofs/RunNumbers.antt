@@ -1,5 +1,5 @@
 -- The entries of one client's requests are numbered from 0 on.
-use Rattle.std.proofs.Common.{◌≡◌, ℕ, zero, suc, ◌+◌, ◌<◌, ◌≤◌, ◌==◌, ◌&&◌, List, [], ◌∷◌, ◌++◌, length, take, get_or, Bool, true, false, refl, sym, ap, subst, ◌∙◌, arith, length-append}
+use Rattle.std.proofs.Common.{◌≡◌, ℕ, zero, suc, ◌+◌, ◌<◌, ◌≤◌, ◌==◌, List, [], ◌∷◌, ◌++◌, length, take, get_or, Bool, true, refl, sym, ap, subst, ◌∙◌, arith, length-append}
 use Rattle.std.proofs.lemmas.Bool.Decides.{nat_tests}
 use Rattle.std.proofs.lemmas.List.{take_more, length-take-le, take_all}
 use Rattle.std.specs.List.{count_by, list_all, filter}
@@ -11,6 +11,7 @@ use Rattle.ss_model.specs.declared.entry.Asked.TheVariants.{Call as CallAsked, P
 use Rattle.ss_model.specs.declared.entry.Request.{Request}
 use Rattle.ss_model.specs.Report.{asked_entry, asked_entries, entries_behind}
 use Rattle.ss_top.specs.RunSessions.{one_client}
+use Rattle.ss_model.proofs.Truths.{first_of_two, second_of_two}
 
 -- the entries of requests, numbered from n on
 abbrev pub numbered : ℕ → List Request → List Entry
@@ -27,20 +28,12 @@ pub asked_index : (client index : ℕ) (what : Asked) → entry_index (asked_ent
 asked_index client index (CallAsked procedure args) = refl
 asked_index client index (PushAsked stream source seq rows) = refl
 
-left_true : (a b : Bool) → (a && b) ≡ true → a ≡ true
-left_true true b h = refl
-left_true false b h = h
-
-right_true : (a b : Bool) → (a && b) ≡ true → b ≡ true
-right_true true b h = h
-right_true false b h = cc
-
 zero_client : (n : ℕ) → (n == 0) ≡ true → n ≡ 0
 zero_client n h = grind (arith, nat_tests)
 
 all_kept : {X : Type 0} (p : X → Bool) (xs : List X) → list_all p xs ≡ true → filter p xs ≡ xs
 all_kept p [] h = refl
-all_kept p (x ∷ xs) h = rw (left_true (p x) (list_all p xs) h) (ap (λ ys. x ∷ ys) (all_kept p xs (right_true (p x) (list_all p xs) h)))
+all_kept p (x ∷ xs) h = rw (first_of_two (p x) (list_all p xs) h) (ap (λ ys. x ∷ ys) (all_kept p xs (second_of_two (p x) (list_all p xs) h)))
 
 -- among requests of client 0, all are of the client of one of them
 all_counted : (earlier : List Request) (client : ℕ) → one_client earlier ≡ true → client ≡ 0 → count_by (λ (x : Request). x.client == client) earlier ≡ length earlier
@@ -50,14 +43,14 @@ all_counted earlier client h e =
 
 one_more : (earlier : List Request) (r : Request) → one_client earlier ≡ true → (r.client == 0) ≡ true → one_client (earlier ++ r ∷ []) ≡ true
 one_more [] r h e = rw e refl
-one_more (x ∷ xs) r h e = rw (left_true (x.client == 0) (one_client xs) h) (one_more xs r (right_true (x.client == 0) (one_client xs) h) e)
+one_more (x ∷ xs) r h e = rw (first_of_two (x.client == 0) (one_client xs) h) (one_more xs r (second_of_two (x.client == 0) (one_client xs) h) e)
 
 behind_numbered : (earlier rs : List Request) → one_client earlier ≡ true → one_client rs ≡ true → entries_behind earlier rs ≡ numbered (length earlier) rs
 behind_numbered earlier [] h k = refl
 behind_numbered earlier (r ∷ rs) h k =
-    let here = left_true (r.client == 0) (one_client rs) k in
+    let here = first_of_two (r.client == 0) (one_client rs) k in
     let count = all_counted earlier r.client h (zero_client r.client here) in
-    let rest = behind_numbered (earlier ++ r ∷ []) rs (one_more earlier r h here) (right_true (r.client == 0) (one_client rs) k) in
+    let rest = behind_numbered (earlier ++ r ∷ []) rs (one_more earlier r h here) (second_of_two (r.client == 0) (one_client rs) k) in
     let longer : length (earlier ++ r ∷ []) ≡ length earlier + 1 = grind (arith, length-append) in
     ap (λ n. asked_entry r.client n r.what ∷ entries_behind (earlier ++ r ∷ []) rs) count
     ∙ ap (λ es. asked_entry r.client (length earlier) r.what ∷ es) (rest ∙ ap (λ n. numbered n rs) longer)
@@ -91,11 +84,11 @@ all_numbered p n [] i r h e k = absurd (omega arith)
 all_numbered p n (x ∷ xs) zero r h e k =
     let none : n ≡ n + 0 = omega arith in
     subst (λ (y : Request). p (asked_entry y.client (n + 0) y.what) ≡ true) (sym e)
-    (subst (λ (m : ℕ). p (asked_entry x.client m x.what) ≡ true) none (left_true (p (asked_entry x.client n x.what)) (list_all p (numbered (n + 1) xs)) k))
+    (subst (λ (m : ℕ). p (asked_entry x.client m x.what) ≡ true) none (first_of_two (p (asked_entry x.client n x.what)) (list_all p (numbered (n + 1) xs)) k))
 all_numbered p n (x ∷ xs) (suc i) r h e k =
     let one : (n + 1) + i ≡ n + suc i = omega arith in
     subst (λ (m : ℕ). p (asked_entry r.client m r.what) ≡ true) one
-    (all_numbered p (n + 1) xs i r (omega arith) e (right_true (p (asked_entry x.client n x.what)) (list_all p (numbered (n + 1) xs)) k))
+    (all_numbered p (n + 1) xs i r (omega arith) e (second_of_two (p (asked_entry x.client n x.what)) (list_all p (numbered (n + 1) xs)) k))
 
 -- in the end, all are asked
 pub all_asked : (i : ℕ) (rs : List Request) → length rs ≤ i → one_client rs ≡ true → asked_up_to i rs ≡ asked_entries rs

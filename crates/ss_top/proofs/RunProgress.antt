@@ -24,23 +24,20 @@ same_self : (client index : ℕ) (what : Asked) → is_same_request (asked_entry
 same_self client index (CallAsked procedure args) = grind (arith, nat_tests)
 same_self client index (PushAsked stream source seq rows) = grind (arith, nat_tests)
 
+numbers_differ : (e f : Entry) → (entry_index e ≡ entry_index f → ⊥) → is_same_request e f ≡ false
+numbers_differ (Call c i p a) (Call d j q b) h = grind (arith, nat_tests)
+numbers_differ (Call c i p a) (Push d j t name n more) h = refl
+numbers_differ (Call c i p a) (StepEntry q r) h = refl
+numbers_differ (Push c i s source seq rows) (Call d j q b) h = refl
+numbers_differ (Push c i s source seq rows) (Push d j t name n more) h = grind (arith, nat_tests)
+numbers_differ (Push c i s source seq rows) (StepEntry q r) h = refl
+numbers_differ (StepEntry p b) f h = refl
+
 later_differs : (e f : Entry) → entry_index e < entry_index f → is_same_request e f ≡ false
-later_differs (Call c i p a) (Call d j q b) h = grind (arith, nat_tests)
-later_differs (Call c i p a) (Push d j t name n more) h = refl
-later_differs (Call c i p a) (StepEntry q r) h = refl
-later_differs (Push c i s source seq rows) (Call d j q b) h = refl
-later_differs (Push c i s source seq rows) (Push d j t name n more) h = grind (arith, nat_tests)
-later_differs (Push c i s source seq rows) (StepEntry q r) h = refl
-later_differs (StepEntry p b) f h = refl
+later_differs e f h = numbers_differ e f (λ same. omega arith)
 
 earlier_differs : (e f : Entry) → entry_index f < entry_index e → is_same_request e f ≡ false
-earlier_differs (Call c i p a) (Call d j q b) h = grind (arith, nat_tests)
-earlier_differs (Call c i p a) (Push d j t name n more) h = refl
-earlier_differs (Call c i p a) (StepEntry q r) h = refl
-earlier_differs (Push c i s source seq rows) (Call d j q b) h = refl
-earlier_differs (Push c i s source seq rows) (Push d j t name n more) h = grind (arith, nat_tests)
-earlier_differs (Push c i s source seq rows) (StepEntry q r) h = refl
-earlier_differs (StepEntry p b) f h = refl
+earlier_differs e f h = numbers_differ e f (λ same. omega arith)
 
 -- each entry is below a position
 abbrev pub AreBelow : ℕ → List Entry → Type 0

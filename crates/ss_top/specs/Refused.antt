@@ -11,8 +11,8 @@ use Rattle.ss_model.specs.declared.entry.Request.{Request}
 use Rattle.ss_model.specs.Accepted.{Accepted}
 use Rattle.ss_catalog.specs.declared.error.CatalogError.{CatalogError}
 use Rattle.ss_catalog.specs.Reads.{Refuses}
-use Rattle.ss_requests.specs.declared.request.RequestError.{RequestError}
-use Rattle.ss_requests.specs.Requests.{request_of, RefusesAs as RefusesRequestAs}
+use Rattle.ss_catalog_requests.specs.declared.request.RequestError.{RequestError}
+use Rattle.ss_catalog_requests.specs.Requests.{request_of, RefusesAs as RefusesRequestAs}
 use Rattle.ss_top.specs.declared.input.ReadError.{ReadError}
 use Rattle.ss_top.specs.declared.input.ReadError.TheVariants.{Line as OfLine, NoCatalog, Catalog as OfCatalog, Request as OfRequest, NotBuilt}
 use Rattle.ss_proc.specs.Executions.{is_of_tables}

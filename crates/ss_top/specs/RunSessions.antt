@@ -9,7 +9,9 @@ use Rattle.ss_model.specs.declared.entry.Listed.{Listed}
 use Rattle.ss_model.specs.declared.entry.Request.{Request}
 use Rattle.ss_model.specs.Database.{Database}
 use Rattle.ss_model.specs.Replays.{entry_outcome, database_after}
-use Rattle.ss_model.specs.Report.{find_listed}
+use Rattle.ss_model.specs.Report.{find_listed, asked_entry}
+use Rattle.ss_table.specs.Held.{Held}
+use Rattle.ss_shard.specs.Databases.{database_of}
 
 -- whether each request is client 0's
 abbrev pub one_client : List Request → Bool
@@ -26,3 +28,7 @@ pub record IsListed (catalog : Catalog) (db now : Database) (list new : List Lis
   pub joined : new ≡ list ++ record { entry = e; outcome = outcome } ∷ []
   pub answers : entry_outcome catalog db e ≡ Some outcome
   pub ends : now ≡ database_after catalog db e
+
+-- a request's entry has joined the list at this place, and the tables are those after it
+abbrev pub RequestListed : Catalog → Request → ℕ → List Held → List Held → List Listed → List Listed → ℕ → Type 0
+RequestListed catalog request index old new list longer place = IsListed catalog (database_of catalog old) (database_of catalog new) list longer (asked_entry request.client index request.what) place

@@ -4,12 +4,12 @@ use Rattle.serde_json.specs.Data.{Data, string}
 use Rattle.ss_lines.specs.declared.line.LineError.{LineError}
 use Rattle.ss_lines.specs.declared.line.LineError.TheVariants as cause
 use Rattle.ss_model.specs.ReportLines.{array_of, count, line_text}
-use Rattle.ss_outline_names.specs.declared.limits.Counted.{Counted}
-use Rattle.ss_outline_names.specs.declared.limits.Counted.TheVariants.{Tables, Streams, Windows, Triggers, Procedures, Columns, Inputs, Statements, Steps}
+use Rattle.ss_catalog_outline.specs.declared.limits.Counted.{Counted}
+use Rattle.ss_catalog_outline.specs.declared.limits.Counted.TheVariants.{Tables, Streams, Windows, Triggers, Procedures, Columns, Inputs, Statements, Steps}
 use Rattle.ss_catalog.specs.declared.error.CatalogError.{CatalogError}
 use Rattle.ss_catalog.specs.declared.error.CatalogError.TheVariants as catalog
-use Rattle.ss_requests.specs.declared.request.RequestError.{RequestError}
-use Rattle.ss_requests.specs.declared.request.RequestError.TheVariants as request
+use Rattle.ss_catalog_requests.specs.declared.request.RequestError.{RequestError}
+use Rattle.ss_catalog_requests.specs.declared.request.RequestError.TheVariants as request
 use Rattle.ss_top.specs.declared.input.ReadError.{ReadError}
 use Rattle.ss_top.specs.declared.input.ReadError.TheVariants.{Line as OfLine, NoCatalog, Catalog as OfCatalog, Request as OfRequest, NotBuilt as NotBuiltAt}
 use Rattle.ss_top.specs.declared.status.Status.{Status}
@@ -46,6 +46,10 @@ input_text line code about = line_text (array_of (string (codes "input") ∷ cou
 -- a line that isn't built
 abbrev pub not_built_text : ℕ → List ℕ
 not_built_text line = line_text (array_of (string (codes "not_built") ∷ count line ∷ []))
+
+-- what a fault of a SQL text is refused for
+abbrev pub sql_fault : List ℕ → ℕ → List ℕ → ℕ → List Data
+sql_fault name step code at = string name ∷ count step ∷ string code ∷ count at ∷ []
 
 -- ---- the texts of refusals
 

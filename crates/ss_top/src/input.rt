@@ -12,10 +12,10 @@ ghost use Rattle.ss_top.specs.Refused.{RefusesFirst, RefusesLater, RefusesAmong,
 
 use ss_catalog::error::CatalogError;
 use ss_catalog::read::read_catalog;
+use ss_catalog_requests::request::{RequestError, request_of};
 use ss_lines::{Line, LineError, line_value};
 use ss_model::catalog::Catalog;
 use ss_model::entry::Request;
-use ss_requests::request::{RequestError, request_of};
 use ss_value::seq::Seq;
 use std::alloc::Global;
 

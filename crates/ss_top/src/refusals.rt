@@ -5,15 +5,15 @@ ghost use Rattle.serde_json.specs.Data.{string};
 ghost use Rattle.serde_json.specs.View.{view};
 ghost use Rattle.serde_json.specs.Written.{has_float};
 ghost use Rattle.ss_model.specs.ReportLines.{array_of, count, line_text};
-ghost use Rattle.ss_top.specs.Statuses.{input_text, not_built_text, fault_code, counted_word, bytes_refusal, catalog_refusal, request_refusal, refusal_text, bytes_status, catalog_status, request_status, refusal_status};
+ghost use Rattle.ss_top.specs.Statuses.{input_text, not_built_text, sql_fault, fault_code, counted_word, bytes_refusal, catalog_refusal, request_refusal, refusal_text, bytes_status, catalog_status, request_status, refusal_status};
 ghost use Rattle.ss_top.specs.Top.{sunk, Tells, EndsRefused};
 
 use crate::input::ReadError;
 use crate::status::Status;
 use serde_json::{Value as Json, json};
 use ss_catalog::error::{CatalogError, Counted, SqlFault};
+use ss_catalog_requests::request::RequestError;
 use ss_lines::{LineError, Sink, write_all};
-use ss_requests::request::RequestError;
 use std::alloc::{AllocError, Global};
 
 /// The text at status 1.
@@ -83,7 +83,7 @@ fn fault_json(
     code: &str,
     at: usize,
 ) -> Result<Json, AllocError>
-    ensures { IfOk result (λ v. view v ≡ array_of (string (codes "input") ∷ count line ∷ string (codes "C4") ∷ string name.now ∷ count step ∷ string code.now ∷ count at ∷ [])) }
+    ensures { IfOk result (λ v. view v ≡ array_of (string (codes "input") ∷ count line ∷ string (codes "C4") ∷ sql_fault name.now step code.now at)) }
 {
     json!(in alloc; ["input", line, "C4", name, step, code, at])
 }
@@ -97,7 +97,7 @@ fn fault_line(
     code: &str,
     at: usize,
 ) -> Result<String, AllocError>
-    ensures { IfOk result (λ text. string_bytes text ≡ input_text line (codes "C4") (string name.now ∷ count step ∷ string code.now ∷ count at ∷ [])) }
+    ensures { IfOk result (λ text. string_bytes text ≡ input_text line (codes "C4") (sql_fault name.now step code.now at)) }
 {
     let value = fault_json(alloc, line, name, step, code, at)?;
     line_text(alloc, &value)
@@ -141,7 +141,7 @@ fn sql_line(
     step: u32,
     fault: SqlFault,
 ) -> Result<String, AllocError>
-    ensures { IfOk result (λ text. string_bytes text ≡ input_text line (codes "C4") (string name.now ∷ count step ∷ string (fault_code fault.code) ∷ count fault.at ∷ [])) }
+    ensures { IfOk result (λ text. string_bytes text ≡ input_text line (codes "C4") (sql_fault name.now step (fault_code fault.code) fault.at)) }
 {
     let code = fault_code(alloc, fault.code)?;
     fault_line(alloc, line, name, step, code.as_str(), fault.at)

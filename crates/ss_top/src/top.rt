@@ -107,22 +107,28 @@ pub fn sstore<S: Source, K: Sink>(
     // Faults come only where they were counted, and counts never fall.
     ensures counts { (S.faults source.old ≤ S.faults source.new) × (K.faults sink.old ≤ K.faults sink.new) }
     ensures read_fault { result ≡ Status.ReadFault → Rose (S.faults source.old) (S.faults source.new) }
-    ensures read_fault_told { result ≡ Status.ReadFault → Tells read_fault_text (sunk (K.written sink.old) (K.written sink.new) (K.faults sink.old) (K.faults sink.new)) }
+    ensures read_fault_told { result ≡ Status.ReadFault → Tells read_fault_text
+        (sunk (K.written sink.old) (K.written sink.new) (K.faults sink.old) (K.faults sink.new)) }
     ensures write_fault { result ≡ Status.WriteFault → Rose (K.faults sink.old) (K.faults sink.new) }
-    ensures memory_told { result ≡ Status.NoMemory → Tells no_memory_text (sunk (K.written sink.old) (K.written sink.new) (K.faults sink.old) (K.faults sink.new)) }
+    ensures memory_told { result ≡ Status.NoMemory → Tells no_memory_text
+        (sunk (K.written sink.old) (K.written sink.new) (K.faults sink.old) (K.faults sink.new)) }
 
     // What is taken of the source.
     ensures taken { TakesAtMost (max_input + 1) (S.left source.old) (S.left source.new) }
     ensures empties { Empties result (S.left source.old) (S.left source.new) }
 
     // A refusal is the first that the bytes have.
-    ensures input { result ≡ Status.Input → IfSome (S.left source.old) (λ input. IsRefused input Status.Input (sunk (K.written sink.old) (K.written sink.new) (K.faults sink.old) (K.faults sink.new))) }
-    ensures not_built { result ≡ Status.NotBuilt → IfSome (S.left source.old) (λ input. IsRefused input Status.NotBuilt (sunk (K.written sink.old) (K.written sink.new) (K.faults sink.old) (K.faults sink.new))) }
+    ensures input { result ≡ Status.Input → IfSome (S.left source.old) (λ input.
+        IsRefused input Status.Input (sunk (K.written sink.old) (K.written sink.new) (K.faults sink.old) (K.faults sink.new))) }
+    ensures not_built { result ≡ Status.NotBuilt → IfSome (S.left source.old) (λ input.
+        IsRefused input Status.NotBuilt (sunk (K.written sink.old) (K.written sink.new) (K.faults sink.old) (K.faults sink.new))) }
 
     // The headline: the catalogue is accepted, the replies and tables are those of one list that replays, and the
     // bytes are its report.
-    ensures done { result ≡ Status.Done → IfSome (S.left source.old) (λ input. IsToldRun input (sunk (K.written sink.old) (K.written sink.new) (K.faults sink.old) (K.faults sink.new))) }
-    ensures cut { result ≡ Status.WriteFault → IfSome (S.left source.old) (λ input. IsCutRun input (sunk (K.written sink.old) (K.written sink.new) (K.faults sink.old) (K.faults sink.new))) }
+    ensures done { result ≡ Status.Done → IfSome (S.left source.old) (λ input.
+        IsToldRun input (sunk (K.written sink.old) (K.written sink.new) (K.faults sink.old) (K.faults sink.new))) }
+    ensures cut { result ≡ Status.WriteFault → IfSome (S.left source.old) (λ input.
+        IsCutRun input (sunk (K.written sink.old) (K.written sink.new) (K.faults sink.old) (K.faults sink.new))) }
 {
     if !is_run(words) {
         tell(sink, USAGE);

@@ -1,9 +1,7 @@
 //! Runs through the top call, over ends in memory. Every expected answer is decided by hand.
 
-mod catalogs;
 mod edges;
 mod faults;
-mod requests;
 
 use ss_lines::{MemorySink, MemorySource};
 use ss_top::status::Status;
@@ -47,11 +45,4 @@ fn run_within(alloc: Global, input: Vec<u8>, room: usize) -> Result<Ended, NoMem
     let status = sstore(alloc, &words, &mut source, &mut sink);
     let told = Vec::from_slice(alloc, sink.written())?;
     Ok(Ended { status, told })
-}
-
-/// Runs `run` on an input of two pieces.
-fn run_on(alloc: Global, front: &[u8], back: &[u8]) -> Result<Ended, NoMemory> {
-    let mut input = Vec::from_slice(alloc, front)?;
-    input.extend_from_slice(back)?;
-    run_within(alloc, input, 65_536)
 }

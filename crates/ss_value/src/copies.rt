@@ -63,9 +63,7 @@ impl<T: Copies + Drop> Copies for Seq<T> {
         let mut copy = Seq::new(alloc);
         for item in self.as_slice() {
             let item = item.duplicate(alloc)?;
-            if copy.push(item).is_err() {
-                return Err(NoMemory);
-            }
+            copy.push(item)?;
         }
         Ok(copy)
     }

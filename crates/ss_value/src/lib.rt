@@ -20,13 +20,10 @@ pub mod reserved;
 pub mod schema;
 pub mod seq;
 pub mod sets;
-
-use std::alloc::{AllocError, AllocFailed};
-
-#[cfg(test)]
-mod tests;
 pub mod text;
 pub mod value;
+
+use std::alloc::{AllocError, AllocFailed};
 
 /// Want of memory: the one answer that may come in place of any other.
 #[derive(Clone, Copy, Debug, PartialEq, Eq, Drop)]
@@ -40,6 +37,12 @@ impl From<AllocError> for NoMemory {
 
 impl<T: Drop> From<AllocFailed<T>> for NoMemory {
     fn from(_refused: AllocFailed<T>) -> NoMemory {
+        NoMemory
+    }
+}
+
+impl<T: Drop> From<(NoMemory, T)> for NoMemory {
+    fn from(_refused: (NoMemory, T)) -> NoMemory {
         NoMemory
     }
 }

@@ -80,12 +80,8 @@ impl Text {
         if self.bytes.len() + other.bytes.len() > 255 {
             return Ok(None);
         }
-        let Ok(mut bytes) = Vec::from_slice(alloc, self.bytes.as_slice()) else {
-            return Err(NoMemory);
-        };
-        if bytes.extend_from_slice(other.bytes.as_slice()).is_err() {
-            return Err(NoMemory);
-        }
+        let mut bytes = Vec::from_slice(alloc, self.bytes.as_slice())?;
+        bytes.extend_from_slice(other.bytes.as_slice())?;
         Ok(Some(Text { bytes }))
     }
 

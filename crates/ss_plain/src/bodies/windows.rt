@@ -5,6 +5,7 @@ ghost use Rattle.ss_model.specs.Results.{try_fold};
 ghost use Rattle.ss_model.specs.Bodies.{is_batches_unit, is_closed_by, owned_batch_windows, close_window};
 ghost use Rattle.ss_operators.specs.Stops.{StopsAs};
 ghost use Rattle.ss_plain.specs.State.{context_of, execution_of};
+ghost use Rattle.ss_plain.specs.Meanings.{Brings, StepStops, close_owned};
 
 use crate::contents::{Context, Execution};
 use crate::lists::copy_at;
@@ -48,9 +49,7 @@ fn owned_batch_windows(
             let Ok(number) = u16::try_from(at) else {
                 return Err(NoMemory);
             };
-            if owned.push(number).is_err() {
-                return Err(NoMemory);
-            }
+            owned.push(number)?;
         }
     }
     Ok(owned)
@@ -92,8 +91,8 @@ pub fn close_owned(
     context: &Context,
     execution: &mut Execution,
 ) -> Result<(), RunError>
-    ensures done { OnOk result (try_fold (close_window (context_of context.now)) (owned_batch_windows context.now.catalog.now context.now.procedure) (execution_of execution.old) ≡ Ok (execution_of execution.new)) }
-    ensures stops { IfErr result (StopsAs (try_fold (close_window (context_of context.now)) (owned_batch_windows context.now.catalog.now context.now.procedure) (execution_of execution.old))) }
+    ensures done { OnOk result (Brings (close_owned context.now) execution.old execution.new) }
+    ensures stops { IfErr result (StepStops (close_owned context.now) execution.old) }
 {
     let owned = owned_batch_windows(alloc, context.catalog, context.procedure)?;
     close_each(alloc, context, owned.as_slice(), execution)

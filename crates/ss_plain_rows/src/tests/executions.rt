@@ -1,7 +1,6 @@
 //! Executions decided by hand: windows, triggers, undoing, readiness and split tables.
 
 use crate::tests::scripts::first_wrong;
-use std::alloc::Global;
 use std::test::Fail;
 
 /// Three windows, one behind the other. The log tells which trigger came (1, 2, 3) and went (5, 4).
@@ -30,9 +29,7 @@ border b s
 
 /// A chain of triggers through three windows runs depth first: each row is staged, its triggers run whole, then
 /// the next row is staged. An abort at its end undoes the whole chain.
-#[test]
-fn a_chain_of_triggers(rt: HostRuntime) -> Result<(), Fail> {
-    let script = "
+const A_CHAIN_OF_TRIGGERS: &str = "
 push s a 0: 1, 2, 3~done
 step b 0~done
 rows SELECT told FROM log~1, 2, 5, 2, 3, 5, 4, 1, 2, 5, 2, 3, 5, 4
@@ -57,15 +54,9 @@ rows SELECT x FROM seen~30, 40
 units w1~[1] [2] [3] [4]
 units w3~[10] [20] [20] [30] [30] [40]
 ";
-    let wrong = first_wrong(rt.alloc(), CHAIN, script)?;
-    assert_eq!(rt; wrong.as_str(), "");
-    Ok(())
-}
 
 /// Five rows that move on by three: the two triggers run in written order, once for each move and never between.
-#[test]
-fn windows_that_skip(rt: HostRuntime) -> Result<(), Fail> {
-    let catalog = "
+const WINDOWS_THAT_SKIP_CATALOG: &str = "
 table fired total int, low int, age int key total
 stream s x int
 window w x int of b rows 5 3
@@ -76,7 +67,8 @@ trigger grow on window w
 border b s
   INSERT INTO w SELECT x FROM s
 ";
-    let script = "
+
+const WINDOWS_THAT_SKIP: &str = "
 push s a 0: 1, 2, 3, 4~done
 step b 0~done
 rows SELECT x FROM w~
@@ -93,15 +85,9 @@ step b 3~done
 rows SELECT total, low, age FROM fired~15 1 4, 30 4 3, 45 7 2, 60 10 1
 rows SELECT x FROM w~10, 11, 12, 13, 14
 ";
-    let wrong = first_wrong(rt.alloc(), catalog, script)?;
-    assert_eq!(rt; wrong.as_str(), "");
-    Ok(())
-}
 
 /// An abort behind a move of a window takes the units, the move and what its triggers wrote back.
-#[test]
-fn windows_undone(rt: HostRuntime) -> Result<(), Fail> {
-    let catalog = "
+const WINDOWS_UNDONE_CATALOG: &str = "
 table seen x int key x
 stream s x int
 window w x int of b rows 3 2
@@ -113,7 +99,8 @@ border b s
     INSERT INTO w VALUES (:x)
   abort 1 (SELECT COUNT(*) FROM s JOIN seen ON s.x = seen.x WHERE s.x = 9) > 0
 ";
-    let script = "
+
+const WINDOWS_UNDONE: &str = "
 push s a 0: 1, 2~done
 step b 0~done
 push s a 1: 9, 3~done
@@ -125,17 +112,11 @@ step b 2~done
 units w~[1] [2] [4] [9]
 rows SELECT x FROM seen~1, 2, 4
 ";
-    let wrong = first_wrong(rt.alloc(), catalog, script)?;
-    assert_eq!(rt; wrong.as_str(), "");
-    Ok(())
-}
 
 /// Windows of batches: what an execution inserts shows from its end on; they close in written order, and a trigger
 /// of the first still adds to the open unit of the second. An abort at the closing undoes all. Another procedure
 /// closes none.
-#[test]
-fn windows_of_batches(rt: HostRuntime) -> Result<(), Fail> {
-    let catalog = "
+const WINDOWS_OF_BATCHES_CATALOG: &str = "
 table seen x int key x
 stream s x int
 stream o x int
@@ -154,7 +135,8 @@ border b s
 interior c o
   DELETE FROM seen WHERE x = 0
 ";
-    let script = "
+
+const WINDOWS_OF_BATCHES: &str = "
 push s a 0: 1, 2~done
 step b 0~done
 units w1~[1, 2]
@@ -183,16 +165,10 @@ units w1~[1, 2] [3] [] [3]
 units w2~[101, 102, 1, 2] [103, 3] [] [103, 3]
 batches o~[] [1, 2] [3] [] [] []
 ";
-    let wrong = first_wrong(rt.alloc(), catalog, script)?;
-    assert_eq!(rt; wrong.as_str(), "");
-    Ok(())
-}
 
 /// The triggers of a stream run once for each emit, also of no rows, in written order and before the next step;
 /// they see the rows of that emit alone, while the batch has those of all.
-#[test]
-fn triggers_of_streams(rt: HostRuntime) -> Result<(), Fail> {
-    let catalog = "
+const TRIGGERS_OF_STREAMS_CATALOG: &str = "
 table sums total int, n int key total
 table pairs low int, high int key low high
 table seen x int key x
@@ -213,7 +189,8 @@ border b s
 interior c l
   DELETE FROM seen
 ";
-    let script = "
+
+const TRIGGERS_OF_STREAMS: &str = "
 push s a 0: 1, 2~done
 step b 0~done
 rows SELECT total, n FROM sums~3 2, 12 1
@@ -230,15 +207,9 @@ rows SELECT x FROM seen~1, 3, 12
 units w~[1] [2] [12] [1]
 batches l~[1, 2, 12] [] [1]
 ";
-    let wrong = first_wrong(rt.alloc(), catalog, script)?;
-    assert_eq!(rt; wrong.as_str(), "");
-    Ok(())
-}
 
 /// The inner steps run whole for one row before the next, and see what they did for those before it.
-#[test]
-fn rows_one_by_one(rt: HostRuntime) -> Result<(), Fail> {
-    let catalog = "
+const ROWS_ONE_BY_ONE_CATALOG: &str = "
 table t k int, n int key k
 stream s k int, n int
 border b s
@@ -247,7 +218,8 @@ border b s
     INSERT INTO t VALUES (:k * 10 + :n, :n)
     UPDATE t SET n = n + :n WHERE k < :k * 10
 ";
-    let script = "
+
+const ROWS_ONE_BY_ONE: &str = "
 push s a 0: 1 1, 2 2~done
 step b 0~done
 rows SELECT k, n FROM t~11 3, 22 2
@@ -262,29 +234,25 @@ push s a 4:~done
 step b 4~done
 rows SELECT k, n FROM t~11 3, 22 2
 ";
-    let wrong = first_wrong(rt.alloc(), catalog, script)?;
-    assert_eq!(rt; wrong.as_str(), "");
-    Ok(())
-}
 
-/// A description with a call that makes 1,024 rows by doubling.
-fn with_many_rows(alloc: Global) -> Result<String, Fail> {
-    let mut text = String::from_str(
-        alloc,
-        "
+/// A call that makes 1,024 rows by doubling, a batch of them, and replies of them.
+const MANY_ROWS: &str = "
 table t k int key k
 stream s x int
 stream l x int
 call fill
   INSERT INTO t VALUES (0)
-",
-    )?;
-    for count in [1, 2, 4, 8, 16, 32, 64, 128, 256, 512] {
-        let line = format!(in alloc; "  INSERT INTO t SELECT k + {count} FROM t\n")?;
-        text.push_str(line.as_str())?;
-    }
-    text.push_str(
-        "border b s
+  INSERT INTO t SELECT k + 1 FROM t
+  INSERT INTO t SELECT k + 2 FROM t
+  INSERT INTO t SELECT k + 4 FROM t
+  INSERT INTO t SELECT k + 8 FROM t
+  INSERT INTO t SELECT k + 16 FROM t
+  INSERT INTO t SELECT k + 32 FROM t
+  INSERT INTO t SELECT k + 64 FROM t
+  INSERT INTO t SELECT k + 128 FROM t
+  INSERT INTO t SELECT k + 256 FROM t
+  INSERT INTO t SELECT k + 512 FROM t
+border b s
   emit l SELECT k FROM t
   emit l SELECT x FROM s
 interior c l
@@ -292,17 +260,10 @@ interior c l
 call reply n int
   return SELECT k FROM t
   return SELECT k FROM t WHERE k < :n
-",
-    )?;
-    Ok(text)
-}
+";
 
 /// A batch and a reply have 1,024 rows at most, over all emits and returns of an execution.
-#[test]
-fn full_batches_and_replies(rt: HostRuntime) -> Result<(), Fail> {
-    let alloc = rt.alloc();
-    let catalog = with_many_rows(alloc)?;
-    let script = "
+const FULL_BATCHES_AND_REPLIES: &str = "
 call fill~done
 rows SELECT COUNT(*), MAX(k) FROM t~1024 1023
 call reply 0~done 1024 rows
@@ -319,16 +280,10 @@ push s a 2: 1, 2, 3~done
 step b 2~done
 batches l~[1024 rows] [] [1003 rows]
 ";
-    let wrong = first_wrong(alloc, catalog.as_str(), script)?;
-    assert_eq!(rt; wrong.as_str(), "");
-    Ok(())
-}
 
 /// In a procedure that touches what an argument says, a table split by that value has its rows of that value
 /// alone, in each source of a JOIN too, so no abort depends on other rows. A key is taken wherever it stands.
-#[test]
-fn split_tables(rt: HostRuntime) -> Result<(), Fail> {
-    let catalog = "
+const SPLIT_TABLES_CATALOG: &str = "
 table acct id int, bal int key id by id
 table card id int, n int key n id by id
 call open id int, bal int
@@ -349,7 +304,8 @@ call clear bal int, id int by 1
 call again id int, other int by 0
   INSERT INTO acct VALUES (:other, 0)
 ";
-    let script = "
+
+const SPLIT_TABLES: &str = "
 call open 1 0~done
 call open 2 5~done
 call rate 2~done
@@ -366,10 +322,6 @@ rows SELECT id, bal FROM acct~1 0, 2 20
 call clear 3 2~done
 rows SELECT id, bal FROM acct~1 0
 ";
-    let wrong = first_wrong(rt.alloc(), catalog, script)?;
-    assert_eq!(rt; wrong.as_str(), "");
-    Ok(())
-}
 
 /// Two procedures in a row and one call, for readiness.
 const LINE: &str = "
@@ -386,9 +338,7 @@ call put x int
 
 /// An entry has a value only where it fits the catalogue and, if it is a step, is the next of its procedure and
 /// has its batches. What has none changes nothing.
-#[test]
-fn entries_without_a_value(rt: HostRuntime) -> Result<(), Fail> {
-    let script = "
+const ENTRIES_WITHOUT_A_VALUE: &str = "
 step a 0~none
 push l a 0: 1~none
 push s a 0: 'x'~none
@@ -417,15 +367,9 @@ rows SELECT x FROM t~1
 batches s~[1] [1]
 batches l~[1] [1]
 ";
-    let wrong = first_wrong(rt.alloc(), LINE, script)?;
-    assert_eq!(rt; wrong.as_str(), "");
-    Ok(())
-}
 
 /// Each source counts for itself, and the stream has the batches in the order in which they were accepted.
-#[test]
-fn two_sources(rt: HostRuntime) -> Result<(), Fail> {
-    let script = "
+const TWO_SOURCES: &str = "
 push s a 0: 1~done
 push s b 1: 2~gap 0
 push s b 0: 2~done
@@ -443,22 +387,17 @@ step c 1~key_taken t
 step c 2~done
 rows SELECT x FROM t~1, 2, 3
 ";
-    let wrong = first_wrong(rt.alloc(), LINE, script)?;
-    assert_eq!(rt; wrong.as_str(), "");
-    Ok(())
-}
 
 /// Rows stand by their key, by its columns in its own order and not in that of the table.
-#[test]
-fn rows_in_key_order(rt: HostRuntime) -> Result<(), Fail> {
-    let catalog = "
+const ROWS_IN_KEY_ORDER_CATALOG: &str = "
 table t k int, s text key s k
 call put k int, s text
   INSERT INTO t VALUES (:k, :s)
 call number
   INSERT INTO t SELECT 10 - k, s FROM t WHERE s > 'a'
 ";
-    let script = "
+
+const ROWS_IN_KEY_ORDER: &str = "
 call put 1 'b'~done
 call put -2 'a'~done
 call put 1 'ab'~done
@@ -469,7 +408,25 @@ call put 1 'b'~key_taken t
 call number~done
 rows SELECT k, s FROM t WHERE s > 'a'~1 'ab', 9 'ab', 1 'b', 9 'b'
 ";
-    let wrong = first_wrong(rt.alloc(), catalog, script)?;
-    assert_eq!(rt; wrong.as_str(), "");
+
+/// Each script, line by line.
+#[test]
+fn executions(rt: HostRuntime) -> Result<(), Fail> {
+    for (catalog, script) in [
+        (CHAIN, A_CHAIN_OF_TRIGGERS),
+        (WINDOWS_THAT_SKIP_CATALOG, WINDOWS_THAT_SKIP),
+        (WINDOWS_UNDONE_CATALOG, WINDOWS_UNDONE),
+        (WINDOWS_OF_BATCHES_CATALOG, WINDOWS_OF_BATCHES),
+        (TRIGGERS_OF_STREAMS_CATALOG, TRIGGERS_OF_STREAMS),
+        (ROWS_ONE_BY_ONE_CATALOG, ROWS_ONE_BY_ONE),
+        (MANY_ROWS, FULL_BATCHES_AND_REPLIES),
+        (SPLIT_TABLES_CATALOG, SPLIT_TABLES),
+        (LINE, ENTRIES_WITHOUT_A_VALUE),
+        (LINE, TWO_SOURCES),
+        (ROWS_IN_KEY_ORDER_CATALOG, ROWS_IN_KEY_ORDER),
+    ] {
+        let wrong = first_wrong(rt.alloc(), catalog, script)?;
+        assert_eq!(rt; wrong.as_str(), "");
+    }
     Ok(())
 }

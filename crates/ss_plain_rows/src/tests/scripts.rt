@@ -60,19 +60,6 @@ fn step(catalog: &Catalog, text: &str) -> Result<Entry, Fail> {
     })
 }
 
-/// What comes of an entry.
-fn applied(
-    alloc: Global,
-    catalog: &Catalog,
-    database: &mut Database,
-    entry: &Entry,
-) -> Result<String, Fail> {
-    match apply(alloc, catalog, database, entry)? {
-        Some(applied) => printing::outcome(alloc, catalog, &applied.outcome),
-        None => Ok(format!(in alloc; "none")?),
-    }
-}
-
 /// The rows of a query, outside of any execution.
 fn rows_between<'a>(
     alloc: Global,
@@ -112,8 +99,9 @@ fn looked_up(
         &query,
         &database.contents,
     ) {
-        Ok(found) => printing::rows(alloc, &found),
-        Err(stop) => printing::stop(alloc, catalog, stop),
+        Ok(found) => Ok(printing::rows(alloc, &found)?),
+        Err(RunError::Abort(why)) => Ok(printing::reason(alloc, catalog, why)?),
+        Err(stop) => Err(stop.into()),
     }
 }
 
@@ -125,7 +113,7 @@ fn units(
 ) -> Result<String, Fail> {
     let window = window_number(catalog, word)?;
     match database.contents.windows.get(usize::from(window)) {
-        Some(units) => printing::lists(alloc, units),
+        Some(units) => Ok(printing::lists(alloc, units)?),
         None => Err("no such window".into()),
     }
 }
@@ -138,7 +126,7 @@ fn batches(
 ) -> Result<String, Fail> {
     let stream = stream_number(catalog, word)?;
     match database.streams.get(usize::from(stream)) {
-        Some(batches) => printing::lists(alloc, batches),
+        Some(batches) => Ok(printing::lists(alloc, batches)?),
         None => Err("no such stream".into()),
     }
 }
@@ -160,7 +148,10 @@ fn told(
         "step" => step(catalog, text)?,
         _ => return Err("no such line".into()),
     };
-    applied(alloc, catalog, database, &entry)
+    match apply(alloc, catalog, database, &entry)? {
+        Some(applied) => Ok(printing::outcome(alloc, catalog, &applied.outcome)?),
+        None => Ok(format!(in alloc; "none")?),
+    }
 }
 
 /// The first line of a script that comes out otherwise, and how; the empty text where there is none.

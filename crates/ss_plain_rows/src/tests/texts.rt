@@ -4,7 +4,7 @@ use crate::tests::words::{add, name};
 use ss_model::catalog::Catalog;
 use ss_sql_lex::typed::{Condition, Query, SourceId, Statement};
 use ss_sql_parse::parse::{parse_condition, parse_query, parse_statement};
-use ss_sql_type::narrow::is_narrow;
+use ss_sql_type::column_limit::is_narrow;
 use ss_sql_type::scope::{Named, Scope};
 use ss_sql_type::typing::{type_condition, type_query, type_statement};
 use ss_value::copies::Copies;

@@ -1,7 +1,7 @@
 //! Values and rows from text.
 //!
 //! A number stands for itself and a text in quotes, with no space and no comma inside. Spaces separate the values
-//! of a row, and commas rows: `1 'a', 2 'b'` are two rows of two values.
+//! of a row, and commas rows: `1 'a', 2 'b'` are two rows of two values. `3..5` are the rows `3, 4, 5`.
 
 use ss_value::seq::Seq;
 use ss_value::text::{Name, name_of, text_of};
@@ -49,8 +49,22 @@ pub fn row(alloc: Global, words: &str) -> Result<Row, Fail> {
     Ok(row)
 }
 
+/// The rows of one number each, from the first to the last.
+fn numbers(alloc: Global, first: i64, last: i64) -> Result<Rows, Fail> {
+    let mut rows = Seq::new(alloc);
+    for number in first..=last {
+        let mut row = Seq::new(alloc);
+        add(&mut row, Value::Int(number))?;
+        add(&mut rows, row)?;
+    }
+    Ok(rows)
+}
+
 /// The rows that a text spells; none where it is blank.
 pub fn rows(alloc: Global, text: &str) -> Result<Rows, Fail> {
+    if let Some((first, last)) = text.trim().split_once("..") {
+        return numbers(alloc, first.parse::<i64>()?, last.parse::<i64>()?);
+    }
     let mut rows = Seq::new(alloc);
     if text.trim().is_empty() {
         return Ok(rows);

@@ -5,13 +5,10 @@
 //! out, since an entry does the same whatever they are.
 
 use crate::tests::scripts::first_wrong;
-use std::alloc::Global;
 use std::test::Fail;
 
 /// A call that aborts leaves nothing behind, and SUM is exact until it leaves 64 bits.
-#[test]
-fn an_abort_and_a_total(rt: HostRuntime) -> Result<(), Fail> {
-    let catalog = "
+const AN_ABORT_AND_A_TOTAL_CATALOG: &str = "
 table t k int, v int key k
 call put k int, v int
   INSERT INTO t VALUES (:k, :v)
@@ -23,7 +20,8 @@ call trial a int
 call total
   return SELECT SUM(v) FROM t
 ";
-    let script = "
+
+const AN_ABORT_AND_A_TOTAL: &str = "
 call put 0 9223372036854775807~done
 call put 5 0~done
 call trial 10~raised 7
@@ -32,15 +30,9 @@ call put 6 1~done
 call total~overflow
 rows SELECT k, v FROM t~0 9223372036854775807, 5 0, 6 1
 ";
-    let wrong = first_wrong(rt.alloc(), catalog, script)?;
-    assert_eq!(rt; wrong.as_str(), "");
-    Ok(())
-}
 
 /// A window of three rows that moves on by two.
-#[test]
-fn a_window_of_rows(rt: HostRuntime) -> Result<(), Fail> {
-    let catalog = "
+const A_WINDOW_OF_ROWS_CATALOG: &str = "
 table seen x int key x
 stream s x int
 window w x int of b rows 3 2
@@ -53,7 +45,8 @@ border b s
 call show
   return SELECT x FROM seen
 ";
-    let script = "
+
+const A_WINDOW_OF_ROWS: &str = "
 push s a 0: 1, 2~done
 step b 0~done
 call show~done
@@ -70,15 +63,9 @@ rows SELECT x FROM seen~3, 4, 5
 rows SELECT x FROM w~3, 4, 5
 units w~[1] [2] [3] [4] [5]
 ";
-    let wrong = first_wrong(rt.alloc(), catalog, script)?;
-    assert_eq!(rt; wrong.as_str(), "");
-    Ok(())
-}
 
 /// A window of two batches that moves on by one. An execution that aborts adds no unit.
-#[test]
-fn a_window_of_batches(rt: HostRuntime) -> Result<(), Fail> {
-    let catalog = "
+const A_WINDOW_OF_BATCHES_CATALOG: &str = "
 table seen x int key x
 stream s x int
 window w x int of b batches 2 1
@@ -91,7 +78,8 @@ border b s
 call show
   return SELECT x FROM seen
 ";
-    let script = "
+
+const A_WINDOW_OF_BATCHES: &str = "
 push s a 0: 1~done
 step b 0~done
 call show~done
@@ -107,10 +95,6 @@ call show~done 3
 units w~[1] [] [3]
 batches s~[1] [] [9] [3]
 ";
-    let wrong = first_wrong(rt.alloc(), catalog, script)?;
-    assert_eq!(rt; wrong.as_str(), "");
-    Ok(())
-}
 
 /// A workflow whose two branches meet again.
 const BRANCHES: &str = "
@@ -134,9 +118,7 @@ interior j pl, qr
 ";
 
 /// An empty batch goes the whole way.
-#[test]
-fn an_empty_batch(rt: HostRuntime) -> Result<(), Fail> {
-    let script = "
+const AN_EMPTY_BATCH: &str = "
 push s a 0:~done
 step a 0~done
 step p 0~done
@@ -145,15 +127,9 @@ step j 0~done
 rows SELECT x, side FROM joined~
 batches qr~[]
 ";
-    let wrong = first_wrong(rt.alloc(), BRANCHES, script)?;
-    assert_eq!(rt; wrong.as_str(), "");
-    Ok(())
-}
 
 /// A push that comes again, and one that comes too early.
-#[test]
-fn numbered_pushes(rt: HostRuntime) -> Result<(), Fail> {
-    let script = "
+const NUMBERED_PUSHES: &str = "
 push s a 0: 1~done
 step a 0~done
 step p 0~done
@@ -170,15 +146,9 @@ rows SELECT x, side FROM joined~11 1, 12 1, 21 2, 22 2
 batches s~[1] [2]
 batches pl~[11] [12]
 ";
-    let wrong = first_wrong(rt.alloc(), BRANCHES, script)?;
-    assert_eq!(rt; wrong.as_str(), "");
-    Ok(())
-}
 
 /// The greatest number that a push may carry.
-#[test]
-fn the_greatest_number(rt: HostRuntime) -> Result<(), Fail> {
-    let script = "
+const THE_GREATEST_NUMBER: &str = "
 push s a 9223372036854775807: 2~gap 0
 push s a 0: 1~done
 step a 0~done
@@ -187,15 +157,9 @@ step q 0~done
 step j 0~done
 rows SELECT x, side FROM joined~11 1, 21 2
 ";
-    let wrong = first_wrong(rt.alloc(), BRANCHES, script)?;
-    assert_eq!(rt; wrong.as_str(), "");
-    Ok(())
-}
 
 /// A step that aborts takes its batch, and gives an empty one.
-#[test]
-fn an_abort_in_a_branch(rt: HostRuntime) -> Result<(), Fail> {
-    let script = "
+const AN_ABORT_IN_A_BRANCH: &str = "
 push s a 0: 7~done
 step a 0~done
 step p 0~raised 3
@@ -210,15 +174,9 @@ rows SELECT x, side FROM joined~11 1, 21 2, 27 2
 batches pl~[] [11]
 batches qr~[27] [21]
 ";
-    let wrong = first_wrong(rt.alloc(), BRANCHES, script)?;
-    assert_eq!(rt; wrong.as_str(), "");
-    Ok(())
-}
 
 /// The steps in another order that readiness allows: the last one waits for the same batch on both branches.
-#[test]
-fn another_order(rt: HostRuntime) -> Result<(), Fail> {
-    let script = "
+const ANOTHER_ORDER: &str = "
 push s a 0: 1~done
 push s a 1: 2~done
 step a 0~done
@@ -234,49 +192,21 @@ step p 1~done
 step j 1~done
 rows SELECT x, side FROM joined~11 1, 12 1, 21 2, 22 2
 ";
-    let wrong = first_wrong(rt.alloc(), BRANCHES, script)?;
-    assert_eq!(rt; wrong.as_str(), "");
-    Ok(())
-}
-
-/// A push of so many rows, with the numbers from 1001 on.
-fn push_of(alloc: Global, count: i64) -> Result<String, Fail> {
-    let mut text = String::from_str(alloc, "push s a 0: 1001")?;
-    for number in 1..count {
-        let number = 1001i64.saturating_add(number);
-        let number = format!(in alloc; ", {number}")?;
-        text.push_str(number.as_str())?;
-    }
-    Ok(text)
-}
 
 /// The largest batch. The two branches both give 1021, so the last step aborts.
-#[test]
-fn the_largest_batch(rt: HostRuntime) -> Result<(), Fail> {
-    let alloc = rt.alloc();
-    let too_many = push_of(alloc, 1025)?;
-    let most = push_of(alloc, 1024)?;
-    let script = format!(in alloc;
-        "
-{too_many}~none
-{most}~done
+const THE_LARGEST_BATCH: &str = "
+push s a 0: 1001..2025~none
+push s a 0: 1001..2024~done
 step a 0~done
 step p 0~done
 step q 0~done
 step j 0~key_taken joined
 rows SELECT x, side FROM joined~
 batches qr~[1024 rows]
-"
-    )?;
-    let wrong = first_wrong(alloc, BRANCHES, script.as_str())?;
-    assert_eq!(rt; wrong.as_str(), "");
-    Ok(())
-}
+";
 
 /// Accounts in a table that is split by its key. However many partitions run, this comes of it.
-#[test]
-fn transfers(rt: HostRuntime) -> Result<(), Fail> {
-    let catalog = "
+const TRANSFERS_CATALOG: &str = "
 table acct id int, bal int key id by id
 call open id int, bal int by 0
   INSERT INTO acct VALUES (:id, :bal)
@@ -286,7 +216,8 @@ call move a int, b int, n int
   UPDATE acct SET bal = bal - :n WHERE id = :a
   UPDATE acct SET bal = bal + :n WHERE id = :b
 ";
-    let script = "
+
+const TRANSFERS: &str = "
 call open -1 10~done
 call open 0 0~done
 call open 9223372036854775807 0~done
@@ -295,10 +226,6 @@ call move 0 9223372036854775807 3~done
 call move 0 9223372036854775807 2~raised 1
 rows SELECT id, bal FROM acct~-1 6, 0 1, 9223372036854775807 3
 ";
-    let wrong = first_wrong(rt.alloc(), catalog, script)?;
-    assert_eq!(rt; wrong.as_str(), "");
-    Ok(())
-}
 
 /// Voter with Leaderboard, the workload of S-Store (Meehan et al., PVLDB 8, 2015).
 const VOTER: &str = "
@@ -344,9 +271,7 @@ interior remove doomed
 ";
 
 /// Three contestants, of whom one is removed behind the fifth vote that counts.
-#[test]
-fn a_show(rt: HostRuntime) -> Result<(), Fail> {
-    let script = "
+const A_SHOW: &str = "
 call begin_show 5~done
 call add 1 'ann'~done
 call add 2 'bob'~done
@@ -390,7 +315,25 @@ rows SELECT id, every, n, live, due FROM show~1 5 6 2 1
 rows SELECT phone, contestant FROM votes~101 1, 102 3, 103 1, 104 3, 105 1
 batches doomed~[] [] [] [] [] [1 2] [] []
 ";
-    let wrong = first_wrong(rt.alloc(), VOTER, script)?;
-    assert_eq!(rt; wrong.as_str(), "");
+
+/// Each run, line by line.
+#[test]
+fn worked_runs(rt: HostRuntime) -> Result<(), Fail> {
+    for (catalog, script) in [
+        (AN_ABORT_AND_A_TOTAL_CATALOG, AN_ABORT_AND_A_TOTAL),
+        (A_WINDOW_OF_ROWS_CATALOG, A_WINDOW_OF_ROWS),
+        (A_WINDOW_OF_BATCHES_CATALOG, A_WINDOW_OF_BATCHES),
+        (BRANCHES, AN_EMPTY_BATCH),
+        (BRANCHES, NUMBERED_PUSHES),
+        (BRANCHES, THE_GREATEST_NUMBER),
+        (BRANCHES, AN_ABORT_IN_A_BRANCH),
+        (BRANCHES, ANOTHER_ORDER),
+        (BRANCHES, THE_LARGEST_BATCH),
+        (TRANSFERS_CATALOG, TRANSFERS),
+        (VOTER, A_SHOW),
+    ] {
+        let wrong = first_wrong(rt.alloc(), catalog, script)?;
+        assert_eq!(rt; wrong.as_str(), "");
+    }
     Ok(())
 }

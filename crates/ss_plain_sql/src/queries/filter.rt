@@ -44,9 +44,7 @@ pub fn passing_tuples(
     for here in tuples {
         if where_passes(alloc, test, here, params)? {
             let here = here.duplicate(alloc)?;
-            if found.push(here).is_err() {
-                return Err(RunError::NoMemory);
-            }
+            found.push(here)?;
         }
     }
     Ok(found)

@@ -25,9 +25,7 @@ fn group_key(alloc: Global, columns: &[ColAt], here: &Rows) -> Result<Row, NoMem
     let mut key = Seq::new(alloc);
     for column in columns {
         let value = source_column(alloc, here, *column)?;
-        if key.push(value).is_err() {
-            return Err(NoMemory);
-        }
+        key.push(value)?;
     }
     Ok(key)
 }
@@ -43,9 +41,7 @@ fn group_place(groups: &[Group], key: &Row) -> Option<usize>
 fn add_member(group: &mut Group, here: Rows) -> Result<(), NoMemory>
     ensures { OnOk result (group.new ≡ (group.old.0, group.old.1 ++ here ∷ [])) }
 {
-    if group.1.push(here).is_err() {
-        return Err(NoMemory);
-    }
+    group.1.push(here)?;
     Ok(())
 }
 
@@ -65,9 +61,7 @@ fn add_to_group(
         },
         None => {
             let members = single(alloc, here)?;
-            if groups.push((key, members)).is_err() {
-                return Err(NoMemory);
-            }
+            groups.push((key, members))?;
             Ok(())
         }
     }
@@ -92,9 +86,7 @@ fn members(alloc: Global, groups: &[Group]) -> Result<Seq<Seq<Rows>>, NoMemory>
     let mut members = Seq::new(alloc);
     for group in groups {
         let tuples = group.1.duplicate(alloc)?;
-        if members.push(tuples).is_err() {
-            return Err(NoMemory);
-        }
+        members.push(tuples)?;
     }
     Ok(members)
 }

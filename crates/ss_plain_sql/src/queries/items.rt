@@ -31,9 +31,7 @@ fn group_values(
     let mut values = Seq::new(alloc);
     for here in group {
         let value = evaluate(alloc, tree, here, params)?;
-        if values.push(value).is_err() {
-            return Err(RunError::NoMemory);
-        }
+        values.push(value)?;
     }
     Ok(values)
 }
@@ -108,9 +106,7 @@ fn group_row(alloc: Global, items: &[Item], group: &[Rows], params: &Row) -> Res
     let mut row = Seq::new(alloc);
     for item in items {
         let value = item_value(alloc, item, group, params)?;
-        if row.push(value).is_err() {
-            return Err(RunError::NoMemory);
-        }
+        row.push(value)?;
     }
     Ok(row)
 }
@@ -130,9 +126,7 @@ pub fn group_results(
     let mut rows = Seq::new(alloc);
     for group in groups {
         let row = group_row(alloc, items, group.as_slice(), params)?;
-        if rows.push(row).is_err() {
-            return Err(RunError::NoMemory);
-        }
+        rows.push(row)?;
     }
     Ok(rows)
 }

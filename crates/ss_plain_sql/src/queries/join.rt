@@ -1,9 +1,9 @@
 //! The first phase: the rows of FROM, or pairs by JOIN.
 
-ghost use Rattle.std.specs.Prelude.{◌≡◌, ◌++◌, [], ◌∷◌, map, IfOk, OnOk, Some};
-ghost use Rattle.std.specs.List.{filter};
+ghost use Rattle.std.specs.Prelude.{◌≡◌, ◌++◌, [], ◌∷◌, IfOk, OnOk, Some};
 ghost use Rattle.ss_value.specs.Order.{values_equal};
 ghost use Rattle.ss_model.specs.Queries.{source_column, join_rows, join_source};
+ghost use Rattle.ss_plain_sql.specs.Phases.{pairs_of};
 
 use crate::columns::source_column_or;
 use crate::queries::singles::{single, singles};
@@ -21,9 +21,7 @@ fn pair(alloc: Global, left: &Row, right: &Row) -> Result<Rows, NoMemory>
 {
     let mut here = single(alloc, left.duplicate(alloc)?)?;
     let right = right.duplicate(alloc)?;
-    if here.push(right).is_err() {
-        return Err(NoMemory);
-    }
+    here.push(right)?;
     Ok(here)
 }
 
@@ -45,14 +43,12 @@ fn add_pairs(
     inner: &[Row],
     tuples: &mut Seq<Rows>,
 ) -> Result<(), NoMemory>
-    ensures { OnOk result (tuples.new ≡ tuples.old ++ filter (λ here. values_equal (source_column joined.left here) (source_column joined.right here)) (map (λ r. left.now ∷ r ∷ []) inner.now)) }
+    ensures { OnOk result (tuples.new ≡ tuples.old ++ pairs_of joined left.now inner.now) }
 {
     for right in inner {
         let here = pair(alloc, left, right)?;
         if is_joined(joined, &here) {
-            if tuples.push(here).is_err() {
-                return Err(NoMemory);
-            }
+            tuples.push(here)?;
         }
     }
     Ok(())

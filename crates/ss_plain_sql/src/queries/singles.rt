@@ -12,9 +12,7 @@ pub fn single<T: Drop>(alloc: Global, item: T) -> Result<Seq<T>, NoMemory>
     ensures { IfOk result (λ list. list ≡ item ∷ []) }
 {
     let mut list = Seq::new(alloc);
-    if list.push(item).is_err() {
-        return Err(NoMemory);
-    }
+    list.push(item)?;
     Ok(list)
 }
 
@@ -25,9 +23,7 @@ pub fn singles<T: Copies + Drop>(alloc: Global, items: &[T]) -> Result<Seq<Seq<T
     let mut lists = Seq::new(alloc);
     for item in items {
         let list = single(alloc, item.duplicate(alloc)?)?;
-        if lists.push(list).is_err() {
-            return Err(NoMemory);
-        }
+        lists.push(list)?;
     }
     Ok(lists)
 }

@@ -5,7 +5,7 @@ ghost use Rattle.std.specs.List.{insert, remove, find, prefix_len};
 ghost use Rattle.std.specs.List.Sorted.{IsPartitionedBy};
 ghost use Rattle.ss_table.specs.Aims.{aim_of, is_before, rank, stops};
 ghost use Rattle.ss_table.specs.Places.{is_live};
-ghost use Rattle.ss_table.specs.Chunks.{Chunk, marks_in, slots_of, IsFilled, starts, EndsIn};
+ghost use Rattle.ss_table.specs.Chunks.{Chunk, marks_in, slots_of, IsFilled, ChunkChanged, OnOkChanged, starts, EndsIn};
 
 use crate::cell::{Cell, is_live};
 use crate::mark::Mark;
@@ -139,12 +139,8 @@ pub(super) fn push_first(chunks: &mut Vec<Vec<Mark>>, mark: Mark) -> Result<(), 
     ensures filled { IsFilled chunks.new.items }
 {
     let mut chunk = Vec::new(*chunks.allocator());
-    if chunk.push(mark).is_err() {
-        return Err(NoMemory);
-    }
-    if chunks.push(chunk).is_err() {
-        return Err(NoMemory);
-    }
+    chunk.push(mark)?;
+    chunks.push(chunk)?;
     Ok(())
 }
 
@@ -177,16 +173,10 @@ fn split(chunks: &mut Vec<Vec<Mark>>, at: usize) -> Result<(), NoMemory>
 {
     let half = chunks[at].len() / 2;
     let mut back = Vec::new(*chunks.allocator());
-    if back.reserve(CHUNK).is_err() {
-        return Err(NoMemory);
-    }
+    back.reserve(CHUNK)?;
     let (_, behind) = chunks[at].as_slice().split_at(half);
-    if back.extend_from_slice(behind).is_err() {
-        return Err(NoMemory);
-    }
-    if chunks.insert(at + 1, back).is_err() {
-        return Err(NoMemory);
-    }
+    back.extend_from_slice(behind)?;
+    chunks.insert(at + 1, back)?;
     chunks[at].truncate(half);
     Ok(())
 }
@@ -201,13 +191,11 @@ pub(super) fn put_in(
     requires at { at < length chunks.old.items }
     requires filled { IsFilled chunks.old.items }
     requires place { IfSome (slice_get chunks.old.items at) (λ chunk. place ≤ length chunk.items) }
-    ensures ok { (front back : List Chunk) (chunk : Chunk) → chunks.old.items ≡ front ++ chunk ∷ back → length front ≡ at → OnOk result (marks_in chunks.new.items ≡ marks_in front ++ (insert chunk.items place mark ++ marks_in back)) }
+    ensures ok { OnOkChanged result chunks.old.items chunks.new.items at (λ marks. insert marks place mark) }
     ensures err { OnErr result (marks_in chunks.new.items ≡ marks_in chunks.old.items) }
     ensures filled { IsFilled chunks.new.items }
 {
-    if chunks[at].insert(place, mark).is_err() {
-        return Err(NoMemory);
-    }
+    chunks[at].insert(place, mark)?;
     Ok(())
 }
 
@@ -233,7 +221,7 @@ fn take_out(chunks: &mut Vec<Vec<Mark>>, at: usize, place: usize)
     requires at { at < length chunks.old.items }
     requires filled { IsFilled chunks.old.items }
     requires place { IfSome (slice_get chunks.old.items at) (λ chunk. place < length chunk.items) }
-    ensures marks { (front back : List Chunk) (chunk : Chunk) → chunks.old.items ≡ front ++ chunk ∷ back → length front ≡ at → marks_in chunks.new.items ≡ marks_in front ++ (remove chunk.items place ++ marks_in back) }
+    ensures marks { ChunkChanged chunks.old.items chunks.new.items at (λ marks. remove marks place) }
     ensures filled { IsFilled chunks.new.items }
 {
     let _ = chunks[at].remove(place);

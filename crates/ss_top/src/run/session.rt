@@ -9,7 +9,7 @@ ghost use Rattle.ss_shard.specs.Shards.{IsSettled};
 ghost use Rattle.ss_shard.specs.Databases.{database_of, IsWhole};
 ghost use Rattle.ss_proc.specs.Executions.{is_of_tables};
 ghost use Rattle.ss_top.specs.RunAnswers.{all_fit, AnswersInOrder};
-ghost use Rattle.ss_top.specs.RunSessions.{one_client, places_in, IsListed};
+ghost use Rattle.ss_top.specs.RunSessions.{one_client, places_in, RequestListed};
 
 use crate::run::request::run_request;
 use ss_model::catalog::Catalog;
@@ -49,7 +49,7 @@ fn list_request(
     requires tables_alone { is_of_tables catalog.now ≡ true }
     requires fits { fits_entry catalog.now (asked_entry request.now.client index request.now.what) ≡ true }
     requires settled { IsSettled catalog.now shard.old }
-    ensures listed { IfSome result (IsListed catalog.now (database_of catalog.now shard.old.tables) (database_of catalog.now shard.new.tables) list.old list.new (asked_entry request.now.client index request.now.what)) }
+    ensures listed { IfSome result (RequestListed catalog.now request.now index shard.old.tables shard.new.tables list.old list.new) }
     ensures none { IfNone result ((list.new ≡ list.old) × (shard.new.tables ≡ shard.old.tables)) }
     ensures settled { IsSettled catalog.now shard.new }
 {

@@ -1,6 +1,6 @@
 //! Inputs at the limits of size and depth, and command lines.
 
-use super::{ACCOUNTS, Ended, run_on, run_within, words_of};
+use super::{ACCOUNTS, Ended, run_within, words_of};
 use ss_lines::{MAX_INPUT, MAX_LINE, MemorySink, MemorySource, Source};
 use ss_top::status::Status;
 use ss_top::top::sstore;

@@ -5,8 +5,8 @@ use Rattle.ss_catalog_checks.specs.Graphs.{is_among, has_edge, TellsReached}
 use Rattle.ss_catalog_checks.proofs.Firing.{starts_within, back_told}
 use Rattle.ss_catalog_checks.proofs.cascades.leads_back.Goals as goal
 
-pub reached-requires-clause-within : goal.reached-requires-clause-within
-reached-requires-clause-within c = λ n h.
+pub reached_nodes-requires-clause-within : goal.reached_nodes-requires-clause-within
+reached_nodes-requires-clause-within c = λ n h.
     let starts : c.as_slice-in-Window.result.now ≡ inserted_windows c.in-Some.found.now = c.as_slice-in-Window.ensures ∙ c.in_ok-windows-in-Window.ensures ∙ ap (flat_map statement_windows) c.as_slice.ensures in
     starts_within c.args.catalog.now c.args.graph.now c.requires c.args.trigger c.in-Some.found.now c.in-Some.ensures.item c.in-Window.field-0 c.in-Window.is n (ap (λ ns. is_among ns n) (sym starts) ∙ h)
 

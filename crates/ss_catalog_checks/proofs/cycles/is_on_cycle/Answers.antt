@@ -4,8 +4,8 @@ use Rattle.ss_catalog_checks.proofs.Graphs.{row_there, row_missing}
 use Rattle.ss_catalog_checks.proofs.Handing.{cycle_told, no_edges_told}
 use Rattle.ss_catalog_checks.proofs.cycles.is_on_cycle.Goals as goal
 
-pub reached-requires-clause-within : goal.reached-requires-clause-within
-reached-requires-clause-within c = λ n h.
+pub reached_nodes-requires-clause-within : goal.reached_nodes-requires-clause-within
+reached_nodes-requires-clause-within c = λ n h.
     let row : get_or c.args.graph.now c.args.procedure [] ≡ c.in-Some.next.now = row_there c.args.graph.now c.args.procedure c.in-Some.next.now c.in-Some.ensures.item in
     c.requires.graph.closed c.args.procedure n (ap (λ ns. is_among ns n) (row ∙ sym c.as_slice.ensures) ∙ h)
 

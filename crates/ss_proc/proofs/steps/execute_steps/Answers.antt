@@ -7,7 +7,7 @@ use Rattle.ss_operators.specs.Stops.{StopsAs}
 use Rattle.ss_plan.specs.Statements.{context_for}
 use Rattle.ss_plan.proofs.Inserts.{changed_on}
 use Rattle.ss_proc.specs.Executions.{execution_of, StepRuns}
-use Rattle.ss_proc.proofs.Folds.{fold_goes_on, fold_stops, fold_ends, rest_of}
+use Rattle.ss_operators.proofs.Walks.{fold_goes_on, fold_stops, fold_ends, rest_of}
 use Rattle.ss_proc.proofs.steps.execute_steps.Goals as goal
 
 pub returns-in_err-execute_step-clause-stops : goal.returns-in_err-execute_step-clause-stops

@@ -1,5 +1,5 @@
 use Rattle.std.proofs.Common.{◌≡◌, ◌++◌, drop}
-use Rattle.ss_plain_sql.proofs.Joining.{pairs_of}
+use Rattle.ss_plain_sql.specs.Phases.{pairs_of}
 use Rattle.ss_plain_sql.proofs.queries.join.add_pairs.Given as goal
 
 abbrev pub invariant-loop-right : goal.invariant-loop-right

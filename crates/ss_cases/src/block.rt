@@ -1,0 +1,151 @@
+//! The kinds of blocks, and what runs each.
+
+use crate::bases::Bases;
+use crate::run::check_run;
+use crate::wrong::Wrong;
+use crate::{examples, inputs, queries, requests, script, sql};
+use std::alloc::Global;
+
+/// What the lines of a block are. The modules that run them say what each means.
+#[derive(Clone, Copy, Debug, PartialEq, Eq, Drop)]
+pub enum BlockKind {
+    /// A text that other blocks name.
+    Base,
+    Rows,
+    Alone,
+    Fill,
+    Edit,
+    Both,
+    Requests,
+    Asked,
+    Report,
+    Run,
+    First,
+    Script,
+    Misfit,
+    Queries,
+    Bodies,
+    Parse,
+    Type,
+}
+
+impl BlockKind {
+    /// The kind with this word.
+    pub fn of(word: &str) -> Option<BlockKind> {
+        match word {
+            "base" => Some(BlockKind::Base),
+            "rows" => Some(BlockKind::Rows),
+            "alone" => Some(BlockKind::Alone),
+            "fill" => Some(BlockKind::Fill),
+            "edit" => Some(BlockKind::Edit),
+            "both" => Some(BlockKind::Both),
+            "requests" => Some(BlockKind::Requests),
+            "asked" => Some(BlockKind::Asked),
+            "report" => Some(BlockKind::Report),
+            "run" => Some(BlockKind::Run),
+            "first" => Some(BlockKind::First),
+            "script" => Some(BlockKind::Script),
+            "misfit" => Some(BlockKind::Misfit),
+            "queries" => Some(BlockKind::Queries),
+            "bodies" => Some(BlockKind::Bodies),
+            "parse" => Some(BlockKind::Parse),
+            "type" => Some(BlockKind::Type),
+            _ => None,
+        }
+    }
+
+    /// Whether each line of the block is a case; else the block is one.
+    pub fn has_rows(self) -> bool {
+        !matches!(
+            self,
+            BlockKind::Base | BlockKind::Report | BlockKind::Script | BlockKind::Misfit
+        )
+    }
+
+    /// Whether the block's head names a base.
+    fn has_base(self) -> bool {
+        !matches!(
+            self,
+            BlockKind::Base | BlockKind::Rows | BlockKind::Run | BlockKind::First
+        )
+    }
+}
+
+/// The lines of a file from one empty line to the next.
+#[derive(Drop)]
+pub struct Block {
+    pub kind: BlockKind,
+    /// What stands behind the kind's word.
+    pub name: String,
+    /// The number of the line with that word, from 1 on.
+    pub number: u64,
+    pub lines: Vec<String>,
+}
+
+/// The text that a block's rows are put into; empty where its kind has none. Of `parse` and `type` it is the form of
+/// their texts.
+pub fn base_of(alloc: Global, bases: &Bases, block: &Block) -> Result<String, Wrong> {
+    if matches!(block.kind, BlockKind::Parse | BlockKind::Type) {
+        return Ok(String::from_str(alloc, block.name.as_str())?);
+    }
+    if !block.kind.has_base() {
+        if !block.name.is_empty() {
+            return Err(Wrong::text(alloc, "this kind of block has no base"));
+        }
+        return Ok(String::new(alloc));
+    }
+    match bases.text_of(block.name.as_str()) {
+        Some(text) => Ok(String::from_str(alloc, text)?),
+        None => Err(Wrong::text(alloc, "no base has that name")),
+    }
+}
+
+/// A row's first column, and the rest of it.
+pub fn column(alloc: Global, row: &str) -> Result<(&str, &str), Wrong> {
+    match row.split_once(" ~ ") {
+        Some(parts) => Ok(parts),
+        None => Err(Wrong::text(alloc, "too few columns")),
+    }
+}
+
+/// Runs the case of a row. The folder is that of the case file, with its slash.
+pub fn run_row(
+    rt: &HostRuntime,
+    folder: &str,
+    kind: BlockKind,
+    base: &str,
+    row: &str,
+) -> Result<(), Wrong> {
+    let alloc = rt.alloc();
+    match kind {
+        BlockKind::Rows => inputs::check_input(alloc, row),
+        BlockKind::Alone => check_run(alloc, base, row),
+        BlockKind::Fill => inputs::check_fill(alloc, base, row),
+        BlockKind::Edit => inputs::check_edit(alloc, base, row),
+        BlockKind::Both => inputs::check_both(alloc, base, row),
+        BlockKind::Requests => requests::check_requests(alloc, base, row),
+        BlockKind::Asked => requests::check_asked(alloc, base, row),
+        BlockKind::Run => examples::check_files(rt, folder, row),
+        BlockKind::First => examples::check_first(rt, folder, row),
+        BlockKind::Queries => queries::check_query(alloc, base, row),
+        BlockKind::Bodies => queries::check_body(alloc, base, row),
+        BlockKind::Parse => sql::check_parsed(alloc, base, row),
+        BlockKind::Type => sql::check_typed(alloc, base, row),
+        _ => Err(Wrong::text(alloc, "no row")),
+    }
+}
+
+/// Runs the case of a whole block.
+pub fn run_whole(
+    rt: &HostRuntime,
+    kind: BlockKind,
+    base: &str,
+    lines: &[String],
+) -> Result<(), Wrong> {
+    match kind {
+        BlockKind::Report => requests::check_block(rt.alloc(), base, lines),
+        BlockKind::Script => script::check_script(rt.alloc(), base, lines),
+        BlockKind::Misfit => script::check_misfit(rt.alloc(), base, lines),
+        _ => Err(Wrong::text(rt.alloc(), "no block")),
+    }
+}

@@ -1,0 +1,51 @@
+//! Whole inputs, and inputs that are made from a base.
+//!
+//! ```text
+//! rows           INPUT ~ LINE
+//! alone BASE     LINE: the base as it is
+//! fill BASE      PIECE ~ LINE: the base with the piece in place of its first `@`
+//! edit BASE      FROM ~ TO ~ LINE: the base with TO in place of FROM, which stands in it exactly once
+//! both BASE      FROM ~ TO ~ LINE ~ FROM ~ TO ~ LINE: each edit alone has its line, and both have that of the first
+//! ```
+
+use crate::bases::{edited, filled};
+use crate::block::column;
+use crate::run::check_run;
+use crate::wrong::Wrong;
+use std::alloc::Global;
+
+/// A row of `rows`.
+pub fn check_input(alloc: Global, row: &str) -> Result<(), Wrong> {
+    let (input, line) = column(alloc, row)?;
+    check_run(alloc, input, line)
+}
+
+/// A row of `fill`.
+pub fn check_fill(alloc: Global, base: &str, row: &str) -> Result<(), Wrong> {
+    let (piece, line) = column(alloc, row)?;
+    let input = filled(alloc, base, piece)?;
+    check_run(alloc, input.as_str(), line)
+}
+
+/// A row of `edit`.
+pub fn check_edit(alloc: Global, base: &str, row: &str) -> Result<(), Wrong> {
+    let (from, rest) = column(alloc, row)?;
+    let (to, line) = column(alloc, rest)?;
+    let input = edited(alloc, base, from, to)?;
+    check_run(alloc, input.as_str(), line)
+}
+
+/// A row of `both`.
+pub fn check_both(alloc: Global, base: &str, row: &str) -> Result<(), Wrong> {
+    let (from, rest) = column(alloc, row)?;
+    let (to, rest) = column(alloc, rest)?;
+    let (line, rest) = column(alloc, rest)?;
+    let (other_from, rest) = column(alloc, rest)?;
+    let (other_to, other_line) = column(alloc, rest)?;
+    let first = edited(alloc, base, from, to)?;
+    let second = edited(alloc, base, other_from, other_to)?;
+    let both = edited(alloc, first.as_str(), other_from, other_to)?;
+    check_run(alloc, first.as_str(), line)?;
+    check_run(alloc, second.as_str(), other_line)?;
+    check_run(alloc, both.as_str(), line)
+}

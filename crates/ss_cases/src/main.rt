@@ -1,0 +1,66 @@
+//! The program `ss_cases`: runs the cases of the files that the command line names, and counts them.
+//!
+//! A case is what the program `sstore` is given and what it has to answer, decided by hand. Each file takes one line
+//! of the output, its name and its number of cases, and the last line has the totals. A case that comes out
+//! differently, and a file or a block that can't be read, is reported before its file's line as `FILE:LINE`.
+//!
+//! - `file`: the form of a case file, and its blocks one behind the other
+//! - `block`: the kinds of blocks, and what runs each
+//! - `inputs`, `requests`, `examples`: what the blocks of each kind mean
+//! - `script`, `queries`: short forms of whole runs over tables, of queries and of bodies
+//! - `sql`: texts with their trees, which `parsed_trees` and `typed_trees` print, with `signs` for their operators;
+//!   `scopes` has the names that typed texts may use
+//! - `bases`, `marks`: texts that several cases share, and what stands for bytes that a line can't hold
+//! - `run`: one run of the program, and whether it answered as its case says
+//! - `wrong`: why a case is wrong
+#![tactic(auto)]
+
+mod bases;
+mod block;
+mod examples;
+mod file;
+mod inputs;
+mod marks;
+mod parsed_trees;
+mod queries;
+mod requests;
+mod run;
+mod scopes;
+mod script;
+mod signs;
+mod sql;
+mod typed_trees;
+mod wrong;
+
+use bases::Bases;
+use file::{Count, run_file};
+use std::process::ExitCode;
+use std::{env, io};
+
+/// Runs the files in their order. A base of one file is known in those behind it.
+fn run_files(rt: &HostRuntime) -> io::Result<Count> {
+    let mut bases = Bases::new(rt.alloc());
+    let mut total = Count::new();
+    for name in env::args(rt)?.skip(1) {
+        let count = run_file(rt, &mut bases, name.as_str())?;
+        let cases = count.cases;
+        println!(rt; "{name} {cases}")?;
+        total.add(&count);
+    }
+    let cases = total.cases;
+    let wrong = total.wrong;
+    println!(rt; "cases {cases} wrong {wrong}")?;
+    Ok(total)
+}
+
+/// Ends with 0 where cases ran and none is wrong, and with 1 otherwise.
+fn main(rt: HostRuntime) -> ExitCode {
+    match run_files(&rt) {
+        Ok(total) if total.cases > 0 && total.wrong == 0 => ExitCode::from(0),
+        Ok(_) => ExitCode::from(1),
+        Err(error) => {
+            let _printed = eprintln!(rt; "{error}");
+            ExitCode::from(1)
+        }
+    }
+}

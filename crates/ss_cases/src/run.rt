@@ -1,0 +1,107 @@
+//! One run of the program over memory, and whether it answered as its case says.
+
+use crate::marks::bytes_of;
+use crate::wrong::Wrong;
+use ss_lines::{MemorySink, MemorySource};
+use ss_top::status::Status;
+use ss_top::top::sstore;
+use ss_value::seq::Seq;
+use std::alloc::Global;
+
+/// The mark of an input whose catalogue is accepted, whether it has a stream and isn't built yet, or runs.
+const ACCEPTED: &str = "accepted";
+
+/// The most bytes that a run may write.
+const ROOM: usize = 1_048_576;
+
+/// How a run ended, and what it wrote.
+#[derive(Drop)]
+pub struct Ended {
+    pub status: Status,
+    pub written: Vec<u8>,
+}
+
+/// Runs `run` on an input.
+pub fn run_on(alloc: Global, input: Vec<u8>) -> Result<Ended, Wrong> {
+    let mut words = Vec::new(alloc);
+    words.push(String::from_str(alloc, "run")?)?;
+    let mut source = MemorySource::new(Seq::from_vec(input));
+    let mut sink = MemorySink::new(alloc, ROOM)?;
+    let status = sstore(alloc, &words, &mut source, &mut sink);
+    let written = Vec::from_slice(alloc, sink.written())?;
+    Ok(Ended { status, written })
+}
+
+/// Whether a run that writes this ends so: a refusal is all that is written, and has a status of its own.
+fn ends_so(written: &str, status: Status) -> bool {
+    let refusal = if written.starts_with("[\"input\",") {
+        Status::Input
+    } else if written.starts_with("[\"not_built\",") {
+        Status::NotBuilt
+    } else {
+        return status == Status::Done;
+    };
+    status == refusal && written.find('\n') == Some(written.len().saturating_sub(1))
+}
+
+/// What a run wrote, where its status is the one that goes with it.
+pub fn report_of(alloc: Global, ended: &Ended) -> Result<&str, Wrong> {
+    let Ok(written) = std::str::from_utf8(&ended.written) else {
+        return Err(Wrong::text(alloc, "the report is no UTF-8"));
+    };
+    if !ends_so(written, ended.status) {
+        let number = ended.status.number();
+        let text = format!(in alloc; "the status {number} doesn't go with\n{written}")?;
+        return Err(Wrong::Text(text));
+    }
+    Ok(written)
+}
+
+/// Whether a line is one with which an input whose catalogue is accepted may begin.
+fn begins_accepted(line: &str) -> bool {
+    line == "[\"not_built\",1]" || line.starts_with("[\"table\",") || line.starts_with("[\"done\",")
+}
+
+/// Compares the first line of what was written. Where what is wanted has a line feed in it, by its mark, it is all
+/// that was written.
+pub fn check_line(alloc: Global, written: &str, want: &str) -> Result<(), Wrong> {
+    if want.contains('␤') {
+        return check_report(alloc, written, bytes_of(alloc, want)?.as_slice());
+    }
+    let Some((line, _)) = written.split_once('\n') else {
+        return Err(Wrong::answer(alloc, want, "no line"));
+    };
+    if line == want || want == ACCEPTED && begins_accepted(line) {
+        return Ok(());
+    }
+    Err(Wrong::answer(alloc, want, line))
+}
+
+/// Runs an input, given by its text, and compares what was written.
+pub fn check_run(alloc: Global, input: &str, want: &str) -> Result<(), Wrong> {
+    let ended = run_on(alloc, bytes_of(alloc, input)?)?;
+    let written = report_of(alloc, &ended)?;
+    check_line(alloc, written, want)
+}
+
+/// Compares a whole report; the first line that differs is what came.
+pub fn check_report(alloc: Global, written: &str, want: &[u8]) -> Result<(), Wrong> {
+    if written.as_bytes() == want {
+        return Ok(());
+    }
+    let Ok(want) = std::str::from_utf8(want) else {
+        return Err(Wrong::text(alloc, "the report that is wanted is no UTF-8"));
+    };
+    let mut wanted = want.split('\n');
+    let mut number = 0usize;
+    for line in written.split('\n') {
+        number = number.saturating_add(1);
+        let other = wanted.next().unwrap_or("no line");
+        if line != other {
+            let other = format!(in alloc; "at line {number}: {other}")?;
+            return Err(Wrong::answer(alloc, other.as_str(), line));
+        }
+    }
+    let other = wanted.next().unwrap_or("no line");
+    Err(Wrong::answer(alloc, other, "no line"))
+}

@@ -1,0 +1,94 @@
+//! The outline of a value, and the checks on what is written.
+
+ghost use Rattle.std.specs.Prelude.{◌≡◌, ◌++◌, codes, false, None, IfOk, OnOk, IfErr};
+ghost use Rattle.serde_json.specs.Data.{Data};
+ghost use Rattle.serde_json.specs.View.{view};
+ghost use Rattle.ss_model.specs.declared.catalog.Catalog.{Catalog};
+ghost use Rattle.ss_catalog_outline.specs.Limits.{is_too_many_to_number, over_limit};
+ghost use Rattle.ss_catalog_outline.specs.Twice.{name_twice};
+ghost use Rattle.ss_catalog_outline.specs.Unknown.{name_unknown};
+ghost use Rattle.ss_catalog.specs.Checks.{IsShaped, HasOwnNames, IsNamed, HasOwners};
+ghost use Rattle.ss_catalog.specs.Reads.{Refuses};
+
+use crate::error::{CatalogError, Word};
+use serde_json::Value as Json;
+use ss_catalog_json::read_error::ReadError;
+use ss_catalog_names::twice::name_twice;
+use ss_catalog_names::unknown::name_unknown;
+use ss_catalog_outline::limits::{is_too_many_to_number, over_limit};
+use ss_catalog_outline::read::read_outline;
+use ss_catalog_outline::types::Outline;
+use ss_value::NoMemory;
+use std::alloc::Global;
+
+/// The path of a way from the whole.
+fn path_of(alloc: Global, way: &Word) -> Result<Word, NoMemory>
+    ensures { IfOk result (λ path. path ≡ codes "$" ++ way.now) }
+{
+    let way = way.as_str();
+    let path = format!(in alloc; "${way}")?;
+    Ok(Word::from_string(path))
+}
+
+/// C1: the outline of a value, or the path to what isn't as it should be.
+pub fn read_shape(alloc: Global, value: &Json) -> Result<Outline, CatalogError>
+    ensures ok { IfOk result (IsShaped (view value.now)) }
+    ensures refused { IfErr result (Refuses (view value.now)) }
+{
+    match read_outline(alloc, value) {
+        Ok(outline) => Ok(outline),
+        Err(ReadError::NoMemory) => Err(CatalogError::NoMemory),
+        Err(ReadError::Fault(way)) => {
+            let path = path_of(alloc, &way)?;
+            Err(CatalogError::Shape(path))
+        }
+    }
+}
+
+/// C2: no name stands twice.
+pub fn check_names_once(alloc: Global, outline: &Outline) -> Result<(), CatalogError>
+    ensures ok { OnOk result (name_twice outline.now ≡ None) }
+    ensures refused { (d : Data) → IsShaped d outline.now → IfErr result (Refuses d) }
+{
+    match name_twice(alloc, outline)? {
+        Some(name) => Err(CatalogError::Twice(name)),
+        None => Ok(()),
+    }
+}
+
+/// C3: each name in a field is there.
+pub fn check_names_known(alloc: Global, outline: &Outline) -> Result<(), CatalogError>
+    ensures ok { OnOk result (name_unknown outline.now ≡ None) }
+    ensures refused { (d : Data) → HasOwnNames d outline.now → IfErr result (Refuses d) }
+{
+    match name_unknown(alloc, outline)? {
+        Some(name) => Err(CatalogError::Unknown(name)),
+        None => Ok(()),
+    }
+}
+
+/// C10, as far as it comes before SQL is read: the parts can be numbered.
+#[tactic(auto, using(crate::proofs::Limits::too_many_is_over))]
+pub fn check_numbering(outline: &Outline) -> Result<(), CatalogError>
+    ensures ok { OnOk result (is_too_many_to_number outline.now ≡ false) }
+    ensures refused { (d : Data) → IsNamed d outline.now → IfErr result (Refuses d) }
+{
+    if !is_too_many_to_number(outline) {
+        return Ok(());
+    }
+    match over_limit(outline) {
+        Some(counted) => Err(CatalogError::Limit(counted)),
+        None => unreachable!(),
+    }
+}
+
+/// C10: no count is over its limit.
+pub fn check_counts(outline: &Outline) -> Result<(), CatalogError>
+    ensures ok { OnOk result (over_limit outline.now ≡ None) }
+    ensures refused { (d : Data) (c : Catalog) → HasOwners d outline.now c → IfErr result (Refuses d) }
+{
+    match over_limit(outline) {
+        Some(over) => Err(CatalogError::Limit(over)),
+        None => Ok(()),
+    }
+}

@@ -1,0 +1,60 @@
+-- Requests as JSON.
+use Rattle.std.specs.Prelude.{◌≡◌, ℕ, length, cond, nat_le, ok_or, Result, Ok, Err}
+use Rattle.serde_json.specs.Data.{Data}
+use Rattle.ss_value.specs.Rows.{Rows}
+use Rattle.ss_model.specs.declared.catalog.Catalog.{Catalog}
+use Rattle.ss_model.specs.declared.entry.Asked.{Asked}
+use Rattle.ss_model.specs.declared.entry.Asked.TheVariants.{Call, Push}
+use Rattle.ss_model.specs.declared.entry.Request.{Request}
+use Rattle.ss_model.specs.Database.{stream_schema}
+use Rattle.ss_catalog_json.specs.Readings.{OrFault}
+use Rattle.ss_catalog_requests.specs.declared.outline.AskedOutline.{AskedOutline}
+use Rattle.ss_catalog_requests.specs.declared.outline.AskedOutline.TheVariants.{Call as CallOutline, Push as PushOutline}
+use Rattle.ss_catalog_requests.specs.declared.request.RequestError.{RequestError}
+use Rattle.ss_catalog_requests.specs.declared.request.RequestError.TheVariants.{NoMemory, Shape, UnknownTarget, Arguments, TooManyRows}
+use Rattle.ss_catalog_requests.specs.Shape.{read_request}
+use Rattle.ss_catalog_requests.specs.Targets.{call_named, border_stream_named, procedure_args}
+use Rattle.ss_catalog_requests.specs.Fitting.{fitting_row, fitting_rows}
+
+infixr 20 ◌>>=◌
+-- a value, or why the request is refused
+abbrev pub OrRefused : Type 0 → Type 0
+OrRefused A = Result A RequestError
+
+-- the first, and then the second on what it gave
+abbrev pub ◌>>=◌ : {A B : Type 0} → OrRefused A → (A → OrRefused B) → OrRefused B
+◌>>=◌ (Ok a) f = f a
+◌>>=◌ (Err e) f = Err e
+
+-- wherever the fault is, it is the shape's
+abbrev pub in_shape : {A : Type 0} → ℕ → OrFault A → OrRefused A
+in_shape line (Ok a) = Ok a
+in_shape line (Err way) = Err (Shape line)
+
+-- a push's rows, of which there are at most 1,024
+abbrev pub few_rows : ℕ → Rows → OrRefused Rows
+few_rows line rows = cond (nat_le (length rows) 1024) (Ok rows) (Err (TooManyRows line))
+
+-- what is asked for: first its name is looked up, then its values are tried, and then its rows counted
+abbrev pub asked_of : Catalog → ℕ → AskedOutline → OrRefused Asked
+asked_of catalog line (CallOutline procedure args) =
+    ok_or (call_named catalog procedure) (UnknownTarget line) >>= λ n.
+    ok_or (fitting_row (procedure_args catalog n) args) (Arguments line) >>= λ row.
+    Ok (Call n row)
+asked_of catalog line (PushOutline stream source seq rows) =
+    ok_or (border_stream_named catalog stream) (UnknownTarget line) >>= λ s.
+    ok_or (fitting_rows (stream_schema catalog s) rows) (Arguments line) >>= λ fitting.
+    few_rows line fitting >>= λ few.
+    Ok (Push s source seq few)
+
+-- what a value on this line asks of a catalogue, or the first refusal: the shape comes before all else
+unfoldable pub request_of : Catalog → ℕ → Data → Result Request RequestError
+request_of catalog line d =
+    in_shape line (read_request d) >>= λ said.
+    asked_of catalog line said.what >>= λ what.
+    Ok (record { line = line; client = said.client; what = what })
+
+-- the refusal is the one that is meant; want of memory says nothing
+abbrev pub RefusesAs : {A : Type 0} → OrRefused A → RequestError → Type 0
+RefusesAs meaning NoMemory = Unit {0}
+RefusesAs meaning e = meaning ≡ Err e

@@ -1,0 +1,33 @@
+//! A request as it is written: no name is looked up yet, and no row compared with columns.
+//!
+//! Everything here is as large as what it was read from.
+
+use ss_catalog_json::word::Word;
+use ss_value::text::Name;
+use ss_value::value::{Row, Rows};
+
+/// What is asked for. Of values among which a text is over 255 bytes no more is kept than that.
+#[derive(Drop)]
+pub enum AskedOutline {
+    /// A call of the procedure that this names.
+    Call {
+        procedure: Word,
+        args: Option<Row>,
+    },
+    /// A batch for the stream that this names.
+    Push {
+        stream: Word,
+        source: Name,
+        seq: u64,
+        rows: Option<Rows>,
+    },
+}
+
+/// A request: its client, and what it asks for.
+#[derive(Drop)]
+pub struct RequestOutline {
+    /// From 0 to 7.
+    pub client: u8,
+    /// What it asks for.
+    pub what: AskedOutline,
+}

@@ -1,0 +1,85 @@
+//! The catalogue of an outline.
+
+ghost use Rattle.std.specs.Prelude.{◌≡◌, false, IfOk, IfErr};
+ghost use Rattle.ss_catalog_outline.specs.Limits.{is_too_many_to_number};
+ghost use Rattle.ss_catalog_resolve.specs.Numbered.{sections_of};
+ghost use Rattle.ss_catalog_resolve.specs.Answers.{Answers};
+ghost use Rattle.ss_catalog_resolve.specs.Scopes.{shared_scope};
+ghost use Rattle.ss_catalog_resolve.specs.Bodies.{BodiesRead, Resolves};
+ghost use Rattle.ss_catalog_resolve.specs.Refusals.{IsUnresolved};
+
+use crate::definitions::{Sections, sections_of};
+use crate::fault::{ResolveError, SqlRefusal, SqlSite};
+use crate::outline_index::OutlineIndex;
+use crate::scopes::shared_scope;
+use ss_catalog_outline::types::Outline;
+use ss_model::catalog::{Catalog, Procedure, TriggerDef};
+use ss_sql_type::scope::Scope;
+use ss_value::seq::Seq;
+use std::alloc::Global;
+
+impl<'a> OutlineIndex<'a> {
+    /// The procedures of the outline, and then its triggers. The scope is to be that of tables and windows alone.
+    fn bodies(
+        &self,
+        alloc: Global,
+        scope: &mut Scope,
+    ) -> Result<(Seq<Procedure>, Seq<TriggerDef>), SqlRefusal<SqlSite>>
+        requires { scope.old ≡ shared_scope (sections_of self.now.outline.now) }
+        ensures { Answers (BodiesRead self.now.outline.now) result }
+    {
+        let procedures = self.procedures(alloc, scope)?;
+        let triggers = match self.triggers(alloc, scope) {
+            Ok(triggers) => triggers,
+            Err(refused) => return Err(refused),
+        };
+        Ok((procedures, triggers))
+    }
+}
+
+/// The procedures of an outline, and then its triggers.
+fn bodies_of(
+    alloc: Global,
+    outline: &Outline,
+    sections: &Sections,
+) -> Result<(Seq<Procedure>, Seq<TriggerDef>), SqlRefusal<SqlSite>>
+    requires few { is_too_many_to_number outline.now ≡ false }
+    requires sections { sections.now ≡ sections_of outline.now }
+    ensures { Answers (BodiesRead outline.now) result }
+{
+    let names = OutlineIndex::new(alloc, outline)?;
+    let mut scope = shared_scope(alloc, sections)?;
+    names.bodies(alloc, &mut scope)
+}
+
+/// The catalogue of an outline, with this text, or the first fault in its SQL: procedures go before triggers, each in
+/// written order, and of one text the first fault is reported.
+///
+/// It is for an outline in which each name of a field is there: where an input is the name of no stream, it may answer
+/// `NoMemory`.
+///
+/// Each text is parsed and typed once. That takes time and memory linear in the outline and its texts, as far as
+/// hashes spread the names, but that each text walks the names of tables, windows and inputs at most twice, and that an
+/// input, an `emit` and a `for_each` copy the columns of their stream, at most 256.
+pub fn resolve(alloc: Global, outline: &Outline, text: Seq<u8>) -> Result<Catalog, ResolveError>
+    requires { is_too_many_to_number outline.now ≡ false }
+    ensures resolves { IfOk result (Resolves outline.now) }
+    ensures text { IfOk result (λ catalog. catalog.text ≡ text) }
+    ensures refused { IfErr result (IsUnresolved outline.now) }
+{
+    let sections = sections_of(alloc, outline)?;
+    let (procedures, triggers) = bodies_of(alloc, outline, &sections)?;
+    let Sections {
+        tables,
+        streams,
+        windows,
+    } = sections;
+    Ok(Catalog {
+        tables,
+        streams,
+        windows,
+        triggers,
+        procedures,
+        text,
+    })
+}

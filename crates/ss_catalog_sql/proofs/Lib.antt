@@ -1,4 +1,0 @@
-pub mod InOrder
-pub mod Told
-pub mod Narrow
-pub mod Indexed

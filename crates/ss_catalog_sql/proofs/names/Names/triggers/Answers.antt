@@ -1,8 +1,0 @@
-use Rattle.std.proofs.Common.{◌∙◌, ap}
-use Rattle.ss_sql_type.specs.declared.scope.Scope.{Scope}
-use Rattle.ss_sql_type.specs.Queries.{scope_narrow}
-use Rattle.ss_catalog_sql.proofs.Narrow.{narrow_shared}
-use Rattle.ss_catalog_sql.proofs.names.Names.triggers.Goals as goal
-
-pub read_in_order-requires-clause-narrow : goal.read_in_order-requires-clause-narrow
-read_in_order-requires-clause-narrow c = ap (λ (s : Scope). scope_narrow s) c.requires ∙ narrow_shared c.args.self.now.outline.now c.args.self.now.few

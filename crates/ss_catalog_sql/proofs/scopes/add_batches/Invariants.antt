@@ -1,8 +1,0 @@
-use Rattle.std.proofs.Common.{◌≡◌, ◌++◌, take}
-use Rattle.ss_model.specs.Results.{map_indexed}
-use Rattle.ss_numbering.specs.Numbered.{sections_of}
-use Rattle.ss_catalog_sql.specs.Scopes.{named_batch}
-use Rattle.ss_catalog_sql.proofs.scopes.add_batches.Given as goal
-
-abbrev pub invariant-loop-position : goal.invariant-loop-position
-invariant-loop-position l = l.names ≡ l.initial.names ++ map_indexed (named_batch (sections_of l.outline)) (take l.position l.inputs)

@@ -1,7 +1,0 @@
-use Rattle.std.proofs.Common.{List, ℕ, take, Bor}
-use Rattle.ss_outline_names.specs.Names.{bytes_behind}
-use Rattle.ss_numbering.specs.Hashed.{IsIndexOf}
-use Rattle.ss_numbering.proofs.index.positions_of.Given as goal
-
-abbrev pub invariant-loop-at : goal.invariant-loop-at
-invariant-loop-at l = IsIndexOf (bytes_behind (take l.at l.names)) l.positions

@@ -1,6 +1,0 @@
-use Rattle.std.proofs.Common.{◌≡◌, map, take}
-use Rattle.ss_numbering.specs.Numbers.{number_in}
-use Rattle.ss_numbering.proofs.sections.column_numbers.Given as goal
-
-abbrev pub invariant-loop-name : goal.invariant-loop-name
-invariant-loop-name l = l.numbers ≡ map (number_in l.columns) (take l.name-index l.names)

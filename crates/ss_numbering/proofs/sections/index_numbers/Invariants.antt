@@ -1,6 +1,0 @@
-use Rattle.std.proofs.Common.{◌≡◌, map, take}
-use Rattle.ss_numbering.specs.Numbers.{number_in}
-use Rattle.ss_numbering.proofs.sections.index_numbers.Given as goal
-
-abbrev pub invariant-loop-names : goal.invariant-loop-names
-invariant-loop-names l = l.numbers ≡ map (map (number_in l.columns)) (take l.names-index l.indexes)

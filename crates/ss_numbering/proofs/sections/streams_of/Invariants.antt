@@ -1,6 +1,0 @@
-use Rattle.std.proofs.Common.{◌≡◌, map, take}
-use Rattle.ss_numbering.specs.Numbered.{stream_of}
-use Rattle.ss_numbering.proofs.sections.streams_of.Given as goal
-
-abbrev pub invariant-loop-stream : goal.invariant-loop-stream
-invariant-loop-stream l = l.defs ≡ map stream_of (take l.stream-index l.streams)

@@ -1,5 +1,0 @@
-use Rattle.ss_outline_names.proofs.FirstUnknown.{used_itself}
-use Rattle.ss_outline_names.proofs.unknown.unknown_in.Goals as goal
-
-pub returns : goal.returns
-returns c = used_itself c.args.known.now c.args.names.now _ c.missing.ensures

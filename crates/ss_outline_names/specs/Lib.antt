@@ -1,4 +1,0 @@
-pub mod Names
-pub mod Twice
-pub mod Unknown
-pub mod Limits

@@ -1,4 +1,0 @@
-pub mod Shape
-pub mod Targets
-pub mod Fitting
-pub mod Requests

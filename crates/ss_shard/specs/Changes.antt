@@ -1,0 +1,26 @@
+-- What a change of a shard's tables comes to.
+use Rattle.std.specs.Prelude.{◌≡◌, ℕ, List, Ok}
+use Rattle.ss_value.specs.Rows.{Row}
+use Rattle.ss_model.specs.declared.catalog.Catalog.{Catalog}
+use Rattle.ss_model.specs.Statements.{insert_row}
+use Rattle.ss_operators.specs.declared.run_error.RunError.{RunError}
+use Rattle.ss_operators.specs.Stops.{StopsAs}
+use Rattle.ss_table.specs.Held.{Held}
+use Rattle.ss_shard.specs.Contents.{contents_of}
+use Rattle.ss_shard.specs.Rows.{StandsIn, RowPut, RowTaken}
+use Rattle.ss_shard.specs.Shards.{HasTables}
+
+-- a row was inserted, as the model does it under any catalogue of these tables
+abbrev pub RowInserted : List Held → List Held → ℕ → Row → Type 0
+RowInserted old new t row = (catalog : Catalog) → HasTables catalog old → insert_row catalog t row (contents_of old) ≡ Ok (contents_of new)
+
+abbrev pub InsertStops : List Held → ℕ → Row → RunError → Type 0
+InsertStops old t row stop = (catalog : Catalog) → HasTables catalog old → StopsAs (insert_row catalog t row (contents_of old)) stop
+
+-- the row in a slot was taken out
+abbrev pub SlotTaken : List Held → List Held → ℕ → ℕ → Type 0
+SlotTaken old new t slot = (key : Row) (row : Row) → StandsIn old t key slot row → RowTaken old new t key
+
+-- a row was put in the place of the one in a slot
+abbrev pub SlotPut : List Held → List Held → ℕ → ℕ → Row → Type 0
+SlotPut old new t slot row = (key : Row) (before : Row) → StandsIn old t key slot before → RowPut old new t key slot row
