@@ -14,14 +14,32 @@ use Rattle.ss_catalog_checks.specs.Cascades.{LeadsInto, at_once as at_once_into,
 use Rattle.ss_catalog_checks.specs.Localities.{IsFirstSite}
 use Rattle.ss_catalog_checks.specs.StreamEnds.{ends_badly, refuses_triggers, awaited_stream, is_foreign, foreign_among, refused_stream}
 use Rattle.ss_catalog_checks.specs.Owners.{refused_window}
-use Rattle.ss_catalog.specs.Answers.{IsSameCatalog}
+
+-- the same tables, streams, windows, triggers and procedures
+pub record IsSameCatalog (a b : Catalog) : Type 0 where
+  pub tables : a.tables ≡ b.tables
+  pub streams : a.streams ≡ b.streams
+  pub windows : a.windows ≡ b.windows
+  pub triggers : a.triggers ≡ b.triggers
+  pub procedures : a.procedures ≡ b.procedures
 
 -- the same with another text
-abbrev with_text : Catalog → List ℕ → Catalog
+abbrev pub with_text : Catalog → List ℕ → Catalog
 with_text c text = record c { text = text }
 
+-- two that have the same text, too, are the same
+pub same_with_text : (a b : Catalog) → IsSameCatalog a b → a.text ≡ b.text → a ≡ b
+same_with_text a b same text = λ i. record {
+  tables = same.tables i;
+  streams = same.streams i;
+  windows = same.windows i;
+  triggers = same.triggers i;
+  procedures = same.procedures i;
+  text = text i;
+}
+
 -- what does not depend on the text holds of the same catalogue
-kept : (P : Catalog → Type 0) → ((c : Catalog) (text : List ℕ) → P c → P (with_text c text)) → (a b : Catalog) → IsSameCatalog a b → P a → P b
+pub kept : (P : Catalog → Type 0) → ((c : Catalog) (text : List ℕ) → P c → P (with_text c text)) → (a b : Catalog) → IsSameCatalog a b → P a → P b
 kept P free a b same h =
     subst P (λ i. record { tables = same.tables i; streams = same.streams i; windows = same.windows i; triggers = same.triggers i; procedures = same.procedures i; text = b.text }) (free a b.text h)
 

@@ -1,17 +1,19 @@
--- A value that reads is refused for want of memory alone: the reading has passed each check that may refuse.
-use Rattle.std.proofs.Common.{◌≡◌, ◌⊎◌, ℕ, List, Option, Some, None, refl, subst, inl, inr}
+-- A value has one answer: it reads as one catalogue, or it has one refusal, want of memory aside.
+use Rattle.std.proofs.Common.{◌≡◌, ◌⊎◌, ℕ, List, true, false, Option, Some, None, refl, sym, ap, subst, ◌∙◌, inl, inr}
+use Rattle.std.specs.Prelude.{◌++◌, codes}
+use Rattle.std.proofs.lemmas.Bool.{both_ways}
 use Rattle.serde_json.specs.Data.{Data}
 use Rattle.ss_model.specs.declared.catalog.Catalog.{Catalog}
 use Rattle.ss_catalog_outline.specs.declared.types.Outline.{Outline}
 use Rattle.ss_catalog_outline.specs.Outlines.{read_outline}
-use Rattle.ss_catalog_outline.specs.declared.limits.Counted.{Counted}
 use Rattle.ss_catalog_outline.specs.Twice.{name_twice}
 use Rattle.ss_catalog_outline.specs.Unknown.{name_unknown}
-use Rattle.ss_catalog_outline.specs.Limits.{over_limit}
-use Rattle.ss_catalog_resolve.specs.declared.fault.SqlFault.{SqlFault as AFault}
+use Rattle.ss_catalog_outline.specs.Limits.{is_too_many_to_number, over_limit}
 use Rattle.ss_catalog_resolve.specs.declared.fault.SqlSite.{SqlSite}
 use Rattle.ss_catalog_resolve.specs.Bodies.{Resolves, FaultAt}
-use Rattle.ss_catalog_checks.specs.Firsts.{IsFirstWith}
+use Rattle.ss_catalog_checks.specs.Firsts.{IsFirst}
+use Rattle.ss_catalog_checks.specs.Workflows.{IsOnCycle}
+use Rattle.ss_catalog_checks.specs.Cascades.{IsOnTriggerCycle}
 use Rattle.ss_catalog_checks.specs.declared.locality.Site.{Site}
 use Rattle.ss_catalog_checks.specs.declared.locality.Site.TheVariants.{Step as StepSite, Statement as StatementSite}
 use Rattle.ss_catalog_checks.specs.Localities.{refused_step, refused_statement, IsFirstSite}
@@ -19,25 +21,14 @@ use Rattle.ss_catalog_checks.specs.StreamEnds.{refused_stream}
 use Rattle.ss_catalog_checks.specs.Owners.{refused_window}
 use Rattle.ss_catalog.specs.declared.error.CatalogError.{CatalogError}
 use Rattle.ss_catalog.specs.declared.error.CatalogError.TheVariants.{NoMemory, Shape, Twice, Unknown, SqlFault, WorkflowCycle, TriggerCycle, LocalityBroken, StreamEnds, WindowOwner, Limit}
-use Rattle.ss_catalog.specs.Checks.{IsShaped, IsResolved, HasWorkflows, HasCascades, IsLocal, HasEnds, HasOwners}
-use Rattle.ss_catalog.specs.Reads.{IsMisshapen, HasTwice, HasUnknown, HasSqlFault, HasWorkflowCycle, HasTriggerCycle, BreaksLocality, HasBadEnds, HasBadOwner, IsTooMany, IsOverLimit, Refuses}
-use Rattle.ss_catalog.specs.Answers.{IsSameCatalog, HasOneCatalog, IsReadOrRefused}
-use Rattle.ss_catalog.proofs.OneAnswer.{ok_same, ok_or_err}
-use Rattle.ss_catalog.proofs.Texts.{SqlLaws}
-use Rattle.ss_catalog.proofs.Resolved.{resolved_same, resolved_or_faulty}
-use Rattle.ss_catalog.proofs.Kept.{cycle_kept, trigger_cycle_kept, site_kept, stream_kept, window_kept}
-
--- ---- none, and one
-
-none_or_some : {A : Type 0} (o : Option A) (a : A) → o ≡ None → o ≡ Some a → ⊥
-none_or_some o a h k = cc
-
-none_with : (f : ℕ → Option ℕ) (x : ℕ × ℕ) → IsFirstWith f None → IsFirstWith f (Some x) → ⊥
-none_with f x h k = none_or_some (f x.0) x.1 (h x.0) k.0
-
-no_site : (c : Catalog) (site : Site) → IsFirstSite c None → IsFirstSite c (Some site) → ⊥
-no_site c (StepSite q n) h k = none_with (refused_step c) (q, n) h.0 k
-no_site c (StatementSite t n) h k = none_with (refused_statement c) (t, n) h.1 k.1
+use Rattle.ss_catalog.specs.Checks.{IsShaped, HasOwnNames, IsNamed, IsNumbered, IsResolved, HasWorkflows, HasCascades, IsLocal, HasEnds, HasOwners, procedure_name, trigger_name, stream_name, window_name, site_name, site_number}
+use Rattle.ss_catalog.specs.Reads.{IsMisshapen, HasTwice, HasUnknown, IsTooMany, HasWorkflowCycle, HasTriggerCycle, HasBadEnds, HasBadOwner, IsOverLimit, Refuses}
+use Rattle.ss_catalog.specs.Answers.{HasOneCatalog, IsReadOrRefused, HasOneRefusal}
+use Rattle.ss_catalog.proofs.OneAnswer.{ok_same, err_same, ok_or_err}
+use Rattle.ss_catalog.proofs.Texts.{SqlLaws, some_same}
+use Rattle.ss_catalog.proofs.Resolved.{resolved_same, resolved_or_faulty, fault_same}
+use Rattle.ss_catalog.proofs.Kept.{IsSameCatalog, same_with_text, kept, cycle_kept, trigger_cycle_kept, site_kept, stream_kept, window_kept}
+use Rattle.ss_catalog.proofs.InTurn.{IsOnce, Told, InTurn, one_check, and_then, none_or_some, none_with, first_once, first_with_once, first_kept, OfCatalog, Comes, Finding, catalog_check}
 
 -- ---- what a value reads as
 
@@ -50,90 +41,232 @@ shape_of : (d : Data) (o : Outline) (c : Catalog) → IsResolved d o c → IsSha
 shape_of d o c resolved = resolved.0.0.0.0
 
 -- a value has one outline
-same_outline : (d : Data) (o p : Outline) → IsShaped d o → IsShaped d p → p ≡ o
-same_outline d o p h k = ok_same (read_outline d) p o k h
+same_outline : (d : Data) (o p : Outline) → IsShaped d o → IsShaped d p → o ≡ p
+same_outline d o p h k = ok_same (read_outline d) o p h k
 
--- and one catalogue, but for its text
-same_catalog : SqlLaws → (d : Data) (o p : Outline) (a b : Catalog) → IsResolved d o a → IsResolved d p b → IsSameCatalog b a
-same_catalog laws d o p a b h k = resolved_same laws o b a (subst (λ (x : Outline). Resolves x b) (same_outline d o p (shape_of d o a h) (shape_of d p b k)) k.1) h.1
+-- and resolves to one catalogue, but for its text
+same_catalog : SqlLaws → (d : Data) (o p : Outline) (a b : Catalog) → IsResolved d o a → IsResolved d p b → IsSameCatalog a b
+same_catalog laws d o p a b h k = resolved_same laws p a b (subst (λ (x : Outline). Resolves x a) (same_outline d o p (shape_of d o a h) (shape_of d p b k)) h.1) k.1
 
 pub one_catalog : SqlLaws → HasOneCatalog
-one_catalog laws d a b h k = same_catalog laws d k.outline h.outline b a (resolved_of d k.outline b k.passes) (resolved_of d h.outline a h.passes)
+one_catalog laws d a b h k =
+    let same = same_catalog laws d h.outline k.outline a b (resolved_of d h.outline a h.passes) (resolved_of d k.outline b k.passes) in
+    same_with_text a b same (h.text ∙ sym k.text)
 
--- ---- each refusal
+-- ---- what the checks of a catalogue find
 
-module _ (laws : SqlLaws) (d : Data) (o : Outline) (c : Catalog) (passes : HasOwners d o c) (limits : over_limit o ≡ None) where
-  has_ends : HasEnds d o c
-  has_ends = passes.0
+-- the same, the other way round
+same_back : (a b : Catalog) → IsSameCatalog a b → IsSameCatalog b a
+same_back a b h = record { tables = sym h.tables; streams = sym h.streams; windows = sym h.windows; triggers = sym h.triggers; procedures = sym h.procedures }
 
-  is_local : IsLocal d o c
-  is_local = has_ends.0
+abbrev FirstCycle : Catalog → Option ℕ → Type 0
+FirstCycle c = IsFirst (IsOnCycle c)
 
-  has_cascades : HasCascades d o c
-  has_cascades = is_local.0
+abbrev FirstTriggerCycle : Catalog → Option ℕ → Type 0
+FirstTriggerCycle c = IsFirst (IsOnTriggerCycle c)
 
-  has_workflows : HasWorkflows d o c
-  has_workflows = has_cascades.0
+cycles_found : OfCatalog FirstCycle
+cycles_found = record {
+  kept = λ a b x same. first_kept (IsOnCycle a) (IsOnCycle b) (λ n. cycle_kept a b n same) (λ n. cycle_kept b a n (same_back a b same)) x;
+  once = λ c. first_once (IsOnCycle c);
+  none = λ c n h k. h n k.0;
+}
 
-  is_resolved : IsResolved d o c
-  is_resolved = has_workflows.0
+trigger_cycles_found : OfCatalog FirstTriggerCycle
+trigger_cycles_found = record {
+  kept = λ a b x same. first_kept (IsOnTriggerCycle a) (IsOnTriggerCycle b) (λ n. trigger_cycle_kept a b n same) (λ n. trigger_cycle_kept b a n (same_back a b same)) x;
+  once = λ c. first_once (IsOnTriggerCycle c);
+  none = λ c n h k. h n k.0;
+}
 
-  is_shaped : IsShaped d o
-  is_shaped = shape_of d o c is_resolved
+one_site : (c : Catalog) → IsOnce (λ (site : Site). IsFirstSite c (Some site))
+one_site c (StepSite q n) (StepSite r m) h k = λ i. let at = first_with_once (refused_step c) (q, n) (r, m) h k i in StepSite at.0 at.1
+one_site c (StepSite q n) (StatementSite t m) h k = absurd (none_with (refused_step c) (q, n) k.0 h)
+one_site c (StatementSite t n) (StepSite q m) h k = absurd (none_with (refused_step c) (q, m) h.0 k)
+one_site c (StatementSite t n) (StatementSite u m) h k = λ i. let at = first_with_once (refused_statement c) (t, n) (u, m) h.1 k.1 i in StatementSite at.0 at.1
 
-  -- what an outline of this value has, and this one has not
-  not_there : {A : Type 0} (f : Outline → Option A) (p : Outline) (a : A) → IsShaped d p → f o ≡ None → f p ≡ Some a → ⊥
-  not_there f p a shaped none some = none_or_some (f o) a none (subst (λ (x : Outline). f x ≡ Some a) (same_outline d o p is_shaped shaped) some)
+no_site : (c : Catalog) (site : Site) → IsFirstSite c None → IsFirstSite c (Some site) → ⊥
+no_site c (StepSite q n) h k = none_with (refused_step c) (q, n) h.0 k
+no_site c (StatementSite t n) h k = none_with (refused_statement c) (t, n) h.1 k.1
 
-  -- a catalogue of this value
-  same : (p : Outline) (b : Catalog) → IsResolved d p b → IsSameCatalog b c
-  same p b = same_catalog laws d o p c b is_resolved
+sites_found : OfCatalog IsFirstSite
+sites_found = record { kept = site_kept; once = one_site; none = no_site }
 
-  misshapen : (path : List ℕ) → IsMisshapen d path → ⊥
-  misshapen path k = ok_or_err (read_outline d) o k.0 is_shaped k.1
+abbrev FirstStream : Catalog → Option ℕ → Type 0
+FirstStream c s = refused_stream c ≡ s
 
-  twice : (name : List ℕ) → HasTwice d name → ⊥
-  twice name k = not_there name_twice k.0 name k.1 is_resolved.0.0.0.1 k.2
+abbrev FirstWindow : Catalog → Option ℕ → Type 0
+FirstWindow c w = refused_window c ≡ w
 
-  unknown : (name : List ℕ) → HasUnknown d name → ⊥
-  unknown name k = not_there name_unknown k.0 name k.1.0 is_resolved.0.0.1 k.2
+streams_found : OfCatalog FirstStream
+streams_found = record { kept = stream_kept; once = λ c. some_same (refused_stream c); none = λ c. none_or_some (refused_stream c) }
 
-  sql_fault : (name : List ℕ) (step : ℕ) (fault : AFault) → HasSqlFault d name step fault → ⊥
-  sql_fault name step fault k =
-      let site : SqlSite = record { name = name; number = step; fault = fault } in
-      resolved_or_faulty laws o c site is_resolved.1 (subst (λ (x : Outline). FaultAt x site) (same_outline d o k.0 is_shaped k.1.0.0.0) k.2)
+windows_found : OfCatalog FirstWindow
+windows_found = record { kept = window_kept; once = λ c. some_same (refused_window c); none = λ c. none_or_some (refused_window c) }
 
-  workflow_cycle : (name : List ℕ) → HasWorkflowCycle d name → ⊥
-  workflow_cycle name k = has_workflows.1 k.2 (cycle_kept k.1 c k.2 (same k.0 k.1 k.3) k.4.0)
+-- ---- what is told of it
 
-  trigger_cycle : (name : List ℕ) → HasTriggerCycle d name → ⊥
-  trigger_cycle name k = has_cascades.1 k.2 (trigger_cycle_kept k.1 c k.2 (same k.0 k.1 k.3.0) k.4.0)
+abbrev site_told : Catalog → Site → List ℕ × ℕ
+site_told c site = (site_name c site, site_number site)
 
-  locality : (name : List ℕ) (step : ℕ) → BreaksLocality d name step → ⊥
-  locality name step k = no_site c k.2 is_local.1 (site_kept k.1 c (Some k.2) (same k.0 k.1 k.3.0.0) k.4)
+-- nothing that is told depends on the text
+told_kept : {X A : Type 0} (name : Catalog → X → A) → ((c : Catalog) (text : List ℕ) (x : X) → name c x ≡ name (record c { text = text }) x) → (a b : Catalog) (x : X) → IsSameCatalog a b → name a x ≡ name b x
+told_kept name free a b x same = kept (λ (c : Catalog). name a x ≡ name c x) (λ (c : Catalog) (text : List ℕ) h. h ∙ free c text x) a b same refl
 
-  bad_ends : (name : List ℕ) → HasBadEnds d name → ⊥
-  bad_ends name k = none_or_some (refused_stream c) k.2 has_ends.1 (stream_kept k.1 c (Some k.2) (same k.0 k.1 k.3.0.0.0) k.4)
+abbrev tell_sql : SqlSite → CatalogError
+tell_sql site = SqlFault site.name site.number site.fault
 
-  bad_owner : (name : List ℕ) → HasBadOwner d name → ⊥
-  bad_owner name k = none_or_some (refused_window c) k.2 passes.1 (window_kept k.1 c (Some k.2) (same k.0 k.1 k.3.0.0.0.0) k.4)
+abbrev tell_site : List ℕ × ℕ → CatalogError
+tell_site at = LocalityBroken at.0 at.1
 
-  limit : (counted : Counted) → IsTooMany d counted ⊎ IsOverLimit d counted → ⊥
-  limit counted (inl k) = not_there over_limit k.0 counted k.1.0.0 limits k.3
-  limit counted (inr k) = not_there over_limit k.0 counted (shape_of d k.0 k.1 (resolved_of d k.0 k.1 k.2)) limits k.3
+-- ---- the checks, one after another
 
-  refused : (e : CatalogError) → Refuses d e → e ≡ NoMemory
-  refused NoMemory k = refl
-  refused (Shape path) k = absurd (misshapen path k)
-  refused (Twice name) k = absurd (twice name k)
-  refused (Unknown name) k = absurd (unknown name k)
-  refused (SqlFault name step fault) k = absurd (sql_fault name step fault k)
-  refused (WorkflowCycle name) k = absurd (workflow_cycle name k)
-  refused (TriggerCycle name) k = absurd (trigger_cycle name k)
-  refused (LocalityBroken name step) k = absurd (locality name step k)
-  refused (StreamEnds name) k = absurd (bad_ends name k)
-  refused (WindowOwner name) k = absurd (bad_owner name k)
-  refused (Limit counted) k = absurd (limit counted k)
+module _ (d : Data) where
+  -- a value comes so far with some outline
+  abbrev ComesWith : (Outline → Type 0) → Type 0
+  ComesWith Stage = (o : Outline) × Stage o
+
+  -- it passes all checks
+  abbrev Passes : Type 0
+  Passes = Comes (λ (o : Outline) (c : Catalog). HasOwners d o c × (over_limit o ≡ None))
+
+  -- its SQL has this first fault
+  abbrev HasFault : SqlSite → Type 0
+  HasFault site = (o : Outline) × IsNumbered d o × FaultAt o site
+
+  abbrev BreaksAt : List ℕ × ℕ → Type 0
+  BreaksAt = Finding (HasCascades d) IsFirstSite site_told
+
+  -- what each check tells, in their order
+  abbrev CountTold : CatalogError → Type 0
+  CountTold = Told Limit (IsOverLimit d)
+
+  abbrev CatalogTold : CatalogError → Type 0
+  CatalogTold e =
+      Told WorkflowCycle (HasWorkflowCycle d) e ⊎ (Told TriggerCycle (HasTriggerCycle d) e ⊎ (Told tell_site BreaksAt e
+      ⊎ (Told StreamEnds (HasBadEnds d) e ⊎ (Told WindowOwner (HasBadOwner d) e ⊎ CountTold e))))
+
+  abbrev AnyTold : CatalogError → Type 0
+  AnyTold e =
+      Told Shape (IsMisshapen d) e ⊎ (Told Twice (HasTwice d) e ⊎ (Told Unknown (HasUnknown d) e
+      ⊎ (Told Limit (IsTooMany d) e ⊎ (Told tell_sql HasFault e ⊎ CatalogTold e))))
+
+  -- ---- of the outline
+
+  -- what one outline of the value has, each has
+  found_same : {A : Type 0} (f : Outline → Option A) (o p : Outline) (a b : A) → IsShaped d o → IsShaped d p → f o ≡ Some a → f p ≡ Some b → a ≡ b
+  found_same f o p a b h k here there = some_same (f p) a b (subst (λ (x : Outline). f x ≡ Some a) (same_outline d o p h k) here) there
+
+  not_there : {A : Type 0} (f : Outline → Option A) (o p : Outline) (a : A) → IsShaped d o → IsShaped d p → f o ≡ Some a → f p ≡ None → ⊥
+  not_there f o p a h k some none = none_or_some (f p) a none (subst (λ (x : Outline). f x ≡ Some a) (same_outline d o p h k) some)
+
+  misshapen_once : IsOnce (IsMisshapen d)
+  misshapen_once a b h k = h.2 ∙ ap (λ (way : List ℕ). codes "$" ++ way) (err_same (read_outline d) h.0 k.0 h.1 k.1) ∙ sym k.2
+
+  shapes : InTurn (Unit {0}) (ComesWith (IsShaped d)) (Told Shape (IsMisshapen d))
+  shapes = one_check Shape (IsMisshapen d) (λ path h. tt) (λ k. tt) misshapen_once (λ path h k. ok_or_err (read_outline d) k.0 h.0 k.1 h.1)
+
+  names_once : InTurn (ComesWith (IsShaped d)) (ComesWith (HasOwnNames d)) (Told Twice (HasTwice d))
+  names_once = one_check Twice (HasTwice d) (λ name h. (h.0, h.1)) (λ k. (k.0, k.1.0))
+      (λ a b h k. found_same name_twice h.0 k.0 a b h.1 k.1 h.2 k.2) (λ a h k. not_there name_twice h.0 k.0 a h.1 k.1.0 h.2 k.1.1)
+
+  names_known : InTurn (ComesWith (HasOwnNames d)) (ComesWith (IsNamed d)) (Told Unknown (HasUnknown d))
+  names_known = one_check Unknown (HasUnknown d) (λ name h. (h.0, h.1)) (λ k. (k.0, k.1.0))
+      (λ a b h k. found_same name_unknown h.0 k.0 a b h.1.0 k.1.0 h.2 k.2) (λ a h k. not_there name_unknown h.0 k.0 a h.1.0 k.1.0.0 h.2 k.1.1)
+
+  too_many_or_not : (o p : Outline) → IsShaped d o → IsShaped d p → is_too_many_to_number o ≡ true → is_too_many_to_number p ≡ false → ⊥
+  too_many_or_not o p h k many few = both_ways (is_too_many_to_number p) few (subst (λ (x : Outline). is_too_many_to_number x ≡ true) (same_outline d o p h k) many)
+
+  numbers : InTurn (ComesWith (IsNamed d)) (ComesWith (IsNumbered d)) (Told Limit (IsTooMany d))
+  numbers = one_check Limit (IsTooMany d) (λ counted h. (h.0, h.1)) (λ k. (k.0, k.1.0))
+      (λ a b h k. found_same over_limit h.0 k.0 a b h.1.0.0 k.1.0.0 h.3 k.3) (λ a h k. too_many_or_not h.0 k.0 h.1.0.0 k.1.0.0.0 h.2 k.1.1)
+
+  module _ (laws : SqlLaws) where
+    -- ---- of its SQL
+
+    sql_once : IsOnce HasFault
+    sql_once site other h k = fault_same laws k.0 site other (subst (λ (x : Outline). FaultAt x site) (same_outline d h.0 k.0 h.1.0.0.0 k.1.0.0.0) h.2) k.2
+
+    sql_or_none : (site : SqlSite) → HasFault site → Comes (IsResolved d) → ⊥
+    sql_or_none site h k = resolved_or_faulty laws k.0 k.1 site k.2.1 (subst (λ (x : Outline). FaultAt x site) (same_outline d h.0 k.0 h.1.0.0.0 k.2.0.0.0.0) h.2)
+
+    sql : InTurn (ComesWith (IsNumbered d)) (Comes (IsResolved d)) (Told tell_sql HasFault)
+    sql = one_check tell_sql HasFault (λ site h. (h.0, h.1)) (λ k. (k.0, k.2.0)) sql_once sql_or_none
+
+    -- ---- of the catalogue
+
+    same_resolved : (o p : Outline) (a b : Catalog) → IsResolved d o a → IsResolved d p b → IsSameCatalog a b
+    same_resolved = same_catalog laws d
+
+    workflows : InTurn (Comes (IsResolved d)) (Comes (HasWorkflows d)) (Told WorkflowCycle (HasWorkflowCycle d))
+    workflows = catalog_check (IsResolved d) same_resolved FirstCycle cycles_found
+        procedure_name (told_kept procedure_name (λ c text x. refl)) WorkflowCycle
+
+    cascades : InTurn (Comes (HasWorkflows d)) (Comes (HasCascades d)) (Told TriggerCycle (HasTriggerCycle d))
+    cascades = catalog_check (HasWorkflows d) (λ o p a b h k. same_resolved o p a b h.0 k.0) FirstTriggerCycle trigger_cycles_found
+        trigger_name (told_kept trigger_name (λ c text x. refl)) TriggerCycle
+
+    localities : InTurn (Comes (HasCascades d)) (Comes (IsLocal d)) (Told tell_site BreaksAt)
+    localities = catalog_check (HasCascades d) (λ o p a b h k. same_resolved o p a b h.0.0 k.0.0) IsFirstSite sites_found
+        site_told (told_kept site_told (λ c text x. refl)) tell_site
+
+    ends : InTurn (Comes (IsLocal d)) (Comes (HasEnds d)) (Told StreamEnds (HasBadEnds d))
+    ends = catalog_check (IsLocal d) (λ o p a b h k. same_resolved o p a b h.0.0.0 k.0.0.0) FirstStream streams_found
+        stream_name (told_kept stream_name (λ c text x. refl)) StreamEnds
+
+    owners : InTurn (Comes (HasEnds d)) (Comes (HasOwners d)) (Told WindowOwner (HasBadOwner d))
+    owners = catalog_check (HasEnds d) (λ o p a b h k. same_resolved o p a b h.0.0.0.0 k.0.0.0.0) FirstWindow windows_found
+        window_name (told_kept window_name (λ c text x. refl)) WindowOwner
+
+    -- the outline of what passes
+    shape_passed : (o : Outline) (c : Catalog) → HasOwners d o c → IsShaped d o
+    shape_passed o c h = shape_of d o c (resolved_of d o c h)
+
+    counts : InTurn (Comes (HasOwners d)) Passes CountTold
+    counts = one_check Limit (IsOverLimit d) (λ counted h. (h.0, h.1, h.2)) (λ k. (k.0, k.1, k.2.0))
+        (λ a b h k. found_same over_limit h.0 k.0 a b (shape_passed h.0 h.1 h.2) (shape_passed k.0 k.1 k.2) h.3 k.3)
+        (λ a h k. not_there over_limit h.0 k.0 a (shape_passed h.0 h.1 h.2) (shape_passed k.0 k.1 k.2.0) h.3 k.2.1)
+
+    -- ---- all
+
+    of_catalog : InTurn (Comes (IsResolved d)) Passes CatalogTold
+    of_catalog = and_then workflows (and_then cascades (and_then localities (and_then ends (and_then owners counts))))
+
+    pub all_checks : InTurn (Unit {0}) Passes AnyTold
+    all_checks = and_then shapes (and_then names_once (and_then names_known (and_then numbers (and_then sql of_catalog))))
+
+-- ---- each refusal is told by a check
+
+module _ (d : Data) where
+  by_catalog : (e : CatalogError) → CatalogTold d e → (e ≡ NoMemory) ⊎ AnyTold d e
+  by_catalog e told = inr (inr (inr (inr (inr (inr told)))))
+
+  told_of : (e : CatalogError) → Refuses d e → (e ≡ NoMemory) ⊎ AnyTold d e
+  told_of NoMemory k = inl refl
+  told_of (Shape path) k = inr (inl (path, refl, k))
+  told_of (Twice name) k = inr (inr (inl (name, refl, k)))
+  told_of (Unknown name) k = inr (inr (inr (inl (name, refl, k))))
+  told_of (SqlFault name step fault) k = inr (inr (inr (inr (inr (inl (record { name = name; number = step; fault = fault }, refl, k))))))
+  told_of (WorkflowCycle name) k = by_catalog (WorkflowCycle name) (inl (name, refl, k))
+  told_of (TriggerCycle name) k = by_catalog (TriggerCycle name) (inr (inl (name, refl, k)))
+  told_of (LocalityBroken name step) k = by_catalog (LocalityBroken name step) (inr (inr (inl ((name, step), refl, (k.0, k.1, k.2, k.3, k.4, λ i. (k.5 i, k.6 i))))))
+  told_of (StreamEnds name) k = by_catalog (StreamEnds name) (inr (inr (inr (inl (name, refl, k)))))
+  told_of (WindowOwner name) k = by_catalog (WindowOwner name) (inr (inr (inr (inr (inl (name, refl, k))))))
+  told_of (Limit counted) (inl k) = inr (inr (inr (inr (inl (counted, refl, k)))))
+  told_of (Limit counted) (inr k) = by_catalog (Limit counted) (inr (inr (inr (inr (inr (counted, refl, k))))))
+
+  module _ (laws : SqlLaws) where
+    passed_or_told : (e : CatalogError) → Passes d → (e ≡ NoMemory) ⊎ AnyTold d e → e ≡ NoMemory
+    passed_or_told e passed (inl is) = is
+    passed_or_told e passed (inr told) = absurd ((all_checks d laws).either e told passed)
+
+    one_told : (e f : CatalogError) → (e ≡ NoMemory → ⊥) → (f ≡ NoMemory → ⊥) → (e ≡ NoMemory) ⊎ AnyTold d e → (f ≡ NoMemory) ⊎ AnyTold d f → e ≡ f
+    one_told e f some other (inl is) k = absurd (some is)
+    one_told e f some other (inr told) (inl is) = absurd (other is)
+    one_told e f some other (inr told) (inr too) = (all_checks d laws).once e f told too
 
 pub read_or_refused : SqlLaws → IsReadOrRefused
-read_or_refused laws d c e h k = refused laws d h.outline c h.passes h.limits e k
+read_or_refused laws d c e h k = passed_or_told d laws e (h.outline, c, (h.passes, h.limits)) (told_of d e k)
+
+pub one_refusal : SqlLaws → HasOneRefusal
+one_refusal laws d e f h k some other = one_told d laws e f some other (told_of d e h) (told_of d f k)

@@ -1,27 +1,39 @@
--- A text says one typed tree at most, and none beside a fault.
-use Rattle.std.proofs.Common.{◌≡◌, ℕ, List, [], Some, sym, ap, subst, ◌∙◌, inl, inr}
+-- A text says one typed tree at most, or one fault at most, and no tree beside a fault.
+use Rattle.std.proofs.Common.{◌≡◌, ℕ, List, [], Option, Some, None, sym, ap, subst, ◌∙◌, inl, inr}
 use Rattle.std.specs.Prelude.{Ok, Err}
 use Rattle.ss_sql_lex.specs.declared.tree.QueryTree.{QueryTree}
+use Rattle.ss_sql_parse.specs.declared.parse.ParseError.{ParseError}
 use Rattle.ss_sql_parse.specs.declared.parse.ParseError.TheVariants as parse
 use Rattle.ss_sql_parse.specs.Sql.{Sql}
 use Rattle.ss_sql_parse.specs.Statements.{statement, query, condition}
+use Rattle.ss_sql_parse.specs.Texts.{IsParseError}
 use Rattle.ss_sql_parse.specs.Laws.{HasOneText, IsReadOrRefused}
 use Rattle.ss_sql_type.specs.declared.scope.Scope.{Scope}
 use Rattle.ss_sql_type.specs.declared.scope.TypeError.{TypeError}
 use Rattle.ss_sql_type.specs.Refusals.{IsLeast}
-use Rattle.ss_sql_type.specs.Laws.{RefusedOrTyped}
+use Rattle.ss_sql_type.specs.Laws.{OneRefusal, RefusedOrTyped}
 use Rattle.ss_sql_type.specs.Queries.{query_faults, typed_query}
 use Rattle.ss_sql_type.specs.Statements.{statement_faults, typed_statement, condition_faults, typed_condition}
 use Rattle.ss_catalog_resolve.specs.declared.fault.SqlFault.{SqlFault}
-use Rattle.ss_catalog_resolve.specs.Texts.{parse_fault, IsTyped, IsUnparsed, IsUntyped, Says, StatementSays, ConditionSays, QuerySays}
+use Rattle.ss_catalog_resolve.specs.Texts.{parse_fault, type_fault, IsTyped, IsUnparsed, IsUntyped, Says, StatementSays, ConditionSays, QuerySays}
 use Rattle.ss_catalog.proofs.OneAnswer.{HasOneAnswer}
 
 -- what the laws say of a rule of the grammar
 pub record RuleLaws {A : Type 0} (g : Sql A) : Type 0 where
   pub one_tree : HasOneText g
   pub either : IsReadOrRefused g
+  pub refused_once : (text : List ℕ) (e f : ParseError) → IsParseError g text e → IsParseError g text f → (e ≡ parse.NoMemory → ⊥) → (f ≡ parse.NoMemory → ⊥) → e ≡ f
 
-module _ {A T : Type 0} (g : Sql A) (laws : RuleLaws g) (untyped : RefusedOrTyped) (faults : A → List TypeError) (typed : A → T) (text : List ℕ) where
+-- what is there is one thing
+some_part : {A : Type 0} → A → Option A → A
+some_part a None = a
+some_part a (Some b) = b
+
+pub some_same : {A : Type 0} (o : Option A) (a b : A) → o ≡ Some a → o ≡ Some b → a ≡ b
+unfolding some_part
+some_same o a b h k = ap (some_part a) (sym h ∙ k)
+
+module _ {A T : Type 0} (g : Sql A) (laws : RuleLaws g) (untyped : RefusedOrTyped) (least : OneRefusal) (faults : A → List TypeError) (typed : A → T) (text : List ℕ) where
   typed_same : (a b : T) → IsTyped g faults typed text a → IsTyped g faults typed text b → a ≡ b
   typed_same a b h k = h.is ∙ ap typed (laws.one_tree text h.tree k.tree h.parsed k.parsed) ∙ sym k.is
 
@@ -40,8 +52,32 @@ module _ {A T : Type 0} (g : Sql A) (laws : RuleLaws g) (untyped : RefusedOrType
   either_way t fault h (inl k) = parsed_or_not t fault h k
   either_way t fault h (inr k) = typed_or_not t fault h k
 
+  -- an error that is told is no want of memory
+  not_for_memory : (error : ParseError) (fault : SqlFault) → parse_fault error ≡ Some fault → error ≡ parse.NoMemory → ⊥
+  not_for_memory error fault told is = no_memory_told fault (sym (ap parse_fault is) ∙ told)
+
+  unparsed_same : (e f : SqlFault) → IsUnparsed g faults typed text e → IsUnparsed g faults typed text f → e ≡ f
+  unparsed_same e f h k =
+      let same = laws.refused_once text h.error k.error h.is k.is (not_for_memory h.error e h.told) (not_for_memory k.error f k.told) in
+      some_same (parse_fault k.error) e f (sym (ap parse_fault same) ∙ h.told) k.told
+
+  unparsed_or_untyped : (e f : SqlFault) → IsUnparsed g faults typed text e → IsUntyped g faults typed text f → ⊥
+  unparsed_or_untyped e f h k = not_for_memory h.error e h.told (laws.either text k.tree h.error k.parsed h.is)
+
+  untyped_same : (e f : SqlFault) → IsUntyped g faults typed text e → IsUntyped g faults typed text f → e ≡ f
+  untyped_same e f h k =
+      let one : faults h.tree ≡ faults k.tree = ap faults (laws.one_tree text h.tree k.tree h.parsed k.parsed) in
+      let same = least (faults k.tree) h.error k.error (subst (λ (fs : List TypeError). IsLeast fs h.error) one h.is) k.is in
+      sym h.told ∙ ap type_fault same ∙ k.told
+
+  fault_same : (e f : SqlFault) → Says g faults typed text (Err e) → Says g faults typed text (Err f) → e ≡ f
+  fault_same e f (inl h) (inl k) = unparsed_same e f h k
+  fault_same e f (inl h) (inr k) = absurd (unparsed_or_untyped e f h k)
+  fault_same e f (inr h) (inl k) = absurd (unparsed_or_untyped f e k h)
+  fault_same e f (inr h) (inr k) = untyped_same e f h k
+
   says_once : HasOneAnswer (Says g faults typed text)
-  says_once = record { same = typed_same; either = either_way }
+  says_once = record { same = typed_same; either = either_way; once = fault_same }
 
 -- ---- of the rules
 
@@ -51,13 +87,14 @@ pub record SqlLaws : Type 0 where
   pub queries : RuleLaws query
   pub conditions : RuleLaws condition
   pub typing : RefusedOrTyped
+  pub least : OneRefusal
 
 module _ (laws : SqlLaws) (scope : Scope) (text : List ℕ) where
   pub statement_once : HasOneAnswer (StatementSays scope text)
-  statement_once = says_once statement laws.statements laws.typing (statement_faults scope) (typed_statement scope) text
+  statement_once = says_once statement laws.statements laws.typing laws.least (statement_faults scope) (typed_statement scope) text
 
   pub condition_once : HasOneAnswer (ConditionSays scope text)
-  condition_once = says_once condition laws.conditions laws.typing (condition_faults scope) (typed_condition scope) text
+  condition_once = says_once condition laws.conditions laws.typing laws.least (condition_faults scope) (typed_condition scope) text
 
   pub query_once : HasOneAnswer (QuerySays scope text)
-  query_once = says_once query laws.queries laws.typing (λ (q : QueryTree). query_faults scope scope.out q.at q) (typed_query scope) text
+  query_once = says_once query laws.queries laws.typing laws.least (λ (q : QueryTree). query_faults scope scope.out q.at q) (typed_query scope) text

@@ -44,7 +44,7 @@ fn what_reads_is_accepted()
 /// The checks go in this order, each over the whole: shape (C1); names that stand twice (C2); names of nothing (C3);
 /// counts too large to be numbered (C10); SQL (C4); cycles of workflows (C5) and of triggers (C6); locality (C7); the
 /// ends of streams (C8); the owners of windows (C9); all other counts (C10). What is read is accepted, and keeps the
-/// value's compact text, which reads as the same value.
+/// value's compact text, which reads as the same value: it has no float, so there is one such text.
 ///
 /// Time is linear in the value but for these: each SQL text walks the names of the tables, windows and inputs, and
 /// C5 to C9 take the times that the page of each check in `ss_catalog_checks` says. `NoMemory` says nothing of the value.

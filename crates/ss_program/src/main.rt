@@ -4,12 +4,12 @@
 #![tactic(auto)]
 
 use ss_lines::{ReadSource, WriteSink};
-use ss_top::status::Status;
+use ss_top::start::refuse_words;
 use ss_top::top::sstore;
 use std::process::ExitCode;
 use std::{env, io};
 
-/// The words of the command line, without the program's name.
+/// The words of the command line, without the program's name. One that isn't UTF-8 is an error.
 fn words(rt: &HostRuntime) -> io::Result<Vec<String>> {
     let mut words = Vec::new(rt.alloc());
     for word in env::args(rt)?.skip(1) {
@@ -18,13 +18,15 @@ fn words(rt: &HostRuntime) -> io::Result<Vec<String>> {
     Ok(words)
 }
 
-/// Makes the real ends, standard input and standard output, and calls `sstore`.
+/// Makes the real ends, standard input and standard output, and calls `sstore`, or `refuse_words` where there are no
+/// words.
 fn main(rt: HostRuntime) -> ExitCode {
-    let Ok(words) = words(&rt) else {
-        return ExitCode::from(Status::NoMemory.number());
+    let mut sink = WriteSink::new(io::writer(&rt));
+    let words = match words(&rt) {
+        Ok(words) => words,
+        Err(error) => return ExitCode::from(refuse_words(&error, &mut sink).number()),
     };
     let mut source = ReadSource::new(rt.reader());
-    let mut sink = WriteSink::new(io::writer(&rt));
     let status = sstore(rt.alloc(), &words, &mut source, &mut sink);
     ExitCode::from(status.number())
 }

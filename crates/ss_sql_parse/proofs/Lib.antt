@@ -3,6 +3,7 @@ mod Chain
 mod Decides
 mod Limit
 mod Nesting
+mod Place
 mod Series
 mod Comparisons
 mod Told

@@ -1,5 +1,5 @@
 -- The limit on tokens.
-use Rattle.std.proofs.Common.{◌≡◌, ℕ, ◌-◌, ◌<◌, List, [], ◌∷◌, ◌++◌, length, drop, refl, sym, ap, subst, ◌∙◌, append_assoc, arith, ◌⊎◌, inl, inr, length-append}
+use Rattle.std.proofs.Common.{◌≡◌, ℕ, ◌-◌, ◌<◌, ◌≤◌, List, [], ◌∷◌, ◌++◌, length, drop, refl, sym, ap, subst, ◌∙◌, append_assoc, arith, ◌⊎◌, inl, inr, length-append}
 use Rattle.std.proofs.lemmas.List.{append-nil, drop_at}
 use Rattle.ss_sql_parse.specs.declared.lexeme.Lexeme.{Lexeme}
 use Rattle.ss_sql_parse.specs.Sql.{Sql, Deep}
@@ -17,9 +17,10 @@ cut_whole g ts front back tree end parts long more is = record {
   why = inr (long, more);
 }
 
-why_cut : {A : Type 0} (g : Sql A) (front rest back : List Lexeme) → length (front ++ rest) ≡ 512 → 0 < length back → Dead g front rest → Dead g front (rest ++ back) ⊎ ((length front ≡ max_tokens) × (0 < length (rest ++ back)))
+why_cut : {A : Type 0} (g : Sql A) (front rest back : List Lexeme) → length (front ++ rest) ≡ 512 → 0 < length back → Dead g front rest
+    → ((length front ≤ max_tokens) × Dead g front (rest ++ back)) ⊎ ((length front ≡ max_tokens) × (0 < length (rest ++ back)))
 why_cut g front [] back long more dead = inr (omega (arith, ap length (append-nil front)), more)
-why_cut g front (t ∷ rest) back long more dead = inl dead
+why_cut g front (t ∷ rest) back long more dead = inl (omega (arith, simp length-append at long), dead)
 
 pub cut_refused : {A : Type 0} (g : Sql A) (ts front back rest : List Lexeme) (n end : ℕ) → ts ≡ front ++ back → length front ≡ 512 → 0 < length back → rest ≡ drop (512 - n) ts → IsUnexpected g front n → IsUnexpectedAt g ts end (place_at end rest)
 cut_refused g ts front back rest n end parts long more is u =

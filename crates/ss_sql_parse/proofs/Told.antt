@@ -19,15 +19,16 @@ abbrev LimitTold : {A : Type 0} → Sql A → List Lexeme → ℕ → Result A �
 LimitTold g ts end (Ok tree) = IsTree g ts tree × (length ts ≤ max_tokens)
 LimitTold g ts end (Err at) = IsUnexpectedAt g ts end at
 
-within_limit : {A : Type 0} (g : Sql A) (ts : List Lexeme) (end n : ℕ) → IsUnexpected g ts n → IsUnexpectedAt g ts end (place_at end (drop (length ts - n) ts))
-within_limit g ts end n u =
+within_limit : {A : Type 0} (g : Sql A) (ts : List Lexeme) (end n : ℕ) → length ts ≤ max_tokens → IsUnexpected g ts n → IsUnexpectedAt g ts end (place_at end (drop (length ts - n) ts))
+within_limit g ts end n few u =
     let len : length u.front ≡ length ts - n = omega (arith, simp length-append at (ap length u.parts), u.left) in
     let rest-is : drop (length ts - n) ts ≡ u.rest = ap (drop (length ts - n)) u.parts ∙ drop_at u.front u.rest (length ts - n) len in
-    record { front = u.front; rest = u.rest; parts = u.parts; place = ap (place_at end) rest-is; begun = u.begun; why = inl u.dead }
+    let short : length u.front ≤ max_tokens = omega (arith, simp length-append at (ap length u.parts), few) in
+    record { front = u.front; rest = u.rest; parts = u.parts; place = ap (place_at end) rest-is; begun = u.begun; why = inl (short, u.dead) }
 
 few_told : {A : Type 0} (g : Sql A) (ts : List Lexeme) (end : ℕ) → length ts ≤ max_tokens → (r : Result A ℕ) → Told g ts r → LimitTold g ts end (at_place end ts r)
 few_told g ts end le (Ok tree) t = (t, le)
-few_told g ts end le (Err n) t = within_limit g ts end n t
+few_told g ts end le (Err n) t = within_limit g ts end n le t
 
 front_long : (ts : List Lexeme) → 512 < length ts → length (take 512 ts) ≡ 512
 front_long ts lt = omega (arith, length-take 512 ts)

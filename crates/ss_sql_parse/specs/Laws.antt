@@ -1,5 +1,5 @@
 -- Laws of the grammar.
-use Rattle.std.specs.Prelude.{◌≡◌, ℕ, List}
+use Rattle.std.specs.Prelude.{◌≡◌, ◌≢◌, ℕ, List}
 use Rattle.ss_sql_parse.specs.declared.lexeme.Lexeme.{Lexeme}
 use Rattle.ss_sql_parse.specs.declared.parse.ParseError.{ParseError}
 use Rattle.ss_sql_parse.specs.declared.parse.ParseError.TheVariants as parse
@@ -18,3 +18,7 @@ HasOneText {A = A} g = (text : List ℕ) (a b : A) → IsTextOf g text a → IsT
 -- a text that has a tree can be refused only because memory ran out
 abbrev pub IsReadOrRefused : {A : Type 0} → Sql A → Type 0
 IsReadOrRefused {A = A} g = (text : List ℕ) (tree : A) (error : ParseError) → IsTextOf g text tree → IsParseError g text error → error ≡ parse.NoMemory
+
+-- but for want of memory, a text is refused in one way at most: with one fault, at one place
+abbrev pub HasOneRefusal : {A : Type 0} → Sql A → Type 0
+HasOneRefusal g = (text : List ℕ) (e f : ParseError) → e ≢ parse.NoMemory → f ≢ parse.NoMemory → IsParseError g text e → IsParseError g text f → e ≡ f

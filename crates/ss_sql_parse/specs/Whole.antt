@@ -1,5 +1,5 @@
 -- A whole list of tokens against the grammar.
-use Rattle.std.specs.Prelude.{ℕ, ◌≡◌, ◌<◌, List, [], ◌∷◌, ◌++◌, length, Result, Ok, Err}
+use Rattle.std.specs.Prelude.{ℕ, ◌≡◌, ◌<◌, ◌≤◌, List, [], ◌∷◌, ◌++◌, length, Result, Ok, Err}
 use Rattle.std.proofs.Common.{◌⊎◌}
 use Rattle.ss_sql_grammar.specs.Grammar.{Spells, Reader, read, ◌>>=◌}
 use Rattle.ss_sql_parse.specs.declared.lexeme.Lexeme.{Lexeme}
@@ -63,11 +63,11 @@ place_at end (t ∷ rest) = t.from
 abbrev pub max_tokens : ℕ
 max_tokens = 512
 
--- an unexpected token at a place: the tokens before it begin a text; with it none begins, or it is the first token too many
+-- an unexpected token at a place: the tokens before it, at most 512, begin a text; with it none begins, or it is the first token too many
 pub record IsUnexpectedAt {A : Type 0} (g : Sql A) (ts : List Lexeme) (end at : ℕ) : Type 0 where
   pub front : List Lexeme
   pub rest : List Lexeme
   pub parts : ts ≡ front ++ rest
   pub place : at ≡ place_at end rest
   pub begun : Begins g front
-  pub why : Dead g front rest ⊎ ((length front ≡ max_tokens) × (0 < length rest))
+  pub why : ((length front ≤ max_tokens) × Dead g front rest) ⊎ ((length front ≡ max_tokens) × (0 < length rest))

@@ -1,6 +1,6 @@
 //! Laws of the grammar.
 
-ghost use Rattle.ss_sql_parse.specs.Laws.{HasOneTree, HasOneText, IsReadOrRefused};
+ghost use Rattle.ss_sql_parse.specs.Laws.{HasOneTree, HasOneText, IsReadOrRefused, HasOneRefusal};
 ghost use Rattle.ss_sql_parse.specs.Statements.{statement, query, condition};
 
 /// A list of tokens has one tree at most: as a statement, as a query and as a condition.
@@ -11,7 +11,7 @@ pub fn a_list_has_one_tree()
 {}
 
 /// A text has one answer: one tree at most, and a text that has one is refused only because
-/// memory ran out.
+/// memory ran out. One that has none is refused in one way: with one lexical fault, or at one place.
 pub fn a_text_has_one_answer()
     ensures statement { HasOneText statement }
     ensures query { HasOneText query }
@@ -19,4 +19,7 @@ pub fn a_text_has_one_answer()
     ensures statement_or_refusal { IsReadOrRefused statement }
     ensures query_or_refusal { IsReadOrRefused query }
     ensures condition_or_refusal { IsReadOrRefused condition }
+    ensures statement_refusal { HasOneRefusal statement }
+    ensures query_refusal { HasOneRefusal query }
+    ensures condition_refusal { HasOneRefusal condition }
 {}

@@ -10,10 +10,11 @@
 //! `specs/Sql.antt` and `specs/Statements.antt` are the grammar, a line for each rule. What a rule
 //! spells is a definition of `ss_sql_grammar`, apart from any parser. A call that answers Ok gives the
 //! tree of the text's tokens, at most 512, and they have no other (`IsTextOf`). A call that refuses a
-//! text gives its first lexical fault, or the place of a token: those before it begin some text of the
-//! grammar, and those with it begin none, or it is token 513 behind 512 that begin one; at the text's
-//! end the whole begins a text and is none (`IsParseError`). By the laws of [`laws`] the two answers
-//! exclude each other. `NoMemory` says nothing of the text.
+//! text gives its first lexical fault, or the place of a token: those before it, 512 at most, begin
+//! some text of the grammar, and those with it begin none, or it is token 513 behind 512 that begin
+//! one; at the text's end the whole begins a text and is none (`IsParseError`). By the laws of [`laws`]
+//! the two answers exclude each other, and a text has one of either at most: one tree, or one fault at
+//! one place. `NoMemory` says nothing of the text.
 //!
 //! Both INSERTs share their front in the grammar, since one token is to decide: the texts and the
 //! trees are those of two rules.

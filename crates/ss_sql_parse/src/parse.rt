@@ -25,8 +25,8 @@ pub enum ParseError {
     NoMemory,
     /// The text has no tokens; its first fault from the left.
     Lex(LexError),
-    /// The place of the first token with which no text of the grammar begins, or of token 513. It is
-    /// the text's length where more is expected at the end.
+    /// The place of the first token with which no text of the grammar begins, or of token 513 where
+    /// that one comes first. It is the text's length where more is expected at the end.
     Unexpected(usize),
 }
 

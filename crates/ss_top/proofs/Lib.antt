@@ -6,3 +6,6 @@ pub mod RunShards
 pub mod RunPremises
 pub mod TopReplies
 pub mod TopRefusals
+pub mod OneInput
+pub mod TopAnswers
+pub mod InputPremises

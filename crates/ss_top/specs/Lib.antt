@@ -4,3 +4,4 @@ pub mod RunAnswers
 pub mod RunSessions
 pub mod Statuses
 pub mod Top
+pub mod Inputs

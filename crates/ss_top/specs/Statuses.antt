@@ -1,5 +1,7 @@
 -- The numbers of statuses, and what is written at each.
 use Rattle.std.specs.Prelude.{ℕ, List, [], ◌∷◌, ◌++◌, codes, decimal}
+use Rattle.std.specs.declared.io.ErrorKind.{ErrorKind}
+use Rattle.std.specs.declared.io.ErrorKind.TheVariants.{OutOfMemory}
 use Rattle.serde_json.specs.Data.{Data, string}
 use Rattle.ss_lines.specs.declared.line.LineError.{LineError}
 use Rattle.ss_lines.specs.declared.line.LineError.TheVariants as cause
@@ -132,3 +134,10 @@ refusal_status NoCatalog = Input
 refusal_status (OfCatalog line e) = catalog_status e
 refusal_status (OfRequest e) = request_status e
 refusal_status (NotBuiltAt line) = NotBuilt
+
+-- ---- the words of the command line
+
+-- the status where the words can't be had: want of memory, or a faulty command line
+abbrev pub words_status : ErrorKind → Status
+words_status OutOfMemory = NoMemory
+words_status _ = Usage

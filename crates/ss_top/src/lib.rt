@@ -5,10 +5,14 @@
 //! - `input`: reads the input's lines
 //! - `run`: runs the requests
 //! - `refusals`, `status`: what is told where nothing ran, and how a run ends
+//! - `start`: what is told where the words of the command line can't be had
+//! - `laws`: an input has one answer
 #![tactic(auto)]
 
 mod input;
+pub mod laws;
 mod refusals;
 mod run;
+pub mod start;
 pub mod status;
 pub mod top;

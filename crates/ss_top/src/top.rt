@@ -14,9 +14,11 @@ ghost use Rattle.ss_proc.specs.Executions.{is_of_tables};
 ghost use Rattle.ss_top.specs.Starts.{Starts};
 ghost use Rattle.ss_top.specs.Refused.{IsRefusedBy};
 ghost use Rattle.ss_top.specs.Statuses.{usage_text, read_fault_text, no_memory_text};
+ghost use Rattle.ss_top.specs.Inputs.{Stayed, EndsAsRefused, EndsAsStarted};
 ghost use Rattle.ss_top.specs.Top.{is_run, sunk, Tells, LeavesAt, IsRefused, IsToldRun, IsCutRun, Empties};
 
 use crate::input::{Plan, ReadError, read_plan};
+use crate::laws::an_input_has_one_answer;
 use crate::refusals::{NO_MEMORY, USAGE, refuse, tell};
 use crate::run::session::{Session, run_requests};
 use crate::status::Status;
@@ -123,6 +125,12 @@ pub fn sstore<S: Source, K: Sink>(
     ensures not_built { result ≡ Status.NotBuilt → IfSome (S.left source.old) (λ input.
         IsRefused input Status.NotBuilt (sunk (K.written sink.old) (K.written sink.new) (K.faults sink.old) (K.faults sink.new))) }
 
+    // An input has one answer, and gets it, unless a fault was counted or memory was wanting.
+    ensures refused { is_run words.now ≡ true → Stayed (S.faults source.old) (S.faults source.new)
+        → IfSome (S.left source.old) (λ input. EndsAsRefused input result) }
+    ensures started { is_run words.now ≡ true → Stayed (S.faults source.old) (S.faults source.new) → Stayed (K.faults sink.old) (K.faults sink.new)
+        → IfSome (S.left source.old) (λ input. EndsAsStarted input result) }
+
     // The headline: the catalogue is accepted, the replies and tables are those of one list that replays, and the
     // bytes are its report.
     ensures done { result ≡ Status.Done → IfSome (S.left source.old) (λ input.
@@ -130,6 +138,7 @@ pub fn sstore<S: Source, K: Sink>(
     ensures cut { result ≡ Status.WriteFault → IfSome (S.left source.old) (λ input.
         IsCutRun input (sunk (K.written sink.old) (K.written sink.new) (K.faults sink.old) (K.faults sink.new))) }
 {
+    an_input_has_one_answer();
     if !is_run(words) {
         tell(sink, USAGE);
         return Status::Usage;

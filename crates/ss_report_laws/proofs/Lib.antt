@@ -1,0 +1,7 @@
+pub mod Lines
+pub mod Words
+pub mod Asked
+pub mod Replies
+pub mod Places
+pub mod Told
+pub mod Premises

@@ -1,0 +1,7 @@
+//! Laws of reports, on the definitions alone.
+//!
+//! Whoever has the requests, the database before them and the bytes of a report has the list: no other list that
+//! replays has the same report. Each law is the contract of a function that does nothing.
+#![tactic(auto)]
+
+pub mod laws;
