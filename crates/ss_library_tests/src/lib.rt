@@ -8,7 +8,7 @@
 //! - `values`: values and rows, and the lists, boxes and sets that hold them
 //! - `lines`: one input through each source and sink, and what a caller can prove of it
 //! - `sql_texts`: texts with their tokens, what tokens stand for, copies of trees
-//! - `model`: copies of requests and entries, and the laws
+//! - `model`: copies of requests and entries
 //! - `plain_queries`: expressions and queries, evaluated by their definitions
 //! - `small_tables`: a shard whose table is full at two rows
 //! - `report`: the report of a small run

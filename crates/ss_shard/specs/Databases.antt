@@ -5,9 +5,7 @@ use Rattle.ss_model.specs.declared.catalog.TableDef.{TableDef}
 use Rattle.ss_model.specs.declared.catalog.Catalog.{Catalog}
 use Rattle.ss_model.specs.Database.{Database as Model, empty_database}
 use Rattle.ss_table.specs.Held.{Held}
-use Rattle.ss_shard.specs.declared.database.Database.{Database}
 use Rattle.ss_shard.specs.Contents.{contents_of, row_limit}
-use Rattle.ss_shard.specs.Shards.{IsSettled}
 
 -- a table that no row was put in
 abbrev pub empty_table : TableDef → Held
@@ -20,7 +18,3 @@ empty_tables defs = map empty_table defs
 -- the database to the model: its tables, and nothing that streams yet
 abbrev pub database_of : Catalog → List Held → Model
 database_of catalog tables = record (empty_database catalog) { contents = contents_of tables }
-
--- whole for a catalogue
-abbrev pub IsWhole : Catalog → Database → Type 0
-IsWhole catalog db = IsSettled catalog db.whole

@@ -3,7 +3,8 @@
 ghost use Rattle.std.specs.Prelude.{◌≡◌, IfOk, replicate, length};
 ghost use Rattle.std.specs.FinMap as finite;
 ghost use Rattle.ss_shard.specs.Contents.{row_limit, tables_of};
-ghost use Rattle.ss_shard.specs.Databases.{empty_table, empty_tables, IsWhole};
+ghost use Rattle.ss_shard.specs.Shards.{IsSettled};
+ghost use Rattle.ss_shard.specs.Databases.{empty_table, empty_tables};
 
 use crate::shard::Shard;
 use ss_model::catalog::{Catalog, Place, TableDef};
@@ -56,7 +57,7 @@ fn empty_tables(alloc: Global, tables: &[TableDef]) -> Result<Seq<Table>, NoMemo
 
 /// The database of a catalogue before the first execution. Linear in the catalogue's tables and their keys.
 pub fn opening(alloc: Global, catalog: &Catalog) -> Result<Database, NoMemory>
-    ensures whole { IfOk result (λ db. IsWhole catalog.now db) }
+    ensures settled { IfOk result (λ db. IsSettled catalog.now db.whole) }
     ensures number { IfOk result (λ db. db.whole.number ≡ 0) }
     ensures empty { IfOk result (λ db. tables_of db.whole.tables ≡ replicate (length catalog.now.tables) finite.empty) }
 {

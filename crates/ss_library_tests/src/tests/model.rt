@@ -1,8 +1,7 @@
-//! Copies of requests and of entries with their outcomes, and the laws, which do nothing.
+//! Copies of requests and of entries with their outcomes.
 
 use ss_model::copies::{copy_listed, copy_request};
 use ss_model::entry::{Asked, Entry, Listed, Outcome, Reason, Request};
-use ss_model::laws;
 use ss_value::seq::Seq;
 use ss_value::text::name_of;
 use ss_value::value::Value;
@@ -68,22 +67,4 @@ fn copies_of_entries_are_equal(rt: HostRuntime) -> Result<(), Fail> {
     );
     assert!(rt; is_equal && matches!(outcome, Outcome::Aborted(Reason::BatchFull(2))));
     Ok(())
-}
-
-#[test]
-fn laws_do_nothing() {
-    laws::applied_fits();
-    laws::fitting_applies();
-    laws::replays_go_on();
-    laws::replays_have_orders();
-    laws::databases_stay_whole();
-    laws::runs_are_local();
-    laws::uses_are_touched();
-    laws::entries_are_local();
-    laws::kept_is_enough();
-    laws::depth_is_enough();
-    laws::aborts_change_nothing();
-    laws::steps_move_on();
-    laws::windows_show();
-    laws::well_typed_are_sound();
 }

@@ -6,7 +6,7 @@ ghost use Rattle.ss_model.specs.Database.{fits_entry, empty_database};
 ghost use Rattle.ss_model.specs.Replays.{Replays, after};
 ghost use Rattle.ss_model.specs.Report.{asked_entry, asked_entries};
 ghost use Rattle.ss_shard.specs.Shards.{IsSettled};
-ghost use Rattle.ss_shard.specs.Databases.{database_of, IsWhole};
+ghost use Rattle.ss_shard.specs.Databases.{database_of};
 ghost use Rattle.ss_proc.specs.Executions.{is_of_tables};
 ghost use Rattle.ss_top.specs.RunAnswers.{all_fit, AnswersInOrder};
 ghost use Rattle.ss_top.specs.RunSessions.{one_client, places_in, RequestListed};
@@ -89,7 +89,7 @@ pub fn run_requests(
     ensures replays { IfOk result (λ s. Replays catalog.now (empty_database catalog.now) s.list) }
     ensures in_order { IfOk result (λ s. AnswersInOrder requests.now s.list) }
     ensures places { IfOk result (λ s. s.places ≡ places_in s.list (asked_entries requests.now)) }
-    ensures whole { IfOk result (λ s. IsWhole catalog.now s.database) }
+    ensures settled { IfOk result (λ s. IsSettled catalog.now s.database.whole) }
     ensures tables { IfOk result (λ s. database_of catalog.now s.database.whole.tables ≡ after catalog.now (empty_database catalog.now) s.list) }
 {
     let mut database = opening(alloc, catalog)?;

@@ -7,8 +7,8 @@ use Rattle.ss_shard.specs.Databases.{empty_tables}
 use Rattle.ss_shard.proofs.Opening.{all_empty, all_final, has_tables}
 use Rattle.ss_shard.proofs.database.opening.Goals as goal
 
-pub returns-clause-whole : goal.returns-clause-whole
-returns-clause-whole c =
+pub returns-clause-settled : goal.returns-clause-settled
+returns-clause-settled c =
     let catalog = c.args.catalog.now in
     let is = sym (c.in_ok-tables.ensures ∙ ap empty_tables c.as_slice.ensures) in
     record {

@@ -28,7 +28,7 @@ loop-index-init c =
     let empty = opens_empty catalog c.in_ok-database.database c.requires.accepted c.requires.tables_alone c.in_ok-database.ensures.empty in
     record {
       progress = rw (none, nowhere, empty) (begun catalog c.args.requests.now);
-      whole = c.in_ok-database.ensures.whole;
+      settled = c.in_ok-database.ensures.settled;
       room = omega (arith, c.in_ok-reserve.ensures.ok, c.len.ensures);
     }
 
@@ -42,7 +42,7 @@ loop-index-preserved c =
           (goes_on catalog c.args.requests.now c.loop-index.index c.loop-index.list c.loop-index.places.items (database_of catalog was) c.request-item.result
           c.loop-index.invariant.progress (rw c.as_slice-request-items.ensures at c.loop-index-test.true) (rw c.as_slice-request-items.ensures at c.request-item.is) c.list_request-place.result (database_of catalog now) c.list_request-place.new.list
           c.list_request-place.ensures.listed (none_same catalog c.list_request-place.result c.list_request-place.new.list c.loop-index.list now was c.list_request-place.ensures.none));
-      whole = c.list_request-place.ensures.settled;
+      settled = c.list_request-place.ensures.settled;
       room = omega arith;
     }
 

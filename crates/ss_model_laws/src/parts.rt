@@ -1,0 +1,24 @@
+//! Partitions: what a run uses and what an entry touches.
+
+ghost use Rattle.ss_model.specs.Locality.{RunsAreLocal, UsesAreTouched, EntriesAreLocal};
+ghost use Rattle.ss_model.specs.Partitions.{TouchedRun};
+
+/// A run depends on the rows and windows that its procedure uses, and changes no others.
+pub fn runs_are_local()
+    ensures { RunsAreLocal }
+{}
+
+/// What a procedure of an accepted catalogue uses is in its touch set, and so is its home.
+pub fn uses_are_touched()
+    ensures { UsesAreTouched }
+{}
+
+/// What an entry touches is one of the partitions that run.
+pub fn touched_run()
+    ensures { TouchedRun }
+{}
+
+/// An entry depends on the parts that it touches and on its input batches, and leaves the other parts.
+pub fn entries_are_local()
+    ensures { EntriesAreLocal }
+{}

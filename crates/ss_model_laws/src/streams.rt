@@ -1,0 +1,24 @@
+//! Streams: the batches that travel with an entry, and what they wake.
+
+ghost use Rattle.ss_model.specs.Batches.{EmittedBatchesJoin, StreamsGrowByOne, BatchesStay};
+ghost use Rattle.ss_model.specs.Wakes.{ReadyIsWoken};
+
+/// Each stream gets just the batches that travel with an entry, at most one a stream.
+pub fn emitted_batches_join()
+    ensures { EmittedBatchesJoin }
+{}
+
+/// An entry adds one batch to a stream, or none.
+pub fn streams_grow_by_one()
+    ensures { StreamsGrowByOne }
+{}
+
+/// After a list each batch stands where it stood, and each stream has at most one more for each entry.
+pub fn batches_stay()
+    ensures { BatchesStay }
+{}
+
+/// A procedure that an entry makes ready is one that it wakes, or its own.
+pub fn ready_is_woken()
+    ensures { ReadyIsWoken }
+{}
