@@ -8,13 +8,13 @@ ghost use Rattle.ss_shard.specs.Shards.{HasTables};
 ghost use Rattle.ss_plan.specs.Statements.{split_of, SplitByKeys, Matches};
 ghost use Rattle.ss_plan.specs.Runs.{entries_matching, seen_matching, MatchesSeen};
 
-use crate::plan::{plan_of, planned_places};
+use crate::plan::planned_places;
 use crate::source::{ShardRows, rows_seen};
 use ss_model::catalog::Catalog;
 use ss_operators::run_error::RunError;
 use ss_rows::frame::Frame;
 use ss_shard::shard::Shard;
-use ss_sql_lex::typed::{Expr, SourceId};
+use ss_sql_lex::typed::Expr;
 use ss_table::table::Slot;
 use ss_value::value::{Row, Value};
 use std::alloc::Global;
@@ -33,21 +33,15 @@ fn matching_slots<'a>(
     ensures found { IfOk result (λ slots. MatchesSeen from.entry table params.now test.now slots.items) }
     ensures stops { IfErr result (StopsAs (seen_matching from.entry table params.now test.now)) }
 {
-    planned_places(
-        alloc,
-        plan_of(test),
-        &from,
-        &SourceId::Table(table),
-        test,
-        params,
-    )
+    planned_places(alloc, from, table, test, params)
 }
 
 /// The slots of the rows of a table that the execution sees and that pass WHERE, by key. Aborts as the first test that
 /// does.
 ///
-/// Costs what the plan for WHERE costs: so far a walk over the table with a test for each row that is seen. Takes memory
-/// for the slots alone.
+/// Costs what the plan for WHERE costs: one search, logarithmic in the rows of the table, where WHERE names a row by its
+/// whole key, and else a walk over the table with a test for each row that is seen. Takes memory for the slots and the
+/// key alone.
 pub fn chosen_slots(
     alloc: Global,
     catalog: &Catalog,

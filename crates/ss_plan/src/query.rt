@@ -1,21 +1,73 @@
 //! Queries over the rows that an execution sees.
 
-ghost use Rattle.std.specs.Prelude.{IfOk, IfErr};
+ghost use Rattle.std.specs.Prelude.{◌≡◌, IfOk, IfErr, IfSome, None, Ok};
+ghost use Rattle.ss_operators.specs.Stops.{StopsAs};
+ghost use Rattle.ss_rows.specs.Frames.{params_of};
 ghost use Rattle.ss_shard.specs.Shards.{HasTables};
+ghost use Rattle.ss_plan.specs.Plans.{IsEnough, query_of_seen};
 ghost use Rattle.ss_plan.specs.Statements.{SplitByKeys};
 ghost use Rattle.ss_plan.specs.Runs.{QueryGives, QueryStops};
 
-use crate::source::rows_seen;
+use crate::key::KeyedRow;
+use crate::plan::planned_row;
+use crate::source::{ShardRows, rows_seen};
 use ss_model::catalog::Catalog;
 use ss_operators::run_error::RunError;
 use ss_rows::frame::Frame;
 use ss_rows::query::run_query;
 use ss_shard::shard::Shard;
-use ss_sql_lex::typed::Query;
-use ss_value::value::{Rows, Value};
+use ss_sql_lex::typed::{Query, SourceId};
+use ss_value::NoMemory;
+use ss_value::value::{Row, Rows, Value};
 use std::alloc::Global;
 
-/// The rows of a query over the rows that the execution sees. Aborts as the query does, and costs what it costs.
+/// The one row that may pass the WHERE of a query of one table, by its key, and None where its sources are to be walked.
+///
+/// By a key one search, logarithmic in the rows of the table, and one key built, which is all the memory that it takes.
+fn row_of_query<'a>(
+    alloc: Global,
+    from: ShardRows<'a>,
+    query: &Query,
+    params: &Row,
+) -> Result<Option<KeyedRow<'a>>, NoMemory>
+    requires tables { HasTables from.catalog.now from.shard.now.tables }
+    ensures alone { IfOk result (λ found. IfSome found (λ row. query.now.joined ≡ None)) }
+    ensures enough { IfOk result (λ found. IfSome found (IsEnough from.entry query.now.from params.now query.now.test)) }
+{
+    if query.joined.is_some() {
+        return Ok(None);
+    }
+    let SourceId::Table(table) = query.from else {
+        return Ok(None);
+    };
+    planned_row(alloc, from, table, &query.test, params)
+}
+
+/// The rows of a query over these rows, those of its one source found by the plan for its WHERE. Aborts as the query
+/// does.
+///
+/// Costs what the query costs; where WHERE names a row by its key, one search and one key built in place of the walk.
+/// A query with a JOIN walks.
+fn planned_query<'a>(
+    alloc: Global,
+    from: ShardRows<'a>,
+    query: &Query,
+    frame: &Frame,
+) -> Result<Rows, RunError>
+    requires tables { HasTables from.catalog.now from.shard.now.tables }
+    ensures rows { IfOk result (λ rows. query_of_seen from.entry (params_of frame.now) query.now ≡ Ok rows) }
+    ensures stops { IfErr result (StopsAs (query_of_seen from.entry (params_of frame.now) query.now)) }
+{
+    match row_of_query(alloc, from, query, frame.params())? {
+        None => run_query(alloc, &from, query, frame),
+        Some(row) => run_query(alloc, &row, query, frame),
+    }
+}
+
+/// The rows of a query over the rows that the execution sees. Aborts as the query does.
+///
+/// Costs what the query costs: a walk over its sources, or, where it has no JOIN and its WHERE names a row by its whole
+/// key, one search, logarithmic in the rows of the table, and one key built.
 pub fn query_shard(
     alloc: Global,
     catalog: &Catalog,
@@ -30,5 +82,5 @@ pub fn query_shard(
 {
     let zero = Value::Int(0);
     let from = rows_seen(catalog, shard, *frame, &zero);
-    run_query(alloc, &from, query, frame)
+    planned_query(alloc, from, query, frame)
 }
