@@ -1,0 +1,212 @@
+#!/usr/bin/env python3
+"""What an operation costs at a growing size, beside SQLite in memory on the same data.
+
+    python3 bench/costs.py [--sizes 1000,20000] [--svg FILE]
+
+Runs the program that `./sstore` built (build it first), and the sqlite3 module of this Python. For each size a table of
+that many rows is filled, and each operation is run many times behind it. What is printed is microseconds an operation:
+the time of the run with the operations less that of the run without them, over their number, the median of three. So
+start, reading the catalogue, filling and the report of the table don't count; reading the operations' own lines and
+writing their replies do. An SVG of cost against size is written beside this file, or where --svg says.
+"""
+
+import argparse
+import json
+import os
+import random
+import sqlite3
+import statistics
+import subprocess
+import sys
+import tempfile
+import time
+
+TOP = os.path.dirname(os.path.dirname(os.path.abspath(__file__)))
+PROGRAM = os.path.join(TOP, "crates/ss_program/out/ss_program")
+SIZES = [1_000, 20_000, 200_000, 1_000_000]
+GROUPS = 40  # rows that share a value of the indexed column
+
+CATALOGUE = {
+    "tables": [
+        {
+            "name": "t",
+            "columns": [["k", "int"], ["g", "int"], ["v", "int"]],
+            "key": ["k"],
+            "part": 0,
+            "indexes": [["g"]],
+        },
+        {"name": "u", "columns": [["k", "int"], ["v", "int"]], "key": ["k"], "part": 0},
+    ],
+    "procedures": [
+        {
+            "name": name,
+            "kind": "call",
+            "args": [[a, "int"] for a in args],
+            "touch": {"part": 0},
+            "body": body,
+        }
+        for name, args, body in [
+            ("first", [], [{"sql": "INSERT INTO t VALUES (0, 0, 0)"}]),
+            (
+                "double",
+                ["n", "all", "groups"],
+                [{"sql": "INSERT INTO t SELECT k + :n, (k + :n) % :groups, k FROM t WHERE k + :n < :all"}],
+            ),
+            ("insert", ["k"], [{"sql": "INSERT INTO u VALUES (:k, 1)"}]),
+            ("look", ["k"], [{"return": "SELECT v FROM t WHERE k = :k"}]),
+            ("update", ["k"], [{"sql": "UPDATE t SET v = v + 1 WHERE k = :k"}]),
+            ("range", ["g"], [{"return": "SELECT COUNT(*), SUM(v) FROM t WHERE g = :g"}]),
+            ("walk", [], [{"return": "SELECT COUNT(*), SUM(v) FROM t"}]),
+        ]
+    ],
+}
+
+SQLITE = {
+    "insert": "INSERT INTO u VALUES (?, 1)",
+    "look": "SELECT v FROM t WHERE k = ?",
+    "update": "UPDATE t SET v = v + 1 WHERE k = ?",
+    "range": "SELECT COUNT(*), SUM(v) FROM t WHERE g = ?",
+    "walk": "SELECT COUNT(*), SUM(v) FROM t",
+}
+
+WORDS = {
+    "insert": "insert of a row",
+    "look": "look-up by key",
+    "update": "update by key",
+    "range": "forty rows by an indexed column",
+    "walk": "walk, for each row",
+}
+
+
+def calls(operation, size, many):
+    """The arguments of each of so many operations, the same for both engines."""
+    draw = random.Random(size)
+    if operation == "insert":
+        return [[k] for k in draw.sample(range(10 * many), many)]
+    if operation in ("look", "update"):
+        return [[draw.randrange(size)] for _ in range(many)]
+    if operation == "range":
+        return [[draw.randrange(max(1, size // GROUPS))] for _ in range(many)]
+    return [[] for _ in range(many)]
+
+
+def lines(name, arguments):
+    return "".join(f'{{"call":"{name}","args":{json.dumps(a)}}}\n' for a in arguments)
+
+
+def filling(size):
+    """The requests that fill the table, which doubles it until it is full."""
+    text, n = lines("first", [[]]), 1
+    while n < size:
+        text += lines("double", [[n, size, max(1, size // GROUPS)]])
+        n *= 2
+    return text
+
+
+def run(text):
+    """The seconds of a run of the program on an input. Its report goes to a file, and has to end with `done`."""
+    with tempfile.TemporaryFile() as given, tempfile.TemporaryFile() as report:
+        given.write(text.encode())
+        given.seek(0)
+        begun = time.perf_counter()
+        subprocess.run([PROGRAM, "run"], stdin=given, stdout=report, check=True)
+        took = time.perf_counter() - begun
+        report.seek(-64, os.SEEK_END)
+        assert b'["done",' in report.read(), "the report has no end"
+        return took
+
+
+def of_program(operation, size, many):
+    head = json.dumps(CATALOGUE, separators=(",", ":")) + "\n" + filling(size)
+    with_them = head + lines(operation, calls(operation, size, many))
+    return statistics.median(run(with_them) - run(head) for _ in range(3)) / many
+
+
+def of_sqlite(operation, size, many):
+    base = sqlite3.connect(":memory:", isolation_level=None)
+    base.execute("CREATE TABLE t (k INTEGER PRIMARY KEY, g INTEGER, v INTEGER)")
+    base.execute("CREATE TABLE u (k INTEGER PRIMARY KEY, v INTEGER)")
+    base.execute("CREATE INDEX by_g ON t (g)")
+    groups = max(1, size // GROUPS)
+    base.executemany("INSERT INTO t VALUES (?, ?, ?)", ((k, k % groups, k) for k in range(size)))
+    took = []
+    for _ in range(3):
+        base.execute("DELETE FROM u")
+        begun = time.perf_counter()
+        for arguments in calls(operation, size, many):
+            base.execute(SQLITE[operation], arguments).fetchall()
+        took.append((time.perf_counter() - begun) / many)
+    return statistics.median(took)
+
+
+def times(operation, size, indexed):
+    """How often an operation is run: what walks, less often; at a great size more often, since what is taken off then
+    is the time of filling and of the report."""
+    if operation == "walk" or operation == "range" and not indexed:
+        return max(5, min(2_000, 5_000_000 // size))
+    return max(20_000, size // 4)
+
+
+def measured(sizes, indexed):
+    found = {}
+    for operation in WORDS:
+        for size in sizes:
+            many = times(operation, size, indexed)
+            part = size if operation == "walk" else 1
+            found[operation, size] = [
+                1e6 * engine(operation, size, many) / part for engine in (of_program, of_sqlite)
+            ]
+            ours, theirs = found[operation, size]
+            print(f"{WORDS[operation]:34}{size:>10,}{ours:>14.3f}{theirs:>14.3f}", flush=True)
+    return found
+
+
+COLOURS = ["#1f6f8b", "#b5651d", "#4b7f52", "#7d4b8f", "#8b1f3f"]
+
+
+def drawing(found, sizes):
+    """Cost against size, both by powers of ten: the program in full lines, SQLite in broken ones."""
+    from math import log10
+
+    costs = [max(c, 1e-4) for pair in found.values() for c in pair]
+    low, high = int(log10(min(costs)) // 1), int(log10(max(costs)) // 1) + 1
+    left, right = log10(sizes[0]), log10(sizes[-1]) if len(sizes) > 1 else log10(sizes[0]) + 1
+    x = lambda size: 70 + 470 * (log10(size) - left) / (right - left)
+    y = lambda cost: 380 - 340 * (log10(max(cost, 1e-4)) - low) / (high - low)
+    out = [
+        '<svg xmlns="http://www.w3.org/2000/svg" viewBox="0 0 820 430" font-family="sans-serif" font-size="12">',
+        '<rect width="820" height="430" fill="white"/>',
+        '<text x="70" y="20">microseconds an operation, by rows of the table (full: sstore, broken: SQLite in memory)</text>',
+    ]
+    for power in range(low, high + 1):
+        at = y(10.0**power)
+        out.append(f'<line x1="70" x2="540" y1="{at:.1f}" y2="{at:.1f}" stroke="#ddd"/>')
+        out.append(f'<text x="62" y="{at + 4:.1f}" text-anchor="end">{10.0 ** power:g}</text>')
+    for size in sizes:
+        out.append(f'<text x="{x(size):.1f}" y="400" text-anchor="middle">{size:,}</text>')
+    for at, operation in enumerate(WORDS):
+        for engine, dashes in ((0, ""), (1, ' stroke-dasharray="5 4"')):
+            points = " ".join(f"{x(s):.1f},{y(found[operation, s][engine]):.1f}" for s in sizes)
+            out.append(f'<polyline points="{points}" fill="none" stroke-width="2" stroke="{COLOURS[at]}"{dashes}/>')
+        out.append(f'<text x="560" y="{60 + 22 * at}" fill="{COLOURS[at]}">{WORDS[operation]}</text>')
+    return "\n".join(out + ["</svg>", ""])
+
+
+def main():
+    parser = argparse.ArgumentParser(description=__doc__, formatter_class=argparse.RawDescriptionHelpFormatter)
+    parser.add_argument("--sizes", default=",".join(map(str, SIZES)))
+    parser.add_argument("--svg", default=os.path.join(TOP, "bench/costs.svg"))
+    parser.add_argument("--indexed", action="store_true", help="indexes take effect: run look-ups by an index as often as by key")
+    given = parser.parse_args()
+    if not os.access(PROGRAM, os.X_OK):
+        sys.exit("the program isn't built: run ./sstore run < examples/stored_run.jsonl first")
+    sizes = [int(s) for s in given.sizes.split(",")]
+    print(f"{'microseconds':34}{'rows':>10}{'sstore':>14}{'SQLite':>14}")
+    found = measured(sizes, given.indexed)
+    with open(given.svg, "w", encoding="utf-8") as file:
+        file.write(drawing(found, sizes))
+    print(f"written: {given.svg}")
+
+
+if __name__ == "__main__":
+    main()
