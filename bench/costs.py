@@ -22,21 +22,14 @@ import tempfile
 import time
 
 TOP = os.path.dirname(os.path.dirname(os.path.abspath(__file__)))
-PROGRAM = os.path.join(TOP, "crates/ss_program/out/ss_program")
+PROGRAM = os.environ.get("SSTORE", os.path.join(TOP, "crates/ss_program/out/ss_program"))
 SIZES = [1_000, 20_000, 200_000, 1_000_000]
 GROUPS = 40  # rows that share a value of the indexed column
 
+TABLE = {"name": "t", "columns": [["k", "int"], ["g", "int"], ["v", "int"]], "key": ["k"], "part": 0}
+
 CATALOGUE = {
-    "tables": [
-        {
-            "name": "t",
-            "columns": [["k", "int"], ["g", "int"], ["v", "int"]],
-            "key": ["k"],
-            "part": 0,
-            "indexes": [["g"]],
-        },
-        {"name": "u", "columns": [["k", "int"], ["v", "int"]], "key": ["k"], "part": 0},
-    ],
+    "tables": [TABLE, {"name": "u", "columns": [["k", "int"], ["v", "int"]], "key": ["k"], "part": 0}],
     "procedures": [
         {
             "name": name,
@@ -55,16 +48,25 @@ CATALOGUE = {
             ("insert", ["k"], [{"sql": "INSERT INTO u VALUES (:k, 1)"}]),
             ("look", ["k"], [{"return": "SELECT v FROM t WHERE k = :k"}]),
             ("update", ["k"], [{"sql": "UPDATE t SET v = v + 1 WHERE k = :k"}]),
+            ("beside", ["k"], [{"sql": "UPDATE t SET v = v + 1 WHERE k = :k"}]),
+            ("moved", ["k", "g"], [{"sql": "UPDATE t SET g = :g WHERE k = :k"}]),
             ("range", ["g"], [{"return": "SELECT COUNT(*), SUM(v) FROM t WHERE g = :g"}]),
             ("walk", [], [{"return": "SELECT COUNT(*), SUM(v) FROM t"}]),
         ]
     ],
 }
 
+INDEXED = dict(CATALOGUE, tables=[dict(TABLE, indexes=[["g"]])] + CATALOGUE["tables"][1:])
+
+# the operations that run on a table with an index on g
+BY_INDEX = {"beside", "moved", "range"}
+
 SQLITE = {
     "insert": "INSERT INTO u VALUES (?, 1)",
     "look": "SELECT v FROM t WHERE k = ?",
     "update": "UPDATE t SET v = v + 1 WHERE k = ?",
+    "beside": "UPDATE t SET v = v + 1 WHERE k = ?",
+    "moved": "UPDATE t SET g = ?2 WHERE k = ?1",
     "range": "SELECT COUNT(*), SUM(v) FROM t WHERE g = ?",
     "walk": "SELECT COUNT(*), SUM(v) FROM t",
 }
@@ -73,6 +75,8 @@ WORDS = {
     "insert": "insert of a row",
     "look": "look-up by key",
     "update": "update by key",
+    "beside": "the same, beside an index",
+    "moved": "update by key of an indexed column",
     "range": "forty rows by an indexed column",
     "walk": "walk, for each row",
 }
@@ -83,8 +87,10 @@ def calls(operation, size, many):
     draw = random.Random(size)
     if operation == "insert":
         return [[k] for k in draw.sample(range(10 * many), many)]
-    if operation in ("look", "update"):
+    if operation in ("look", "update", "beside"):
         return [[draw.randrange(size)] for _ in range(many)]
+    if operation == "moved":
+        return [[draw.randrange(size), draw.randrange(max(1, size // GROUPS))] for _ in range(many)]
     if operation == "range":
         return [[draw.randrange(max(1, size // GROUPS))] for _ in range(many)]
     return [[] for _ in range(many)]
@@ -117,7 +123,8 @@ def run(text):
 
 
 def of_program(operation, size, many):
-    head = json.dumps(CATALOGUE, separators=(",", ":")) + "\n" + filling(size)
+    catalogue = INDEXED if operation in BY_INDEX else CATALOGUE
+    head = json.dumps(catalogue, separators=(",", ":")) + "\n" + filling(size)
     with_them = head + lines(operation, calls(operation, size, many))
     return statistics.median(run(with_them) - run(head) for _ in range(3)) / many
 
@@ -126,7 +133,8 @@ def of_sqlite(operation, size, many):
     base = sqlite3.connect(":memory:", isolation_level=None)
     base.execute("CREATE TABLE t (k INTEGER PRIMARY KEY, g INTEGER, v INTEGER)")
     base.execute("CREATE TABLE u (k INTEGER PRIMARY KEY, v INTEGER)")
-    base.execute("CREATE INDEX by_g ON t (g)")
+    if operation in BY_INDEX:
+        base.execute("CREATE INDEX by_g ON t (g)")
     groups = max(1, size // GROUPS)
     base.executemany("INSERT INTO t VALUES (?, ?, ?)", ((k, k % groups, k) for k in range(size)))
     took = []
@@ -139,19 +147,19 @@ def of_sqlite(operation, size, many):
     return statistics.median(took)
 
 
-def times(operation, size, indexed):
+def times(operation, size):
     """How often an operation is run: what walks, less often; at a great size more often, since what is taken off then
     is the time of filling and of the report."""
-    if operation == "walk" or operation == "range" and not indexed:
+    if operation == "walk":
         return max(5, min(2_000, 5_000_000 // size))
     return max(20_000, size // 4)
 
 
-def measured(sizes, indexed):
+def measured(sizes):
     found = {}
     for operation in WORDS:
         for size in sizes:
-            many = times(operation, size, indexed)
+            many = times(operation, size)
             part = size if operation == "walk" else 1
             found[operation, size] = [
                 1e6 * engine(operation, size, many) / part for engine in (of_program, of_sqlite)
@@ -161,7 +169,7 @@ def measured(sizes, indexed):
     return found
 
 
-COLOURS = ["#1f6f8b", "#b5651d", "#4b7f52", "#7d4b8f", "#8b1f3f"]
+COLOURS = ["#1f6f8b", "#b5651d", "#4b7f52", "#7d4b8f", "#8b1f3f", "#5f5f2e", "#2e4a7d"]
 
 
 def drawing(found, sizes):
@@ -196,13 +204,12 @@ def main():
     parser = argparse.ArgumentParser(description=__doc__, formatter_class=argparse.RawDescriptionHelpFormatter)
     parser.add_argument("--sizes", default=",".join(map(str, SIZES)))
     parser.add_argument("--svg", default=os.path.join(TOP, "bench/costs.svg"))
-    parser.add_argument("--indexed", action="store_true", help="indexes take effect: run look-ups by an index as often as by key")
     given = parser.parse_args()
     if not os.access(PROGRAM, os.X_OK):
         sys.exit("the program isn't built: run ./sstore run < examples/stored_run.jsonl first")
     sizes = [int(s) for s in given.sizes.split(",")]
     print(f"{'microseconds':34}{'rows':>10}{'sstore':>14}{'SQLite':>14}")
-    found = measured(sizes, given.indexed)
+    found = measured(sizes)
     with open(given.svg, "w", encoding="utf-8") as file:
         file.write(drawing(found, sizes))
     print(f"written: {given.svg}")

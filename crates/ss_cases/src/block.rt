@@ -3,7 +3,7 @@
 use crate::bases::Bases;
 use crate::run::check_run;
 use crate::wrong::Wrong;
-use crate::{examples, inputs, queries, requests, script, sql};
+use crate::{examples, inputs, plans, queries, requests, script, sql};
 use std::alloc::Global;
 
 /// What the lines of a block are. The modules that run them say what each means.
@@ -25,6 +25,8 @@ pub enum BlockKind {
     Misfit,
     Queries,
     Bodies,
+    Plans,
+    Planned,
     Parse,
     Type,
 }
@@ -48,6 +50,8 @@ impl BlockKind {
             "misfit" => Some(BlockKind::Misfit),
             "queries" => Some(BlockKind::Queries),
             "bodies" => Some(BlockKind::Bodies),
+            "plans" => Some(BlockKind::Plans),
+            "planned" => Some(BlockKind::Planned),
             "parse" => Some(BlockKind::Parse),
             "type" => Some(BlockKind::Type),
             _ => None,
@@ -129,6 +133,8 @@ pub fn run_row(
         BlockKind::First => examples::check_first(rt, folder, row),
         BlockKind::Queries => queries::check_query(alloc, base, row),
         BlockKind::Bodies => queries::check_body(alloc, base, row),
+        BlockKind::Plans => plans::check_plan(alloc, base, row),
+        BlockKind::Planned => plans::check_planned(alloc, base, row),
         BlockKind::Parse => sql::check_parsed(alloc, base, row),
         BlockKind::Type => sql::check_typed(alloc, base, row),
         _ => Err(Wrong::text(alloc, "no row")),

@@ -8,6 +8,7 @@
 //! - `block`: the kinds of blocks, and what runs each
 //! - `inputs`, `requests`, `examples`: what the blocks of each kind mean
 //! - `script`, `queries`: short forms of whole runs over tables, of queries and of bodies
+//! - `plans`: how the rows are found that a step looks for
 //! - `sql`: texts with their trees, which `parsed_trees` and `typed_trees` print, with `signs` for their operators;
 //!   `scopes` has the names that typed texts may use
 //! - `bases`, `marks`: texts that several cases share, and what stands for bytes that a line can't hold
@@ -22,6 +23,7 @@ mod file;
 mod inputs;
 mod marks;
 mod parsed_trees;
+mod plans;
 mod queries;
 mod requests;
 mod run;

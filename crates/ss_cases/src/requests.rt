@@ -47,8 +47,8 @@ pub fn check_block(alloc: Global, base: &str, lines: &[String]) -> Result<(), Wr
     check_report(alloc, written, bytes_of(alloc, report.as_str())?.as_slice())
 }
 
-/// The catalogue of a base.
-fn catalog_of(alloc: Global, base: &str) -> Result<Catalog, Wrong> {
+/// The catalogue of a base, the marks in it taken for what they mean.
+pub fn catalog_of(alloc: Global, base: &str) -> Result<Catalog, Wrong> {
     let text = text_of(alloc, base)?;
     let Ok(value) = Json::from_str(alloc, text.as_str()) else {
         return Err(Wrong::text(alloc, "the base is no JSON"));

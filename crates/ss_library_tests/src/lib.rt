@@ -11,6 +11,7 @@
 //! - `model`: copies of requests and entries
 //! - `plain_queries`: expressions and queries, evaluated by their definitions
 //! - `small_tables`: a shard whose table is full at two rows
+//! - `indexes`: ranges of an index, pairs that stand twice, more entries than a chunk has
 //! - `report`: the report of a small run
 #![tactic(auto)]
 

@@ -1,5 +1,6 @@
 //! What several of the tests build.
 
+mod indexes;
 mod lines;
 mod model;
 mod plain_queries;

@@ -56,7 +56,7 @@ module _ (cascade : Cascade) (context : Context) where
       abort_when (exceeds_row_limit w.reply rows) ReplyFull (Ok (record w { reply = w.reply ++ rows }))
 
   abbrev close_with : ℕ → Execution → OrAbort Execution
-  close_with n w = close_unit context.catalog cascade n (get_or w.open_units n []) w
+  close_with n w = close_unit context.catalog cascade n (get_or w.open_units n []) (record w { open_units = set w.open_units n [] })
 
   abbrev body_with : List Step → Contents → OrAbort Execution
   body_with body s =
@@ -140,7 +140,7 @@ module _ (catalog : Catalog) (bodies : ℕ → List Step) (q : ℕ) (args : Row)
 
     body_same : (body : List Step) (s : Contents) → body_with cascade changed body s ≡ body_with cascade before body s
     body_same body s = λ i.
-        try_fold (λ x w. step_same x w i) body (execution_start catalog s) >>= try_fold (λ n w. closed_same cascade n (get_or w.open_units n []) w i) (owned_batch_windows catalog q)
+        try_fold (λ x w. step_same x w i) body (execution_start catalog s) >>= try_fold (λ n w. closed_same cascade n (get_or w.open_units n []) (record w { open_units = set w.open_units n [] }) i) (owned_batch_windows catalog q)
 
   run_same : (body : List Step) (s : Contents) → run_body changed body s ≡ run_body before body s
   run_same body s =

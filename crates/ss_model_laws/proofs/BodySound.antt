@@ -243,8 +243,15 @@ module _ (context : Context) (typed : catalog_typed context.catalog ≡ true) (i
         by RowsUnit e = cc
         by BatchesUnit e = refl
 
+    none_open : (n : ℕ) (w : Execution) → Whole w → Whole (record w { open_units = set w.open_units n [] })
+    none_open n w h = record {
+      contents = h.contents;
+      open_units = λ m. set_one (FitAll (window_schema catalog m)) w.open_units n m [] [] (h.open_units m) (λ e. tt);
+      emitted = h.emitted;
+    }
+
     closed_whole : (n : ℕ) → is_closed_by context.procedure (slice_get catalog.windows n) ≡ true → (w : Execution) → Whole w → WhenOk Whole (close_window context n w)
-    closed_whole n e w h = close_whole catalog (trigger_cascade context) cascade_whole n (get_or w.open_units n []) w h (λ d is.
+    closed_whole n e w h = close_whole catalog (trigger_cascade context) cascade_whole n (get_or w.open_units n []) (record w { open_units = set w.open_units n [] }) (none_open n w h) (λ d is.
         and_from _ _ (closed_kind (slice_get catalog.windows n) d (get_or w.open_units n []) is e) (all_test _ (get_or w.open_units n []) (subst (λ cs. FitAll cs (get_or w.open_units n [])) (schema_is catalog n d is) (h.open_units n))))
 
     pub body_whole : (s : Contents) → WholeContents catalog s → WhenOk Whole (run_body context p.body s)

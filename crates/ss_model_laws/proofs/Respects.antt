@@ -225,8 +225,9 @@ module _ (context : Context) (u : Claims) (fit : ℕ → Row → Type 0) (R : Co
 
   close_window_related : TriggersClaimed u context.catalog → (n : ℕ) → u.window n → (w v : Execution) → ExecutionRelated R w v → Related (ExecutionRelated R) (close_window context n w) (close_window context n v)
   close_window_related c n h w v r =
-      subst (λ unit. Related (ExecutionRelated R) (close_window context n w) (close_unit context.catalog (trigger_cascade context) n unit v)) (ap (λ o. get_or o n []) r.open_units)
-      (close_related (trigger_cascade context) n (get_or w.open_units n []) w v (cascade_related _ c) h r)
+      subst (λ unit. Related (ExecutionRelated R) (close_window context n w) (close_unit context.catalog (trigger_cascade context) n unit (record v { open_units = set v.open_units n [] }))) (ap (λ o. get_or o n []) r.open_units)
+      (close_related (trigger_cascade context) n (get_or w.open_units n []) (record w { open_units = set w.open_units n [] }) (record v { open_units = set v.open_units n [] }) (cascade_related _ c) h
+      (record { contents_related = r.contents_related; open_units = ap (λ o. set o n []) r.open_units; emitted = r.emitted; reply = r.reply }))
 
   -- a body in scope runs alike on contents in the relation
   pub body_related : (body : List Step) → TriggersClaimed u context.catalog → AllByRecursion (StepClaim u context.catalog context.args) body → AllByRecursion u.window (owned_batch_windows context.catalog context.procedure) → (s z : Contents) → R s z → Related (ExecutionRelated R) (run_body context body s) (run_body context body z)

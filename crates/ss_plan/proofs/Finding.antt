@@ -16,6 +16,9 @@ use Rattle.ss_rows.specs.Sources.{Placed, rows_in}
 use Rattle.ss_plan.specs.Fronts.{meets_run}
 use Rattle.ss_plan.specs.Keys.{Finds}
 use Rattle.ss_plan.specs.Scans.{FindsPlaces}
+use Rattle.ss_plan.specs.Found.{rows_found, at_places}
+use Rattle.ss_plan.specs.declared.found.FoundRows.{FoundRows}
+use Rattle.ss_plan.proofs.AtPlaces.{rows_there}
 use Rattle.ss_plan.proofs.Fronts.{run_decides}
 
 module _ {A : Type 0} (g : A → OrAbort Bool) (keep : A → Bool) where
@@ -44,6 +47,18 @@ module _ (params : Row) (test : Option Expr) (all some : Placed) (f : Finds para
   -- the same rows pass, and the same test aborts
   pub same_passes : try_filter passes some ≡ try_filter passes all
   same_passes = ap (try_filter passes) f.are ∙ left_out passes f.keep all (none_passes all f.rest)
+
+-- all rows are enough
+pub all_found : (params : Row) (test : Option Expr) (all : Placed) → Finds params test all all
+all_found params test all = record { keep = λ p. true; are = every_one all; rest = no_others all }
+  where
+    every_one : (ps : Placed) → ps ≡ filter (λ p. true) ps
+    every_one [] = refl
+    every_one (p ∷ ps) = ap (λ rest. p ∷ rest) (every_one ps)
+
+    no_others : (ps : Placed) → AllByRecursion (λ p. true ≡ false → meets_run params test p.1 ≡ false) ps
+    no_others [] = tt
+    no_others (p ∷ ps) = (λ off. cc, no_others ps)
 
 -- ---- and so a query of one source gives the same
 
@@ -83,6 +98,12 @@ same_query all some params q alone f =
     on some
     ∙ ap (λ r. r >>= λ found. try_map (λ group. try_map (item_value params group) q.items) (query_groups (query_aggregated q) q.groups found) >>= λ results. Ok (take_limit q.limit (sort_rows (order_by_cmp q.order) results))) (same_tuples params q.test (all q.from) (some q.from) f)
     ∙ sym (on all)
+
+-- so it does on the same rows at their places in a list
+pub found_query : (all : SourceId → Placed) (found : FoundRows) (params : Row) (q : Query) → q.joined ≡ None → Finds params q.test (all q.from) (rows_found found) →
+    query_rows (λ s. rows_in (at_places found)) params q ≡ query_rows (λ s. rows_in (all s)) params q
+found_query all found params q alone f =
+    ap (λ (rows : Rows). query_rows (λ s. rows) params q) (rows_there 0 (rows_in (rows_found found))) ∙ same_query all (λ s. rows_found found) params q alone f
 
 -- ---- what was answered on what was found holds of all
 

@@ -30,37 +30,6 @@ use Rattle.ss_plan.proofs.Matching.{live_apart}
 use Rattle.ss_plan.proofs.Slots.{Live, placed, row_is}
 use Rattle.ss_plan.proofs.Naming.{key_is}
 
--- ---- one row or none, as a source
-
-pub one_ends : (o : Option (ℕ × Row)) (at : ℕ) (row : Row) (behind : Placed) → StandsAt (one_place o) at row behind → None ≡ first_place behind
-one_ends o at row behind s = by o s.0 s.1
-  where
-    by : (o : Option (ℕ × Row)) (before : Placed) → one_place o ≡ before ++ (at, row) ∷ behind → None ≡ first_place behind
-    by None [] e = cc
-    by None (b ∷ bs) e = cc
-    by (Some p) [] e = ap first_place (let q : [] ≡ behind = cc in q)
-    by (Some p) (b ∷ []) e = cc
-    by (Some p) (b ∷ c ∷ bs) e = cc
-
-pub one_is : (o : Option (ℕ × Row)) (at : ℕ) (row : Row) (behind : Placed) → StandsAt (one_place o) at row behind → o ≡ Some (at, row)
-one_is o at row behind s = by o s.0 s.1
-  where
-    by : (o : Option (ℕ × Row)) (before : Placed) → one_place o ≡ before ++ (at, row) ∷ behind → o ≡ Some (at, row)
-    by None [] e = cc
-    by None (b ∷ bs) e = cc
-    by (Some p) [] e = ap Some (let q : p ≡ (at, row) = cc in q)
-    by (Some p) (b ∷ []) e = cc
-    by (Some p) (b ∷ c ∷ bs) e = cc
-
-pub one_row : (o : Option (ℕ × Row)) (slot : ℕ) (r : Row) → o ≡ Some (slot, r) → (at : ℕ) (row : Row) (behind : Placed) → StandsAt (one_place o) at row behind → (slot ≡ at) × (Some r ≡ Some row)
-one_row o slot r is at row behind s =
-    let same : Some (slot, r) ≡ Some (at, row) = sym is ∙ one_is o at row behind s in
-    let pair : (slot, r) ≡ (at, row) = cc in
-    (ap (λ (p : ℕ × Row). p.0) pair, ap (λ (p : ℕ × Row). Some p.1) pair)
-
-pub no_row : (o : Option (ℕ × Row)) → o ≡ None → (at : ℕ) (row : Row) (behind : Placed) → StandsAt (one_place o) at row behind → ⊥
-no_row o is at row behind s = let same = sym is ∙ one_is o at row behind s in cc
-
 -- ---- the slot that a table gives has the row
 
 stands_found : (key : Row) (p : ℕ × Row) (es : List Live) → entries.find row_cmp key es ≡ Some p → (behind : Placed) × StandsAt (placed es) p.0 p.1 behind
@@ -174,11 +143,11 @@ module _ (P : ℕ × Row → Type 0) where
   all_passing q [] h = tt
   all_passing q (p ∷ ps) h = all_cond (q p) p (filter q ps) h.0 (all_passing q ps h.1)
 
-every : (P Q : Live → Type 0) (es : List Live) → ((e : Live) → P e → Q e) → AllByRecursion P es → AllByRecursion Q es
+pub every : (P Q : Live → Type 0) (es : List Live) → ((e : Live) → P e → Q e) → AllByRecursion P es → AllByRecursion Q es
 every P Q [] f h = tt
 every P Q (e ∷ es) f h = (f e h.0, every P Q es f h.1)
 
-decided : (b : Bool) → (b ≡ true → ⊥) → b ≡ false
+pub decided : (b : Bool) → (b ≡ true → ⊥) → b ≡ false
 decided true h = absurd (h refl)
 decided false h = refl
 

@@ -1,59 +1,27 @@
 //! The row that the comparisons in front of a WHERE name by its key.
 
-ghost use Rattle.std.specs.Prelude.{◌≡◌, ◌<◌, length, IfOk, IfSome, slice_get};
+ghost use Rattle.std.specs.Prelude.{◌≡◌, ◌<◌, length, IfOk, IfSome};
 ghost use Rattle.std.specs.Option.{option_map};
 ghost use Rattle.std.specs.FinMap as finite;
 ghost use Rattle.ss_sql_lex.specs.declared.typed.SourceId.TheVariants.{Table as FromTable};
-ghost use Rattle.ss_model.specs.Contents.{key_columns};
 ghost use Rattle.ss_shard.specs.Shards.{HasTables};
-ghost use Rattle.ss_plan.specs.Bounds.{operand_of, known_value};
-ghost use Rattle.ss_plan.specs.Keys.{value_sought, key_sought, lent_row, with_key};
-ghost use Rattle.ss_plan.specs.Plans.{seen_in, looked_up, IsEnough};
+ghost use Rattle.ss_plan.specs.Bounds.{operand_of, known_value, bound_value};
+ghost use Rattle.ss_plan.specs.Keys.{key_sought, lent_row, one_place};
+ghost use Rattle.ss_plan.specs.Found.{rows_found};
+ghost use Rattle.ss_plan.specs.Plans.{seen_with, IsEnough};
 
 use crate::bounds::{End, Side, first_bound};
+use crate::found::FoundRows;
 use crate::seen::is_seen;
 use crate::source::ShardRows;
 use ss_rows::operand::lent_or_zero;
-use ss_rows::rows_of::RowsOf;
 use ss_rows::tuple::column_in;
-use ss_sql_lex::typed::{Expr, SourceId};
+use ss_sql_lex::typed::Expr;
 use ss_table::table::{Slot, Table};
 use ss_value::NoMemory;
 use ss_value::seq::Seq;
 use ss_value::value::{Row, Value};
 use std::alloc::Global;
-
-/// At most one row, as a source of queries. A look-up and a step are constant.
-#[derive(Clone, Copy, Drop)]
-pub struct KeyedRow<'a> {
-    /// The row, with its slot.
-    pub found: Option<(Slot, &'a Row)>,
-}
-
-impl<'a> RowsOf for KeyedRow<'a> {
-    ghost use Rattle.std.specs.Option.{option_map};
-    ghost use Rattle.ss_plan.specs.Keys.{lent_row, one_place};
-
-    ghost placed = { λ s source. one_place (option_map lent_row s.found) };
-
-    fn first(&self, _source: &SourceId) -> Option<usize> {
-        match self.found {
-            Some((slot, _)) => Some(slot),
-            None => None,
-        }
-    }
-
-    fn after(&self, _source: &SourceId, _at: usize) -> Option<usize> {
-        None
-    }
-
-    fn row(&self, _source: &SourceId, at: usize) -> Option<&Row> {
-        match self.found {
-            Some((slot, row)) => { if slot == at { Some(row) } else { None } }
-            None => None,
-        }
-    }
-}
 
 /// A copy of the value of an operand, and None of a column. Linear in its bytes.
 fn known_value<'a>(alloc: Global, side: Side<'a>, params: &Row) -> Result<Option<Value>, NoMemory>
@@ -69,16 +37,17 @@ fn known_value<'a>(alloc: Global, side: Side<'a>, params: &Row) -> Result<Option
     }
 }
 
-/// A copy of the value that a column is to have, and None where none is named. Linear in the front of WHERE.
-fn sought_value(
+/// A copy of the value that bounds a column at an end, and None where there is none. Linear in the front of WHERE.
+pub fn bound_value(
     alloc: Global,
+    end: End,
     column: u8,
     test: &Option<Expr>,
     params: &Row,
 ) -> Result<Option<Value>, NoMemory>
-    ensures { IfOk result (λ v. v ≡ value_sought params.now test.now column) }
+    ensures { IfOk result (λ v. v ≡ bound_value end params.now test.now column) }
 {
-    match first_bound(End::Both, column, test) {
+    match first_bound(end, column, test) {
         None => Ok(None),
         Some(side) => known_value(alloc, side, params),
     }
@@ -97,7 +66,7 @@ fn sought_key(
 {
     let mut key = Seq::new(alloc);
     for column in columns {
-        let Some(value) = sought_value(alloc, *column, test, params)? else {
+        let Some(value) = bound_value(alloc, End::Both, *column, test, params)? else {
             return Ok(None);
         };
         key.push(value)?;
@@ -120,40 +89,50 @@ fn live_row_with<'a>(rows: &'a Table, key: &Row) -> Option<(Slot, &'a Row)>
 }
 
 /// The row of a table with a key, where the execution sees it. Costs as the table's `get`.
-fn seen_with<'a>(from: ShardRows<'a>, table: u16, key: &Row) -> KeyedRow<'a>
+fn seen_with<'a>(from: ShardRows<'a>, table: u16, key: &Row) -> Option<(Slot, &'a Row)>
     requires tables { HasTables from.catalog.now from.shard.now.tables }
     requires there { table < length from.catalog.now.tables }
-    ensures { looked_up result ≡ with_key (key_columns (slice_get from.entry.catalog.now.tables table)) key.now (seen_in from.entry (FromTable table)) }
+    ensures { one_place (option_map lent_row result) ≡ seen_with from.entry table key.now }
 {
-    let Some(rows) = from.shard.tables.get(usize::from(table)) else {
+    let Some(rows) = from.shard.table(table) else {
         unreachable!()
     };
     rows.rows_are_keyed();
     match live_row_with(rows, key) {
-        None => KeyedRow { found: None },
+        None => None,
         Some((slot, row)) => {
             if is_seen(from.catalog, from.split, table, row) {
-                KeyedRow {
-                    found: Some((slot, row)),
-                }
+                Some((slot, row))
             } else {
-                KeyedRow { found: None }
+                None
             }
         }
     }
 }
 
+/// One row or none, as the rows that were found. Takes memory for its place.
+fn at_most_one<'a>(alloc: Global, row: Option<(Slot, &'a Row)>) -> Result<FoundRows<'a>, NoMemory>
+    ensures { IfOk result (λ found. rows_found found ≡ one_place (option_map lent_row row.entry)) }
+{
+    let mut rows = Seq::new(alloc);
+    if let Some(row) = row {
+        rows.push(row)?;
+    }
+    Ok(FoundRows { rows })
+}
+
 /// The one row of a table that may pass WHERE, by its key, and None where WHERE doesn't name the whole key.
 ///
 /// A row without this key doesn't pass, and no test of it aborts. Costs one search, logarithmic in the rows of the table,
-/// and one key built, linear in its columns times the front of WHERE and in its bytes. Takes memory for the key alone.
+/// and one key built, linear in its columns times the front of WHERE and in its bytes. Takes memory for the key and for
+/// the place of one row alone.
 pub fn row_by_key<'a>(
     alloc: Global,
     from: ShardRows<'a>,
     table: u16,
     test: &Option<Expr>,
     params: &Row,
-) -> Result<Option<KeyedRow<'a>>, NoMemory>
+) -> Result<Option<FoundRows<'a>>, NoMemory>
     requires tables { HasTables from.catalog.now from.shard.now.tables }
     requires there { table < length from.catalog.now.tables }
     ensures { IfOk result (λ found. IfSome found (IsEnough from.entry (FromTable table) params.now test.now)) }
@@ -163,6 +142,9 @@ pub fn row_by_key<'a>(
     };
     match sought_key(alloc, def.key.as_slice(), test, params)? {
         None => Ok(None),
-        Some(key) => Ok(Some(seen_with(from, table, &key))),
+        Some(key) => {
+            let found = at_most_one(alloc, seen_with(from, table, &key))?;
+            Ok(Some(found))
+        }
     }
 }

@@ -2,7 +2,9 @@
 //!
 //! - `seen`: which rows an execution sees, in the order of their keys
 //! - `source`: those rows as the sources of a query; `query`: queries over them
-//! - `plan`: how the rows that pass WHERE are found; `scan`: by a walk over all; `key`: by the key that WHERE names
+//! - `plan`: how the rows that pass WHERE are found; `scan`: by a walk over all; `key`: by the key that WHERE names;
+//!   `range`: by a range of an index; `found`: what was found so, as a source; `ordered`: in the order of keys;
+//!   `found_slots`: the slots of what a plan finds
 //! - `bounds`: by what the comparisons in front of a WHERE bound a column
 //! - `chosen`: the rows that UPDATE and DELETE choose
 //! - `insert`: rows put into a table; `values`: the row of VALUES
@@ -19,11 +21,15 @@
 pub mod bounds;
 mod chosen;
 mod delete;
+mod found;
+pub mod found_slots;
 mod insert;
 mod key;
 pub mod laws;
+mod ordered;
 pub mod plan;
 pub mod query;
+mod range;
 mod scan;
 mod seen;
 mod source;

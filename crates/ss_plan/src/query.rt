@@ -8,8 +8,8 @@ ghost use Rattle.ss_plan.specs.Plans.{IsEnough, query_of_seen};
 ghost use Rattle.ss_plan.specs.Statements.{SplitByKeys};
 ghost use Rattle.ss_plan.specs.Runs.{QueryGives, QueryStops};
 
-use crate::key::KeyedRow;
-use crate::plan::planned_row;
+use crate::found::FoundRows;
+use crate::plan::planned_rows;
 use crate::source::{ShardRows, rows_seen};
 use ss_model::catalog::Catalog;
 use ss_operators::run_error::RunError;
@@ -21,17 +21,16 @@ use ss_value::NoMemory;
 use ss_value::value::{Row, Rows, Value};
 use std::alloc::Global;
 
-/// The one row that may pass the WHERE of a query of one table, by its key, and None where its sources are to be walked.
-///
-/// By a key one search, logarithmic in the rows of the table, and one key built, which is all the memory that it takes.
-fn row_of_query<'a>(
+/// The rows that may pass the WHERE of a query of one table, by the plan for it, and None where its sources are to be
+/// walked. Costs as the plan does.
+fn rows_of_query<'a>(
     alloc: Global,
     from: ShardRows<'a>,
     query: &Query,
     params: &Row,
-) -> Result<Option<KeyedRow<'a>>, NoMemory>
+) -> Result<Option<FoundRows<'a>>, NoMemory>
     requires tables { HasTables from.catalog.now from.shard.now.tables }
-    ensures alone { IfOk result (λ found. IfSome found (λ row. query.now.joined ≡ None)) }
+    ensures alone { IfOk result (λ found. IfSome found (λ rows. query.now.joined ≡ None)) }
     ensures enough { IfOk result (λ found. IfSome found (IsEnough from.entry query.now.from params.now query.now.test)) }
 {
     if query.joined.is_some() {
@@ -40,14 +39,13 @@ fn row_of_query<'a>(
     let SourceId::Table(table) = query.from else {
         return Ok(None);
     };
-    planned_row(alloc, from, table, &query.test, params)
+    planned_rows(alloc, from, table, &query.test, params)
 }
 
 /// The rows of a query over these rows, those of its one source found by the plan for its WHERE. Aborts as the query
 /// does.
 ///
-/// Costs what the query costs; where WHERE names a row by its key, one search and one key built in place of the walk.
-/// A query with a JOIN walks.
+/// Costs what the query costs, with what the plan costs in place of the walk. A query with a JOIN walks.
 fn planned_query<'a>(
     alloc: Global,
     from: ShardRows<'a>,
@@ -58,16 +56,16 @@ fn planned_query<'a>(
     ensures rows { IfOk result (λ rows. query_of_seen from.entry (params_of frame.now) query.now ≡ Ok rows) }
     ensures stops { IfErr result (StopsAs (query_of_seen from.entry (params_of frame.now) query.now)) }
 {
-    match row_of_query(alloc, from, query, frame.params())? {
+    match rows_of_query(alloc, from, query, frame.params())? {
         None => run_query(alloc, &from, query, frame),
-        Some(row) => run_query(alloc, &row, query, frame),
+        Some(found) => run_query(alloc, &found, query, frame),
     }
 }
 
 /// The rows of a query over the rows that the execution sees. Aborts as the query does.
 ///
-/// Costs what the query costs: a walk over its sources, or, where it has no JOIN and its WHERE names a row by its whole
-/// key, one search, logarithmic in the rows of the table, and one key built.
+/// Costs what the query costs: a walk over its sources, or, where it has no JOIN, what the plan for its WHERE costs: a
+/// search, and a sort of the rows that it finds.
 pub fn query_shard(
     alloc: Global,
     catalog: &Catalog,

@@ -22,8 +22,8 @@ use Rattle.ss_rows.specs.Frames.{params_of, current_or}
 use Rattle.ss_operators.specs.declared.run_error.RunError.{RunError}
 use Rattle.ss_operators.specs.declared.run_error.RunError.TheVariants.{NoMemory, Abort}
 use Rattle.ss_operators.specs.Stops.{StopsAs}
-use Rattle.ss_shard.specs.declared.shard.Shard.{Shard}
 use Rattle.ss_shard.specs.Contents.{contents_of}
+use Rattle.ss_shard.specs.HeldShard.{HeldShard}
 use Rattle.ss_plan.specs.Statements.{context_for}
 use Rattle.ss_proc.specs.Executions.{WritesTables, execution_of, longer_reply}
 use Rattle.ss_operators.proofs.Walks.{stops_before, stops_same}
@@ -56,12 +56,12 @@ module _ (catalog : Catalog) (procedure : ℕ) (f : Frame) (by_args : f.current 
   here = context_for catalog procedure f
 
   -- the effect is what the step leaves
-  pub statement_done : (s : Statement) (old new : Shard) → statement_effect here [] (params_of f) s (contents_of old.tables) ≡ Ok (StatementEffect.Wrote (contents_of new.tables)) → execute_step here (Sql s) (execution_of catalog old reply) ≡ Ok (execution_of catalog new reply)
+  pub statement_done : (s : Statement) (old new : HeldShard) → statement_effect here [] (params_of f) s (contents_of old.tables) ≡ Ok (StatementEffect.Wrote (contents_of new.tables)) → execute_step here (Sql s) (execution_of catalog old reply) ≡ Ok (execution_of catalog new reply)
   statement_done s old new e =
       ap (λ params. statement_effect here [] params s (contents_of old.tables) >>= apply_effect catalog (trigger_cascade here) (execution_of catalog old reply)) (sym (by_arguments f by_args))
       ∙ ap (λ r. r >>= apply_effect catalog (trigger_cascade here) (execution_of catalog old reply)) e
 
-  pub statement_stops : (s : Statement) (old : Shard) (stop : RunError) → StopsAs (statement_effect here [] (params_of f) s (contents_of old.tables)) stop → StopsAs (execute_step here (Sql s) (execution_of catalog old reply)) stop
+  pub statement_stops : (s : Statement) (old : HeldShard) (stop : RunError) → StopsAs (statement_effect here [] (params_of f) s (contents_of old.tables)) stop → StopsAs (execute_step here (Sql s) (execution_of catalog old reply)) stop
   statement_stops s old stop h = stops_same _ _ stop
       (ap (λ params. statement_effect here [] params s (contents_of old.tables) >>= apply_effect catalog (trigger_cascade here) (execution_of catalog old reply)) (sym (by_arguments f by_args)))
       (stops_before _ (apply_effect catalog (trigger_cascade here) (execution_of catalog old reply)) stop h)
@@ -102,7 +102,7 @@ join_stops w b rows NoMemory h = tt
 join_stops w true rows (Abort r) h = let same : ReplyFull ≡ r = cc in ap Err same
 join_stops w false rows (Abort r) h = cc
 
-module _ (catalog : Catalog) (procedure : ℕ) (f : Frame) (by_args : f.current ≡ None) (shard : Shard) (reply : Rows) (q : Query) where
+module _ (catalog : Catalog) (procedure : ℕ) (f : Frame) (by_args : f.current ≡ None) (shard : HeldShard) (reply : Rows) (q : Query) where
   abbrev context : Context
   context = context_for catalog procedure f
 

@@ -18,9 +18,9 @@ use Rattle.ss_model.specs.Results.{OrAbort, abort_when}
 use Rattle.ss_model.specs.Statements.{Execution}
 use Rattle.ss_model.specs.Bodies.{execution_start, exceeds_row_limit}
 use Rattle.ss_model.specs.Replays.{entry_outcome, database_after}
-use Rattle.ss_shard.specs.declared.shard.Shard.{Shard}
 use Rattle.ss_shard.specs.Contents.{contents_of}
-use Rattle.ss_shard.specs.Shards.{HasTables, CanGoBack}
+use Rattle.ss_shard.specs.HeldShard.{HeldShard}
+use Rattle.ss_shard.specs.Shards.{HasTables, HasIndexes, CanGoBack}
 use Rattle.ss_shard.specs.Databases.{database_of}
 use Rattle.ss_plan.specs.Statements.{FitsTables}
 
@@ -29,10 +29,11 @@ abbrev pub is_of_tables : Catalog → Bool
 is_of_tables catalog = length catalog.streams == 0
 
 -- an entry came to this outcome, the shard holds what it leaves, and it can be taken back
-pub record Ran (catalog : Catalog) (old new : Shard) (e : Entry) (outcome : Outcome) : Type 0 where
+pub record Ran (catalog : Catalog) (old new : HeldShard) (e : Entry) (outcome : Outcome) : Type 0 where
   pub answers : entry_outcome catalog (database_of catalog old.tables) e ≡ Some outcome
   pub leaves : database_of catalog new.tables ≡ database_after catalog (database_of catalog old.tables) e
   pub tables : HasTables catalog new.tables
+  pub indexes : HasIndexes catalog new
   pub back : CanGoBack old.tables new
 
 -- the target is a table
@@ -51,7 +52,7 @@ StepRuns catalog (Return q) = Unit {0}
 StepRuns catalog _ = ⊥
 
 -- an execution so far: its tables as the shard has them, and its reply
-abbrev pub execution_of : Catalog → Shard → Rows → Execution
+abbrev pub execution_of : Catalog → HeldShard → Rows → Execution
 execution_of catalog shard reply = record (execution_start catalog (contents_of shard.tables)) { reply = reply }
 
 -- the reply with rows behind it, or the abort where that is more than it may have

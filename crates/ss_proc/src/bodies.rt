@@ -5,7 +5,7 @@ ghost use Rattle.std.specs.List.{AllByRecursion};
 ghost use Rattle.std.specs.Option.{option_map};
 ghost use Rattle.ss_value.specs.Rows.{Row, column_value};
 ghost use Rattle.ss_model.specs.Database.{split_value_for};
-ghost use Rattle.ss_shard.specs.Shards.{HasTables, CanGoBack, IsSettled};
+ghost use Rattle.ss_shard.specs.Shards.{HasTables, HasIndexes, CanGoBack, IsSettled};
 ghost use Rattle.ss_plan.specs.Statements.{SplitByKeys};
 ghost use Rattle.ss_proc.specs.Executions.{StepRuns};
 ghost use Rattle.ss_proc.specs.Steps.{BodyRan};
@@ -52,6 +52,7 @@ pub fn run_body(
     ensures ran { IfOk result (BodyRan catalog.now frame.now body.now shard.old shard.new) }
     ensures number { shard.new.number ≡ shard.old.number }
     ensures tables { HasTables catalog.now shard.new.tables }
+    ensures indexes { HasIndexes catalog.now shard.new }
     ensures back { IfOk result (λ outcome. CanGoBack shard.old.tables shard.new) }
     ensures kept { OnErr result (shard.new.tables ≡ shard.old.tables) }
     ensures settled { OnErr result (IsSettled catalog.now shard.new) }

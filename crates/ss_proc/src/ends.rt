@@ -1,10 +1,9 @@
 //! What follows an execution.
 
 ghost use Rattle.std.specs.Prelude.{◌≡◌, List};
-ghost use Rattle.ss_model.specs.declared.catalog.Catalog.{Catalog};
 ghost use Rattle.ss_table.specs.Held.{Held};
 ghost use Rattle.ss_shard.specs.Contents.{contents_of};
-ghost use Rattle.ss_shard.specs.Shards.{HasTables, CanGoBack, IsSettled};
+ghost use Rattle.ss_shard.specs.Shards.{CanGoBack, SettledBack, SettledHere};
 
 use ss_shard::shard::Shard;
 
@@ -14,7 +13,7 @@ pub fn rollback(shard: &mut Shard)
     requires { (before : List Held) × CanGoBack before shard.old }
     ensures back { (before : List Held) → CanGoBack before shard.old → shard.new.tables ≡ before }
     ensures number { shard.new.number ≡ shard.old.number }
-    ensures settled { (catalog : Catalog) (before : List Held) → CanGoBack before shard.old → HasTables catalog before → IsSettled catalog shard.new }
+    ensures settled { SettledBack shard.old shard.new }
 {
     shard.roll_back();
 }
@@ -25,7 +24,7 @@ pub fn keep(shard: &mut Shard)
     requires { (before : List Held) × CanGoBack before shard.old }
     ensures same { contents_of shard.new.tables ≡ contents_of shard.old.tables }
     ensures number { shard.new.number ≡ shard.old.number }
-    ensures settled { (catalog : Catalog) → HasTables catalog shard.old.tables → IsSettled catalog shard.new }
+    ensures settled { SettledHere shard.old shard.new }
 {
     shard.keep();
 }

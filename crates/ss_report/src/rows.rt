@@ -24,18 +24,17 @@ fn live_row(table: &Table, slot: Slot) -> &Row
 
 /// The rows of a table in the order of their keys, where they stand: none is copied.
 ///
-/// One walk, so n steps for n rows, each a search of the table, and the memory of a reference a row. Fails only for
-/// want of memory.
+/// One walk, so n constant steps for n rows, and the memory of a reference a row. Fails only for want of memory.
 pub fn rows_in_order<'a>(alloc: Global, table: &'a Table) -> Result<Vec<&'a Row>, NoMemory>
     ensures { IfOk result (λ rows. rows_behind rows.items ≡ finmap.values (rows_by_key table.now.live)) }
 {
     // So no two rows have one slot, and a step from a slot is a step from its row.
     table.rows_are_keyed();
     let mut rows = Vec::new(alloc);
-    let mut at = table.first();
-    while let Some(slot) = at {
+    let mut at = table.first_near();
+    while let Some((slot, hint)) = at {
         rows.push(live_row(table, slot))?;
-        at = table.after(slot);
+        at = table.after_near(slot, hint);
     }
     Ok(rows)
 }

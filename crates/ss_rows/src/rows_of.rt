@@ -13,18 +13,19 @@ use ss_value::value::Row;
 ///
 /// Each source is a list of rows in an order, and each row of it stands at a position of its own. A walk from
 /// `first` by `after` meets them all. What the calls cost, the implementor says; a query asks `after` and `row` once
-/// for each row of its sources.
+/// for each row of its sources, and hands each hint to the next `after`. No clause speaks of hints.
 pub trait RowsOf {
     ghost placed: { Self → SourceId → Placed };
 
-    /// The position of a source's first row, and None exactly where it has none.
-    fn first(&self, source: &SourceId) -> Option<usize>
-        ensures { result ≡ first_place (placed self.now source.now) };
+    /// The position of a source's first row, and None exactly where it has none, with a hint for the step behind it.
+    fn first(&self, source: &SourceId) -> (Option<usize>, usize)
+        ensures { result.0 ≡ first_place (placed self.now source.now) };
 
-    /// The position of the row behind the one at a position, and None exactly behind the last.
-    fn after(&self, source: &SourceId, at: usize) -> Option<usize>
+    /// The position of the row behind the one at a position, and None exactly behind the last, with a hint for the next
+    /// step. Whatever the hint is, the position is the same; the hint that came with a position makes its step cheap.
+    fn after(&self, source: &SourceId, at: usize, hint: usize) -> (Option<usize>, usize)
         requires { has_place (placed self.now source.now) at ≡ true }
-        ensures { (row : Row) (behind : Placed) → StandsAt (placed self.now source.now) at row behind → result ≡ first_place behind };
+        ensures { (row : Row) (behind : Placed) → StandsAt (placed self.now source.now) at row behind → result.0 ≡ first_place behind };
 
     /// The row at a position, and None exactly where it is none of the source's positions.
     fn row(&self, source: &SourceId, at: usize) -> Option<&Row>

@@ -141,14 +141,16 @@ pub fn passing_tuples<'a, X: RowsOf>(
     };
     let index = join_index(alloc, from, query.joined, truths)?;
     let mut found = Vec::new(alloc);
-    let mut at = from.first(&query.from);
+    let (mut at, mut hint) = from.first(&query.from);
     while let Some(place) = at {
         let outer = row_at(from, &query.from, place);
         add_row(alloc, wanted, &index, outer, &mut found)?;
         if is_enough(enough, found.len()) {
             return Ok(found);
         }
-        at = from.after(&query.from, place);
+        let (next, near) = from.after(&query.from, place, hint);
+        at = next;
+        hint = near;
     }
     Ok(found)
 }

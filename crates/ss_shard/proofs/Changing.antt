@@ -10,30 +10,34 @@ use Rattle.ss_value.specs.Order.{row_cmp}
 use Rattle.ss_table.specs.Held.{Held, LiveRows, key_of, replaced}
 use Rattle.ss_table.specs.Keyed.{SlotsDiffer, AreKeyed}
 use Rattle.ss_table.specs.Steps.{WasDeleted, WasReplaced}
+use Rattle.ss_table.proofs.Keys.{rows_total}
 use Rattle.ss_table.proofs.Maps.{rows_antisymmetric, ties}
+use Rattle.ss_table.proofs.PutBack.{get_inserted}
 use Rattle.ss_undo.specs.declared.change.Change.{Change}
 use Rattle.ss_undo.specs.Came.{Step, Came}
 use Rattle.ss_undo.proofs.Back.{came_more}
-use Rattle.ss_shard.specs.declared.shard.Shard.{Shard}
+use Rattle.ss_shard.specs.HeldShard.{HeldShard}
 use Rattle.ss_shard.specs.Rows.{StandsIn, RowPut, RowTaken}
 use Rattle.ss_shard.specs.Shards.{shapes_of, AllKeyed, Changed}
 
 -- a change that is made and noted
-pub noted : (old new : Shard) (c : Change) → Step old.tables c new.tables → new.undo.items ≡ old.undo.items ++ c ∷ [] → new.number ≡ old.number → shapes_of new.tables ≡ shapes_of old.tables → (AllKeyed old.tables → AllKeyed new.tables) → Changed old new
-noted old new c step items number shapes keyed = record {
+pub noted : (old new : HeldShard) (c : Change) → Step old.tables c new.tables → new.changes ≡ old.changes ++ c ∷ [] → new.number ≡ old.number → shapes_of new.tables ≡ shapes_of old.tables → (AllKeyed old.tables → AllKeyed new.tables) → new.columns ≡ old.columns → Changed old new
+noted old new c step items number shapes keyed columns = record {
+  columns = columns;
   number = number;
   shapes = shapes;
   keyed = keyed;
-  back = λ before can. record { final = can.final; came = subst (λ cs. Came before cs new.tables) (sym items) (came_more before old.tables new.tables old.undo.items c can.came step) };
+  back = λ before can. record { final = can.final; came = subst (λ cs. Came before cs new.tables) (sym items) (came_more before old.tables new.tables old.changes c can.came step) };
 }
 
 -- room that is made, and nothing else
-pub unnoted : (old new : Shard) → new.tables ≡ old.tables → new.undo.items ≡ old.undo.items → new.number ≡ old.number → Changed old new
-unnoted old new tables items number = record {
+pub unnoted : (old new : HeldShard) → new.tables ≡ old.tables → new.changes ≡ old.changes → new.number ≡ old.number → new.columns ≡ old.columns → Changed old new
+unnoted old new tables items number columns = record {
+  columns = columns;
   number = number;
   shapes = ap shapes_of tables;
   keyed = λ h. subst (λ (tables : List Held). AllKeyed tables) (sym tables) h;
-  back = λ before can. record { final = can.final; came = subst (λ cs. Came before cs new.tables) (sym items) (subst (Came before old.undo.items) (sym tables) can.came) };
+  back = λ before can. record { final = can.final; came = subst (λ cs. Came before cs new.tables) (sym items) (subst (Came before old.changes) (sym tables) can.came) };
 }
 
 -- ---- a slot has one key
@@ -69,6 +73,20 @@ at_some o x P e h = subst (λ o. IsSomeAnd o P) e h
 -- of a table that is found by a number
 pub at_table : (tables : List Held) (t u : ℕ) (was : Held) (P : Held → Type 0) → u ≡ t → slice_get tables u ≡ Some was → IsSomeAnd (slice_get tables t) P → P was
 at_table tables t u was P same here h = at_some (slice_get tables t) was P (ap (slice_get tables) (sym same) ∙ here) h
+
+-- the row that was put in the place of another
+pub row_is : (was now : Held) (slot : ℕ) (before row : Row) (w : WasReplaced was now slot before) → now ≡ replaced was slot row → key_of was.key row ≡ key_of was.key before → w.row ≡ row
+row_is was now slot before row w is alike =
+    let k = key_of was.key w.row in
+    let one : finite.get now.live k ≡ Some (slot, w.row) = ap (λ (h : Held). finite.get h.live k) w.is ∙ get_inserted rows_total rows_antisymmetric was.live k (slot, w.row) in
+    let two : finite.get now.live k ≡ Some (slot, row) =
+    ap (λ (h : Held). finite.get h.live k) is
+    ∙ ap (λ q. finite.get (finite.insert was.live q (slot, row)) k) (alike ∙ w.same_key)
+    ∙ get_inserted rows_total rows_antisymmetric was.live k (slot, row) in
+    let p : ℕ × Row = (slot, w.row) in
+    let q : ℕ × Row = (slot, row) in
+    let same : p ≡ q = (let both = sym one ∙ two in cc) in
+    ap (λ (x : ℕ × Row). x.1) same
 
 -- ---- what the calls did
 

@@ -1,3 +1,4 @@
+pub mod Cases
 pub mod ByKey
 pub mod Tables
 pub mod Shapes

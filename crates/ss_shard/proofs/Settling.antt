@@ -4,7 +4,7 @@ use Rattle.ss_model.specs.declared.catalog.Catalog.{Catalog}
 use Rattle.ss_table.specs.Held.{Held}
 use Rattle.ss_undo.specs.Came.{Came, AreFinal, all_final}
 use Rattle.ss_undo.specs.declared.change.Change.{Change}
-use Rattle.ss_shard.specs.declared.shard.Shard.{Shard}
+use Rattle.ss_shard.specs.HeldShard.{HeldShard}
 use Rattle.ss_shard.specs.Shards.{shape_of, shapes_of, AllKeyed, HasTables, CanGoBack, IsSettled}
 
 shapes_final : (tables : List Held) → shapes_of (all_final tables) ≡ shapes_of tables
@@ -24,5 +24,5 @@ pub tables_final : (catalog : Catalog) (tables : List Held) → HasTables catalo
 tables_final catalog tables has = record { shapes = shapes_final tables ∙ has.shapes; keyed = keyed_final tables has.keyed }
 
 -- from a settled shard an execution starts
-pub starts_here : (catalog : Catalog) (shard : Shard) → IsSettled catalog shard → CanGoBack shard.tables shard
+pub starts_here : (catalog : Catalog) (shard : HeldShard) → IsSettled catalog shard → CanGoBack shard.tables shard
 starts_here catalog shard s = record { final = s.final; came = subst (λ (changes : List Change). Came shard.tables changes shard.tables) (sym s.empty) refl }

@@ -6,7 +6,7 @@ use Rattle.ss_model.specs.declared.catalog.Catalog.{Catalog}
 use Rattle.ss_table.specs.Held.{Held}
 use Rattle.ss_table.specs.Keyed.{AreKeyed}
 use Rattle.ss_undo.proofs.Back.{set_same}
-use Rattle.ss_shard.specs.declared.shard.Shard.{Shard}
+use Rattle.ss_shard.specs.HeldShard.{HeldShard}
 use Rattle.ss_shard.specs.Contents.{row_limit}
 use Rattle.ss_shard.specs.Shards.{shape_of, shape_for, shapes_of, AllKeyed, HasTables, Changed}
 
@@ -58,5 +58,5 @@ all_set (x ∷ xs) zero now k h = (k, h.1)
 all_set (x ∷ xs) (suc t) now k h = (h.0, all_set xs t now k h.1)
 
 -- after changes of rows the tables are still those of the catalogue
-pub still_tables : (catalog : Catalog) (old new : Shard) → Changed old new → HasTables catalog old.tables → HasTables catalog new.tables
+pub still_tables : (catalog : Catalog) (old new : HeldShard) → Changed old new → HasTables catalog old.tables → HasTables catalog new.tables
 still_tables catalog old new c has = record { shapes = c.shapes ∙ has.shapes; keyed = c.keyed has.keyed }

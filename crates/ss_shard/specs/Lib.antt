@@ -1,4 +1,5 @@
 pub mod Contents
+pub mod HeldShard
 pub mod Rows
 pub mod Shards
 pub mod Changes

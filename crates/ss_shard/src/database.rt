@@ -4,12 +4,13 @@ ghost use Rattle.std.specs.Prelude.{◌≡◌, IfOk, replicate, length};
 ghost use Rattle.std.specs.FinMap as finite;
 ghost use Rattle.ss_shard.specs.Contents.{row_limit, tables_of};
 ghost use Rattle.ss_shard.specs.Shards.{IsSettled};
-ghost use Rattle.ss_shard.specs.Databases.{empty_table, empty_tables};
+ghost use Rattle.ss_shard.specs.Databases.{empty_table, empty_tables, empty_group, empty_indexes};
 
 use crate::shard::Shard;
+use ss_index::index::Index;
+use ss_index::indexes::Indexes;
 use ss_model::catalog::{Catalog, Place, TableDef};
 use ss_table::table::Table;
-use ss_undo::undo::Undo;
 use ss_value::NoMemory;
 use ss_value::copies::Copies;
 use ss_value::seq::Seq;
@@ -55,17 +56,38 @@ fn empty_tables(alloc: Global, tables: &[TableDef]) -> Result<Seq<Table>, NoMemo
     Ok(made)
 }
 
-/// The database of a catalogue before the first execution. Linear in the catalogue's tables and their keys.
+/// Indexes of no pair, on these columns. Linear in the columns.
+fn empty_group(alloc: Global, listed: &[Seq<u8>]) -> Result<Indexes, NoMemory>
+    ensures { IfOk result (λ made. made ≡ empty_group listed.now) }
+{
+    let mut made = Indexes::new(alloc);
+    for columns in listed {
+        let columns = columns.duplicate(alloc)?;
+        made.push(Index::new(alloc, columns))?;
+    }
+    Ok(made)
+}
+
+/// The indexes of tables of these definitions, of no pair.
+fn empty_indexes(alloc: Global, tables: &[TableDef]) -> Result<Seq<Indexes>, NoMemory>
+    ensures { IfOk result (λ made. made ≡ empty_indexes tables.now) }
+{
+    let mut made = Seq::new(alloc);
+    for table in tables {
+        let group = empty_group(alloc, table.indexes.as_slice())?;
+        made.push(group)?;
+    }
+    Ok(made)
+}
+
+/// The database of a catalogue before the first execution. Linear in the catalogue's tables, their keys and indexes.
 pub fn opening(alloc: Global, catalog: &Catalog) -> Result<Database, NoMemory>
     ensures settled { IfOk result (λ db. IsSettled catalog.now db.whole) }
     ensures number { IfOk result (λ db. db.whole.number ≡ 0) }
     ensures empty { IfOk result (λ db. tables_of db.whole.tables ≡ replicate (length catalog.now.tables) finite.empty) }
 {
     let tables = empty_tables(alloc, catalog.tables.as_slice())?;
-    let whole = Shard {
-        number: 0,
-        tables,
-        undo: Undo::new(alloc),
-    };
+    let indexes = empty_indexes(alloc, catalog.tables.as_slice())?;
+    let whole = Shard::new(alloc, 0, tables, indexes);
     Ok(Database { whole })
 }

@@ -1,4 +1,3 @@
-pub mod Points
 pub mod Rising
 pub mod Cases
 pub mod Keys
@@ -15,5 +14,6 @@ pub mod Replacing
 pub mod Removing
 pub mod Placing
 pub mod Undone
-pub mod Chunked
 pub mod Keyed
+pub mod Near
+pub mod PutBack

@@ -1,36 +1,27 @@
 //! Slots in the order of their rows' keys.
 
-ghost use Rattle.std.specs.Prelude.{◌≡◌, ◌+◌, List, [], ◌∷◌, OnOk, OnErr, option_map, drop};
+ghost use Rattle.std.specs.Prelude.{◌≡◌, List, [], IfSome, OnOk, OnErr, option_map, drop};
 ghost use Rattle.std.specs.List.{insert, remove, find};
 ghost use Rattle.std.specs.List.Sorted.{IsPartitionedBy};
+ghost use Rattle.ss_chunks.specs.Chunks.{rest_items};
 ghost use Rattle.ss_table.specs.Aims.{aim_of, is_before, rank, stops, aimed_mark};
 ghost use Rattle.ss_table.specs.Places.{is_live};
 ghost use Rattle.ss_table.specs.Chunks.{slots_of};
+ghost use Rattle.ss_table.specs.Near.{slot_found, IsBehind, IsBehindFirst};
 
-use crate::cell::Cell;
+use crate::cell::{Cell, is_live};
 use crate::mark::Mark;
-use crate::search::Aim;
+use crate::search::{Aim, stops};
+use ss_chunks::list::Chunked;
+use ss_chunks::rest::{Hint, Rest};
 use ss_value::NoMemory;
 use std::alloc::Global;
 use std::marker::Model;
 
-mod chunks;
-
-use chunks::{
-    chunk_with_room, find_live, find_stop, live_in, place_in, push_first, put_in, rest_from,
-    stop_in, take_at,
-};
-
-/// The slots with a row, live and dead, by key and at an equal key by number.
-///
-/// They stand in chunks of at most 256 marks of 16 bytes, none empty. A search halves the chunks and then one
-/// chunk, so it is logarithmic. A change moves at most one chunk, 4 kilobytes. Once in at least 128 inserts a
-/// chunk is split and the list of the chunks moved, 24 bytes for each: so that rare move grows with the slots,
-/// to 200 kilobytes or so at a million, and so does the one when a chunk gets empty. Memory is that of the marks
-/// and at most as much again, but for chunks that removals made small, which are not joined.
+/// The slots with a row, live and dead, by key and at an equal key by number: marks of 16 bytes, in chunks.
 #[derive(Drop)]
 pub struct Order {
-    chunks: Vec<Vec<Mark>>,
+    marks: Chunked<Mark>,
 }
 
 impl Model for Order {
@@ -39,11 +30,65 @@ impl Model for Order {
 
     ghost Value = { List Mark };
 
-    ghost use Rattle.ss_table.specs.Chunks.{marks_in, IsFilled};
+    ghost view = { λ o. o.marks };
+}
 
-    ghost view = { λ o. marks_in o.chunks.items };
+/// The first live slot of marks.
+fn live_in(rest: Rest<'_, Mark>, cells: &[Cell]) -> Option<usize>
+    ensures { result ≡ find (is_live cells.now) (slots_of (rest_items rest.entry)) }
+{
+    let mut behind = rest;
+    while let Some(mark) = behind.next() {
+        if is_live(cells, mark.slot) {
+            return Some(mark.slot);
+        }
+    }
+    None
+}
 
-    ghost invariant = { λ o. IsFilled o.chunks.items };
+/// The first live slot of marks, with where it stands.
+fn live_near(rest: Rest<'_, Mark>, cells: &[Cell]) -> Option<(usize, Hint)>
+    ensures { slot_found result ≡ find (is_live cells.now) (slots_of (rest_items rest.entry)) }
+{
+    let mut behind = rest;
+    let mut hint = behind.hint;
+    while let Some(mark) = behind.next() {
+        if is_live(cells, mark.slot) {
+            return Some((mark.slot, hint));
+        }
+        hint = behind.hint;
+    }
+    None
+}
+
+/// The first live slot of marks behind a slot, with where it stands, and None where another slot, or none, is the first.
+fn live_behind(rest: Rest<'_, Mark>, slot: usize, cells: &[Cell]) -> Option<Option<(usize, Hint)>>
+    ensures { IfSome result (λ found. IsBehindFirst (rest_items rest.entry) slot cells.now (slot_found found)) }
+{
+    let mut behind = rest;
+    match behind.next() {
+        None => None,
+        Some(mark) => {
+            if mark.slot == slot {
+                Some(live_near(behind, cells))
+            } else {
+                None
+            }
+        }
+    }
+}
+
+/// The first slot of marks at which a look for a live row with a key ends.
+fn stop_in(rest: Rest<'_, Mark>, aim: &Aim) -> Option<usize>
+    ensures { let a = aim_of aim.now in result ≡ option_map (λ m. m.slot) (find (stops a) (rest_items rest.entry)) }
+{
+    let mut behind = rest;
+    while let Some(mark) = behind.next() {
+        if stops(aim, mark) {
+            return Some(mark.slot);
+        }
+    }
+    None
 }
 
 impl Order {
@@ -52,7 +97,7 @@ impl Order {
         ensures { result ≡ [] }
     {
         Order {
-            chunks: Vec::new(alloc),
+            marks: Chunked::new(alloc),
         }
     }
 
@@ -60,7 +105,25 @@ impl Order {
     pub fn first_live(&self, cells: &[Cell]) -> Option<usize>
         ensures { result ≡ find (is_live cells.now) (slots_of self.now) }
     {
-        live_in(self.chunks.as_slice(), cells)
+        live_in(self.marks.all(), cells)
+    }
+
+    /// The first live slot, with where it stands: one look for each dead slot before it.
+    pub fn first_near(&self, cells: &[Cell]) -> Option<(usize, Hint)>
+        ensures { slot_found result ≡ find (is_live cells.now) (slots_of self.now) }
+    {
+        live_near(self.marks.all(), cells)
+    }
+
+    /// The first live slot behind a slot that stands at a hint, with where it stands, and None where it doesn't stand
+    /// there: one look for each dead slot between.
+    pub fn behind(&self, slot: usize, hint: Hint, cells: &[Cell]) -> Option<Option<(usize, Hint)>>
+        ensures { IfSome result (λ found. IsBehind self.now slot cells.now (slot_found found)) }
+    {
+        match self.marks.rest_at(hint) {
+            None => None,
+            Some(rest) => live_behind(rest, slot, cells),
+        }
     }
 
     /// The first live slot that doesn't stand before an aim: a search, and one look for each dead slot between.
@@ -68,13 +131,7 @@ impl Order {
         requires { IsPartitionedBy (is_before (aim_of aim.now)) self.now }
         ensures { let a = aim_of aim.now in result ≡ find (is_live a.cells) (slots_of (drop (rank a self.now) self.now)) }
     {
-        match rest_from(self.chunks.as_slice(), aim) {
-            None => None,
-            Some((here, others)) => match find_live(here, aim.cells) {
-                Some(slot) => Some(slot),
-                None => live_in(others, aim.cells),
-            },
-        }
+        live_in(self.marks.rest(aim), aim.cells)
     }
 
     /// The first slot that doesn't stand before an aim and is live or has another key: a search, and one look
@@ -83,13 +140,7 @@ impl Order {
         requires { IsPartitionedBy (is_before (aim_of aim.now)) self.now }
         ensures { let a = aim_of aim.now in result ≡ option_map (λ m. m.slot) (find (stops a) (drop (rank a self.now) self.now)) }
     {
-        match rest_from(self.chunks.as_slice(), aim) {
-            None => None,
-            Some((here, others)) => match find_stop(here, aim) {
-                Some(slot) => Some(slot),
-                None => stop_in(others, aim),
-            },
-        }
+        stop_in(self.marks.rest(aim), aim)
     }
 
     /// Puts the aim's slot in front of the first that doesn't stand before it. Want of memory changes nothing.
@@ -102,12 +153,7 @@ impl Order {
             prefix: aim.prefix,
             slot: aim.slot,
         };
-        if self.chunks.is_empty() {
-            return push_first(&mut self.chunks, mark);
-        }
-        let at = chunk_with_room(&mut self.chunks, aim)?;
-        let place = place_in(self.chunks.as_slice(), at, aim);
-        put_in(&mut self.chunks, at, place, mark)
+        self.marks.insert(aim, mark)
     }
 
     /// Takes out the first slot that doesn't stand before an aim, if there is one. Takes no memory.
@@ -115,9 +161,6 @@ impl Order {
         requires { IsPartitionedBy (is_before (aim_of aim.now)) self.old }
         ensures { let a = aim_of aim.now in self.new ≡ remove self.old (rank a self.old) }
     {
-        if self.chunks.is_empty() {
-            return;
-        }
-        take_at(&mut self.chunks, aim)
+        self.marks.remove(aim)
     }
 }

@@ -4,12 +4,14 @@ ghost use Rattle.std.specs.FinMap as finite;
 ghost use Rattle.std.specs.Prelude.{◌≡◌, IfOk, OnOk, IfErr, IsSome, IfSome, None, Some, option_map, false};
 ghost use Rattle.std.specs.Option.{option_copied};
 ghost use Rattle.ss_table.specs.Keyed.{AreKeyed};
+ghost use Rattle.ss_table.specs.Near.{slot_found};
 ghost use Rattle.ss_table.specs.Refusals.{refusal_by, refusal, RefusesAs};
 ghost use Rattle.ss_table.specs.Steps.{WasInserted, WasDeleted, WasReplaced};
 ghost use Rattle.ss_table.specs.Held.{HasKey, key_of, row_at, first_in, after_in, marked, unmarked, inserted, removed, purged, replaced};
 
 use crate::cell::{Cell, fill, free_cell, live_row, make_dead, make_free, make_live, swap_row};
 use crate::order::Order;
+pub use ss_chunks::rest::Hint;
 use ss_value::seq::Seq;
 use ss_value::value::Row;
 use std::alloc::Global;
@@ -51,9 +53,11 @@ pub enum TableError {
 ///   Texts have one number, so a key that begins with a Text is told apart by rows at each step of a search.
 /// - `get` and `insert` besides: one look at each dead row with the very key. So a key that is deleted and inserted
 ///   again k times in one execution costs k looks the last time.
-/// - `first` and `after` besides: one look at each dead row before the one that they give. So a walk over all
-///   rows takes n log n at most, and no memory; but to delete the first row again and again in one execution, found
-///   by `first` each time, is quadratic. Walk by `after` in its place.
+/// - `first`, `first_near`, and `after_near` with the hint that came with the slot: constant. Where rows came or went
+///   since, the hint may miss, and then `after_near` searches as `after` does.
+/// - `first`, `after` and these two besides: one look at each dead row before the one that they give. So a walk over
+///   all rows takes n steps by `after_near`, n log n at most by `after`, and no memory; but to delete the first row
+///   again and again in one execution, found by `first` each time, is quadratic. Walk on from it in its place.
 /// - `insert`, `remove_fresh`, `purge` besides: a move of at most 4 kilobytes. Where a chunk fills, and where one
 ///   gets empty, the list of chunks is moved too, 24 bytes for each: among inserts once in 128 or more. This rare
 ///   move grows with n, to 200 kilobytes at a million rows that were only inserted. Chunks that got thin are not joined.
@@ -136,14 +140,16 @@ impl Table {
         let _ = self.cells.as_slice();
     }
 
-    /// The live slot with the least key, and None exactly where no row is live.
+    /// The live slot with the least key, and None exactly where no row is live. Constant, but for a look at each dead
+    /// row before it.
     pub fn first(&self) -> Option<Slot>
         ensures { result ≡ first_in (finite.entries self.now.live) }
     {
         self.order.first_live(self.cells.as_slice())
     }
 
-    /// The live slot with the next key behind a live slot's, and None exactly behind the last.
+    /// The live slot with the next key behind a live slot's, and None exactly behind the last. A search, logarithmic,
+    /// and a look at each dead row between; a whole walk is cheaper by `after_near`.
     pub fn after(&self, slot: Slot) -> Option<Slot>
         requires { IsSome (row_at self.now.live slot) }
         ensures { result ≡ after_in (finite.entries self.now.live) slot }
@@ -157,6 +163,30 @@ impl Table {
                 row.as_slice(),
                 slot + 1,
             ),
+        }
+    }
+
+    /// The live slot with the least key, with a hint for the step behind it. Costs as `first`.
+    pub fn first_near(&self) -> Option<(Slot, Hint)>
+        ensures { slot_found result ≡ first_in (finite.entries self.now.live) }
+    {
+        self.order.first_near(self.cells.as_slice())
+    }
+
+    /// The live slot with the next key behind a live slot's, as `after` gives it, with a hint for the next step.
+    ///
+    /// Whatever the hint is, the slot is the same. With the hint that came with the slot, and no row that came or went
+    /// since, constant but for a look at each dead row between; with another one a search as in `after`.
+    pub fn after_near(&self, slot: Slot, hint: Hint) -> Option<(Slot, Hint)>
+        requires { IsSome (row_at self.now.live slot) }
+        ensures { slot_found result ≡ after_in (finite.entries self.now.live) slot }
+    {
+        match self.order.behind(slot, hint, self.cells.as_slice()) {
+            Some(found) => found,
+            None => match self.after(slot) {
+                None => None,
+                Some(next) => Some((next, hint)),
+            },
         }
     }
 

@@ -16,7 +16,7 @@ use Rattle.ss_undo.specs.declared.change.Change.TheVariants.{Inserted, Deleted, 
 use Rattle.ss_undo.specs.Came.{At, Step, Came}
 use Rattle.ss_undo.specs.Ends.{with_one, undone, CanUndo}
 use Rattle.ss_undo.specs.Laws.{GoesBack, OneTableChanged}
-use Rattle.ss_undo.proofs.Maps.{remove_insert, insert_remove, insert_insert, get_inserted, get_removed}
+use Rattle.ss_table.proofs.PutBack.{remove_insert, insert_remove, insert_insert, get_inserted, get_removed}
 
 -- ---- one table
 

@@ -12,7 +12,7 @@ use Rattle.ss_undo.specs.declared.change.Change.TheVariants.{Inserted, Deleted, 
 use Rattle.ss_undo.specs.Came.{At, Step, Came, AreFinal, all_final}
 use Rattle.ss_undo.specs.Ends.{with_one, settled, CanSettle}
 use Rattle.ss_undo.specs.Laws.{Settles}
-use Rattle.ss_undo.proofs.Maps.{remove_insert}
+use Rattle.ss_table.proofs.PutBack.{remove_insert}
 use Rattle.ss_undo.proofs.Back.{now_there, set_back, dead_there, some_and, came_split}
 
 -- tables with the dead rows of others
@@ -60,7 +60,9 @@ freed old new slot w = ap (λ (h : Held). finite.remove h.dead slot) w.is ∙ re
 
 pub settle_step : (before mid now : List Held) (c : Change) → Step before c mid → length mid ≡ length now → CanSettle (buried now mid) c × (settled (buried now mid) c ≡ buried now before)
 settle_step before mid now (Inserted table slot) a e = (tt, stays before mid now table (λ old new. WasInserted old new slot) a (sym (ap (λ (h : Held). h.dead) a.step.is)))
-settle_step before mid now (Replaced table slot row) a e = (tt, stays before mid now table (λ old new. WasReplaced old new slot row) a (sym (ap (λ (h : Held). h.dead) a.step.is)))
+settle_step before mid now (Replaced table slot row) a e =
+    let g = buried_get now mid table a.new e (now_there before mid table (λ old new. WasReplaced old new slot row) a) in
+    (ap is_some g.1, stays before mid now table (λ old new. WasReplaced old new slot row) a (sym (ap (λ (h : Held). h.dead) a.step.is)))
 settle_step before mid now (Deleted table slot) a e =
     let there = now_there before mid table (λ old new. WasDeleted old new slot) a in
     let g = buried_get now mid table a.new e there in

@@ -1,3 +1,3 @@
-pub mod Maps
 pub mod Back
 pub mod Final
+pub mod Indexed

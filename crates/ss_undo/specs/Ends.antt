@@ -5,10 +5,10 @@ use Rattle.ss_table.specs.Held.{Held, key_of, row_at, removed, unmarked, replace
 use Rattle.ss_undo.specs.declared.change.Change.{Change}
 use Rattle.ss_undo.specs.declared.change.Change.TheVariants.{Inserted, Deleted, Replaced}
 
--- tables with one of them changed, and as they are where it is missing
-abbrev pub with_one : List Held → ℕ → (Held → Held) → Option Held → List Held
-with_one tables table f None = tables
-with_one tables table f (Some h) = slice_set tables table (f h)
+-- a list with one of its items changed, and as it is where that is missing
+abbrev pub with_one : {A : Type 0} → List A → ℕ → (A → A) → Option A → List A
+with_one items at f None = items
+with_one items at f (Some x) = slice_set items at (f x)
 
 -- tables with a change taken back
 abbrev pub undone : List Held → Change → List Held
@@ -28,8 +28,8 @@ settled tables (Inserted table slot) = tables
 settled tables (Deleted table slot) = with_one tables table (λ h. purged h slot) (slice_get tables table)
 settled tables (Replaced table slot row) = tables
 
--- a change can be made final: a deleted row's slot is dead
+-- a change can be made final: a deleted row's slot is dead, and a replaced row's table is there
 abbrev pub CanSettle : List Held → Change → Type 0
 CanSettle tables (Inserted table slot) = Unit {0}
 CanSettle tables (Deleted table slot) = IsSomeAnd (slice_get tables table) (λ h. IsSome (finite.get h.dead slot))
-CanSettle tables (Replaced table slot row) = Unit {0}
+CanSettle tables (Replaced table slot row) = IsSome (slice_get tables table)

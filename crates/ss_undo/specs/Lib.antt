@@ -1,3 +1,4 @@
 pub mod Came
 pub mod Ends
 pub mod Laws
+pub mod Indexed

@@ -3,8 +3,11 @@
 ghost use Rattle.std.specs.Prelude.{◌≡◌, ◌≤◌, ◌+◌, List, [], ◌∷◌, ◌++◌, OnOk};
 ghost use Rattle.ss_table.specs.Held.{Held};
 ghost use Rattle.ss_undo.specs.Came.{Came, AreFinal, all_final};
+ghost use Rattle.ss_undo.specs.Indexed.{AreIndexed, columns_of};
 
-use crate::change::{Change, settle, take_back};
+use crate::change::Change;
+use crate::ends::{settle, take_back};
+use ss_index::indexes::Indexes;
 use ss_table::table::Table;
 use ss_value::NoMemory;
 use ss_value::reserved::Reserved;
@@ -14,8 +17,9 @@ use std::marker::Model;
 
 /// The changes of tables since the last `commit` or `rollback`, in their order.
 ///
-/// Who uses one owes two things, which `commit` and `rollback` ask for: each change is noted once it is made, before the
-/// next one, as what it was; and no slot was dead when the undo was last empty.
+/// Who uses one owes three things, which `commit` and `rollback` ask for: each change is noted once it is made, before
+/// the next one, as what it was; the indexes of each table hold its rows and the old rows that the notes keep; and no
+/// slot was dead when the undo was last empty.
 ///
 /// Contracts see the list of the changes with its spare room: how many notes can't fail. A note takes some 50
 /// bytes, and that of a replaced row the row's own memory besides.
@@ -61,30 +65,37 @@ impl Undo {
         self.changes.add(change)
     }
 
-    /// Makes all noted changes final: the live rows stay, and no slot is dead.
+    /// Makes all noted changes final: the live rows stay, no slot is dead, and the indexes hold the live rows alone.
     ///
-    /// One call of a table for each change that is a delete, and none for another. Takes no memory; rows that were
-    /// replaced are given up, and the room for notes stays.
-    pub fn commit(&mut self, tables: &mut Seq<Table>)
-        requires { (before : List Held) × AreFinal before × Came before self.old.items tables.old }
+    /// One call of a table for each change that is a delete, and one of each of its indexes for a delete and for a
+    /// replacement. Takes no memory; rows that were replaced are given up, and the room for notes stays. A table
+    /// without an entry in `indexes` has none.
+    pub fn commit(&mut self, tables: &mut Seq<Table>, indexes: &mut Seq<Indexes>)
+        requires came { (before : List Held) × AreFinal before × Came before self.old.items tables.old }
+        requires indexed { AreIndexed tables.old self.old.items indexes.old }
         ensures kept { tables.new ≡ all_final tables.old }
         ensures empty { self.new.items ≡ [] }
+        ensures indexed { AreIndexed tables.new [] indexes.new }
+        ensures columns { columns_of indexes.new ≡ columns_of indexes.old }
     {
         while let Some(change) = self.changes.pop() {
-            settle(change, tables);
+            settle(change, tables, indexes);
         }
     }
 
     /// Takes all noted changes back, the last one first: tables are as before the first.
     ///
-    /// One call of a table for each change. Takes no memory.
-    pub fn rollback(&mut self, tables: &mut Seq<Table>)
-        requires { (before : List Held) × Came before self.old.items tables.old }
+    /// One call of a table for each change, and one of each of its indexes but for a delete. Takes no memory.
+    pub fn rollback(&mut self, tables: &mut Seq<Table>, indexes: &mut Seq<Indexes>)
+        requires came { (before : List Held) × Came before self.old.items tables.old }
+        requires indexed { AreIndexed tables.old self.old.items indexes.old }
         ensures back { (before : List Held) → Came before self.old.items tables.old → tables.new ≡ before }
         ensures empty { self.new.items ≡ [] }
+        ensures indexed { AreIndexed tables.new [] indexes.new }
+        ensures columns { columns_of indexes.new ≡ columns_of indexes.old }
     {
         while let Some(change) = self.changes.pop() {
-            take_back(change, tables);
+            take_back(change, tables, indexes);
         }
     }
 }

@@ -1,16 +1,20 @@
 //! A shard of one table, which is full at two rows of one column each: a table of a catalogue is full at a million.
 //!
-//! Both refusals of an insert, the room that a delete makes, and both ways out of an execution are met in a few steps.
+//! Both refusals of an insert, the room that a delete makes, both ways out of an execution, and what an index on the
+//! column finds meanwhile are met in a few steps.
 
+ghost use Rattle.std.specs.FinMap as finite;
 ghost use Rattle.std.specs.Prelude.{◌≡◌, [], ◌∷◌, IfOk, IsTrue};
+ghost use Rattle.std.specs.List.{AllByRecursion};
 ghost use Rattle.ss_shard.specs.Rows.{HasSlot};
 ghost use Rattle.ss_library_tests.specs.Small.{IsSmall};
 
+use ss_index::index::Index;
+use ss_index::indexes::Indexes;
 use ss_model::entry::Reason;
 use ss_operators::run_error::RunError;
 use ss_shard::shard::Shard;
 use ss_table::table::{Slot, Table};
-use ss_undo::undo::Undo;
 use ss_value::NoMemory;
 use ss_value::seq::Seq;
 use ss_value::value::{Row, Value};
@@ -26,6 +30,16 @@ fn one<T: Drop>(alloc: Global, item: T) -> Result<Seq<T>, NoMemory>
     Ok(list)
 }
 
+/// The indexes of the table: one, on its column.
+fn small_indexes(alloc: Global) -> Result<Indexes, NoMemory>
+    ensures { IfOk result (λ group. AllByRecursion (λ i. i.pairs ≡ finite.empty) group) }
+{
+    let mut group = Indexes::new(alloc);
+    let columns = one(alloc, 0u8)?;
+    group.push(Index::new(alloc, columns))?;
+    Ok(group)
+}
+
 /// The shard with its table, in which no row stands.
 fn small_shard(alloc: Global) -> Result<Shard, NoMemory>
     ensures { IfOk result (λ shard. IsSmall shard) }
@@ -33,12 +47,10 @@ fn small_shard(alloc: Global) -> Result<Shard, NoMemory>
     let key = one(alloc, 0u8)?;
     let table = Table::new(alloc, key, Some(2));
     let tables = one(alloc, table)?;
-    let undo = Undo::new(alloc);
-    Ok(Shard {
-        number: 0,
-        tables,
-        undo,
-    })
+    let group = small_indexes(alloc)?;
+    let indexes = one(alloc, group)?;
+    let shard = Shard::new(alloc, 0, tables, indexes);
+    Ok(shard)
 }
 
 /// Inserts the row of a number, and gives the reason if it was refused.
@@ -52,7 +64,7 @@ fn put(alloc: Global, shard: &mut Shard, number: i64) -> Result<Option<RunError>
 
 /// The slot of a row of the table.
 fn slot_of(shard: &Shard, row: &Row) -> Option<Slot> {
-    match shard.tables.get(0) {
+    match shard.table(0) {
         None => None,
         Some(rows) => rows.get(row),
     }
@@ -64,11 +76,23 @@ fn stands(alloc: Global, shard: &Shard, number: i64) -> Result<bool, NoMemory> {
     Ok(slot_of(shard, &row).is_some())
 }
 
+/// Whether the index finds a slot at a number.
+fn finds(alloc: Global, shard: &Shard, number: i64) -> Result<bool, NoMemory> {
+    let row = one(alloc, Value::Int(number))?;
+    let Some(group) = shard.indexes(0) else {
+        return Ok(false);
+    };
+    match group.get(0) {
+        None => Ok(false),
+        Some(index) => Ok(index.range(&row, &row)?.len() == 1),
+    }
+}
+
 /// Whether a row of the table stands in a slot.
 fn has_slot(shard: &Shard, slot: Slot) -> bool
     ensures { IsTrue result → HasSlot shard.now.tables 0 slot }
 {
-    match shard.tables.get(0) {
+    match shard.table(0) {
         None => false,
         Some(rows) => rows.row(slot).is_some(),
     }
@@ -134,9 +158,12 @@ fn a_full_table(rt: HostRuntime) -> Result<(), Fail> {
     assert!(rt; !stands(alloc, &shard, 1)?);
     assert!(rt; !stands(alloc, &shard, 2)?);
     assert!(rt; !stands(alloc, &shard, 3)?);
+    assert!(rt; !finds(alloc, &shard, 1)?);
+    assert!(rt; !finds(alloc, &shard, 3)?);
     Ok(())
 }
 
+/// A deleted row's pair stands until the changes are final.
 #[test]
 fn rows_made_final(rt: HostRuntime) -> Result<(), Fail> {
     let alloc = rt.alloc();
@@ -144,7 +171,10 @@ fn rows_made_final(rt: HostRuntime) -> Result<(), Fail> {
     assert!(rt; put(alloc, &mut shard, 1)?.is_none());
     assert!(rt; put(alloc, &mut shard, 2)?.is_none());
     assert!(rt; delete(alloc, &mut shard, 1)?);
+    assert!(rt; finds(alloc, &shard, 1)?);
     make_final(&mut shard);
+    assert!(rt; !finds(alloc, &shard, 1)?);
+    assert!(rt; finds(alloc, &shard, 2)?);
     assert!(rt; !stands(alloc, &shard, 1)?);
     assert!(rt; stands(alloc, &shard, 2)?);
     Ok(())

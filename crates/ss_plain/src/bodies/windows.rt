@@ -8,7 +8,7 @@ ghost use Rattle.ss_plain.specs.State.{context_of, execution_of};
 ghost use Rattle.ss_plain.specs.Meanings.{Brings, StepStops, close_owned};
 
 use crate::contents::{Context, Execution};
-use crate::lists::copy_at;
+use crate::lists::{copy_at, set_at};
 use crate::triggers::close_unit;
 use ss_model::catalog::{Catalog, WindowDef};
 use ss_operators::run_error::RunError;
@@ -55,7 +55,7 @@ fn owned_batch_windows(
     Ok(owned)
 }
 
-/// Closes the unit that this execution has open for a window.
+/// Closes the unit that this execution has open for a window, of which none is open then.
 fn close_window(
     alloc: Global,
     context: &Context,
@@ -66,6 +66,11 @@ fn close_window(
     ensures stops { IfErr result (StopsAs (close_window (context_of context.now) window (execution_of execution.old))) }
 {
     let unit = copy_at(alloc, &execution.open_units, usize::from(window))?;
+    set_at(
+        &mut execution.open_units,
+        usize::from(window),
+        Seq::new(alloc),
+    );
     close_unit(alloc, context, window, unit, execution)
 }
 

@@ -2,7 +2,7 @@
 
 use crate::tests::plain::Plain;
 use crate::tests::words::add;
-use ss_table::table::{Slot, Table};
+use ss_table::table::{Hint, Slot, Table};
 use ss_value::seq::Seq;
 use ss_value::value::{Row, Value, copy_row};
 use std::alloc::Global;
@@ -40,6 +40,37 @@ fn walk_alike(table: &Table, map: &Plain) -> bool {
         };
     }
     slot.is_none()
+}
+
+/// The slot behind a live one, with its hint, where another hint gives the same slot.
+fn near(table: &Table, slot: Slot, hint: Hint) -> Option<(Slot, Hint)> {
+    if table.row(slot).is_none() {
+        return None;
+    }
+    let far = Hint { chunk: 1, place: 2 };
+    let found = table.after_near(slot, hint);
+    if found.map(|p| p.0) == table.after_near(slot, far).map(|p| p.0) {
+        found
+    } else {
+        None
+    }
+}
+
+/// Whether a walk by hints over all rows gives the same.
+fn near_alike(table: &Table, map: &Plain) -> bool {
+    let mut at = table.first_near();
+    for (_, row) in map.iter() {
+        at = match at {
+            None => return false,
+            Some((slot, hint)) => {
+                if !has_row(table, Some(slot), row) {
+                    return false;
+                }
+                near(table, slot, hint)
+            }
+        };
+    }
+    at.is_none()
 }
 
 /// Whether both have a row of a key, and the same one, or neither has.
@@ -83,6 +114,9 @@ pub fn difference(
 ) -> Result<&'static str, Fail> {
     if !walk_alike(table, map) {
         return Ok("the walk differs");
+    }
+    if !near_alike(table, map) {
+        return Ok("the walk by hints differs");
     }
     if !gets_alike(alloc, table, map, keys)? {
         return Ok("a key is found otherwise");

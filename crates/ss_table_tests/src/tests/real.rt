@@ -229,13 +229,15 @@ impl Real {
     }
 
     /// Makes all changes final.
-    pub fn commit(&mut self) {
+    pub fn commit(&mut self, alloc: Global) {
         final_at_first();
-        self.undo.commit(&mut self.tables);
+        let mut indexes = Seq::new(alloc);
+        self.undo.commit(&mut self.tables, &mut indexes);
     }
 
     /// Takes all changes back.
-    pub fn rollback(&mut self) {
-        self.undo.rollback(&mut self.tables);
+    pub fn rollback(&mut self, alloc: Global) {
+        let mut indexes = Seq::new(alloc);
+        self.undo.rollback(&mut self.tables, &mut indexes);
     }
 }

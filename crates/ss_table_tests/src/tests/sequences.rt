@@ -143,14 +143,14 @@ impl Sides {
 
     /// Makes all changes final on both sides.
     fn commit(&mut self, alloc: Global) -> Result<bool, Fail> {
-        self.real.commit();
+        self.real.commit(alloc);
         self.plain.commit(alloc)?;
         Ok(true)
     }
 
     /// Takes all changes back on both sides.
     fn rollback(&mut self, alloc: Global) -> Result<bool, Fail> {
-        self.real.rollback();
+        self.real.rollback(alloc);
         self.plain.rollback(alloc)?;
         Ok(true)
     }

@@ -33,4 +33,4 @@ returns-clause-ran c =
     rw c.in-Call.is
     (call_ran catalog c.args.shard.now c.run_body.new.shard c.in-Call.client c.in-Call.index n args p found fits c.in_ok-outcome.outcome (replicate (length catalog.streams) [])
     (option_map (λ arg. column_value args arg) c.touched_argument.result) (c.touched_argument.ensures args)
-    (rw c.as_slice.ensures at (c.in_ok-outcome.ensures.ran n)) c.run_body.ensures.tables c.in_ok-outcome.ensures.back)
+    (rw c.as_slice.ensures at (c.in_ok-outcome.ensures.ran n)) c.run_body.ensures.tables c.run_body.ensures.indexes c.in_ok-outcome.ensures.back)

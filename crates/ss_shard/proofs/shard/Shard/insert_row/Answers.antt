@@ -1,55 +1,98 @@
-use Rattle.std.proofs.Common.{rules, refl, ◌≡◌, [], subst, sym, ap, ◌∙◌, slice_set, Ok}
+use Rattle.std.proofs.Common.{refl, ◌≡◌, List, [], ◌∷◌, ◌++◌, subst, sym, ap, ◌∙◌, slice_set, Ok}
 use Rattle.ss_model.specs.Statements.{insert_row}
 use Rattle.ss_operators.specs.declared.run_error.RunError.{RunError}
 use Rattle.ss_operators.specs.Stops.{StopsAs}
 use Rattle.ss_table.specs.Held.{Held, HasKey}
 use Rattle.ss_undo.specs.declared.change.Change.TheVariants.{Inserted}
 use Rattle.ss_undo.specs.Came.{Step}
+use Rattle.ss_undo.specs.Indexed.{AreIndexed, Group, columns_of}
 use Rattle.ss_undo.proofs.Back.{one_changed, set_same}
+use Rattle.ss_undo.proofs.Indexed.{inserted_indexed, columns_added, found_as, told_as}
 use Rattle.ss_shard.specs.Contents.{contents_of}
-use Rattle.ss_shard.specs.Rows.{refused}
+use Rattle.ss_shard.specs.HeldShard.{HeldShard}
+use Rattle.ss_shard.specs.Rows.{IsKeyed, refused}
+use Rattle.ss_shard.specs.Shards.{Changed}
+use Rattle.ss_shard.specs.Changes.{RowInserted, InsertStops}
 use Rattle.ss_shard.proofs.Shapes.{shapes_kept, all_set}
 use Rattle.ss_shard.proofs.Changing.{noted, unnoted, at_table}
 use Rattle.ss_shard.proofs.Inserting.{row_put, refused_so}
 use Rattle.ss_shard.proofs.shard.Shard.insert_row.Goals as goal
 
+pub insert_indexed-requires : goal.insert_indexed-requires
+insert_indexed-requires c =
+    at_table c.self.inside.tables c.args.table c.from.result c.in-Some.rows.now (λ h. HasKey h.key c.args.row) c.from.ensures c.in-Some.ensures.item
+    (subst (λ (s : HeldShard). IsKeyed s.tables c.args.table c.args.row) (sym c.self.view_is) c.requires)
+
+pub invariant_of-self-in-Err : goal.invariant_of-self-in-Err
+invariant_of-self-in-Err c =
+    let inside = c.self.inside in
+    let same = ap (slice_set inside.tables c.from.result) c.in-Err.ensures.kept ∙ set_same inside.tables c.from.result c.in-Some.rows.now c.in-Some.ensures.item in
+    subst (λ (tables : List Held). AreIndexed tables c.room.new.self.items c.insert_indexed.new.indexes) (sym same)
+    (subst (λ (indexes : List Group). AreIndexed inside.tables c.room.new.self.items indexes) (sym c.in-Err.ensures.unpaired) (subst (λ cs. AreIndexed inside.tables cs inside.indexes) (sym c.room.ensures.items) c.self.invariant))
+
+pub invariant_of-self-2 : goal.invariant_of-self-2
+invariant_of-self-2 c =
+    let inside = c.self.inside in
+    let t = c.args.table in
+    let now = c.insert_indexed.new.rows in
+    let slot = c.in-Ok.slot in
+    let step = c.in-Ok.ensures.step in
+    let items = c.note.ensures.items ∙ ap (λ cs. cs ++ Inserted t slot ∷ []) c.room.ensures.items in
+    subst (λ cs. AreIndexed (slice_set inside.tables c.from.result now) cs c.insert_indexed.new.indexes) (sym items)
+    (told_as inside.tables t c.from.result now now (inside.undo.items ++ Inserted t slot ∷ []) _ c.insert_indexed.new.indexes c.from.ensures refl (c.in-Ok.ensures.pairs step)
+    (inserted_indexed inside.tables inside.indexes t slot c.in-Some.rows.now now (found_as inside.tables t c.from.result c.in-Some.rows.now c.from.ensures c.in-Some.ensures.item) inside.undo.items c.self.invariant step))
+
 pub returns-in-Err-clause-stops : goal.returns-in-Err-clause-stops
-returns-in-Err-clause-stops c = λ catalog has.
-    let tables = c.args.self.now.tables in
+returns-in-Err-clause-stops c =
     let was = c.in-Some.rows.now in
+    subst (λ (s : HeldShard). InsertStops s.tables c.args.table c.args.row c.refused.result) c.self.view_is (λ catalog has.
+    let tables = c.self.inside.tables in
     subst (λ (stop : RunError). StopsAs (insert_row catalog c.args.table c.args.row (contents_of tables)) stop) (sym c.refused.ensures)
     (subst (λ t. StopsAs (insert_row catalog t c.args.row (contents_of tables)) (refused t c.in-Err.error)) c.from.ensures
     (refused_so catalog tables c.from.result c.args.row was c.in-Some.ensures.item has
-    (at_table tables c.args.table c.from.result was (λ h. HasKey h.key c.args.row) c.from.ensures c.in-Some.ensures.item c.requires) c.in-Err.error c.in-Err.ensures.cause))
+    (at_table tables c.args.table c.from.result was (λ h. HasKey h.key c.args.row) c.from.ensures c.in-Some.ensures.item (subst (λ (s : HeldShard). IsKeyed s.tables c.args.table c.args.row) (sym c.self.view_is) c.requires))
+    c.in-Err.error c.in-Err.ensures.cause)))
 
 pub returns-in-Err-clause-kept : goal.returns-in-Err-clause-kept
 returns-in-Err-clause-kept c =
-    let tables = c.args.self.now.tables in
-    ap (slice_set tables c.from.result) c.in-Err.ensures.err.0 ∙ set_same tables c.from.result c.in-Some.rows.now c.in-Some.ensures.item
+    let tables = c.self.inside.tables in
+    ap (slice_set tables c.from.result) c.in-Err.ensures.kept ∙ set_same tables c.from.result c.in-Some.rows.now c.in-Some.ensures.item ∙ ap (λ (s : HeldShard). s.tables) c.self.view_is
 
 pub returns-in-Err-clause-changed : goal.returns-in-Err-clause-changed
 returns-in-Err-clause-changed c =
-    let tables = c.args.self.now.tables in
-    unnoted _ _ (ap (slice_set tables c.from.result) c.in-Err.ensures.err.0 ∙ set_same tables c.from.result c.in-Some.rows.now c.in-Some.ensures.item) (search rules) refl
+    let inside = c.self.inside in
+    let old : HeldShard = record { number = inside.number; tables = inside.tables; changes = inside.undo.items; columns = columns_of inside.indexes } in
+    let new : HeldShard = record { number = inside.number; tables = slice_set inside.tables c.from.result c.insert_indexed.new.rows; changes = c.room.new.self.items; columns = columns_of c.insert_indexed.new.indexes } in
+    subst (λ (s : HeldShard). Changed s new) c.self.view_is
+    (unnoted old new (ap (slice_set inside.tables c.from.result) c.in-Err.ensures.kept ∙ set_same inside.tables c.from.result c.in-Some.rows.now c.in-Some.ensures.item) c.room.ensures.items refl
+    (ap columns_of c.in-Err.ensures.unpaired))
 
 pub returns-clause-done : goal.returns-clause-done
-returns-clause-done c = λ catalog has.
-    let tables = c.args.self.now.tables in
+returns-clause-done c =
     let was = c.in-Some.rows.now in
-    let now = c.insert.new.self in
+    let now = c.insert_indexed.new.rows in
+    subst (λ (s : HeldShard). RowInserted s.tables (slice_set c.self.inside.tables c.from.result now) c.args.table c.args.row) c.self.view_is (λ catalog has.
+    let tables = c.self.inside.tables in
     subst (λ t. insert_row catalog t c.args.row (contents_of tables) ≡ Ok (contents_of (slice_set tables c.from.result now))) c.from.ensures
     (row_put catalog tables c.from.result c.args.row was c.in-Some.ensures.item has
-    (at_table tables c.args.table c.from.result was (λ h. HasKey h.key c.args.row) c.from.ensures c.in-Some.ensures.item c.requires) now c.in-Ok.slot c.in-Ok.ensures.ok c.in-Ok.ensures.admitted)
+    (at_table tables c.args.table c.from.result was (λ h. HasKey h.key c.args.row) c.from.ensures c.in-Some.ensures.item (subst (λ (s : HeldShard). IsKeyed s.tables c.args.table c.args.row) (sym c.self.view_is) c.requires))
+    now c.in-Ok.slot c.in-Ok.ensures.ok c.in-Ok.ensures.admitted))
 
 pub returns-clause-changed : goal.returns-clause-changed
 returns-clause-changed c =
-    let tables = c.args.self.now.tables in
+    let inside = c.self.inside in
+    let tables = inside.tables in
     let was = c.in-Some.rows.now in
-    let now = c.insert.new.self in
-    noted _ _ (Inserted c.args.table c.in-Ok.slot)
-    (subst (λ t. Step tables (Inserted t c.in-Ok.slot) (slice_set tables c.from.result now)) c.from.ensures
-    ((one_changed tables c.from.result c.in-Ok.slot was now [] c.in-Some.ensures.item).0 c.in-Ok.ensures.step))
-    (search rules)
+    let now = c.insert_indexed.new.rows in
+    let slot = c.in-Ok.slot in
+    let step = c.in-Ok.ensures.step in
+    let old : HeldShard = record { number = inside.number; tables = tables; changes = inside.undo.items; columns = columns_of inside.indexes } in
+    let new : HeldShard = record { number = inside.number; tables = slice_set tables c.from.result now; changes = c.note.new.self.items; columns = columns_of c.insert_indexed.new.indexes } in
+    subst (λ (s : HeldShard). Changed s new) c.self.view_is
+    (noted old new (Inserted c.args.table slot)
+    (subst (λ t. Step tables (Inserted t slot) (slice_set tables c.from.result now)) c.from.ensures ((one_changed tables c.from.result slot was now [] c.in-Some.ensures.item).0 step))
+    (c.note.ensures.items ∙ ap (λ cs. cs ++ Inserted c.args.table slot ∷ []) c.room.ensures.items)
     refl
-    (shapes_kept tables c.from.result c.in-Some.rows.now c.insert.new.self c.in-Some.ensures.item (ap (λ (h : Held). h.key) (c.in-Ok.ensures.step).is) (ap (λ (h : Held). h.limit) (c.in-Ok.ensures.step).is))
-    (all_set tables c.from.result c.insert.new.self c.rows_are_keyed.ensures)
+    (shapes_kept tables c.from.result was now c.in-Some.ensures.item (ap (λ (h : Held). h.key) step.is) (ap (λ (h : Held). h.limit) step.is))
+    (all_set tables c.from.result now c.rows_are_keyed.ensures)
+    (ap columns_of (c.in-Ok.ensures.pairs step) ∙ columns_added inside.indexes c.args.table slot step.row))

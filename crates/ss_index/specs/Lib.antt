@@ -1,0 +1,5 @@
+pub mod Pairs
+pub mod Entries
+pub mod Holding
+pub mod Indexes
+pub mod Laws

@@ -1,0 +1,45 @@
+//! Rows that a search found.
+
+use ss_rows::rows_of::RowsOf;
+use ss_sql_lex::typed::SourceId;
+use ss_table::table::Slot;
+use ss_value::seq::Seq;
+use ss_value::value::Row;
+
+/// Rows that a search found, with their slots, as the source of a query of one table.
+///
+/// A row's position is its place among them. A look-up and a step are constant.
+#[derive(Drop)]
+pub struct FoundRows<'a> {
+    /// The rows, each once, in the order of their keys.
+    pub rows: Seq<(Slot, &'a Row)>,
+}
+
+impl<'a> RowsOf for FoundRows<'a> {
+    ghost use Rattle.ss_plan.specs.Found.{at_places};
+
+    ghost placed = { λ s source. at_places s };
+
+    fn first(&self, _source: &SourceId) -> (Option<usize>, usize) {
+        match self.rows.get(0) {
+            None => (None, 0),
+            Some(_) => (Some(0), 0),
+        }
+    }
+
+    fn after(&self, _source: &SourceId, at: usize, hint: usize) -> (Option<usize>, usize) {
+        let count = self.rows.len();
+        if at + 1 < count {
+            (Some(at + 1), hint)
+        } else {
+            (None, hint)
+        }
+    }
+
+    fn row(&self, _source: &SourceId, at: usize) -> Option<&Row> {
+        match self.rows.get(at) {
+            Some(&(_, row)) => Some(row),
+            None => None,
+        }
+    }
+}

@@ -1,0 +1,91 @@
+//! The slots of the rows that a plan finds.
+
+ghost use Rattle.std.specs.Prelude.{◌≡◌, ◌<◌, length, map, IfOk};
+ghost use Rattle.ss_sql_lex.specs.declared.typed.SourceId.TheVariants.{Table as FromTable};
+ghost use Rattle.ss_rows.specs.Frames.{params_of};
+ghost use Rattle.ss_shard.specs.Shards.{HasTables};
+ghost use Rattle.ss_plan.specs.Found.{lent_rows};
+ghost use Rattle.ss_plan.specs.Plans.{seen_in, seen_through, AreEnough};
+ghost use Rattle.ss_plan.specs.declared.plan.Plan.TheVariants.{Scan};
+
+use crate::plan::{Plan, rows_by_plan};
+use crate::source::{ShardRows, rows_seen};
+use ss_model::catalog::Catalog;
+use ss_rows::frame::Frame;
+use ss_rows::rows_of::RowsOf;
+use ss_shard::shard::Shard;
+use ss_sql_lex::typed::{Expr, SourceId};
+use ss_table::table::Slot;
+use ss_value::NoMemory;
+use ss_value::value::{Row, Value};
+use std::alloc::Global;
+
+/// The positions of all rows of a source, in their order. One walk over it.
+fn all_places<X: RowsOf>(alloc: Global, from: &X, source: &SourceId) -> Result<Vec<usize>, NoMemory>
+    ensures { IfOk result (λ places. places.items ≡ map (λ p. p.0) (X.placed from.now source.now)) }
+{
+    let mut places = Vec::new(alloc);
+    let (mut at, mut hint) = from.first(source);
+    while let Some(place) = at {
+        places.push(place)?;
+        let (next, near) = from.after(source, place, hint);
+        at = next;
+        hint = near;
+    }
+    Ok(places)
+}
+
+/// The slots of rows, in their order.
+fn slots_in<'a>(alloc: Global, rows: &[(Slot, &'a Row)]) -> Result<Vec<Slot>, NoMemory>
+    ensures { IfOk result (λ slots. slots.items ≡ map (λ p. p.0) (lent_rows rows.now)) }
+{
+    let mut slots = Vec::new(alloc);
+    for (slot, _) in rows {
+        slots.push(*slot)?;
+    }
+    Ok(slots)
+}
+
+/// The slots of the rows of a table that a plan finds, of those that are seen, by key.
+fn slots_by_plan<'a>(
+    alloc: Global,
+    from: ShardRows<'a>,
+    table: u16,
+    plan: Plan,
+    test: &Option<Expr>,
+    params: &Row,
+) -> Result<Vec<Slot>, NoMemory>
+    requires tables { HasTables from.catalog.now from.shard.now.tables }
+    requires there { table < length from.catalog.now.tables }
+    ensures enough { IfOk result (λ slots. AreEnough (seen_in from.entry (FromTable table)) params.now test.now slots.items) }
+    ensures scan { plan ≡ Scan → IfOk result (λ slots. slots.items ≡ map (λ p. p.0) (seen_in from.entry (FromTable table))) }
+{
+    match rows_by_plan(alloc, from, table, plan, test, params)? {
+        None => all_places(alloc, &from, &SourceId::Table(table)),
+        Some(found) => slots_in(alloc, found.rows.as_slice()),
+    }
+}
+
+/// The slots of the rows of a table that a plan finds for a WHERE, of the live rows that an execution with this frame
+/// sees: each once, in the order of their keys, and none that may pass is missing. By a `Scan` all of them.
+///
+/// So it is whatever plan is asked for: one that WHERE gives no key or range for finds more rows than need be, up to all.
+/// Costs what the plan costs, and takes memory for the slots.
+pub fn slots_of(
+    alloc: Global,
+    catalog: &Catalog,
+    shard: &Shard,
+    table: u16,
+    plan: Plan,
+    test: &Option<Expr>,
+    frame: &Frame,
+) -> Result<Vec<Slot>, NoMemory>
+    requires tables { HasTables catalog.now shard.now.tables }
+    requires there { table < length catalog.now.tables }
+    ensures enough { IfOk result (λ slots. AreEnough (seen_through catalog.now frame.now shard.now.tables table) (params_of frame.now) test.now slots.items) }
+    ensures scan { plan ≡ Scan → IfOk result (λ slots. slots.items ≡ map (λ p. p.0) (seen_through catalog.now frame.now shard.now.tables table)) }
+{
+    let zero = Value::Int(0);
+    let from = rows_seen(catalog, shard, *frame, &zero);
+    slots_by_plan(alloc, from, table, plan, test, frame.params())
+}

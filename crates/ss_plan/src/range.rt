@@ -1,0 +1,157 @@
+//! The rows in the part of an index that the front of a WHERE names.
+
+ghost use Rattle.std.specs.Prelude.{◌≡◌, IfOk, Some, slice_get};
+ghost use Rattle.std.specs.Option.{option_map};
+ghost use Rattle.ss_sql_lex.specs.declared.typed.SourceId.TheVariants.{Table as FromTable};
+ghost use Rattle.ss_shard.specs.Shards.{HasTables};
+ghost use Rattle.ss_plan.specs.Ranges.{is_int_kind, is_int_column, is_int, int_bound, range_end};
+ghost use Rattle.ss_plan.specs.Found.{lent_rows, row_seen, rows_seen_in};
+ghost use Rattle.ss_plan.specs.Keys.{lent_row};
+ghost use Rattle.ss_plan.specs.Plans.{is_seen_by, HasRows, IsEnough};
+
+use crate::bounds::End;
+use crate::found::FoundRows;
+use crate::key::bound_value;
+use crate::ordered::in_key_order;
+use crate::seen::is_seen;
+use crate::source::ShardRows;
+use ss_index::index::Index;
+use ss_sql_lex::typed::Expr;
+use ss_table::table::{Slot, Table};
+use ss_value::NoMemory;
+use ss_value::schema::{ColType, Schema};
+use ss_value::seq::Seq;
+use ss_value::value::{Row, Value};
+use std::alloc::Global;
+
+/// Whether the column of this number is an Int. Constant.
+pub fn is_int(schema: &Schema, column: u8) -> bool
+    ensures { result ≡ is_int schema.now column }
+{
+    match schema.get(usize::from(column)) {
+        None => false,
+        Some(column) => match column.kind {
+            ColType::Int => true,
+            ColType::Text => false,
+        },
+    }
+}
+
+/// A copy of the bound of a column at an end, where the column is an Int. Linear in the front of WHERE.
+fn int_bound(
+    alloc: Global,
+    end: End,
+    schema: &Schema,
+    column: u8,
+    test: &Option<Expr>,
+    params: &Row,
+) -> Result<Option<Value>, NoMemory>
+    ensures { IfOk result (λ v. v ≡ int_bound end schema.now params.now test.now column) }
+{
+    if is_int(schema, column) {
+        bound_value(alloc, end, column, test, params)
+    } else {
+        Ok(None)
+    }
+}
+
+/// An end of the range of an index that the front of a WHERE names, in copies: the values that its leading columns have
+/// by `=`, and then the bound of the next column, if that is an Int and has one. An end that is missing is a shorter one.
+///
+/// Linear in the columns times the front of WHERE.
+fn range_end(
+    alloc: Global,
+    end: End,
+    schema: &Schema,
+    columns: &[u8],
+    test: &Option<Expr>,
+    params: &Row,
+) -> Result<Row, NoMemory>
+    ensures { IfOk result (λ values. values ≡ range_end end schema.now params.now test.now columns.now) }
+{
+    let mut values = Seq::new(alloc);
+    for column in columns {
+        let Some(value) = bound_value(alloc, End::Both, *column, test, params)? else {
+            if let Some(bound) = int_bound(alloc, end, schema, *column, test, params)? {
+                values.push(bound)?;
+            }
+            return Ok(values);
+        };
+        values.push(value)?;
+    }
+    Ok(values)
+}
+
+/// The row in a slot, with the slot, where it is live and the execution sees it. Constant.
+fn row_seen<'a>(
+    from: ShardRows<'a>,
+    table: u16,
+    rows: &'a Table,
+    slot: Slot,
+) -> Option<(Slot, &'a Row)>
+    ensures { option_map lent_row result ≡ row_seen (is_seen_by from.entry table) rows.entry.now.live slot }
+{
+    match rows.row(slot) {
+        None => None,
+        Some(row) => {
+            if is_seen(from.catalog, from.split, table, row) {
+                Some((slot, row))
+            } else {
+                None
+            }
+        }
+    }
+}
+
+/// The rows in some slots that are live and that the execution sees, each with its slot. Constant for each slot.
+fn rows_seen_in<'a>(
+    alloc: Global,
+    from: ShardRows<'a>,
+    table: u16,
+    rows: &'a Table,
+    slots: &[Slot],
+) -> Result<Vec<(Slot, &'a Row)>, NoMemory>
+    ensures { IfOk result (λ found. lent_rows found.items ≡ rows_seen_in (is_seen_by from.entry table) rows.entry.now.live slots.now) }
+{
+    let mut found = Vec::new(alloc);
+    for slot in slots {
+        if let Some(row) = row_seen(from, table, rows, *slot) {
+            found.push(row)?;
+        }
+    }
+    Ok(found)
+}
+
+/// The rows of a table in the range of an index that the front of a WHERE names, of those that the execution sees, in
+/// the order of their keys.
+///
+/// No other row passes WHERE, and no test of one aborts. Costs the index's search, a look at each pair in the range, and
+/// a sort of the rows that are found: n log n comparisons for n of them, and the memory for them and the two ends.
+pub fn rows_in_range<'a>(
+    alloc: Global,
+    from: ShardRows<'a>,
+    table: u16,
+    rows: &'a Table,
+    index: &Index,
+    test: &Option<Expr>,
+    params: &Row,
+) -> Result<FoundRows<'a>, NoMemory>
+    requires tables { HasTables from.catalog.now from.shard.now.tables }
+    requires there { slice_get from.shard.now.tables table ≡ Some rows.now }
+    requires pairs { HasRows rows.now.live index.now }
+    ensures { IfOk result (IsEnough from.entry (FromTable table) params.now test.now) }
+{
+    let Some(def) = from.catalog.tables.get(usize::from(table)) else {
+        unreachable!()
+    };
+    rows.rows_are_keyed();
+    let columns = index.columns();
+    let low = range_end(alloc, End::Low, &def.schema, columns, test, params)?;
+    let high = range_end(alloc, End::High, &def.schema, columns, test, params)?;
+    let slots = index.range(&low, &high)?;
+    let found = rows_seen_in(alloc, from, table, rows, slots.as_slice())?;
+    let ordered = in_key_order(def.key.as_slice(), found)?;
+    Ok(FoundRows {
+        rows: Seq::from_vec(ordered),
+    })
+}

@@ -1,0 +1,62 @@
+//! A row of a table and its pairs, put in together.
+
+ghost use Rattle.std.specs.Prelude.{◌≡◌, None, OnOk, OnErr, IfOk, IfErr};
+ghost use Rattle.ss_table.specs.Held.{HasKey, inserted};
+ghost use Rattle.ss_table.specs.Refusals.{refusal, RefusesAs};
+ghost use Rattle.ss_table.specs.Steps.{WasInserted};
+ghost use Rattle.ss_undo.specs.Indexed.{with_row_of};
+
+use ss_index::indexes::Indexes;
+use ss_table::table::{Slot, Table, TableError};
+use ss_value::NoMemory;
+use ss_value::seq::Seq;
+use ss_value::value::Row;
+
+/// Adds the pairs of a row to the indexes of a table, where it has any. A search and a move of one chunk for each
+/// index. Want of memory changes none.
+pub fn add_pairs(
+    indexes: &mut Seq<Indexes>,
+    table: u16,
+    row: &Row,
+    slot: Slot,
+) -> Result<(), NoMemory>
+    ensures ok { OnOk result (indexes.new ≡ with_row_of indexes.old table row.now slot) }
+    ensures err { OnErr result (indexes.new ≡ indexes.old) }
+{
+    match indexes.get_mut(usize::from(table)) {
+        None => Ok(()),
+        Some(group) => group.add(row, slot),
+    }
+}
+
+/// Inserts a row into a table and its pairs into the table's indexes, and gives its slot. Costs as the table's
+/// `insert`, and as `add_pairs` besides. An error changes nothing.
+#[tactic(auto, using(ss_undo::proofs::Back::removed_back))]
+pub fn insert_indexed(
+    rows: &mut Table,
+    indexes: &mut Seq<Indexes>,
+    table: u16,
+    row: Row,
+) -> Result<Slot, TableError>
+    requires { HasKey rows.old.key row }
+    ensures ok { IfOk result (λ slot. rows.new ≡ inserted rows.old slot row) }
+    ensures admitted { OnOk result (refusal rows.old row ≡ None) }
+    ensures step { IfOk result (λ slot. WasInserted rows.old rows.new slot) }
+    ensures pairs { IfOk result (λ slot. (was : WasInserted rows.old rows.new slot) → indexes.new ≡ with_row_of indexes.old table was.row slot) }
+    ensures kept { OnErr result (rows.new ≡ rows.old) }
+    ensures unpaired { OnErr result (indexes.new ≡ indexes.old) }
+    ensures cause { IfErr result (RefusesAs (refusal rows.old row)) }
+{
+    let slot = match rows.insert(row) {
+        Ok(slot) => slot,
+        Err((error, _)) => return Err(error),
+    };
+    let Some(row) = rows.row(slot) else {
+        unreachable!()
+    };
+    if add_pairs(indexes, table, row, slot).is_err() {
+        let _ = rows.remove_fresh(slot);
+        return Err(TableError::NoMemory);
+    }
+    Ok(slot)
+}
