@@ -3,7 +3,7 @@
 use crate::bases::Bases;
 use crate::run::check_run;
 use crate::wrong::Wrong;
-use crate::{examples, inputs, plans, queries, requests, script, sql};
+use crate::{examples, executions, inputs, plans, queries, requests, script, sql};
 use std::alloc::Global;
 
 /// What the lines of a block are. The modules that run them say what each means.
@@ -25,6 +25,7 @@ pub enum BlockKind {
     Misfit,
     Queries,
     Bodies,
+    Executions,
     Plans,
     Planned,
     Parse,
@@ -50,6 +51,7 @@ impl BlockKind {
             "misfit" => Some(BlockKind::Misfit),
             "queries" => Some(BlockKind::Queries),
             "bodies" => Some(BlockKind::Bodies),
+            "executions" => Some(BlockKind::Executions),
             "plans" => Some(BlockKind::Plans),
             "planned" => Some(BlockKind::Planned),
             "parse" => Some(BlockKind::Parse),
@@ -62,7 +64,11 @@ impl BlockKind {
     pub fn has_rows(self) -> bool {
         !matches!(
             self,
-            BlockKind::Base | BlockKind::Report | BlockKind::Script | BlockKind::Misfit
+            BlockKind::Base
+                | BlockKind::Report
+                | BlockKind::Script
+                | BlockKind::Misfit
+                | BlockKind::Executions
         )
     }
 
@@ -152,6 +158,7 @@ pub fn run_whole(
         BlockKind::Report => requests::check_block(rt.alloc(), base, lines),
         BlockKind::Script => script::check_script(rt.alloc(), base, lines),
         BlockKind::Misfit => script::check_misfit(rt.alloc(), base, lines),
+        BlockKind::Executions => executions::check_executions(rt.alloc(), base, lines),
         _ => Err(Wrong::text(rt.alloc(), "no block")),
     }
 }

@@ -8,6 +8,7 @@
 //! - `block`: the kinds of blocks, and what runs each
 //! - `inputs`, `requests`, `examples`: what the blocks of each kind mean
 //! - `script`, `queries`: short forms of whole runs over tables, of queries and of bodies
+//! - `executions`: calls and steps by themselves, with the batches that they take
 //! - `plans`: how the rows are found that a step looks for
 //! - `sql`: texts with their trees, which `parsed_trees` and `typed_trees` print, with `signs` for their operators;
 //!   `scopes` has the names that typed texts may use
@@ -19,6 +20,7 @@
 mod bases;
 mod block;
 mod examples;
+mod executions;
 mod file;
 mod inputs;
 mod marks;

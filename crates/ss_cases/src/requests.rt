@@ -9,6 +9,9 @@
 //! A catalogue with a stream is answered `not_built` before its requests are looked at, so requests of streams are
 //! read by `asked`.
 
+ghost use Rattle.std.specs.Prelude.{IfOk};
+ghost use Rattle.ss_model.specs.Accepted.{Accepted};
+
 use crate::block::column;
 use crate::marks::{bytes_of, text_of};
 use crate::run::{check_report, check_run, report_of, run_on};
@@ -48,7 +51,9 @@ pub fn check_block(alloc: Global, base: &str, lines: &[String]) -> Result<(), Wr
 }
 
 /// The catalogue of a base, the marks in it taken for what they mean.
-pub fn catalog_of(alloc: Global, base: &str) -> Result<Catalog, Wrong> {
+pub fn catalog_of(alloc: Global, base: &str) -> Result<Catalog, Wrong>
+    ensures { IfOk result Accepted }
+{
     let text = text_of(alloc, base)?;
     let Ok(value) = Json::from_str(alloc, text.as_str()) else {
         return Err(Wrong::text(alloc, "the base is no JSON"));

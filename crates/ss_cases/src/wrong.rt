@@ -57,6 +57,12 @@ impl From<NoMemory> for Wrong {
     }
 }
 
+impl<T: Drop> From<(NoMemory, T)> for Wrong {
+    fn from(_refused: (NoMemory, T)) -> Wrong {
+        Wrong::NoMemory
+    }
+}
+
 /// What the system says of a file.
 pub fn reason_of(alloc: Global, error: &io::Error) -> Wrong {
     match format!(in alloc; "{error}") {

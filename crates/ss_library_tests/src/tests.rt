@@ -1,11 +1,9 @@
 //! What several of the tests build.
 
-mod indexes;
 mod lines;
 mod model;
 mod plain_queries;
 mod report;
-mod small_tables;
 mod sql_texts;
 mod values;
 

@@ -6,8 +6,8 @@ use Rattle.ss_model.specs.declared.catalog.Catalog.{Catalog}
 use Rattle.ss_model.specs.Results.{map_indexed}
 use Rattle.ss_model.specs.Database.{Database, batch_count, next_number}
 use Rattle.ss_model.specs.Partitions.{part, home_partition, home_of, border_procedure}
-use Rattle.ss_model_laws.proofs.Slots.{set_one, set_two, length-map_index}
-use Rattle.ss_model_laws.proofs.PartLemmas.{slot, same_slots}
+use Rattle.ss_model_kept.proofs.Slots.{set_one, set_two, length-map_index}
+use Rattle.ss_model_kept.proofs.PartLemmas.{slot, same_slots}
 
 module _ {A : Type 0} (mine : ℕ → Bool) (d : A) where
   abbrev pub blank : ℕ → A → A

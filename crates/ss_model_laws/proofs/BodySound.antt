@@ -36,13 +36,13 @@ use Rattle.ss_model.specs.Typing.{window_schema, input_schema, schemas_of, inner
 use Rattle.ss_model.specs.Scopes.{statement_in_scope, inner_in_scope, step_in_scope, is_on_a_stream, trigger_in_scope, procedure_in_scope, catalog_in_scope}
 use Rattle.ss_model.specs.WholeDatabase.{has_unit_size, unit_fits, WholeContents, batch_fits}
 use Rattle.ss_model.specs.SoundRuns.{FitAll, WholeResult}
-use Rattle.ss_model_laws.proofs.Slots.{set_one}
+use Rattle.ss_model_kept.proofs.Slots.{set_one}
 use Rattle.ss_model.proofs.Truths.{first_of_two, second_of_two, some_same, at_place, each_filtered}
 use Rattle.ss_model.proofs.WhenOk.{when_ok_then, anything}
 use Rattle.ss_model_laws.proofs.QuerySound.{all_append}
 use Rattle.ss_model_laws.proofs.WholeChanges.{when_ok_unless, append_whole}
 use Rattle.ss_model_laws.proofs.StatementSound.{AtHand, try_fold_when_ok, each_of, all_test, query_fits, EffectWhole, effect_whole}
-use Rattle.ss_model_laws.proofs.Locality.{filter_passes}
+use Rattle.ss_model_kept.proofs.Locality.{filter_passes}
 
 -- contents that are whole, units and batches whose rows fit
 pub record WholeExecution (catalog : Catalog) (w : Execution) : Type 0 where

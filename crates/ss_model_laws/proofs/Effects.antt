@@ -15,7 +15,7 @@ use Rattle.ss_value.specs.Rows.{Row, Rows}
 use Rattle.ss_model.specs.Database.{Database, Applied, apply, apply_call, apply_step, accept_batch, only_when, batch_count, stream_batches, next_number, takes_stream, emits_to, is_border_stream}
 use Rattle.ss_model.specs.Orders.{HasShape, procedure_has, procedure_emits, procedure_takes, is_accepted_push}
 use Rattle.ss_model.proofs.Truths.{some_same}
-use Rattle.ss_model_laws.proofs.Slots.{get_or-map_index, length-map_index}
+use Rattle.ss_model_kept.proofs.Slots.{get_or-map_index, length-map_index}
 
 -- by how much an entry lengthens a stream
 abbrev pub growth : Catalog → Entry → Outcome → ℕ → ℕ

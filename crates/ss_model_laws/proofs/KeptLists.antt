@@ -10,7 +10,7 @@ use Rattle.ss_model.specs.Database.{Database, Applied, apply, batch_count}
 use Rattle.ss_model.specs.Replays.{Replays, database_after, after}
 use Rattle.ss_model.specs.Orders.{Orders, batches_taken, accepted_pushes}
 use Rattle.ss_model.specs.Settling.{kept, SameKeptApplied, CarriedByKept}
-use Rattle.ss_model_laws.proofs.KeptDatabase.{from_kept, kept_is_enough}
+use Rattle.ss_model_kept.proofs.KeptDatabase.{from_kept, kept_is_enough}
 
 module _ (catalog : Catalog) where
   same_outcome : (a b : Option Applied) → SameKeptApplied catalog a b → option_map (λ z. z.outcome) a ≡ option_map (λ z. z.outcome) b

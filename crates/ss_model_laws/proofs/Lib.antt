@@ -1,16 +1,7 @@
-pub mod Related
-pub mod VisibleEntries
-pub mod Respects
-pub mod Slots
 pub mod Effects
 pub mod Orders
-pub mod Agreement
-pub mod Unchanged
-pub mod KeptContents
 pub mod TouchedRun
 pub mod LocalClaims
-pub mod Locality
-pub mod PartLemmas
 pub mod TouchedUses
 pub mod Depth
 pub mod PartLocality
@@ -18,7 +9,6 @@ pub mod Examples
 pub mod BlankSlots
 pub mod Homes
 pub mod EntryLocality
-pub mod KeptDatabase
 pub mod KeptLists
 pub mod Aborted
 pub mod Slides

@@ -44,10 +44,10 @@ use Rattle.ss_model.proofs.Trees.{number, select}
 use Rattle.ss_model.proofs.Fitting.{applied_fits, fitting_applies}
 use Rattle.ss_model.proofs.Replays.{goes_on}
 use Rattle.ss_model_laws.proofs.Orders.{replays_orders, matching_stays}
-use Rattle.ss_model_laws.proofs.Locality.{run_is_local}
+use Rattle.ss_model_kept.proofs.Locality.{run_is_local}
 use Rattle.ss_model_laws.proofs.Homes.{uses_touched}
 use Rattle.ss_model_laws.proofs.EntryLocality.{entry_is_local}
-use Rattle.ss_model_laws.proofs.KeptDatabase.{from_kept, contents_kept, kept_is_enough}
+use Rattle.ss_model_kept.proofs.KeptDatabase.{from_kept, contents_kept, kept_is_enough}
 use Rattle.ss_model_laws.proofs.Depth.{windows_are_enough}
 use Rattle.ss_model_laws.proofs.Aborted.{abort_leaves}
 use Rattle.ss_model_laws.proofs.Advanced.{steps_move}

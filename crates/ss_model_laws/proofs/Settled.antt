@@ -25,7 +25,7 @@ use Rattle.ss_model_laws.proofs.Effects.{Effect, effect, growth}
 use Rattle.ss_model.proofs.Fitting.{applied_fits, fitting_applies}
 use Rattle.ss_model_laws.proofs.InStep.{in_step_next, in_step_behind}
 use Rattle.ss_model_laws.proofs.Workflows.{Streams, at_its_border, drained_at_rest, rest_when_drained, behind_is_due}
-use Rattle.ss_model_laws.proofs.Locality.{filter_passes}
+use Rattle.ss_model_kept.proofs.Locality.{filter_passes}
 
 -- ---- sums over numbers
 

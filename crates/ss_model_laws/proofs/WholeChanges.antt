@@ -19,8 +19,8 @@ use Rattle.ss_model.specs.Contents.{Table, Contents, table_at, with_table, put_e
 use Rattle.ss_model.specs.Statements.{is_table_full, insert_row}
 use Rattle.ss_model.specs.Typing.{table_schema}
 use Rattle.ss_model.specs.WholeDatabase.{is_within_limit, WholeTable, unit_fits, WholeWindow, WholeContents}
-use Rattle.ss_model_laws.proofs.KeptContents.{kept_more}
-use Rattle.ss_model_laws.proofs.Slots.{set_one}
+use Rattle.ss_model_kept.proofs.KeptContents.{kept_more}
+use Rattle.ss_model_kept.proofs.Slots.{set_one}
 use Rattle.ss_model.proofs.Truths.{first_of_two, second_of_two}
 use Rattle.ss_model_laws.proofs.TableRows.{RowsWhole, EntryWhole, Stands, put_whole, puts_whole, removes_whole, length_replaced, length_inserted, length_removed}
 

@@ -38,10 +38,10 @@ use Rattle.ss_model.specs.InStep.{IsInStep}
 use Rattle.ss_model.specs.WholeDatabase.{is_within_limit, WholeTable, unit_fits, WholeContents, batch_fits, NextNumberFits, WholeDatabase, WholeDatabaseStays, HadAtMost}
 use Rattle.ss_model.specs.SoundRuns.{FitAll}
 use Rattle.ss_model.proofs.Truths.{first_of_two, second_of_two, some_same, at_place, or_first, or_second}
-use Rattle.ss_model_laws.proofs.KeptContents.{drop_on}
-use Rattle.ss_model_laws.proofs.KeptDatabase.{SameKeptDatabase, least_rises, same_least, reads_kept}
+use Rattle.ss_model_kept.proofs.KeptContents.{drop_on}
+use Rattle.ss_model_kept.proofs.KeptDatabase.{SameKeptDatabase, least_rises, same_least, reads_kept}
 use Rattle.ss_model_laws.proofs.WholeChanges.{all_dropped}
-use Rattle.ss_model_laws.proofs.Slots.{set_one, get_or-map_index, length-map_index, get_or-alike}
+use Rattle.ss_model_kept.proofs.Slots.{set_one, get_or-map_index, length-map_index, get_or-alike}
 use Rattle.ss_model_laws.proofs.Effects.{Effect, effect, counted, WasReady, of_when}
 use Rattle.ss_model.proofs.Fitting.{applied_fits}
 use Rattle.ss_model_laws.proofs.InStep.{in_step_next, empty_in_step}

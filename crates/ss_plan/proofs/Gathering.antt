@@ -4,7 +4,7 @@ use Rattle.std.proofs.lemmas.Bool.Decides.{nat_tests}
 use Rattle.std.specs.Prelude.{Contains, IsSome}
 use Rattle.std.specs.List.{AllByRecursion, filter, filter_map, cons_option, find}
 use Rattle.std.specs.Option.{option_and_then}
-use Rattle.std.specs.Ordering.{is_lt, eq_by_cmp}
+use Rattle.std.specs.Ordering.{eq_by_cmp}
 use Rattle.std.specs.declared.cmp.Ordering.TheVariants.{Equal}
 use Rattle.std.specs.FinMap as finite
 use Rattle.std.specs.FinMap.Entries as entries
@@ -16,11 +16,11 @@ use Rattle.ss_table.specs.Held.{LiveRows, key_of, row_at}
 use Rattle.ss_table.specs.Keyed.{StandsAtKey, SlotsDiffer}
 use Rattle.ss_table.proofs.Keys.{rows_total}
 use Rattle.ss_table.proofs.Maps.{rows_antisymmetric, and_left, and_right, and_both}
-use Rattle.ss_index.specs.Pairs.{Held as Index, Pair, Pairs, pair_cmp, pair_of, in_range, slots_in}
+use Rattle.ss_index.specs.Pairs.{Held as Index, Pair, pair_cmp, pair_of, in_range, slots_in}
 use Rattle.ss_index.proofs.Taking.{tied as pair_tied}
 use Rattle.ss_rows.specs.Sources.{Placed}
 use Rattle.ss_shard.proofs.Inserting.{same_key}
-use Rattle.ss_plan.specs.Chosen.{Chosen, KeysDiffer}
+use Rattle.ss_plan.specs.Chosen.{Chosen}
 use Rattle.ss_plan.specs.Seen.{live_places}
 use Rattle.ss_plan.specs.Fronts.{meets_run}
 use Rattle.ss_plan.specs.Keys.{is_there, Finds}

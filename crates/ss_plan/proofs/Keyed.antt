@@ -1,5 +1,5 @@
 -- The live row with a key, among those that are seen.
-use Rattle.std.proofs.Common.{◌≡◌, ℕ, Bool, true, false, cond, List, [], ◌∷◌, ◌++◌, map, refl, sym, ap, subst, ◌∙◌, Option, Some, None, option_map, slice_get}
+use Rattle.std.proofs.Common.{◌≡◌, ℕ, Bool, true, false, cond, List, [], ◌∷◌, map, refl, sym, ap, subst, ◌∙◌, Option, Some, None, option_map, slice_get}
 use Rattle.std.specs.List.{AllByRecursion, filter}
 use Rattle.std.specs.Ordering.{eq_by_cmp}
 use Rattle.std.specs.FinMap as finite
@@ -8,7 +8,6 @@ use Rattle.ss_value.specs.declared.value.Value.{Value}
 use Rattle.ss_value.specs.Rows.{Row, column_value}
 use Rattle.ss_value.specs.Order.{row_cmp}
 use Rattle.ss_sql_lex.specs.declared.typed.Expr.{Expr}
-use Rattle.ss_sql_lex.specs.declared.typed.SourceId.TheVariants.{Table as FromTable}
 use Rattle.ss_model.specs.declared.catalog.Catalog.{Catalog}
 use Rattle.ss_model.specs.Contents.{key_columns}
 use Rattle.ss_table.specs.Held.{Held, LiveRows, key_of, row_at}
@@ -16,13 +15,13 @@ use Rattle.ss_table.specs.Keyed.{StandsAtKey, SlotsDiffer}
 use Rattle.ss_table.proofs.Keys.{rows_total}
 use Rattle.std.proofs.lemmas.Cmp.{tied_itself}
 use Rattle.std.specs.Ordering.{is_eq}
-use Rattle.ss_rows.specs.Sources.{Placed, first_place, StandsAt}
+use Rattle.ss_rows.specs.Sources.{Placed, StandsAt}
 use Rattle.ss_shard.specs.Shards.{HasTables}
 use Rattle.ss_shard.proofs.Shapes.{table_of}
 use Rattle.ss_shard.proofs.Inserting.{same_key}
 use Rattle.ss_shard.proofs.Opening.{no_entries}
 use Rattle.ss_plan.specs.Chosen.{KeysDiffer}
-use Rattle.ss_plan.specs.Seen.{row_is_seen, live_places, live_of, seen_of, placed_in}
+use Rattle.ss_plan.specs.Seen.{row_is_seen, live_places, live_of, seen_of, table_places}
 use Rattle.ss_plan.specs.Fronts.{meets_run}
 use Rattle.ss_plan.specs.Keys.{has_key, with_key, one_place, key_sought, Finds}
 use Rattle.ss_plan.proofs.Choosing.{other_key, tied}
@@ -110,22 +109,22 @@ module _ (catalog : Catalog) (tables : List Held) (has : HasTables catalog table
   seen p = row_is_seen catalog split t p.1
 
   -- it is that one, where it is seen
-  pub seen_alone : with_key (key_columns (slice_get catalog.tables t)) key (placed_in catalog split tables (FromTable t)) ≡ one_place (kept_one seen (finite.get h.live key))
+  pub seen_alone : with_key (key_columns (slice_get catalog.tables t)) key (table_places catalog split tables t) ≡ one_place (kept_one seen (finite.get h.live key))
   seen_alone =
       let d = table_of catalog tables has t h here in
-      ap (λ o. with_key (key_columns o) key (placed_in catalog split tables (FromTable t))) d.1
-      ∙ ap (λ columns. with_key columns key (placed_in catalog split tables (FromTable t))) (sym (d.2).key)
+      ap (λ o. with_key (key_columns o) key (table_places catalog split tables t)) d.1
+      ∙ ap (λ columns. with_key columns key (table_places catalog split tables t)) (sym (d.2).key)
       ∙ ap (λ o. with_key h.key key (seen_of catalog split t (live_places (live_of o)))) here
       ∙ keyed_alone seen h.key key (finite.entries h.live) (live_apart h.live) ((d.2).keyed).keyed
       ∙ ap (λ o. one_place (kept_one seen o)) (sym (finite.get-entries h.live key))
 
-  pub seen_one : (p : ℕ × Row) → finite.get h.live key ≡ Some p → seen p ≡ true → p ∷ [] ≡ with_key (key_columns (slice_get catalog.tables t)) key (placed_in catalog split tables (FromTable t))
+  pub seen_one : (p : ℕ × Row) → finite.get h.live key ≡ Some p → seen p ≡ true → p ∷ [] ≡ with_key (key_columns (slice_get catalog.tables t)) key (table_places catalog split tables t)
   seen_one p is on = sym (seen_alone ∙ ap (λ o. one_place (kept_one seen o)) is ∙ ap (λ b. one_place (cond b (Some p) None)) on)
 
-  pub unseen_one : (p : ℕ × Row) → finite.get h.live key ≡ Some p → seen p ≡ false → [] ≡ with_key (key_columns (slice_get catalog.tables t)) key (placed_in catalog split tables (FromTable t))
+  pub unseen_one : (p : ℕ × Row) → finite.get h.live key ≡ Some p → seen p ≡ false → [] ≡ with_key (key_columns (slice_get catalog.tables t)) key (table_places catalog split tables t)
   unseen_one p is off = sym (seen_alone ∙ ap (λ o. one_place (kept_one seen o)) is ∙ ap (λ b. one_place (cond b (Some p) None)) off)
 
-  pub no_one : finite.get h.live key ≡ None → [] ≡ with_key (key_columns (slice_get catalog.tables t)) key (placed_in catalog split tables (FromTable t))
+  pub no_one : finite.get h.live key ≡ None → [] ≡ with_key (key_columns (slice_get catalog.tables t)) key (table_places catalog split tables t)
   no_one is = sym (seen_alone ∙ ap (λ o. one_place (kept_one seen o)) is)
 
 -- ---- and none of the others meets the run
@@ -159,7 +158,7 @@ module _ (catalog : Catalog) (tables : List Held) (has : HasTables catalog table
   columns = key_columns (slice_get catalog.tables t)
 
   abbrev all : Placed
-  all = placed_in catalog split tables (FromTable t)
+  all = table_places catalog split tables t
 
   others : (o : Option Held) → slice_get tables t ≡ o → key_sought params test columns ≡ Some key → AllByRecursion (λ p. has_key columns key p.1 ≡ false → meets_run params test p.1 ≡ false) all
   others (Some h) here sought =

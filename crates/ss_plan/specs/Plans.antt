@@ -19,7 +19,7 @@ use Rattle.ss_rows.specs.declared.frame.Frame.{Frame}
 use Rattle.ss_plan.specs.Found.{rows_found}
 use Rattle.ss_plan.specs.Keys.{names_key, with_key, Finds}
 use Rattle.ss_plan.specs.Ranges.{narrows}
-use Rattle.ss_plan.specs.Seen.{row_is_seen, placed_in, value_behind}
+use Rattle.ss_plan.specs.Seen.{row_is_seen, placed_in, table_places, value_behind}
 use Rattle.ss_plan.specs.Statements.{split_of}
 use Rattle.ss_plan.specs.declared.found.FoundRows.{FoundRows}
 use Rattle.ss_plan.specs.declared.plan.Plan.{Plan}
@@ -37,7 +37,7 @@ plan_for def test = cond (names_key def.key test) Key (range_or_scan (position (
 
 -- the rows of a source that are seen
 abbrev pub seen_in : ShardRows → SourceId → Placed
-seen_in from source = placed_in from.catalog.now (value_behind from.split) from.shard.now.tables source
+seen_in from source = placed_in from.catalog.now (value_behind from.split) (from.inputs).batches.now (from.inputs).inserted.now from.shard.now source
 
 -- those of them that have a key
 abbrev pub seen_with : ShardRows → ℕ → Row → Placed
@@ -49,7 +49,7 @@ is_seen_by from t row = row_is_seen from.catalog.now (value_behind from.split) t
 
 -- the rows of a table that an execution with a frame sees
 abbrev pub seen_through : Catalog → Frame → List Held → ℕ → Placed
-seen_through catalog frame tables t = placed_in catalog (split_of frame) tables (FromTable t)
+seen_through catalog frame tables t = table_places catalog (split_of frame) tables t
 
 -- the rows that were found are enough: none of the others that are seen passes WHERE, and WHERE aborts on none of them
 abbrev pub IsEnough : ShardRows → SourceId → Row → Option Expr → FoundRows → Type 0

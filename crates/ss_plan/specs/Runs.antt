@@ -1,5 +1,5 @@
 -- What statements and their parts come to on a shard, whatever number their procedure has.
-use Rattle.std.specs.Prelude.{◌≡◌, ℕ, List, [], map, Option, Ok}
+use Rattle.std.specs.Prelude.{◌≡◌, ℕ, List, map, Option, Ok}
 use Rattle.ss_value.specs.declared.value.Value.{Value}
 use Rattle.ss_value.specs.Rows.{Row, Rows}
 use Rattle.ss_sql_lex.specs.declared.typed.Expr.{Expr}
@@ -16,57 +16,59 @@ use Rattle.ss_operators.specs.Stops.{StopsAs}
 use Rattle.ss_table.specs.Held.{Held}
 use Rattle.ss_rows.specs.declared.frame.Frame.{Frame}
 use Rattle.ss_rows.specs.Frames.{params_of}
+use Rattle.ss_shard.specs.HeldShard.{HeldShard}
 use Rattle.ss_shard.specs.Contents.{contents_of, without_slot}
 use Rattle.ss_shard.specs.Rows.{StandsIn, RowPut}
 use Rattle.ss_shard.specs.Shards.{HasTables}
 use Rattle.ss_plan.specs.Chosen.{Chosen, AreSlots}
 use Rattle.ss_plan.specs.Setting.{updated_entry}
-use Rattle.ss_plan.specs.Statements.{context_for, effect_of, values_effect, query_effect, Matches}
+use Rattle.ss_plan.specs.Statements.{context_for, inserted_rows, effect_of, values_effect, query_effect, Matches}
 use Rattle.ss_plan.specs.Seen.{value_behind}
+use Rattle.ss_plan.specs.declared.inputs.Inputs.{Inputs}
 use Rattle.ss_plan.specs.declared.source.ShardRows.{ShardRows}
 use Rattle.ss_plan.specs.declared.statement.Wrote.{Wrote}
 
 -- ---- queries
 
-abbrev pub QueryGives : Catalog → Frame → Query → List Held → Rows → Type 0
-QueryGives catalog frame query tables rows = (procedure : ℕ) → context_query (context_for catalog procedure frame) [] (params_of frame) query (contents_of tables) ≡ Ok rows
+abbrev pub QueryGives : Catalog → Frame → Inputs → Query → HeldShard → Rows → Type 0
+QueryGives catalog frame inputs query shard rows = (procedure : ℕ) → context_query (context_for catalog procedure frame inputs) (inserted_rows inputs) (params_of frame) query (contents_of shard) ≡ Ok rows
 
-abbrev pub QueryStops : Catalog → Frame → Query → List Held → RunError → Type 0
-QueryStops catalog frame query tables stop = (procedure : ℕ) → StopsAs (context_query (context_for catalog procedure frame) [] (params_of frame) query (contents_of tables)) stop
+abbrev pub QueryStops : Catalog → Frame → Inputs → Query → HeldShard → RunError → Type 0
+QueryStops catalog frame inputs query shard stop = (procedure : ℕ) → StopsAs (context_query (context_for catalog procedure frame inputs) (inserted_rows inputs) (params_of frame) query (contents_of shard)) stop
 
 -- ---- rows of one table
 
 -- the entries that a statement sees and that pass WHERE
-abbrev pub entries_matching : Catalog → Option Value → List Held → ℕ → Row → Option Expr → OrAbort (List (Row × Row))
-entries_matching catalog split tables t params test = matching_entries params test (visible_table catalog split (contents_of tables) t)
+abbrev pub entries_matching : Catalog → Option Value → HeldShard → ℕ → Row → Option Expr → OrAbort (List (Row × Row))
+entries_matching catalog split shard t params test = matching_entries params test (visible_table catalog split (contents_of shard) t)
 
 -- the same where these are the rows that an execution sees
 abbrev pub seen_matching : ShardRows → ℕ → Row → Option Expr → OrAbort (List (Row × Row))
-seen_matching from t params test = entries_matching from.catalog.now (value_behind from.split) from.shard.now.tables t params test
+seen_matching from t params test = entries_matching from.catalog.now (value_behind from.split) from.shard.now t params test
 
 -- and these are their slots
 abbrev pub MatchesSeen : ShardRows → ℕ → Row → Option Expr → List ℕ → Type 0
-MatchesSeen from t params test slots = Matches from.catalog.now (value_behind from.split) from.shard.now.tables t params test slots
+MatchesSeen from t params test slots = Matches from.catalog.now (value_behind from.split) from.shard.now t params test slots
 
 -- rows were inserted, as the model does it under any catalogue of these tables
-abbrev pub RowsInserted : List Held → List Held → ℕ → Rows → Type 0
-RowsInserted old new t rows = (catalog : Catalog) → HasTables catalog old → try_fold (insert_row catalog t) rows (contents_of old) ≡ Ok (contents_of new)
+abbrev pub RowsInserted : HeldShard → HeldShard → ℕ → Rows → Type 0
+RowsInserted old new t rows = (catalog : Catalog) → HasTables catalog old.tables → try_fold (insert_row catalog t) rows (contents_of old) ≡ Ok (contents_of new)
 
-abbrev pub InsertsStop : List Held → ℕ → Rows → RunError → Type 0
-InsertsStop old t rows stop = (catalog : Catalog) → HasTables catalog old → StopsAs (try_fold (insert_row catalog t) rows (contents_of old)) stop
+abbrev pub InsertsStop : HeldShard → ℕ → Rows → RunError → Type 0
+InsertsStop old t rows stop = (catalog : Catalog) → HasTables catalog old.tables → StopsAs (try_fold (insert_row catalog t) rows (contents_of old)) stop
 
 -- the rows in these slots were taken out
-abbrev pub SlotsTaken : List Held → List Held → ℕ → List ℕ → Type 0
-SlotsTaken old new t slots = (es : List Chosen) → AreSlots old t es slots → contents_of new ≡ remove_entries (contents_of old) t (map without_slot es)
+abbrev pub SlotsTaken : HeldShard → HeldShard → ℕ → List ℕ → Type 0
+SlotsTaken old new t slots = (es : List Chosen) → AreSlots old.tables t es slots → contents_of new ≡ remove_entries (contents_of old) t (map without_slot es)
 
 -- the row in a slot was put what the SETs make of it
 abbrev pub SlotUpdated : List Held → List Held → ℕ → Row → List SetTo → ℕ → Type 0
 SlotUpdated old now t params sets slot = (key row : Row) → StandsIn old t key slot row → (new : Row) × (updated_row params sets row ≡ Ok new) × RowPut old now t key slot new
 
 -- and so were the rows in all these slots
-abbrev pub SlotsUpdated : List Held → List Held → ℕ → Row → List SetTo → List ℕ → Type 0
+abbrev pub SlotsUpdated : HeldShard → HeldShard → ℕ → Row → List SetTo → List ℕ → Type 0
 SlotsUpdated old now t params sets slots =
-    (es : List Chosen) → AreSlots old t es slots → (new : List (Row × Row)) × (try_map (updated_entry params sets) (map without_slot es) ≡ Ok new) × (contents_of now ≡ put_entries (contents_of old) t new)
+    (es : List Chosen) → AreSlots old.tables t es slots → (new : List (Row × Row)) × (try_map (updated_entry params sets) (map without_slot es) ≡ Ok new) × (contents_of now ≡ put_entries (contents_of old) t new)
 
 abbrev pub UpdatesStop : List Held → ℕ → Row → List SetTo → List ℕ → RunError → Type 0
 UpdatesStop old t params sets slots stop = (es : List Chosen) → AreSlots old t es slots → StopsAs (try_map (updated_entry params sets) (map without_slot es)) stop
@@ -74,41 +76,41 @@ UpdatesStop old t params sets slots stop = (es : List Chosen) → AreSlots old t
 -- ---- statements
 
 -- rows were put into a target
-abbrev pub PutInto : List Held → List Held → Target → Rows → Wrote → Type 0
+abbrev pub PutInto : HeldShard → HeldShard → Target → Rows → Wrote → Type 0
 PutInto old new target rows wrote =
-    (catalog : Catalog) (procedure : ℕ) (frame : Frame) → HasTables catalog old → insert_into (context_for catalog procedure frame) target rows (contents_of old) ≡ Ok (effect_of wrote (contents_of new))
+    (catalog : Catalog) (procedure : ℕ) (frame : Frame) (inputs : Inputs) → HasTables catalog old.tables → insert_into (context_for catalog procedure frame inputs) target rows (contents_of old) ≡ Ok (effect_of wrote (contents_of new))
 
-abbrev pub PutStops : List Held → Target → Rows → RunError → Type 0
-PutStops old target rows stop = (catalog : Catalog) (procedure : ℕ) (frame : Frame) → HasTables catalog old → StopsAs (insert_into (context_for catalog procedure frame) target rows (contents_of old)) stop
+abbrev pub PutStops : HeldShard → Target → Rows → RunError → Type 0
+PutStops old target rows stop = (catalog : Catalog) (procedure : ℕ) (frame : Frame) (inputs : Inputs) → HasTables catalog old.tables → StopsAs (insert_into (context_for catalog procedure frame inputs) target rows (contents_of old)) stop
 
-abbrev pub UpdateDone : Catalog → Frame → ℕ → List SetTo → Option Expr → List Held → List Held → Type 0
-UpdateDone catalog frame t sets test old new = (procedure : ℕ) → update_rows (context_for catalog procedure frame) (params_of frame) t sets test (contents_of old) ≡ Ok (contents_of new)
+abbrev pub UpdateDone : Catalog → Frame → Inputs → ℕ → List SetTo → Option Expr → HeldShard → HeldShard → Type 0
+UpdateDone catalog frame inputs t sets test old new = (procedure : ℕ) → update_rows (context_for catalog procedure frame inputs) (params_of frame) t sets test (contents_of old) ≡ Ok (contents_of new)
 
-abbrev pub UpdateStops : Catalog → Frame → ℕ → List SetTo → Option Expr → List Held → RunError → Type 0
-UpdateStops catalog frame t sets test old stop = (procedure : ℕ) → StopsAs (update_rows (context_for catalog procedure frame) (params_of frame) t sets test (contents_of old)) stop
+abbrev pub UpdateStops : Catalog → Frame → Inputs → ℕ → List SetTo → Option Expr → HeldShard → RunError → Type 0
+UpdateStops catalog frame inputs t sets test old stop = (procedure : ℕ) → StopsAs (update_rows (context_for catalog procedure frame inputs) (params_of frame) t sets test (contents_of old)) stop
 
-abbrev pub DeleteDone : Catalog → Frame → ℕ → Option Expr → List Held → List Held → Type 0
-DeleteDone catalog frame t test old new = (procedure : ℕ) → delete_rows (context_for catalog procedure frame) (params_of frame) t test (contents_of old) ≡ Ok (contents_of new)
+abbrev pub DeleteDone : Catalog → Frame → Inputs → ℕ → Option Expr → HeldShard → HeldShard → Type 0
+DeleteDone catalog frame inputs t test old new = (procedure : ℕ) → delete_rows (context_for catalog procedure frame inputs) (params_of frame) t test (contents_of old) ≡ Ok (contents_of new)
 
-abbrev pub DeleteStops : Catalog → Frame → ℕ → Option Expr → List Held → RunError → Type 0
-DeleteStops catalog frame t test old stop = (procedure : ℕ) → StopsAs (delete_rows (context_for catalog procedure frame) (params_of frame) t test (contents_of old)) stop
+abbrev pub DeleteStops : Catalog → Frame → Inputs → ℕ → Option Expr → HeldShard → RunError → Type 0
+DeleteStops catalog frame inputs t test old stop = (procedure : ℕ) → StopsAs (delete_rows (context_for catalog procedure frame inputs) (params_of frame) t test (contents_of old)) stop
 
 -- an INSERT with VALUES needs no catalogue but one of these tables
-abbrev pub ValuesDone : Frame → Target → List Expr → List Held → List Held → Wrote → Type 0
+abbrev pub ValuesDone : Frame → Target → List Expr → HeldShard → HeldShard → Wrote → Type 0
 ValuesDone frame target values old new wrote =
-    (catalog : Catalog) (procedure : ℕ) → HasTables catalog old → values_effect (context_for catalog procedure frame) (params_of frame) target values (contents_of old) ≡ Ok (effect_of wrote (contents_of new))
+    (catalog : Catalog) (procedure : ℕ) (inputs : Inputs) → HasTables catalog old.tables → values_effect (context_for catalog procedure frame inputs) (inserted_rows inputs) (params_of frame) target values (contents_of old) ≡ Ok (effect_of wrote (contents_of new))
 
-abbrev pub ValuesStop : Frame → Target → List Expr → List Held → RunError → Type 0
-ValuesStop frame target values old stop = (catalog : Catalog) (procedure : ℕ) → HasTables catalog old → StopsAs (values_effect (context_for catalog procedure frame) (params_of frame) target values (contents_of old)) stop
+abbrev pub ValuesStop : Frame → Target → List Expr → HeldShard → RunError → Type 0
+ValuesStop frame target values old stop = (catalog : Catalog) (procedure : ℕ) (inputs : Inputs) → HasTables catalog old.tables → StopsAs (values_effect (context_for catalog procedure frame inputs) (inserted_rows inputs) (params_of frame) target values (contents_of old)) stop
 
-abbrev pub InsertQueryDone : Catalog → Frame → Target → Query → List Held → List Held → Wrote → Type 0
-InsertQueryDone catalog frame target query old new wrote = (procedure : ℕ) → query_effect (context_for catalog procedure frame) (params_of frame) target query (contents_of old) ≡ Ok (effect_of wrote (contents_of new))
+abbrev pub InsertQueryDone : Catalog → Frame → Inputs → Target → Query → HeldShard → HeldShard → Wrote → Type 0
+InsertQueryDone catalog frame inputs target query old new wrote = (procedure : ℕ) → query_effect (context_for catalog procedure frame inputs) (inserted_rows inputs) (params_of frame) target query (contents_of old) ≡ Ok (effect_of wrote (contents_of new))
 
-abbrev pub InsertQueryStops : Catalog → Frame → Target → Query → List Held → RunError → Type 0
-InsertQueryStops catalog frame target query old stop = (procedure : ℕ) → StopsAs (query_effect (context_for catalog procedure frame) (params_of frame) target query (contents_of old)) stop
+abbrev pub InsertQueryStops : Catalog → Frame → Inputs → Target → Query → HeldShard → RunError → Type 0
+InsertQueryStops catalog frame inputs target query old stop = (procedure : ℕ) → StopsAs (query_effect (context_for catalog procedure frame inputs) (inserted_rows inputs) (params_of frame) target query (contents_of old)) stop
 
-abbrev pub StatementDone : Catalog → Frame → Statement → List Held → List Held → Wrote → Type 0
-StatementDone catalog frame statement old new wrote = (procedure : ℕ) → statement_effect (context_for catalog procedure frame) [] (params_of frame) statement (contents_of old) ≡ Ok (effect_of wrote (contents_of new))
+abbrev pub StatementDone : Catalog → Frame → Inputs → Statement → HeldShard → HeldShard → Wrote → Type 0
+StatementDone catalog frame inputs statement old new wrote = (procedure : ℕ) → statement_effect (context_for catalog procedure frame inputs) (inserted_rows inputs) (params_of frame) statement (contents_of old) ≡ Ok (effect_of wrote (contents_of new))
 
-abbrev pub StatementStops : Catalog → Frame → Statement → List Held → RunError → Type 0
-StatementStops catalog frame statement old stop = (procedure : ℕ) → StopsAs (statement_effect (context_for catalog procedure frame) [] (params_of frame) statement (contents_of old)) stop
+abbrev pub StatementStops : Catalog → Frame → Inputs → Statement → HeldShard → RunError → Type 0
+StatementStops catalog frame inputs statement old stop = (procedure : ℕ) → StopsAs (statement_effect (context_for catalog procedure frame inputs) (inserted_rows inputs) (params_of frame) statement (contents_of old)) stop

@@ -7,9 +7,12 @@ use Rattle.ss_sql_lex.specs.declared.typed.SourceId.{SourceId}
 use Rattle.ss_model.specs.declared.catalog.Catalog.{Catalog}
 use Rattle.ss_model.specs.Results.{OrAbort, try_filter}
 use Rattle.ss_model.specs.Queries.{where_passes}
-use Rattle.ss_table.specs.Held.{Held, LiveRows}
+use Rattle.ss_table.specs.Held.{LiveRows}
 use Rattle.ss_rows.specs.Sources.{Placed, first_place, StandsAt}
-use Rattle.ss_plan.specs.Seen.{live_places, seen_of, placed_in}
+use Rattle.ss_plan.specs.Seen.{live_places, seen_of, placed_by, value_behind}
+use Rattle.ss_plan.specs.Plans.{seen_in}
+use Rattle.ss_plan.specs.declared.source.Found.{Found}
+use Rattle.ss_plan.specs.declared.source.ShardRows.{ShardRows}
 
 -- the rows that pass WHERE, with their positions
 abbrev pub placed_matching : Row → Option Expr → Placed → OrAbort Placed
@@ -35,6 +38,6 @@ GivesRow placed at found = (row : Row) (behind : Placed) → StandsAt placed at 
 abbrev pub FindsSeen : Catalog → Option Value → ℕ → LiveRows → Option ℕ → Option ℕ → Type 0
 FindsSeen catalog split t live from at = (before behind : Placed) → live_places live ≡ before ++ behind → from ≡ first_place behind → at ≡ first_place (seen_of catalog split t behind)
 
--- a source is a table with these live rows
-abbrev pub IsTable : Catalog → Option Value → List Held → SourceId → ℕ → LiveRows → Type 0
-IsTable catalog split tables source t live = placed_in catalog split tables source ≡ seen_of catalog split t (live_places live)
+-- the rows of a source stand there
+abbrev pub IsAt : ShardRows → SourceId → Found → Type 0
+IsAt from source found = seen_in from source ≡ placed_by from.catalog.now (value_behind from.split) found

@@ -8,6 +8,7 @@ ghost use Rattle.ss_shard.specs.Shards.{HasTables};
 ghost use Rattle.ss_plan.specs.Statements.{split_of, SplitByKeys, Matches};
 ghost use Rattle.ss_plan.specs.Runs.{entries_matching, seen_matching, MatchesSeen};
 
+use crate::inputs::Inputs;
 use crate::plan::planned_places;
 use crate::source::{ShardRows, rows_seen};
 use ss_model::catalog::Catalog;
@@ -49,14 +50,15 @@ pub fn chosen_slots(
     table: u16,
     test: &Option<Expr>,
     frame: &Frame,
+    inputs: &Inputs,
 ) -> Result<Vec<Slot>, RunError>
     requires tables { HasTables catalog.now shard.now.tables }
     requires keyed { SplitByKeys catalog.now }
     requires there { table < length catalog.now.tables }
-    ensures found { IfOk result (λ slots. Matches catalog.now (split_of frame.now) shard.now.tables table (params_of frame.now) test.now slots.items) }
-    ensures stops { IfErr result (StopsAs (entries_matching catalog.now (split_of frame.now) shard.now.tables table (params_of frame.now) test.now)) }
+    ensures found { IfOk result (λ slots. Matches catalog.now (split_of frame.now) shard.now table (params_of frame.now) test.now slots.items) }
+    ensures stops { IfErr result (StopsAs (entries_matching catalog.now (split_of frame.now) shard.now table (params_of frame.now) test.now)) }
 {
     let zero = Value::Int(0);
-    let from = rows_seen(catalog, shard, *frame, &zero);
+    let from = rows_seen(catalog, shard, *frame, *inputs, &zero);
     matching_slots(alloc, from, table, test, frame.params())
 }

@@ -8,6 +8,7 @@ ghost use Rattle.ss_plan.specs.Found.{lent_rows};
 ghost use Rattle.ss_plan.specs.Plans.{seen_in, seen_through, AreEnough};
 ghost use Rattle.ss_plan.specs.declared.plan.Plan.TheVariants.{Scan};
 
+use crate::inputs::Inputs;
 use crate::plan::{Plan, rows_by_plan};
 use crate::source::{ShardRows, rows_seen};
 use ss_model::catalog::Catalog;
@@ -86,6 +87,10 @@ pub fn slots_of(
     ensures scan { plan ≡ Scan → IfOk result (λ slots. slots.items ≡ map (λ p. p.0) (seen_through catalog.now frame.now shard.now.tables table)) }
 {
     let zero = Value::Int(0);
-    let from = rows_seen(catalog, shard, *frame, &zero);
+    let inputs = Inputs {
+        batches: &[],
+        inserted: &[],
+    };
+    let from = rows_seen(catalog, shard, *frame, inputs, &zero);
     slots_by_plan(alloc, from, table, plan, test, frame.params())
 }

@@ -1,7 +1,8 @@
 //! Statements, run on the shard that holds their rows.
 //!
-//! - `seen`: which rows an execution sees, in the order of their keys
-//! - `source`: those rows as the sources of a query; `query`: queries over them
+//! - `inputs`: the rows at hand, of batches and emits
+//! - `seen`: which rows of a table an execution sees, in the order of their keys; `listed`: rows by their number
+//! - `source`: all these as the sources of a query; `query`: queries over them
 //! - `plan`: how the rows that pass WHERE are found; `scan`: by a walk over all; `key`: by the key that WHERE names;
 //!   `range`: by a range of an index; `found`: what was found so, as a source; `ordered`: in the order of keys;
 //!   `found_slots`: the slots of what a plan finds
@@ -23,9 +24,11 @@ mod chosen;
 mod delete;
 mod found;
 pub mod found_slots;
+pub mod inputs;
 mod insert;
 mod key;
 pub mod laws;
+mod listed;
 mod ordered;
 pub mod plan;
 pub mod query;

@@ -3,12 +3,13 @@
 ghost use Rattle.std.specs.Prelude.{◌≡◌, IfOk, IfErr, IfSome, None, Ok};
 ghost use Rattle.ss_operators.specs.Stops.{StopsAs};
 ghost use Rattle.ss_rows.specs.Frames.{params_of};
-ghost use Rattle.ss_shard.specs.Shards.{HasTables};
+ghost use Rattle.ss_shard.specs.Shards.{HasTables, HasWindows};
 ghost use Rattle.ss_plan.specs.Plans.{IsEnough, query_of_seen};
 ghost use Rattle.ss_plan.specs.Statements.{SplitByKeys};
 ghost use Rattle.ss_plan.specs.Runs.{QueryGives, QueryStops};
 
 use crate::found::FoundRows;
+use crate::inputs::Inputs;
 use crate::plan::planned_rows;
 use crate::source::{ShardRows, rows_seen};
 use ss_model::catalog::Catalog;
@@ -72,13 +73,15 @@ pub fn query_shard(
     shard: &Shard,
     query: &Query,
     frame: &Frame,
+    inputs: &Inputs,
 ) -> Result<Rows, RunError>
     requires tables { HasTables catalog.now shard.now.tables }
+    requires windows { HasWindows catalog.now shard.now.windows }
     requires keyed { SplitByKeys catalog.now }
-    ensures rows { IfOk result (QueryGives catalog.now frame.now query.now shard.now.tables) }
-    ensures stops { IfErr result (QueryStops catalog.now frame.now query.now shard.now.tables) }
+    ensures rows { IfOk result (QueryGives catalog.now frame.now inputs.now query.now shard.now) }
+    ensures stops { IfErr result (QueryStops catalog.now frame.now inputs.now query.now shard.now) }
 {
     let zero = Value::Int(0);
-    let from = rows_seen(catalog, shard, *frame, &zero);
+    let from = rows_seen(catalog, shard, *frame, *inputs, &zero);
     planned_query(alloc, from, query, frame)
 }

@@ -1,6 +1,6 @@
--- Bodies of calls of an accepted catalogue without a stream may run.
-use Rattle.std.proofs.Common.{◌≡◌, ◌∙◌, ◌<◌, ◌==◌, ◌||◌, ℕ, zero, suc, Bool, true, false, not, List, [], ◌∷◌, ◌++◌, length, slice_get, unwrap_or, Option, Some, refl, ap, sym, subst, arith}
-use Rattle.std.proofs.lemmas.Bool.{eqb-false, ltb-true}
+-- Bodies and triggers of an accepted catalogue may run.
+use Rattle.std.proofs.Common.{◌≡◌, ◌∙◌, ◌<◌, ◌≤◌, ◌==◌, ◌||◌, ℕ, zero, suc, Bool, true, false, not, List, [], ◌∷◌, ◌++◌, length, slice_get, unwrap_or, Option, Some, refl, ap, sym, subst}
+use Rattle.std.proofs.lemmas.Bool.{eqb-false, ltb-true, leb-true}
 use Rattle.std.proofs.lemmas.List.{length-map}
 use Rattle.std.specs.List.{AllByRecursion, list_all}
 use Rattle.std.specs.Option.{option_map}
@@ -14,24 +14,28 @@ use Rattle.ss_sql_lex.specs.declared.typed.Statement.TheVariants.{InsertValues, 
 use Rattle.ss_sql_lex.specs.WellTyped.{Schemas, ExprType, expr_type, types_fit, query_types, is_among, sets_typed, statement_typed}
 use Rattle.ss_model.specs.declared.catalog.Catalog.{Catalog}
 use Rattle.ss_model.specs.declared.catalog.Procedure.{Procedure}
+use Rattle.ss_model.specs.declared.catalog.TriggerDef.{TriggerDef}
+use Rattle.ss_model.specs.declared.catalog.Inner.{Inner}
+use Rattle.ss_model.specs.declared.catalog.Inner.TheVariants.{Sql as InnerSql, AbortIf as InnerAbortIf}
 use Rattle.ss_model.specs.declared.catalog.Step.{Step}
 use Rattle.ss_model.specs.declared.catalog.Step.TheVariants.{Sql, AbortIf, ForEach, Emit, Return}
 use Rattle.ss_model.specs.declared.catalog.TableDef.{TableDef}
-use Rattle.ss_model.specs.Accepted.{Accepted, IsCallStep}
-use Rattle.ss_model.specs.CatalogForm.{has_form, numbers_in_range}
+use Rattle.ss_model.specs.Accepted.{Accepted}
+use Rattle.ss_model.specs.CatalogForm.{has_form, numbers_in_range, is_within_limits}
 use Rattle.ss_model.specs.Contents.{key_columns}
-use Rattle.ss_model.specs.Database.{is_call}
-use Rattle.ss_model.specs.Scopes.{procedure_in_scope, step_in_scope, statement_in_scope, target_in_scope}
-use Rattle.ss_model.specs.Typing.{procedure_typed, schemas_of, step_typed, target_schema}
+use Rattle.ss_model.specs.Scopes.{procedure_in_scope, trigger_in_scope, is_on_a_stream, step_in_scope, inner_in_scope, statement_in_scope, target_in_scope}
+use Rattle.ss_model.specs.Typing.{procedure_typed, trigger_typed, trigger_schema, input_schema, schemas_of, step_typed, inner_typed, target_schema}
 use Rattle.ss_model.proofs.Truths.{first_of_two, second_of_two, at_place}
-use Rattle.ss_proc.proofs.OfTables.{no_windows}
 use Rattle.ss_plan.specs.Statements.{FitsTables, FitsTarget}
-use Rattle.ss_proc.specs.Executions.{is_of_tables, StepRuns, WritesTables}
+use Rattle.ss_proc.specs.Executions.{InnerRuns, StepRuns, MayRun}
 
 -- ---- what the form says
 
 numbers_of : (catalog : Catalog) → has_form catalog ≡ true → numbers_in_range catalog ≡ true
 numbers_of catalog h = second_of_two _ _ (first_of_two _ _ (first_of_two _ _ (first_of_two _ _ (first_of_two _ _ (first_of_two _ _ h)))))
+
+limits_of : (catalog : Catalog) → has_form catalog ≡ true → is_within_limits catalog ≡ true
+limits_of catalog h = second_of_two _ _ (first_of_two _ _ (first_of_two _ _ (first_of_two _ _ (first_of_two _ _ h))))
 
 abbrev key_in_range : TableDef → Bool
 key_in_range d = list_all (λ c. nat_lt c (length d.schema)) d.key
@@ -39,10 +43,13 @@ key_in_range d = list_all (λ c. nat_lt c (length d.schema)) d.key
 keys_of : (catalog : Catalog) → numbers_in_range catalog ≡ true → list_all key_in_range catalog.tables ≡ true
 keys_of catalog h = first_of_two _ _ (first_of_two _ _ (first_of_two _ _ (first_of_two _ _ h)))
 
--- ---- no window
-
-none_below : (n : ℕ) → n ≡ 0 → (s : ℕ) → nat_lt s n ≡ true → ⊥
-none_below n e s h = let l : s < n = ltb-true s n h in absurd (omega arith)
+-- the first five of the twelve counts
+counts_of : (catalog : Catalog) → is_within_limits catalog ≡ true → (length catalog.streams ≤ 32) × (length catalog.windows ≤ 32) × (length catalog.triggers ≤ 64)
+counts_of catalog h =
+    let five = first_of_two _ _ (first_of_two _ _ (first_of_two _ _ (first_of_two _ _ (first_of_two _ _ (first_of_two _ _ (first_of_two _ _ h)))))) in
+    let four = first_of_two _ _ five in
+    let three = first_of_two _ _ four in
+    (leb-true _ _ (second_of_two _ _ (first_of_two _ _ three)), leb-true _ _ (second_of_two _ _ three), leb-true _ _ (second_of_two _ _ four))
 
 -- ---- what typing says
 
@@ -85,54 +92,73 @@ key_below (d ∷ ds) (suc t) h = key_below ds t (second_of_two _ _ h)
 
 -- ---- statements
 
-module _ (catalog : Catalog) (keys : list_all key_in_range catalog.tables ≡ true) (none : catalog.windows ≡ []) (inputs : List ℕ) (params : List Column) where
-  abbrev here : Schemas
-  here = schemas_of catalog inputs [] params
-
-  abbrev in_scope : Statement → Bool
-  in_scope = statement_in_scope catalog (length inputs) false
-
-  target_fits : (count : ℕ) (target : Target) → count ≡ length (target_schema catalog target) → target_in_scope catalog (length inputs) false target ≡ true → FitsTarget catalog count target
-  target_fits count (IntoTable t) e scope =
+module _ (catalog : Catalog) (keys : list_all key_in_range catalog.tables ≡ true) where
+  target_fits : (count inputs : ℕ) (inserted : Bool) (target : Target) → count ≡ length (target_schema catalog target) → target_in_scope catalog inputs inserted target ≡ true → FitsTarget catalog count target
+  target_fits count inputs inserted (IntoTable t) e scope =
       (ltb-true t (length catalog.tables) scope, subst (λ n. AllByRecursion (λ k. k < n) (key_columns (slice_get catalog.tables t))) (sym e) (key_below catalog.tables t keys))
-  target_fits count (IntoWindow w) e scope = tt
+  target_fits count inputs inserted (IntoWindow w) e scope = ltb-true w (length catalog.windows) scope
 
-  fits : (s : Statement) → statement_typed here s ≡ true → in_scope s ≡ true → FitsTables catalog s
-  fits (InsertValues target values) typed scope =
-      target_fits (length values) target (sym (length-map values (expr_type [] params)) ∙ fits_count _ _ typed) scope
-  fits (InsertQuery target q) typed scope =
-      target_fits (length q.items) target (sym (length-map q.items _) ∙ fits_count (query_types here q) (target_schema catalog target) (second_of_two _ _ typed)) (first_of_two _ _ scope)
-  fits (Update t sets test) typed scope = (ltb-true t (length catalog.tables) scope, keys_stay here _ _ [] sets (first_of_two _ _ typed))
-  fits (Delete t test) typed scope = ltb-true t (length catalog.tables) scope
+  fits : (inputs : List ℕ) (inserted params : List Column) (count : ℕ) (has_inserted : Bool) (s : Statement) → statement_typed (schemas_of catalog inputs inserted params) s ≡ true → statement_in_scope catalog count has_inserted s ≡ true → FitsTables catalog s
+  fits inputs inserted params count has (InsertValues target values) typed scope =
+      target_fits (length values) count has target (sym (length-map values (expr_type [] params)) ∙ fits_count _ _ typed) scope
+  fits inputs inserted params count has (InsertQuery target q) typed scope =
+      target_fits (length q.items) count has target (sym (length-map q.items _) ∙ fits_count (query_types (schemas_of catalog inputs inserted params) q) (target_schema catalog target) (second_of_two _ _ typed)) (first_of_two _ _ scope)
+  fits inputs inserted params count has (Update t sets test) typed scope = (ltb-true t (length catalog.tables) scope, keys_stay (schemas_of catalog inputs inserted params) _ _ [] sets (first_of_two _ _ typed))
+  fits inputs inserted params count has (Delete t test) typed scope = ltb-true t (length catalog.tables) scope
 
-  no_such : (w : ℕ) → nat_lt w (length catalog.windows) ≡ true → ⊥
-  no_such w h = none_below (length catalog.windows) (ap length none) w h
+  -- ---- triggers
 
-  writes : (s : Statement) → in_scope s ≡ true → WritesTables s
-  writes (InsertValues (IntoTable t) values) scope = tt
-  writes (InsertValues (IntoWindow w) values) scope = no_such w scope
-  writes (InsertQuery (IntoTable t) q) scope = tt
-  writes (InsertQuery (IntoWindow w) q) scope = no_such w (first_of_two _ _ scope)
-  writes (Update t sets test) scope = tt
-  writes (Delete t test) scope = tt
+  statements_fit : (inserted : List Column) (has : Bool) (ss : List Statement) → list_all (statement_typed (schemas_of catalog [] inserted [])) ss ≡ true → list_all (statement_in_scope catalog 0 has) ss ≡ true → AllByRecursion (FitsTables catalog) ss
+  statements_fit inserted has [] typed scope = tt
+  statements_fit inserted has (s ∷ ss) typed scope =
+      (fits [] inserted [] 0 has s (first_of_two _ _ typed) (first_of_two _ _ scope), statements_fit inserted has ss (second_of_two _ _ typed) (second_of_two _ _ scope))
+
+  triggers_fit : (ts : List TriggerDef) → list_all (trigger_typed catalog) ts ≡ true → list_all (trigger_in_scope catalog) ts ≡ true → AllByRecursion (λ t. AllByRecursion (FitsTables catalog) t.statements) ts
+  triggers_fit [] typed scope = tt
+  triggers_fit (t ∷ ts) typed scope =
+      (statements_fit (trigger_schema catalog t.on) (is_on_a_stream t.on) t.statements (first_of_two _ _ typed) (first_of_two _ _ scope), triggers_fit ts (second_of_two _ _ typed) (second_of_two _ _ scope))
 
   -- ---- steps
 
-  step_runs : (s : Step) → IsCallStep s → step_typed catalog inputs [] params s ≡ true → step_in_scope catalog (length inputs) false s ≡ true → StepRuns catalog s
-  step_runs (Sql s) call typed scope = (fits s typed scope, writes s scope)
-  step_runs (AbortIf c code) call typed scope = tt
-  step_runs (Return q) call typed scope = tt
-  step_runs (ForEach input body) call typed scope = call
-  step_runs (Emit s q) call typed scope = call
+  module _ (inputs : List ℕ) where
+    inners_run : (params : List Column) (body : List Inner) → list_all (inner_typed catalog inputs [] params) body ≡ true → list_all (inner_in_scope catalog (length inputs) false) body ≡ true → AllByRecursion (InnerRuns catalog) body
+    inners_run params [] typed scope = tt
+    inners_run params (InnerSql s ∷ body) typed scope = (fits inputs [] params (length inputs) false s (first_of_two _ _ typed) (first_of_two _ _ scope), inners_run params body (second_of_two _ _ typed) (second_of_two _ _ scope))
+    inners_run params (InnerAbortIf c code ∷ body) typed scope = (tt, inners_run params body (second_of_two _ _ typed) (second_of_two _ _ scope))
 
-  steps_run : (steps : List Step) → AllByRecursion IsCallStep steps → list_all (step_typed catalog inputs [] params) steps ≡ true → list_all (step_in_scope catalog (length inputs) false) steps ≡ true → AllByRecursion (StepRuns catalog) steps
-  steps_run [] call typed scope = tt
-  steps_run (s ∷ steps) call typed scope =
-      (step_runs s call.0 (first_of_two _ _ typed) (first_of_two _ _ scope), steps_run steps call.1 (second_of_two _ _ typed) (second_of_two _ _ scope))
+    step_runs : (params : List Column) (s : Step) → step_typed catalog inputs [] params s ≡ true → step_in_scope catalog (length inputs) false s ≡ true → StepRuns catalog s
+    step_runs params (Sql s) typed scope = fits inputs [] params (length inputs) false s typed scope
+    step_runs params (AbortIf c code) typed scope = tt
+    step_runs params (ForEach input body) typed scope = inners_run (input_schema catalog inputs [] input) body (second_of_two _ _ typed) (second_of_two _ _ scope)
+    step_runs params (Emit s q) typed scope = tt
+    step_runs params (Return q) typed scope = tt
 
--- each step of a call may run
-pub fits_steps : (catalog : Catalog) → Accepted catalog → is_of_tables catalog ≡ true → (q : ℕ) (p : Procedure) → slice_get catalog.procedures q ≡ Some p → is_call p.kind ≡ true → AllByRecursion (StepRuns catalog) p.body
-fits_steps catalog accepted h q p is call =
-    let typed : procedure_typed catalog p ≡ true = at_place (procedure_typed catalog) catalog.procedures (first_of_two _ _ accepted.typed) q p is in
-    let scope : procedure_in_scope catalog p ≡ true = at_place (procedure_in_scope catalog) catalog.procedures (first_of_two _ _ accepted.in_scope) q p is in
-    steps_run catalog (keys_of catalog (numbers_of catalog accepted.form)) (no_windows catalog accepted h) p.inputs p.args p.body (accepted.call_steps q p is call) typed scope
+    steps_run : (params : List Column) (steps : List Step) → list_all (step_typed catalog inputs [] params) steps ≡ true → list_all (step_in_scope catalog (length inputs) false) steps ≡ true → AllByRecursion (StepRuns catalog) steps
+    steps_run params [] typed scope = tt
+    steps_run params (s ∷ steps) typed scope =
+        (step_runs params s (first_of_two _ _ typed) (first_of_two _ _ scope), steps_run params steps (second_of_two _ _ typed) (second_of_two _ _ scope))
+
+module _ (catalog : Catalog) (accepted : Accepted catalog) where
+  all_keys : list_all key_in_range catalog.tables ≡ true
+  all_keys = keys_of catalog (numbers_of catalog accepted.form)
+
+  pub few_streams : length catalog.streams ≤ 32
+  few_streams = (counts_of catalog (limits_of catalog accepted.form)).0
+
+  pub few_windows : length catalog.windows ≤ 32
+  few_windows = (counts_of catalog (limits_of catalog accepted.form)).1
+
+  -- executions may run
+  pub may_run : MayRun catalog
+  may_run = record {
+    keyed = accepted.keyed;
+    triggers = triggers_fit catalog all_keys catalog.triggers (second_of_two _ _ accepted.typed) (second_of_two _ _ accepted.in_scope);
+    few = (counts_of catalog (limits_of catalog accepted.form)).2;
+  }
+
+  -- each step of each procedure may run
+  pub body_fits : (q : ℕ) (p : Procedure) → slice_get catalog.procedures q ≡ Some p → AllByRecursion (StepRuns catalog) p.body
+  body_fits q p is =
+      let typed : procedure_typed catalog p ≡ true = at_place (procedure_typed catalog) catalog.procedures (first_of_two _ _ accepted.typed) q p is in
+      let scope : procedure_in_scope catalog p ≡ true = at_place (procedure_in_scope catalog) catalog.procedures (first_of_two _ _ accepted.in_scope) q p is in
+      steps_run catalog all_keys p.inputs p.args p.body typed scope

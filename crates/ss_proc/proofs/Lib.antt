@@ -1,5 +1,9 @@
-pub mod OfTables
+pub mod Firing
+pub mod Apart
+pub mod Emitting
+pub mod Owned
+pub mod Whole
+pub mod Batches
+pub mod Standing
 pub mod Fitting
-mod Meant
-mod Calls
 pub mod Premises

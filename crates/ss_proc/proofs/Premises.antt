@@ -1,21 +1,24 @@
--- What an execution asks for, at a catalogue of accounts that are split by their number.
-use Rattle.std.proofs.Common.{◌≡◌, pos, [], ◌∷◌, true, refl}
+-- What an execution asks for, at a catalogue with a window, a trigger on it and a procedure that fills it.
+use Rattle.std.proofs.Common.{◌≡◌, true, refl}
 use Rattle.std.specs.List.{AllByRecursion}
-use Rattle.ss_value.specs.declared.value.Value.TheVariants.{Int}
-use Rattle.ss_model.specs.declared.entry.Entry.TheVariants.{Call}
+use Rattle.ss_model.specs.declared.entry.Entry.TheVariants.{Step as StepEntry}
 use Rattle.ss_model.specs.Database.{fits_entry}
-use Rattle.ss_model.proofs.ByAccount.{by_account, opens, accepted}
-use Rattle.ss_proc.specs.Executions.{is_of_tables, StepRuns}
-use Rattle.ss_proc.proofs.Fitting.{fits_steps}
+use Rattle.ss_model.proofs.SlidingSeen.{sliding_seen, fills, accepted}
+use Rattle.ss_proc.specs.Executions.{MayRun, StepRuns}
+use Rattle.ss_proc.specs.Entries.{RunsBody}
+use Rattle.ss_proc.proofs.Fitting.{may_run, body_fits}
 
--- it is accepted, and has no stream
-pub of_tables : is_of_tables by_account ≡ true
-of_tables = refl
-
--- a call of it fits
-pub fits : fits_entry by_account (Call 0 0 0 (Int (pos 1) ∷ Int (pos 5) ∷ [])) ≡ true
+-- a step of it fits, and has a body that is run
+pub fits : fits_entry sliding_seen (StepEntry 0 0) ≡ true
 fits = refl
 
--- and its body may run
-pub runs : AllByRecursion (StepRuns by_account) opens.body
-runs = fits_steps by_account accepted of_tables 0 opens refl refl
+pub has_body : RunsBody (StepEntry 0 0)
+has_body = tt
+
+-- executions of it may run
+pub may : MayRun sliding_seen
+may = may_run sliding_seen accepted
+
+-- and the body of the step is one that may
+pub runs : AllByRecursion (StepRuns sliding_seen) fills.body
+runs = body_fits sliding_seen accepted 0 fills refl

@@ -1,66 +1,82 @@
--- What is run so far, and what an execution leaves.
-use Rattle.std.specs.Prelude.{◌≡◌, ◌==◌, ℕ, Bool, true, ◌++◌, length, slice_get, Some, Ok}
+-- What an execution is given, how far it is, and what it leaves.
+use Rattle.std.specs.Prelude.{◌≡◌, ◌≤◌, ℕ, [], ◌++◌, replicate, length, slice_get, Some, Ok}
 use Rattle.std.specs.List.{AllByRecursion}
-use Rattle.ss_value.specs.Rows.{Rows}
-use Rattle.ss_sql_lex.specs.declared.typed.Target.TheVariants.{Table as IntoTable}
-use Rattle.ss_sql_lex.specs.declared.typed.Statement.{Statement}
-use Rattle.ss_sql_lex.specs.declared.typed.Statement.TheVariants.{InsertValues, InsertQuery, Update, Delete}
+use Rattle.std.specs.Option.{option_map}
+use Rattle.ss_value.specs.Rows.{Rows, column_value}
 use Rattle.ss_model.specs.declared.catalog.Catalog.{Catalog}
-use Rattle.ss_model.specs.declared.catalog.Procedure.{Procedure}
+use Rattle.ss_model.specs.declared.catalog.Inner.{Inner}
+use Rattle.ss_model.specs.declared.catalog.Inner.TheVariants.{Sql as InnerSql, AbortIf as InnerAbortIf}
 use Rattle.ss_model.specs.declared.catalog.Step.{Step}
-use Rattle.ss_model.specs.declared.catalog.Step.TheVariants.{Sql, AbortIf, Return}
-use Rattle.ss_model.specs.declared.entry.Entry.{Entry}
-use Rattle.ss_model.specs.declared.entry.Outcome.{Outcome}
+use Rattle.ss_model.specs.declared.catalog.Step.TheVariants.{Sql, AbortIf, ForEach, Emit, Return}
 use Rattle.ss_model.specs.declared.entry.Reason.TheVariants.{ReplyFull}
+use Rattle.ss_model.specs.declared.catalog.Procedure.{Procedure}
 use Rattle.ss_model.specs.Accepted.{Accepted}
-use Rattle.ss_model.specs.Database.{is_call}
 use Rattle.ss_model.specs.Results.{OrAbort, abort_when}
-use Rattle.ss_model.specs.Statements.{Execution}
-use Rattle.ss_model.specs.Bodies.{execution_start, exceeds_row_limit}
-use Rattle.ss_model.specs.Replays.{entry_outcome, database_after}
-use Rattle.ss_shard.specs.Contents.{contents_of}
+use Rattle.ss_model.specs.Statements.{Context, Execution}
+use Rattle.ss_model.specs.Bodies.{exceeds_row_limit}
 use Rattle.ss_shard.specs.HeldShard.{HeldShard}
-use Rattle.ss_shard.specs.Shards.{HasTables, HasIndexes, CanGoBack}
-use Rattle.ss_shard.specs.Databases.{database_of}
-use Rattle.ss_plan.specs.Statements.{FitsTables}
+use Rattle.ss_shard.specs.Contents.{contents_of}
+use Rattle.ss_plan.specs.Statements.{FitsTables, SplitByKeys}
+use Rattle.ss_proc.specs.declared.work.Given.{Given}
+use Rattle.ss_proc.specs.declared.work.Work.{Work}
 
--- a catalogue without a stream: of tables and calls alone, since windows, triggers and other procedures want one
-abbrev pub is_of_tables : Catalog → Bool
-is_of_tables catalog = length catalog.streams == 0
+-- what an execution is given, to the model
+abbrev pub context_of : Given → Context
+context_of g = record {
+  catalog = g.catalog.now;
+  procedure = g.procedure;
+  args = g.args.now;
+  batches = g.batches.now;
+  split_value = option_map (λ a. column_value g.args.now a) g.arg;
+}
 
--- an entry came to this outcome, the shard holds what it leaves, and it can be taken back
-pub record Ran (catalog : Catalog) (old new : HeldShard) (e : Entry) (outcome : Outcome) : Type 0 where
-  pub answers : entry_outcome catalog (database_of catalog old.tables) e ≡ Some outcome
-  pub leaves : database_of catalog new.tables ≡ database_after catalog (database_of catalog old.tables) e
-  pub tables : HasTables catalog new.tables
-  pub indexes : HasIndexes catalog new
-  pub back : CanGoBack old.tables new
+-- how far it is: tables and windows as the shard has them, and the rest as the work has it
+abbrev pub execution_of : HeldShard → Work → Execution
+execution_of shard work = record {
+  contents = contents_of shard;
+  open_units = work.open_units;
+  emitted = work.emitted;
+  reply = work.reply;
+}
 
--- the target is a table
-abbrev pub WritesTables : Statement → Type 0
-WritesTables (InsertValues (IntoTable t) vs) = Unit {0}
-WritesTables (InsertQuery (IntoTable t) q) = Unit {0}
-WritesTables (Update t sets test) = Unit {0}
-WritesTables (Delete t test) = Unit {0}
-WritesTables _ = ⊥
+-- no unit, no batch and no reply yet
+abbrev pub empty_work : Catalog → Work
+empty_work catalog = record {
+  open_units = replicate (length catalog.windows) [];
+  emitted = replicate (length catalog.streams) [];
+  reply = [];
+}
 
--- a step that may run: its rows have the key of their table, which is there, and no window is its target
+-- ---- what may run
+
+-- what every trigger of a catalogue inserts has its target's key, and its target is there
+abbrev pub TriggersFit : Catalog → Type 0
+TriggersFit catalog = AllByRecursion (λ t. AllByRecursion (FitsTables catalog) t.statements) catalog.triggers
+
+-- executions may run: tables are split by their keys, and triggers, of which there are at most 64, fit
+pub record MayRun (catalog : Catalog) : Type 0 where
+  pub keyed : SplitByKeys catalog
+  pub triggers : TriggersFit catalog
+  pub few : length catalog.triggers ≤ 64
+
+-- a step of a `for_each` that may run: its rows have the key of their table, and its target is there
+abbrev pub InnerRuns : Catalog → Inner → Type 0
+InnerRuns catalog (InnerSql s) = FitsTables catalog s
+InnerRuns catalog (InnerAbortIf c code) = Unit {0}
+
+-- a step that may run
 abbrev pub StepRuns : Catalog → Step → Type 0
-StepRuns catalog (Sql s) = FitsTables catalog s × WritesTables s
+StepRuns catalog (Sql s) = FitsTables catalog s
 StepRuns catalog (AbortIf c code) = Unit {0}
+StepRuns catalog (ForEach input body) = AllByRecursion (InnerRuns catalog) body
+StepRuns catalog (Emit s q) = Unit {0}
 StepRuns catalog (Return q) = Unit {0}
-StepRuns catalog _ = ⊥
-
--- an execution so far: its tables as the shard has them, and its reply
-abbrev pub execution_of : Catalog → HeldShard → Rows → Execution
-execution_of catalog shard reply = record (execution_start catalog (contents_of shard.tables)) { reply = reply }
 
 -- the reply with rows behind it, or the abort where that is more than it may have
 abbrev pub longer_reply : Rows → Rows → OrAbort Rows
 longer_reply reply rows = abort_when (exceeds_row_limit reply rows) ReplyFull (Ok (reply ++ rows))
 
--- law: bodies of calls of an accepted catalogue without a stream may run
+-- law: executions of an accepted catalogue may run
 abbrev pub BodiesRun : Type 0
 BodiesRun =
-    (catalog : Catalog) → Accepted catalog → is_of_tables catalog ≡ true → (q : ℕ) (p : Procedure) → slice_get catalog.procedures q ≡ Some p → is_call p.kind ≡ true →
-    AllByRecursion (StepRuns catalog) p.body
+    (catalog : Catalog) → Accepted catalog → MayRun catalog × ((q : ℕ) (p : Procedure) → slice_get catalog.procedures q ≡ Some p → AllByRecursion (StepRuns catalog) p.body)

@@ -1,2 +1,3 @@
 pub mod Executions
-pub mod Steps
+pub mod Meanings
+pub mod Entries

@@ -1,24 +1,37 @@
-//! The whole body of a call procedure.
+//! The whole body of a procedure.
 
-ghost use Rattle.std.specs.Prelude.{◌≡◌, [], None, IfOk, OnErr};
+ghost use Rattle.std.specs.Prelude.{◌≡◌, ◌≤◌, length, IfOk, OnErr, IfErr};
 ghost use Rattle.std.specs.List.{AllByRecursion};
 ghost use Rattle.std.specs.Option.{option_map};
 ghost use Rattle.ss_value.specs.Rows.{Row, column_value};
+ghost use Rattle.ss_model.specs.Bodies.{run_body};
 ghost use Rattle.ss_model.specs.Database.{split_value_for};
-ghost use Rattle.ss_shard.specs.Shards.{HasTables, HasIndexes, CanGoBack, IsSettled};
-ghost use Rattle.ss_plan.specs.Statements.{SplitByKeys};
-ghost use Rattle.ss_proc.specs.Executions.{StepRuns};
-ghost use Rattle.ss_proc.specs.Steps.{BodyRan};
+ghost use Rattle.ss_operators.specs.Stops.{StopsAs};
+ghost use Rattle.ss_shard.specs.Contents.{contents_of};
+ghost use Rattle.ss_shard.specs.Shards.{IsOf, Changed, CanGoBack, Same, IsSettled};
+ghost use Rattle.ss_proc.specs.Executions.{context_of, MayRun, StepRuns};
+ghost use Rattle.ss_proc.specs.Meanings.{BodyDone, BodyLeaves};
 
 use crate::steps::execute_steps;
-use ss_model::catalog::{Catalog, Step, Touch};
+use crate::windows::close_owned;
+use crate::work::{Given, Work, empty_lists, empty_work};
+use ss_model::catalog::{Step, Touch};
 use ss_model::entry::Outcome;
 use ss_operators::run_error::RunError;
-use ss_rows::frame::Frame;
 use ss_shard::shard::Shard;
 use ss_value::NoMemory;
 use ss_value::seq::Seq;
+use ss_value::value::Rows;
 use std::alloc::Global;
+
+/// What a body leaves beside its shard: its outcome, and its batch for each stream.
+#[derive(Drop)]
+pub struct BodyResult {
+    /// The outcome.
+    pub outcome: Outcome,
+    /// The batches, by stream.
+    pub emitted: Seq<Rows>,
+}
 
 /// The argument whose value limits what an execution sees of split tables, in a procedure that touches the partition
 /// of an argument.
@@ -31,38 +44,64 @@ pub fn touched_argument(touch: &Touch) -> Option<u8>
     }
 }
 
-/// Runs the body of a call procedure on a shard between executions, all of it or nothing.
+/// Runs the steps of a body, and then closes the procedure's windows of batches, in written order.
 ///
-/// Answers the outcome that the body has: the reply, or an abort, which leaves the tables from before. Fails only for
-/// want of memory, which leaves the shard as it was. Costs the steps, and for an abort at most as much again.
+/// Aborts as the definition says. What was changed by then is noted in the shard.
+fn run_steps(
+    alloc: Global,
+    given: &Given,
+    body: &[Step],
+    shard: &mut Shard,
+) -> Result<Work, RunError>
+    requires of_catalog { IsOf given.now.catalog.now shard.old }
+    requires runs { MayRun given.now.catalog.now }
+    requires fits { AllByRecursion (StepRuns given.now.catalog.now) body.now }
+    requires few { length given.now.catalog.now.windows ≤ 32 }
+    ensures done { IfOk result (BodyDone given.now body.now shard.old shard.new) }
+    ensures stops { IfErr result (StopsAs (run_body (context_of given.now) body.now (contents_of shard.old))) }
+    ensures changed { Changed shard.old shard.new }
+{
+    let mut work = empty_work(alloc, given.catalog)?;
+    execute_steps(alloc, given, body, shard, &mut work)?;
+    close_owned(alloc, given, shard, &mut work)?;
+    Ok(work)
+}
+
+/// Runs the body of a procedure on a shard between executions, all of it or nothing.
+///
+/// Answers what the body comes to: done with its reply and batches, or an abort, which leaves the tables and windows from
+/// before and empty batches. Fails only for want of memory, which leaves the shard as it was. Costs the steps and what their
+/// triggers do, and for an abort at most as much again.
 ///
 /// Source: transaction executions of S-Store (Meehan et al., PVLDB 8, 2015, section 2).
 pub fn run_body(
     alloc: Global,
-    catalog: &Catalog,
-    shard: &mut Shard,
+    given: &Given,
     body: &[Step],
-    frame: &Frame,
-) -> Result<Outcome, NoMemory>
-    requires settled { IsSettled catalog.now shard.old }
-    requires no_window { catalog.now.windows ≡ [] }
-    requires keyed { SplitByKeys catalog.now }
-    requires runs { AllByRecursion (StepRuns catalog.now) body.now }
-    requires by_args { frame.now.current ≡ None }
-    ensures ran { IfOk result (BodyRan catalog.now frame.now body.now shard.old shard.new) }
-    ensures number { shard.new.number ≡ shard.old.number }
-    ensures tables { HasTables catalog.now shard.new.tables }
-    ensures indexes { HasIndexes catalog.now shard.new }
-    ensures back { IfOk result (λ outcome. CanGoBack shard.old.tables shard.new) }
-    ensures kept { OnErr result (shard.new.tables ≡ shard.old.tables) }
-    ensures settled { OnErr result (IsSettled catalog.now shard.new) }
+    shard: &mut Shard,
+) -> Result<BodyResult, NoMemory>
+    requires settled { IsSettled given.now.catalog.now shard.old }
+    requires runs { MayRun given.now.catalog.now }
+    requires fits { AllByRecursion (StepRuns given.now.catalog.now) body.now }
+    requires few { length given.now.catalog.now.windows ≤ 32 }
+    ensures ran { IfOk result (BodyLeaves given.now body.now shard.old shard.new) }
+    ensures of_catalog { IsOf given.now.catalog.now shard.new }
+    ensures back { IfOk result (λ left. CanGoBack shard.old shard.new) }
+    ensures kept { OnErr result (Same shard.old shard.new) }
+    ensures settled { OnErr result (IsSettled given.now.catalog.now shard.new) }
 {
-    let mut reply = Seq::new(alloc);
-    match execute_steps(alloc, catalog, shard, body, frame, &mut reply) {
-        Ok(()) => Ok(Outcome::Done(reply)),
+    match run_steps(alloc, given, body, shard) {
+        Ok(work) => Ok(BodyResult {
+            outcome: Outcome::Done(work.reply),
+            emitted: work.emitted,
+        }),
         Err(RunError::Abort(reason)) => {
             shard.roll_back();
-            Ok(Outcome::Aborted(reason))
+            let emitted = empty_lists(alloc, given.catalog.streams.len())?;
+            Ok(BodyResult {
+                outcome: Outcome::Aborted(reason),
+                emitted,
+            })
         }
         Err(RunError::NoMemory) => {
             shard.roll_back();

@@ -2,19 +2,19 @@
 
 ghost use Rattle.std.specs.Prelude.{◌≡◌, OnOk, IfErr, Ok};
 ghost use Rattle.ss_model.specs.Statements.{Execution};
-ghost use Rattle.ss_model.specs.Bodies.{check_condition};
+ghost use Rattle.ss_model.specs.Bodies.{check_condition, execute_abort_if};
 ghost use Rattle.ss_operators.specs.Stops.{StopsAs};
-ghost use Rattle.ss_shard.specs.Shards.{HasTables};
+ghost use Rattle.ss_shard.specs.Shards.{IsOf};
 ghost use Rattle.ss_plan.specs.Statements.{SplitByKeys};
-ghost use Rattle.ss_proc.specs.Steps.{GoesOn, AbortIfStops};
+ghost use Rattle.ss_proc.specs.Executions.{context_of};
+ghost use Rattle.ss_proc.specs.Meanings.{Brings, StepStops};
 
-use ss_model::catalog::Catalog;
+use crate::statements::execution_query;
+use crate::work::{Given, Work};
 use ss_model::entry::Reason;
 use ss_operators::operators::cmp_holds;
 use ss_operators::run_error::RunError;
-use ss_plan::query::query_shard;
 use ss_rows::expressions::evaluate;
-use ss_rows::frame::Frame;
 use ss_rows::operand::lent_or_zero;
 use ss_rows::tuple::{Tuple, column_in};
 use ss_shard::shard::Shard;
@@ -54,17 +54,19 @@ fn check_condition<'a>(
 /// the right side.
 pub fn abort_if(
     alloc: Global,
-    catalog: &Catalog,
-    shard: &Shard,
+    given: &Given,
+    params: &Row,
     test: &Condition,
     code: i64,
-    frame: &Frame,
+    shard: &Shard,
+    work: &Work,
 ) -> Result<(), RunError>
-    requires tables { HasTables catalog.now shard.now.tables }
-    requires keyed { SplitByKeys catalog.now }
-    ensures done { OnOk result (GoesOn catalog.now frame.now test.now code shard.now) }
-    ensures stops { IfErr result (AbortIfStops catalog.now frame.now test.now code shard.now) }
+    requires of_catalog { IsOf given.now.catalog.now shard.now }
+    requires keyed { SplitByKeys given.now.catalog.now }
+    ensures done { OnOk result (Brings (execute_abort_if (context_of given.now) params.now test.now code) shard.now work.now shard.now work.now) }
+    ensures stops { IfErr result (StepStops (execute_abort_if (context_of given.now) params.now test.now code) shard.now work.now) }
 {
-    let rows = query_shard(alloc, catalog, shard, &test.query, frame)?;
-    check_condition(alloc, frame.params(), test, code, &rows)
+    let _ = &work.reply;
+    let rows = execution_query(alloc, given, params, &test.query, shard)?;
+    check_condition(alloc, params, test, code, &rows)
 }

@@ -1,18 +1,22 @@
 //! What runs an entry.
 
-ghost use Rattle.std.specs.Prelude.{◌≡◌, [], true, IfOk, OnErr};
+ghost use Rattle.std.specs.Prelude.{◌≡◌, ◌≤◌, ◌<◌, true, length, slice_get, IfOk, OnErr};
 ghost use Rattle.ss_model.specs.Accepted.{Accepted};
 ghost use Rattle.ss_model.specs.Database.{fits_entry};
-ghost use Rattle.ss_shard.specs.Shards.{IsSettled};
-ghost use Rattle.ss_proc.specs.Executions.{is_of_tables, Ran};
+ghost use Rattle.ss_shard.specs.HeldShard.{HeldShard};
+ghost use Rattle.ss_shard.specs.Shards.{IsOf, CanGoBack, Same, IsSettled};
+ghost use Rattle.ss_proc.specs.Entries.{RunsBody, IsNext, batches_by, ProcedureRan, RanOnEach};
 
-use crate::bodies::{run_body, touched_argument};
+use crate::bodies::{BodyResult, run_body, touched_argument};
+use crate::outputs::emitted_batches;
+use crate::work::Given;
 use ss_model::catalog::Catalog;
 use ss_model::entry::{Emitted, Entry, Outcome};
-use ss_rows::frame::Frame;
+use ss_plan::inputs::Inputs;
 use ss_shard::shard::Shard;
 use ss_value::NoMemory;
 use ss_value::seq::Seq;
+use ss_value::value::{Row, Rows};
 use std::alloc::Global;
 
 /// What an execution came to.
@@ -20,7 +24,7 @@ use std::alloc::Global;
 pub struct Executed {
     /// Its outcome.
     pub outcome: Outcome,
-    /// The batch that it emitted to each of its procedure's streams. A call has none.
+    /// The batch that it emitted to each of its procedure's streams, in rising order. A call has none.
     pub emitted: Seq<Emitted>,
 }
 
@@ -29,25 +33,29 @@ pub struct Executed {
 /// An execution is a transaction: it changes all that its body changes, or nothing (Meehan et al., PVLDB 8, 2015, section
 /// 2.3).
 pub trait Runner {
-    /// Runs an entry on a shard between executions. The caller then keeps it or takes it back, by `ends`.
+    /// Runs a call or a step on a shard between executions, on the batches that it takes. The caller then keeps it or takes
+    /// it back, by `ends`.
     ///
-    /// Answers exactly the outcome that the entry has, and leaves the tables that it leaves: after an abort those from
-    /// before. Fails only for want of memory, which leaves the shard as it was.
+    /// Answers exactly the outcome and the batches that the entry has on whatever database the shard stands for, and leaves
+    /// the tables and windows that it leaves: after an abort those from before, with empty batches. The counts stay until
+    /// the entry is kept. Fails only for want of memory, which leaves the shard as it was.
     fn execute(
         &self,
         alloc: Global,
         catalog: &Catalog,
         shard: &mut Shard,
+        inputs: &Inputs,
         entry: &Entry,
     ) -> Result<Executed, NoMemory>
         requires accepted { Accepted catalog.now }
-        requires tables_alone { is_of_tables catalog.now ≡ true }
         requires fits { fits_entry catalog.now entry.now ≡ true }
+        requires body { RunsBody entry.now }
+        requires next { IsNext entry.now shard.old }
         requires settled { IsSettled catalog.now shard.old }
-        ensures ran { IfOk result (λ e. Ran catalog.now shard.old shard.new entry.now e.outcome) }
-        ensures emitted { IfOk result (λ e. e.emitted ≡ []) }
-        ensures number { shard.new.number ≡ shard.old.number }
-        ensures kept { OnErr result (shard.new.tables ≡ shard.old.tables) }
+        ensures ran { IfOk result (RanOnEach catalog.now shard.old shard.new entry.now inputs.now.batches.now) }
+        ensures of_catalog { IsOf catalog.now shard.new }
+        ensures back { IfOk result (λ e. CanGoBack shard.old shard.new) }
+        ensures kept { OnErr result (Same shard.old shard.new) }
         ensures settled { OnErr result (IsSettled catalog.now shard.new) };
 }
 
@@ -55,37 +63,105 @@ pub trait Runner {
 #[derive(Clone, Copy, Debug, PartialEq, Eq, Drop)]
 pub struct PlainRunner;
 
+/// Runs the body of a procedure with these arguments and batches, all of it or nothing.
+fn run_procedure(
+    alloc: Global,
+    catalog: &Catalog,
+    number: u16,
+    args: &Row,
+    batches: &[Rows],
+    shard: &mut Shard,
+) -> Result<BodyResult, NoMemory>
+    requires accepted { Accepted catalog.now }
+    requires there { number < length catalog.now.procedures }
+    requires settled { IsSettled catalog.now shard.old }
+    ensures ran { IfOk result (ProcedureRan catalog.now number args.now batches.now shard.old shard.new) }
+    ensures of_catalog { IsOf catalog.now shard.new }
+    ensures back { IfOk result (λ left. CanGoBack shard.old shard.new) }
+    ensures kept { OnErr result (Same shard.old shard.new) }
+    ensures settled { OnErr result (IsSettled catalog.now shard.new) }
+{
+    let Some(procedure) = catalog.procedures.get(usize::from(number)) else {
+        unreachable!()
+    };
+    let given = Given {
+        catalog,
+        procedure: number,
+        args,
+        arg: touched_argument(&procedure.touch),
+        batches,
+    };
+    run_body(alloc, &given, procedure.body.as_slice(), shard)
+}
+
+/// The batches that a body leaves, of the streams that its procedure emits to. Where there is no memory for them all is
+/// taken back.
+fn with_outputs(
+    alloc: Global,
+    catalog: &Catalog,
+    number: u16,
+    left: BodyResult,
+    shard: &mut Shard,
+) -> Result<Executed, NoMemory>
+    requires there { number < length catalog.now.procedures }
+    requires few { length catalog.now.streams ≤ 32 }
+    requires back { (before : HeldShard) × CanGoBack before shard.old × IsOf catalog.now before }
+    ensures outcome { IfOk result (λ e. e.outcome ≡ left.outcome) }
+    ensures emitted { IfOk result (λ e. e.emitted ≡ batches_by catalog.now left.emitted (slice_get catalog.now.procedures number)) }
+    ensures stays { IfOk result (λ e. shard.new ≡ shard.old) }
+    ensures kept { OnErr result ((before : HeldShard) → CanGoBack before shard.old → Same before shard.new) }
+    ensures settled { OnErr result (IsSettled catalog.now shard.new) }
+{
+    let Some(procedure) = catalog.procedures.get(usize::from(number)) else {
+        unreachable!()
+    };
+    let BodyResult { outcome, emitted } = left;
+    match emitted_batches(alloc, catalog, procedure, emitted) {
+        Ok(emitted) => Ok(Executed { outcome, emitted }),
+        Err(NoMemory) => {
+            shard.roll_back();
+            Err(NoMemory)
+        }
+    }
+}
+
 impl Runner for PlainRunner {
-    /// Costs the steps of the body, and for an abort at most as much again. Its own memory is that of the reply; what
-    /// the steps write is noted in the shard.
+    /// Costs the steps of the body and what their triggers do, and for an abort at most as much again. Its own memory is that
+    /// of its open units, batches and reply; what the steps write is noted in the shard.
     fn execute(
         &self,
         alloc: Global,
         catalog: &Catalog,
         shard: &mut Shard,
+        inputs: &Inputs,
         entry: &Entry,
     ) -> Result<Executed, NoMemory> {
-        let Entry::Call {
-            procedure,
-            args,
-            ..
-        } = entry
-        else {
-            // these want a stream
-            unreachable!()
-        };
-        let Some(procedure) = catalog.procedures.get(usize::from(*procedure)) else {
-            unreachable!()
-        };
-        let frame = Frame {
-            args,
-            current: None,
-            arg: touched_argument(&procedure.touch),
-        };
-        let outcome = run_body(alloc, catalog, shard, procedure.body.as_slice(), &frame)?;
-        Ok(Executed {
-            outcome,
-            emitted: Seq::new(alloc),
-        })
+        match entry {
+            Entry::Call {
+                procedure,
+                args,
+                ..
+            } => {
+                let left = run_procedure(alloc, catalog, *procedure, args, inputs.batches, shard)?;
+                Ok(Executed {
+                    outcome: left.outcome,
+                    emitted: Seq::new(alloc),
+                })
+            }
+            Entry::Step { procedure, .. } => {
+                let nothing = Seq::new(alloc);
+                let left = run_procedure(
+                    alloc,
+                    catalog,
+                    *procedure,
+                    &nothing,
+                    inputs.batches,
+                    shard,
+                )?;
+                with_outputs(alloc, catalog, *procedure, left, shard)
+            }
+            // a push runs no body
+            Entry::Push { .. } => unreachable!(),
+        }
     }
 }

@@ -1,96 +1,200 @@
 //! The steps of a body.
 
-ghost use Rattle.std.specs.Prelude.{◌≡◌, None, OnOk, IfErr};
+ghost use Rattle.std.specs.Prelude.{◌≡◌, [], get_or, OnOk, IfErr};
 ghost use Rattle.std.specs.List.{AllByRecursion};
-ghost use Rattle.ss_shard.specs.Shards.{HasTables, Changed};
-ghost use Rattle.ss_plan.specs.Statements.{SplitByKeys, FitsTables};
-ghost use Rattle.ss_proc.specs.Executions.{StepRuns, WritesTables};
-ghost use Rattle.ss_proc.specs.Steps.{StepDone, StepStops, SqlDone, SqlStops, StepsDone, StepsStop};
+ghost use Rattle.ss_model.specs.declared.catalog.Step.TheVariants.{Emit, Return};
+ghost use Rattle.ss_model.specs.Results.{try_fold};
+ghost use Rattle.ss_model.specs.Bodies.{execute_inner, execute_step};
+ghost use Rattle.ss_shard.specs.Shards.{IsOf, Changed};
+ghost use Rattle.ss_proc.specs.Executions.{context_of, MayRun, InnerRuns, StepRuns};
+ghost use Rattle.ss_proc.specs.Meanings.{Brings, StepStops, inner_steps, steps_of_rows};
 
+use crate::cascade::execute_statement;
 use crate::conditions::abort_if;
-use crate::replies::return_rows;
-use ss_model::catalog::{Catalog, Step};
+use crate::emits::{emit_rows, reply_rows};
+use crate::statements::execution_query;
+use crate::work::{Given, Work};
+use ss_model::catalog::{Inner, Step};
 use ss_operators::run_error::RunError;
-use ss_plan::statement::{Wrote, run_statement};
-use ss_rows::frame::Frame;
 use ss_shard::shard::Shard;
-use ss_sql_lex::typed::Statement;
-use ss_value::value::Rows;
+use ss_sql_lex::typed::Query;
+use ss_value::value::Row;
 use std::alloc::Global;
 
-/// Runs a statement of a body, whose target is a table and whose parameters are the arguments. Aborts as it does, and
-/// costs what it costs.
-fn execute_statement(
+/// Runs a step of a `for_each` on the current row, whose columns are the parameters.
+fn execute_inner(
     alloc: Global,
-    catalog: &Catalog,
+    given: &Given,
+    current: &Row,
+    inner: &Inner,
     shard: &mut Shard,
-    statement: &Statement,
-    frame: &Frame,
+    work: &mut Work,
 ) -> Result<(), RunError>
-    requires tables { HasTables catalog.now shard.old.tables }
-    requires keyed { SplitByKeys catalog.now }
-    requires fits { FitsTables catalog.now statement.now }
-    requires writes { WritesTables statement.now }
-    requires by_args { frame.now.current ≡ None }
-    ensures done { OnOk result (SqlDone catalog.now frame.now statement.now shard.old shard.new) }
-    ensures stops { IfErr result (SqlStops catalog.now frame.now statement.now shard.old) }
+    requires of_catalog { IsOf given.now.catalog.now shard.old }
+    requires runs { MayRun given.now.catalog.now }
+    requires fits { InnerRuns given.now.catalog.now inner.now }
+    ensures done { OnOk result (Brings (execute_inner (context_of given.now) current.now inner.now) shard.old work.old shard.new work.new) }
+    ensures stops { IfErr result (StepStops (execute_inner (context_of given.now) current.now inner.now) shard.old work.old) }
     ensures changed { Changed shard.old shard.new }
 {
-    match run_statement(alloc, catalog, shard, statement, frame)? {
-        Wrote::Tables => Ok(()),
-        // the target is a table
-        Wrote::Stage { .. } => unreachable!(),
+    match inner {
+        Inner::Sql(statement) => execute_statement(alloc, given, current, statement, shard, work),
+        Inner::AbortIf { test, code } => abort_if(alloc, given, current, test, *code, shard, work),
     }
 }
 
-/// Runs a step of a body, which is a call procedure's, on the rows that the execution sees.
+/// Runs the steps of a `for_each` on one row, in order, up to the first abort.
+fn execute_inners(
+    alloc: Global,
+    given: &Given,
+    current: &Row,
+    body: &[Inner],
+    shard: &mut Shard,
+    work: &mut Work,
+) -> Result<(), RunError>
+    requires of_catalog { IsOf given.now.catalog.now shard.old }
+    requires runs { MayRun given.now.catalog.now }
+    requires fits { AllByRecursion (InnerRuns given.now.catalog.now) body.now }
+    ensures done { OnOk result (Brings (inner_steps given.now current.now body.now) shard.old work.old shard.new work.new) }
+    ensures stops { IfErr result (StepStops (inner_steps given.now current.now body.now) shard.old work.old) }
+    ensures changed { Changed shard.old shard.new }
+{
+    for inner in body {
+        execute_inner(alloc, given, current, inner, shard, work)?;
+    }
+    Ok(())
+}
+
+/// Runs the steps of a `for_each` on each row of a batch, in order, up to the first abort.
+fn for_each(
+    alloc: Global,
+    given: &Given,
+    body: &[Inner],
+    rows: &[Row],
+    shard: &mut Shard,
+    work: &mut Work,
+) -> Result<(), RunError>
+    requires of_catalog { IsOf given.now.catalog.now shard.old }
+    requires runs { MayRun given.now.catalog.now }
+    requires fits { AllByRecursion (InnerRuns given.now.catalog.now) body.now }
+    ensures done { OnOk result (Brings (steps_of_rows given.now body.now rows.now) shard.old work.old shard.new work.new) }
+    ensures stops { IfErr result (StepStops (steps_of_rows given.now body.now rows.now) shard.old work.old) }
+    ensures changed { Changed shard.old shard.new }
+{
+    for row in rows {
+        execute_inners(alloc, given, row, body, shard, work)?;
+    }
+    Ok(())
+}
+
+/// Runs a `for_each` on the batch of an input.
+fn for_each_of(
+    alloc: Global,
+    given: &Given,
+    input: u16,
+    body: &[Inner],
+    shard: &mut Shard,
+    work: &mut Work,
+) -> Result<(), RunError>
+    requires of_catalog { IsOf given.now.catalog.now shard.old }
+    requires runs { MayRun given.now.catalog.now }
+    requires fits { AllByRecursion (InnerRuns given.now.catalog.now) body.now }
+    ensures done { OnOk result (Brings (steps_of_rows given.now body.now (get_or given.now.batches.now input [])) shard.old work.old shard.new work.new) }
+    ensures stops { IfErr result (StepStops (steps_of_rows given.now body.now (get_or given.now.batches.now input [])) shard.old work.old) }
+    ensures changed { Changed shard.old shard.new }
+{
+    match given.batches.get(usize::from(input)) {
+        Some(rows) => for_each(alloc, given, body, rows.as_slice(), shard, work),
+        None => Ok(()),
+    }
+}
+
+/// Emits the rows of a query of the body.
+fn emit(
+    alloc: Global,
+    given: &Given,
+    stream: u16,
+    query: &Query,
+    shard: &mut Shard,
+    work: &mut Work,
+) -> Result<(), RunError>
+    requires of_catalog { IsOf given.now.catalog.now shard.old }
+    requires runs { MayRun given.now.catalog.now }
+    ensures done { OnOk result (Brings (execute_step (context_of given.now) (Emit stream query.now)) shard.old work.old shard.new work.new) }
+    ensures stops { IfErr result (StepStops (execute_step (context_of given.now) (Emit stream query.now)) shard.old work.old) }
+    ensures changed { Changed shard.old shard.new }
+{
+    let rows = execution_query(alloc, given, given.args, query, shard)?;
+    emit_rows(alloc, given, stream, rows, shard, work)
+}
+
+/// Adds the rows of a query of the body to the reply.
+fn reply(
+    alloc: Global,
+    given: &Given,
+    query: &Query,
+    shard: &Shard,
+    work: &mut Work,
+) -> Result<(), RunError>
+    requires of_catalog { IsOf given.now.catalog.now shard.now }
+    requires runs { MayRun given.now.catalog.now }
+    ensures done { OnOk result (Brings (execute_step (context_of given.now) (Return query.now)) shard.now work.old shard.now work.new) }
+    ensures stops { IfErr result (StepStops (execute_step (context_of given.now) (Return query.now)) shard.now work.old) }
+{
+    let rows = execution_query(alloc, given, given.args, query, shard)?;
+    reply_rows(rows, &mut work.reply)
+}
+
+/// Runs a step of a body, whose parameters are the arguments.
 ///
 /// Aborts exactly where the step does, and with the same reason. What it changed by then is noted in the shard.
 fn execute_step(
     alloc: Global,
-    catalog: &Catalog,
-    shard: &mut Shard,
+    given: &Given,
     step: &Step,
-    frame: &Frame,
-    reply: &mut Rows,
+    shard: &mut Shard,
+    work: &mut Work,
 ) -> Result<(), RunError>
-    requires tables { HasTables catalog.now shard.old.tables }
-    requires keyed { SplitByKeys catalog.now }
-    requires runs { StepRuns catalog.now step.now }
-    requires by_args { frame.now.current ≡ None }
-    ensures done { OnOk result (StepDone catalog.now frame.now step.now shard.old reply.old shard.new reply.new) }
-    ensures stops { IfErr result (StepStops catalog.now frame.now step.now shard.old reply.old) }
+    requires of_catalog { IsOf given.now.catalog.now shard.old }
+    requires runs { MayRun given.now.catalog.now }
+    requires fits { StepRuns given.now.catalog.now step.now }
+    ensures done { OnOk result (Brings (execute_step (context_of given.now) step.now) shard.old work.old shard.new work.new) }
+    ensures stops { IfErr result (StepStops (execute_step (context_of given.now) step.now) shard.old work.old) }
     ensures changed { Changed shard.old shard.new }
 {
     match step {
-        Step::Sql(statement) => execute_statement(alloc, catalog, shard, statement, frame),
-        Step::AbortIf { test, code } => abort_if(alloc, catalog, shard, test, *code, frame),
-        Step::Return(query) => return_rows(alloc, catalog, shard, query, frame, reply),
-        // steps of a streaming procedure
-        Step::ForEach { .. } | Step::Emit { .. } => unreachable!(),
+        Step::Sql(statement) => {
+            execute_statement(alloc, given, given.args, statement, shard, work)
+        }
+        Step::AbortIf { test, code } => {
+            abort_if(alloc, given, given.args, test, *code, shard, work)
+        }
+        Step::ForEach { input, body } => {
+            for_each_of(alloc, given, *input, body.as_slice(), shard, work)
+        }
+        Step::Emit { stream, query } => emit(alloc, given, *stream, query, shard, work),
+        Step::Return(query) => reply(alloc, given, query, shard, work),
     }
 }
 
-/// Runs the steps of a call procedure's body in order, up to the first abort, which is theirs. What they changed by
-/// then is noted in the shard. Costs what the steps cost.
+/// Runs the steps of a body in order, up to the first abort, which is theirs. What they changed by then is noted in the
+/// shard. Costs what the steps cost.
 pub fn execute_steps(
     alloc: Global,
-    catalog: &Catalog,
-    shard: &mut Shard,
+    given: &Given,
     steps: &[Step],
-    frame: &Frame,
-    reply: &mut Rows,
+    shard: &mut Shard,
+    work: &mut Work,
 ) -> Result<(), RunError>
-    requires tables { HasTables catalog.now shard.old.tables }
-    requires keyed { SplitByKeys catalog.now }
-    requires runs { AllByRecursion (StepRuns catalog.now) steps.now }
-    requires by_args { frame.now.current ≡ None }
-    ensures done { OnOk result (StepsDone catalog.now frame.now steps.now shard.old reply.old shard.new reply.new) }
-    ensures stops { IfErr result (StepsStop catalog.now frame.now steps.now shard.old reply.old) }
+    requires of_catalog { IsOf given.now.catalog.now shard.old }
+    requires runs { MayRun given.now.catalog.now }
+    requires fits { AllByRecursion (StepRuns given.now.catalog.now) steps.now }
+    ensures done { OnOk result (Brings (try_fold (execute_step (context_of given.now)) steps.now) shard.old work.old shard.new work.new) }
+    ensures stops { IfErr result (StepStops (try_fold (execute_step (context_of given.now)) steps.now) shard.old work.old) }
     ensures changed { Changed shard.old shard.new }
 {
     for step in steps {
-        execute_step(alloc, catalog, shard, step, frame, reply)?;
+        execute_step(alloc, given, step, shard, work)?;
     }
     Ok(())
 }

@@ -18,26 +18,58 @@ use Rattle.ss_undo.specs.Came.{Step, Came}
 use Rattle.ss_undo.proofs.Back.{came_more}
 use Rattle.ss_shard.specs.HeldShard.{HeldShard}
 use Rattle.ss_shard.specs.Rows.{StandsIn, RowPut, RowTaken}
-use Rattle.ss_shard.specs.Shards.{shapes_of, AllKeyed, Changed}
+use Rattle.ss_window.specs.Held.{HeldWindow, staged}
+use Rattle.ss_undo.specs.Windows.{WindowStep, WindowsCame}
+use Rattle.ss_undo.proofs.Windows.{windows_more}
+use Rattle.ss_shard.specs.Shards.{shapes_of, frames_of, AllKeyed, AllHeld, Changed}
 
 -- a change that is made and noted
-pub noted : (old new : HeldShard) (c : Change) → Step old.tables c new.tables → new.changes ≡ old.changes ++ c ∷ [] → new.number ≡ old.number → shapes_of new.tables ≡ shapes_of old.tables → (AllKeyed old.tables → AllKeyed new.tables) → new.columns ≡ old.columns → Changed old new
-noted old new c step items number shapes keyed columns = record {
+pub noted_both : (old new : HeldShard) (c : Change) → Step old.tables c new.tables → WindowStep old.windows c new.windows → new.changes ≡ old.changes ++ c ∷ [] → new.number ≡ old.number → new.cursors ≡ old.cursors → new.columns ≡ old.columns
+    → shapes_of new.tables ≡ shapes_of old.tables → (AllKeyed old.tables → AllKeyed new.tables) → frames_of new.windows ≡ frames_of old.windows → (AllHeld old.windows → AllHeld new.windows) → Changed old new
+noted_both old new c step staged items number cursors columns shapes keyed frames held = record {
   columns = columns;
   number = number;
+  cursors = cursors;
   shapes = shapes;
   keyed = keyed;
-  back = λ before can. record { final = can.final; came = subst (λ cs. Came before cs new.tables) (sym items) (came_more before old.tables new.tables old.changes c can.came step) };
+  frames = frames;
+  held = held;
+  back = λ before can. record {
+    number = number ∙ can.number;
+    columns = columns ∙ can.columns;
+    cursors = cursors ∙ can.cursors;
+    final = can.final;
+    came = subst (λ cs. Came before.tables cs new.tables) (sym items) (came_more before.tables old.tables new.tables old.changes c can.came step);
+    settled = can.settled;
+    staged = subst (λ cs. WindowsCame before.windows cs new.windows) (sym items) (windows_more before.windows old.windows new.windows old.changes c can.staged staged);
+  };
 }
 
+-- a change of a row
+pub noted : (old new : HeldShard) (c : Change) → Step old.tables c new.tables → WindowStep old.windows c new.windows → new.changes ≡ old.changes ++ c ∷ [] → new.number ≡ old.number → new.cursors ≡ old.cursors → new.columns ≡ old.columns → new.windows ≡ old.windows
+    → shapes_of new.tables ≡ shapes_of old.tables → (AllKeyed old.tables → AllKeyed new.tables) → Changed old new
+noted old new c step staged items number cursors columns windows shapes keyed =
+    noted_both old new c step staged items number cursors columns shapes keyed (ap frames_of windows) (λ h. subst (λ (ws : List HeldWindow). AllHeld ws) (sym windows) h)
+
 -- room that is made, and nothing else
-pub unnoted : (old new : HeldShard) → new.tables ≡ old.tables → new.changes ≡ old.changes → new.number ≡ old.number → new.columns ≡ old.columns → Changed old new
-unnoted old new tables items number columns = record {
+pub unnoted : (old new : HeldShard) → new.cursors ≡ old.cursors → new.windows ≡ old.windows → new.tables ≡ old.tables → new.changes ≡ old.changes → new.number ≡ old.number → new.columns ≡ old.columns → Changed old new
+unnoted old new cursors windows tables items number columns = record {
   columns = columns;
   number = number;
+  cursors = cursors;
   shapes = ap shapes_of tables;
   keyed = λ h. subst (λ (tables : List Held). AllKeyed tables) (sym tables) h;
-  back = λ before can. record { final = can.final; came = subst (λ cs. Came before cs new.tables) (sym items) (subst (Came before old.changes) (sym tables) can.came) };
+  frames = ap frames_of windows;
+  held = λ h. subst (λ (ws : List HeldWindow). AllHeld ws) (sym windows) h;
+  back = λ before can. record {
+    number = number ∙ can.number;
+    columns = columns ∙ can.columns;
+    cursors = cursors ∙ can.cursors;
+    final = can.final;
+    came = subst (λ cs. Came before.tables cs new.tables) (sym items) (subst (Came before.tables old.changes) (sym tables) can.came);
+    settled = can.settled;
+    staged = subst (λ cs. WindowsCame before.windows cs new.windows) (sym items) (subst (WindowsCame before.windows old.changes) (sym windows) can.staged);
+  };
 }
 
 -- ---- a slot has one key

@@ -6,3 +6,5 @@ pub mod Changing
 pub mod Inserting
 pub mod Opening
 pub mod Settling
+pub mod Staging
+pub mod Standing

@@ -1,7 +1,8 @@
 -- A database before the first execution.
-use Rattle.std.proofs.Common.{◌≡◌, ℕ, zero, suc, List, [], ◌∷◌, map, length, replicate, refl, sym, ap, subst, ◌∙◌, arith}
+use Rattle.std.proofs.Common.{◌≡◌, ℕ, zero, suc, ◌-◌, ◌*◌, ◌/◌, ◌<◌, nat_lt, true, cond, drop, List, [], ◌∷◌, map, length, replicate, refl, sym, ap, subst, ◌∙◌, arith}
 use Rattle.std.specs.List.{AllByRecursion}
 use Rattle.std.specs.FinMap as finite
+use Rattle.std.proofs.lemmas.Bool.Decides.{nat_tests}
 use Rattle.ss_value.specs.Order.{row_cmp}
 use Rattle.ss_value.specs.Rows.{Row}
 use Rattle.ss_model.specs.declared.catalog.TableDef.{TableDef}
@@ -13,10 +14,17 @@ use Rattle.ss_index.specs.Pairs.{Held as Index}
 use Rattle.ss_index.proofs.Holding.{hold_at_first}
 use Rattle.ss_undo.specs.Came.{AreFinal}
 use Rattle.ss_undo.specs.Indexed.{AreIndexed, columns_in, columns_of}
-use Rattle.ss_shard.specs.Contents.{rows_by_key, tables_of}
-use Rattle.ss_shard.specs.Shards.{shape_for, shapes_of, AllKeyed, HasTables}
-use Rattle.ss_shard.specs.Databases.{empty_table, empty_tables, empty_group, empty_indexes}
+use Rattle.ss_model.specs.declared.catalog.WindowDef.{WindowDef}
+use Rattle.ss_window.specs.Slides.{first_kept}
+use Rattle.ss_window.specs.Held.{empty_window, settled, IsHeld}
+use Rattle.ss_undo.specs.Windows.{AreSettled}
+use Rattle.ss_shard.specs.Contents.{rows_by_key, tables_of, windows_of}
+use Rattle.ss_shard.specs.Shards.{shape_for, shapes_of, frame_for, frames_of, AllKeyed, AllHeld, HasTables, HasWindows}
+use Rattle.ss_shard.specs.Databases.{empty_table, empty_tables, empty_group, empty_indexes, empty_windows, WindowIsSound}
 use Rattle.ss_shard.proofs.ByKey.{len_by_key}
+
+lt_true : (a b : ℕ) → a < b → nat_lt a b ≡ true
+lt_true a b h = grind (arith, nat_tests)
 
 no_rows : rows_by_key finite.empty ≡ finite.empty
 no_rows = finite.empty_of_len (rows_by_key finite.empty) (len_by_key finite.empty ∙ finite.len-empty row_cmp (ℕ × Row))
@@ -79,3 +87,36 @@ all_indexed (d ∷ ds) zero h group there has =
     hold_at_first h group (ap (λ (x : Held). x.live) (sym table)) (ap (λ (x : Held). x.dead) (sym table))
     (subst (AllByRecursion (λ (x : Index). x.pairs ≡ finite.empty)) listed (no_pair d.indexes))
 all_indexed (d ∷ ds) (suc t) h group there has = all_indexed ds t h group there has
+
+-- ---- windows
+
+empty_sound : (d : WindowDef) → WindowIsSound d → IsHeld (empty_window d.unit d.size d.slide)
+empty_sound d s = record { moves = s.0; within = s.1; bounded = omega arith; recent = omega arith; given_up = nothing; countable = omega arith }
+  where
+    nothing : 0 ≡ first_kept d.size d.slide (0 - 0)
+    nothing = let less : 0 < d.size = omega arith in sym (ap (λ b. cond b 0 ((0 - d.size) / d.slide * d.slide)) (lt_true 0 d.size less))
+
+empty_frames : (defs : List WindowDef) → frames_of (empty_windows defs) ≡ map frame_for defs
+empty_frames [] = refl
+empty_frames (d ∷ ds) = ap (λ frames. frame_for d ∷ frames) (empty_frames ds)
+
+empty_held : (defs : List WindowDef) → AllByRecursion WindowIsSound defs → AllHeld (empty_windows defs)
+empty_held [] s = tt
+empty_held (d ∷ ds) s = (empty_sound d s.0, empty_held ds s.1)
+
+pub has_windows : (catalog : Catalog) → AllByRecursion WindowIsSound catalog.windows → HasWindows catalog (empty_windows catalog.windows)
+has_windows catalog s = record { frames = empty_frames catalog.windows; held = empty_held catalog.windows s }
+
+pub none_staged : (defs : List WindowDef) → AllByRecursion WindowIsSound defs → AreSettled (empty_windows defs)
+none_staged [] s = tt
+none_staged (d ∷ ds) s = (one d s.0, none_staged ds s.1)
+  where
+    one : (d : WindowDef) → WindowIsSound d → settled (empty_window d.unit d.size d.slide) ≡ empty_window d.unit d.size d.slide
+    one d s =
+        let e = (empty_sound d s).given_up in
+        let none : first_kept d.size d.slide 0 ≡ 0 = sym e in
+        λ i. record (empty_window d.unit d.size d.slide) { gone = none i; kept = drop (none i - 0) []; fresh = 0 }
+
+pub no_units : (defs : List WindowDef) → windows_of (empty_windows defs) ≡ replicate (length defs) []
+no_units [] = refl
+no_units (d ∷ ds) = ap (λ ws. [] ∷ ws) (no_units ds)

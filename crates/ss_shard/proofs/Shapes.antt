@@ -1,6 +1,6 @@
 -- The tables of a catalogue.
-use Rattle.std.proofs.Common.{◌≡◌, ℕ, zero, suc, List, [], ◌∷◌, map, refl, sym, ap, subst, ◌∙◌, Some, slice_get, slice_set}
-use Rattle.std.proofs.lemmas.List.{map-set}
+use Rattle.std.proofs.Common.{◌≡◌, ℕ, zero, suc, List, [], ◌∷◌, map, length, refl, sym, ap, subst, ◌∙◌, Some, slice_get, slice_set}
+use Rattle.std.proofs.lemmas.List.{map-set, length-map}
 use Rattle.ss_model.specs.declared.catalog.TableDef.{TableDef}
 use Rattle.ss_model.specs.declared.catalog.Catalog.{Catalog}
 use Rattle.ss_table.specs.Held.{Held}
@@ -8,7 +8,9 @@ use Rattle.ss_table.specs.Keyed.{AreKeyed}
 use Rattle.ss_undo.proofs.Back.{set_same}
 use Rattle.ss_shard.specs.HeldShard.{HeldShard}
 use Rattle.ss_shard.specs.Contents.{row_limit}
-use Rattle.ss_shard.specs.Shards.{shape_of, shape_for, shapes_of, AllKeyed, HasTables, Changed}
+use Rattle.ss_model.specs.declared.catalog.WindowDef.{WindowDef}
+use Rattle.ss_window.specs.Held.{HeldWindow, IsHeld}
+use Rattle.ss_shard.specs.Shards.{shape_of, shape_for, shapes_of, frame_of, frame_for, frames_of, AllKeyed, AllHeld, HasTables, HasWindows, IsOf, Changed}
 
 -- a table has the key and the limit of its definition, and each of its rows stands at its key
 pub record IsTableOf (d : TableDef) (h : Held) : Type 0 where
@@ -57,6 +59,60 @@ all_set [] t now k h = h
 all_set (x ∷ xs) zero now k h = (k, h.1)
 all_set (x ∷ xs) (suc t) now k h = (h.0, all_set xs t now k h.1)
 
--- after changes of rows the tables are still those of the catalogue
+-- ---- windows
+
+-- a window shows and moves as its definition says
+pub record IsWindowOf (d : WindowDef) (h : HeldWindow) : Type 0 where
+  pub unit : h.unit ≡ d.unit
+  pub size : h.size ≡ d.size
+  pub slide : h.slide ≡ d.slide
+  pub held : IsHeld h
+
+window_in : (hs : List HeldWindow) (ds : List WindowDef) (w : ℕ) (h : HeldWindow) → frames_of hs ≡ map frame_for ds → AllHeld hs → slice_get hs w ≡ Some h → (d : WindowDef) × (slice_get ds w ≡ Some d) × IsWindowOf d h
+window_in [] ds w h frames held here = cc
+window_in (x ∷ xs) [] w h frames held here = cc
+window_in (x ∷ xs) (d ∷ ds) zero h frames held here =
+    let same : x ≡ h = cc in
+    let frame : frame_of x ≡ frame_for d = cc in (
+      d,
+      refl,
+      record {
+        unit = ap (λ (h : HeldWindow). h.unit) (sym same) ∙ ap (λ f. f.0) frame;
+        size = ap (λ (h : HeldWindow). h.size) (sym same) ∙ ap (λ f. f.1.0) frame;
+        slide = ap (λ (h : HeldWindow). h.slide) (sym same) ∙ ap (λ f. f.1.1) frame;
+        held = subst (λ (h : HeldWindow). IsHeld h) same held.0;
+      },
+    )
+window_in (x ∷ xs) (d ∷ ds) (suc w) h frames held here = window_in xs ds w h (let rest : frames_of xs ≡ map frame_for ds = cc in rest) held.1 here
+
+-- the definition of a window that is there
+pub window_of : (catalog : Catalog) (windows : List HeldWindow) → HasWindows catalog windows → (w : ℕ) (h : HeldWindow) → slice_get windows w ≡ Some h → (d : WindowDef) × (slice_get catalog.windows w ≡ Some d) × IsWindowOf d h
+window_of catalog windows has w h here = window_in windows catalog.windows w h has.frames has.held here
+
+-- there are as many as in the catalogue
+pub window_count : (catalog : Catalog) (windows : List HeldWindow) → HasWindows catalog windows → length windows ≡ length catalog.windows
+window_count catalog windows has = sym (length-map windows frame_of) ∙ ap length has.frames ∙ length-map catalog.windows frame_for
+
+pub frames_kept : (windows : List HeldWindow) (w : ℕ) (was now : HeldWindow) → slice_get windows w ≡ Some was → frame_of now ≡ frame_of was → frames_of (slice_set windows w now) ≡ frames_of windows
+frames_kept windows w was now here frame =
+    map-set frame_of windows w now
+    ∙ ap (slice_set (frames_of windows) w) frame
+    ∙ set_same (frames_of windows) w (frame_of was) (get_map frame_of windows w was here)
+
+pub held_set : (windows : List HeldWindow) (w : ℕ) (now : HeldWindow) → IsHeld now → AllHeld windows → AllHeld (slice_set windows w now)
+held_set [] w now k h = h
+held_set (x ∷ xs) zero now k h = (k, h.1)
+held_set (x ∷ xs) (suc w) now k h = (h.0, held_set xs w now k h.1)
+
+-- ---- after changes of rows and windows the shard is still of the catalogue
+
 pub still_tables : (catalog : Catalog) (old new : HeldShard) → Changed old new → HasTables catalog old.tables → HasTables catalog new.tables
 still_tables catalog old new c has = record { shapes = c.shapes ∙ has.shapes; keyed = c.keyed has.keyed }
+
+pub still_of : (catalog : Catalog) (old new : HeldShard) → Changed old new → IsOf catalog old → IsOf catalog new
+still_of catalog old new c is = record {
+  tables = still_tables catalog old new c is.tables;
+  indexes = c.columns ∙ is.indexes;
+  windows = record { frames = c.frames ∙ is.windows.frames; held = c.held is.windows.held };
+  cursors = ap length c.cursors ∙ is.cursors;
+}

@@ -1,11 +1,13 @@
--- What the tables of a shard are to the model.
-use Rattle.std.specs.Prelude.{ℕ, List, [], map, Option, Some, None}
+-- What the tables and windows of a shard are to the model.
+use Rattle.std.specs.Prelude.{ℕ, List, map, Option, Some, None}
 use Rattle.std.specs.FinMap as finite
 use Rattle.ss_value.specs.Rows.{Row}
 use Rattle.ss_model.specs.declared.catalog.Place.{Place}
 use Rattle.ss_model.specs.declared.catalog.Place.TheVariants.{Part, By}
-use Rattle.ss_model.specs.Contents.{Table, Contents}
+use Rattle.ss_model.specs.Contents.{Table, Window, Contents}
 use Rattle.ss_table.specs.Held.{Held, LiveRows}
+use Rattle.ss_window.specs.Held.{HeldWindow, all_units}
+use Rattle.ss_shard.specs.HeldShard.{HeldShard}
 
 -- a live row with its key, without its slot
 abbrev pub without_slot : Row × (ℕ × Row) → Row × Row
@@ -19,9 +21,18 @@ rows_by_key live = finite.from_sorted (map without_slot (finite.entries live))
 abbrev pub tables_of : List Held → List Table
 tables_of tables = map (λ h. rows_by_key h.live) tables
 
--- tables alone, since no window has a unit yet
-abbrev pub contents_of : List Held → Contents
-contents_of tables = record { tables = tables_of tables; windows = [] }
+-- the units of each window: those that it holds, behind as many empty ones as it has given up
+abbrev pub windows_of : List HeldWindow → List Window
+windows_of windows = map all_units windows
+
+-- these tables and windows
+abbrev pub contents_with : List Held → List HeldWindow → Contents
+contents_with tables windows = record { tables = tables_of tables; windows = windows_of windows }
+
+-- the tables and windows of a shard. It stands for every contents with the same tables, and with windows of as many
+-- units of which the same ones can still be seen (`Holds`); this is one of them
+abbrev pub contents_of : HeldShard → Contents
+contents_of shard = contents_with shard.tables shard.windows
 
 -- the most rows that a table of this place has: a split one has no limit
 abbrev pub row_limit : Place → Option ℕ

@@ -1,11 +1,15 @@
 -- What holds of the shards of a catalogue.
-use Rattle.std.specs.Prelude.{◌≡◌, ℕ, List, [], map, Option}
+use Rattle.std.specs.Prelude.{◌≡◌, ℕ, List, [], map, length, Option}
 use Rattle.std.specs.List.{AllByRecursion}
+use Rattle.ss_value.specs.declared.Unit.{Unit as UnitKind}
 use Rattle.ss_model.specs.declared.catalog.TableDef.{TableDef}
+use Rattle.ss_model.specs.declared.catalog.WindowDef.{WindowDef}
 use Rattle.ss_model.specs.declared.catalog.Catalog.{Catalog}
 use Rattle.ss_table.specs.Held.{Held}
 use Rattle.ss_table.specs.Keyed.{AreKeyed}
+use Rattle.ss_window.specs.Held.{HeldWindow, IsHeld}
 use Rattle.ss_undo.specs.Came.{Came, AreFinal}
+use Rattle.ss_undo.specs.Windows.{WindowsCame, AreSettled}
 use Rattle.ss_shard.specs.Contents.{row_limit}
 use Rattle.ss_shard.specs.HeldShard.{HeldShard}
 
@@ -30,34 +34,72 @@ pub record HasTables (catalog : Catalog) (tables : List Held) : Type 0 where
   pub shapes : shapes_of tables ≡ map shape_for catalog.tables
   pub keyed : AllKeyed tables
 
--- an execution can be taken back from here to these tables, in which no slot is dead
-pub record CanGoBack (before : List Held) (shard : HeldShard) : Type 0 where
-  pub final : AreFinal before
-  pub came : Came before shard.changes shard.tables
-
 -- each table has the indexes that the catalogue lists, by their columns
 abbrev pub HasIndexes : Catalog → HeldShard → Type 0
 HasIndexes catalog shard = shard.columns ≡ map (λ (d : TableDef). d.indexes) catalog.tables
 
--- what a change of rows leaves as it is: the partition, the tables' keys, limits and indexes, and where a rollback ends
+-- what a window counts, its size and its slide
+abbrev pub frame_of : HeldWindow → UnitKind × (ℕ × ℕ)
+frame_of h = (h.unit, (h.size, h.slide))
+
+-- those of its definition
+abbrev pub frame_for : WindowDef → UnitKind × (ℕ × ℕ)
+frame_for d = (d.unit, (d.size, d.slide))
+
+-- those of all windows
+abbrev pub frames_of : List HeldWindow → List (UnitKind × (ℕ × ℕ))
+frames_of windows = map frame_of windows
+
+-- what holds of every window
+abbrev pub AllHeld : List HeldWindow → Type 0
+AllHeld windows = AllByRecursion IsHeld windows
+
+-- the windows are those of the catalogue, by what they count, their sizes and slides
+pub record HasWindows (catalog : Catalog) (windows : List HeldWindow) : Type 0 where
+  pub frames : frames_of windows ≡ map frame_for catalog.windows
+  pub held : AllHeld windows
+
+-- the tables, indexes, windows and counts are those of the catalogue
+pub record IsOf (catalog : Catalog) (shard : HeldShard) : Type 0 where
+  pub tables : HasTables catalog shard.tables
+  pub indexes : HasIndexes catalog shard
+  pub windows : HasWindows catalog shard.windows
+  pub cursors : length shard.cursors ≡ length catalog.procedures
+
+-- an execution can be taken back from here to this shard, in which no slot is dead and every window is settled
+pub record CanGoBack (before shard : HeldShard) : Type 0 where
+  pub number : shard.number ≡ before.number
+  pub columns : shard.columns ≡ before.columns
+  pub cursors : shard.cursors ≡ before.cursors
+  pub final : AreFinal before.tables
+  pub came : Came before.tables shard.changes shard.tables
+  pub settled : AreSettled before.windows
+  pub staged : WindowsCame before.windows shard.changes shard.windows
+
+-- what a change of rows and windows leaves as it is: the partition, the counts, the tables' keys, limits and indexes, what
+-- the windows count, their sizes and slides, and where a rollback ends
 pub record Changed (old new : HeldShard) : Type 0 where
   pub number : new.number ≡ old.number
+  pub cursors : new.cursors ≡ old.cursors
   pub shapes : shapes_of new.tables ≡ shapes_of old.tables
   pub keyed : AllKeyed old.tables → AllKeyed new.tables
   pub columns : new.columns ≡ old.columns
-  pub back : (before : List Held) → CanGoBack before old → CanGoBack before new
+  pub frames : frames_of new.windows ≡ frames_of old.windows
+  pub held : AllHeld old.windows → AllHeld new.windows
+  pub back : (before : HeldShard) → CanGoBack before old → CanGoBack before new
 
--- between executions: the catalogue's tables and indexes, no slot is dead, and nothing to take back
+-- the same rows, units and counts, and indexes on the same columns
+pub record Same (old new : HeldShard) : Type 0 where
+  pub number : new.number ≡ old.number
+  pub tables : new.tables ≡ old.tables
+  pub columns : new.columns ≡ old.columns
+  pub windows : new.windows ≡ old.windows
+  pub cursors : new.cursors ≡ old.cursors
+
+-- between executions: the catalogue's tables, indexes and windows, of which no slot is dead and nothing was staged since,
+-- and nothing to take back
 pub record IsSettled (catalog : Catalog) (shard : HeldShard) : Type 0 where
-  pub tables : HasTables catalog shard.tables
-  pub indexes : HasIndexes catalog shard
+  pub of_catalog : IsOf catalog shard
   pub final : AreFinal shard.tables
+  pub settled : AreSettled shard.windows
   pub empty : shard.changes ≡ []
-
--- of the catalogue's tables, to which changes are taken back, a settled shard comes
-abbrev pub SettledBack : HeldShard → HeldShard → Type 0
-SettledBack old new = (catalog : Catalog) (before : List Held) → CanGoBack before old → HasTables catalog before → HasIndexes catalog old → IsSettled catalog new
-
--- of the catalogue's tables, in which changes are made final, a settled shard comes
-abbrev pub SettledHere : HeldShard → HeldShard → Type 0
-SettledHere old new = (catalog : Catalog) → HasTables catalog old.tables → HasIndexes catalog old → IsSettled catalog new

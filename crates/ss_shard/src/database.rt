@@ -1,25 +1,27 @@
 //! The shard that holds everything.
 
-ghost use Rattle.std.specs.Prelude.{◌≡◌, IfOk, replicate, length};
-ghost use Rattle.std.specs.FinMap as finite;
-ghost use Rattle.ss_shard.specs.Contents.{row_limit, tables_of};
+ghost use Rattle.std.specs.Prelude.{◌≡◌, IfOk, replicate};
+ghost use Rattle.std.specs.List.{AllByRecursion};
+ghost use Rattle.ss_model.specs.Database.{empty_database};
+ghost use Rattle.ss_shard.specs.Contents.{row_limit};
 ghost use Rattle.ss_shard.specs.Shards.{IsSettled};
-ghost use Rattle.ss_shard.specs.Databases.{empty_table, empty_tables, empty_group, empty_indexes};
+ghost use Rattle.ss_shard.specs.Databases.{WindowIsSound, empty_table, empty_tables, empty_group, empty_indexes, empty_windows, database_of};
 
 use crate::shard::Shard;
 use ss_index::index::Index;
 use ss_index::indexes::Indexes;
-use ss_model::catalog::{Catalog, Place, TableDef};
+use ss_model::catalog::{Catalog, Place, TableDef, WindowDef};
 use ss_table::table::Table;
 use ss_value::NoMemory;
 use ss_value::copies::Copies;
 use ss_value::seq::Seq;
+use ss_window::window::Window;
 use std::alloc::Global;
 
 /// The most rows that a placed table has.
 pub const TABLE_ROWS: usize = 1_000_000;
 
-/// A database: one shard that holds all tables.
+/// A database: one shard that holds all tables, windows and counts.
 #[derive(Drop)]
 pub struct Database {
     /// The shard.
@@ -80,14 +82,46 @@ fn empty_indexes(alloc: Global, tables: &[TableDef]) -> Result<Seq<Indexes>, NoM
     Ok(made)
 }
 
-/// The database of a catalogue before the first execution. Linear in the catalogue's tables, their keys and indexes.
+/// Windows of these definitions, without a unit.
+fn empty_windows(alloc: Global, windows: &[WindowDef]) -> Result<Seq<Window>, NoMemory>
+    requires { AllByRecursion WindowIsSound windows.now }
+    ensures { IfOk result (λ made. made ≡ empty_windows windows.now) }
+{
+    let mut made = Seq::new(alloc);
+    for window in windows {
+        let window = Window::new(alloc, window.unit, window.size, window.slide);
+        if made.push(window).is_err() {
+            return Err(NoMemory);
+        }
+    }
+    Ok(made)
+}
+
+/// So many counts of 0.
+fn zeros(alloc: Global, count: usize) -> Result<Seq<u64>, NoMemory>
+    ensures { IfOk result (λ made. made ≡ replicate count 0) }
+{
+    let mut made = Seq::new(alloc);
+    for _ in 0..count {
+        if made.push(0).is_err() {
+            return Err(NoMemory);
+        }
+    }
+    Ok(made)
+}
+
+/// The database of a catalogue before the first execution. Linear in the catalogue's tables, their keys and indexes, its
+/// windows and its procedures.
 pub fn opening(alloc: Global, catalog: &Catalog) -> Result<Database, NoMemory>
+    requires { AllByRecursion WindowIsSound catalog.now.windows }
     ensures settled { IfOk result (λ db. IsSettled catalog.now db.whole) }
     ensures number { IfOk result (λ db. db.whole.number ≡ 0) }
-    ensures empty { IfOk result (λ db. tables_of db.whole.tables ≡ replicate (length catalog.now.tables) finite.empty) }
+    ensures empty { IfOk result (λ db. database_of catalog.now db.whole ≡ empty_database catalog.now) }
 {
     let tables = empty_tables(alloc, catalog.tables.as_slice())?;
     let indexes = empty_indexes(alloc, catalog.tables.as_slice())?;
-    let whole = Shard::new(alloc, 0, tables, indexes);
+    let windows = empty_windows(alloc, catalog.windows.as_slice())?;
+    let cursors = zeros(alloc, catalog.procedures.len())?;
+    let whole = Shard::new(alloc, 0, tables, indexes, windows, cursors);
     Ok(Database { whole })
 }

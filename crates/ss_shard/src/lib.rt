@@ -1,10 +1,12 @@
 //! What one partition holds, and what an execution does to it.
 //!
 //! - `pairs`: a row of a table and its pairs, put in together
-//! - `shard`: tables and their indexes, with the changes that a rollback takes back
+//! - `shard`: tables, their indexes and windows, with the changes that a rollback takes back, and counts
 //! - `database`: the shard that holds everything
+//! - `laws`: what a shard stands for
 #![tactic(auto)]
 
 pub mod database;
+pub mod laws;
 mod pairs;
 pub mod shard;

@@ -1,14 +1,17 @@
-//! The tables of a partition, with the changes since they were last final.
+//! The tables, indexes and windows of a partition, with the changes since they were last final.
 
-ghost use Rattle.std.specs.Prelude.{◌≡◌, List, [], Some, OnOk, IfErr, OnErr, IfSome, slice_get, option_map};
+ghost use Rattle.std.specs.Prelude.{◌≡◌, ◌<◌, List, [], length, map, set, get_or, Some, OnOk, IfOk, IfErr, OnErr, IfSome, slice_get, option_map};
 ghost use Rattle.std.specs.Option.{option_copied};
+ghost use Rattle.ss_model.specs.declared.catalog.Catalog.{Catalog};
 ghost use Rattle.ss_table.specs.Held.{Held};
 ghost use Rattle.ss_index.specs.Holding.{HaveRows};
 ghost use Rattle.ss_undo.specs.Indexed.{AreIndexed, columns_in, columns_of};
-ghost use Rattle.ss_shard.specs.Contents.{contents_of};
+ghost use Rattle.ss_shard.specs.Contents.{tables_of};
+ghost use Rattle.ss_shard.specs.HeldShard.{HeldShard};
 ghost use Rattle.ss_shard.specs.Rows.{IsKeyed, HasSlot, HasKeyOf, refused};
-ghost use Rattle.ss_shard.specs.Shards.{CanGoBack, Changed, SettledBack, SettledHere};
-ghost use Rattle.ss_shard.specs.Changes.{RowInserted, InsertStops, SlotTaken, SlotPut};
+ghost use Rattle.ss_shard.specs.Shards.{IsOf, CanGoBack, Changed, Same, IsSettled, AllHeld};
+ghost use Rattle.ss_shard.specs.Windows.{kept_part};
+ghost use Rattle.ss_shard.specs.Changes.{RowInserted, InsertStops, SlotTaken, SlotPut, UnitStaged, StagingStops};
 
 use crate::pairs::{add_pairs, insert_indexed};
 use ss_index::indexes::Indexes;
@@ -19,28 +22,39 @@ use ss_undo::change::Change;
 use ss_undo::undo::Undo;
 use ss_value::NoMemory;
 use ss_value::seq::Seq;
-use ss_value::value::Row;
+use ss_value::value::{Row, Rows};
+use ss_window::window::Window;
 use std::alloc::Global;
 use std::marker::Model;
 
+/// The most units that a window ever has: 2^62.
+pub const WINDOW_UNITS: u64 = 4_611_686_018_427_387_904;
+
 /// What one partition holds.
 ///
-/// Its tables have the numbers of the catalogue's. Each change of a row goes through the calls of this type, which
-/// note it, so that all changes of an execution can be taken back, or kept, without memory. The indexes of a table go
-/// along: the pairs of a row stand as long as the table or a note keeps the row.
+/// Its tables, windows and counts have the numbers of the catalogue's. Each change of a row, and each unit that is
+/// staged, goes through the calls of this type, which note it, so that all changes of an execution can be taken back, or
+/// kept, without memory. The indexes of a table go along: the pairs of a row stand as long as the table or a note keeps
+/// the row.
 ///
-/// Contracts see the number, the tables, the changes since they were last final, and the columns of the indexes. What
-/// an index holds follows from the tables and the changes, so no contract speaks of it.
+/// Contracts see the number, the tables, the changes since they were last final, the columns of the indexes, the windows
+/// and the counts. What an index holds follows from the tables and the changes, so no contract speaks of it.
 ///
 /// - `insert_row`: besides the table's `insert` a search and a move of one chunk for each index.
 /// - `delete_row`: nothing for indexes; each drops its pair where the change is kept.
 /// - `replace_row`: a search and a move for each index; each drops the old pair where the change is kept.
-/// - `roll_back`, `keep`: a search and a move for each index and each change that added or owes a pair, and no memory.
+/// - `stage_unit`: the window's `stage`.
+/// - `roll_back`, `keep`: a search and a move for each index and each change that added or owes a pair, a call of the
+///   window for each unit that was staged, and no memory.
 #[derive(Drop)]
 pub struct Shard {
     number: u8,
     tables: Seq<Table>,
     indexes: Seq<Indexes>,
+    windows: Seq<Window>,
+    /// How many batches each procedure has taken, by number.
+    cursors: Seq<u64>,
+    /// The changes since tables and windows were last final.
     undo: Undo,
 }
 
@@ -53,7 +67,14 @@ impl Model for Shard {
 
     ghost use Rattle.ss_undo.specs.Indexed.{AreIndexed, columns_of};
 
-    ghost view = { λ s. record { number = s.number; tables = s.tables; changes = s.undo.items; columns = columns_of s.indexes } };
+    ghost view = { λ s. record {
+      number = s.number;
+      tables = s.tables;
+      changes = s.undo.items;
+      columns = columns_of s.indexes;
+      windows = s.windows;
+      cursors = s.cursors;
+    } };
 
     ghost invariant = { λ s. AreIndexed s.tables s.undo.items s.indexes };
 }
@@ -70,19 +91,30 @@ fn refused(table: u16, error: TableError) -> RunError
 }
 
 impl Shard {
-    /// A shard of these tables and indexes, with nothing to take back. A table without an entry in `indexes` has none.
-    /// Takes no memory.
-    pub fn new(alloc: Global, number: u8, tables: Seq<Table>, indexes: Seq<Indexes>) -> Shard
+    /// A shard of these tables, indexes, windows and counts, with nothing to take back. A table without an entry in
+    /// `indexes` has none. Takes no memory.
+    pub fn new(
+        alloc: Global,
+        number: u8,
+        tables: Seq<Table>,
+        indexes: Seq<Indexes>,
+        windows: Seq<Window>,
+        cursors: Seq<u64>,
+    ) -> Shard
         requires { AreIndexed tables [] indexes }
         ensures number { result.number ≡ number }
         ensures tables { result.tables ≡ tables }
         ensures changes { result.changes ≡ [] }
         ensures columns { result.columns ≡ columns_of indexes }
+        ensures windows { result.windows ≡ windows }
+        ensures cursors { result.cursors ≡ cursors }
     {
         Shard {
             number,
             tables,
             indexes,
+            windows,
+            cursors,
             undo: Undo::new(alloc),
         }
     }
@@ -101,6 +133,23 @@ impl Shard {
         self.tables.as_slice()
     }
 
+    /// A window by its number. Constant.
+    pub fn window(&self, window: u16) -> Option<&Window>
+        ensures { option_copied result ≡ slice_get self.now.windows window }
+    {
+        self.windows.get(usize::from(window))
+    }
+
+    /// How many batches a procedure has taken, and 0 where there is none of this number. Constant.
+    pub fn cursor(&self, procedure: u16) -> u64
+        ensures { result ≡ get_or self.now.cursors procedure 0 }
+    {
+        match self.cursors.get(usize::from(procedure)) {
+            Some(count) => *count,
+            None => 0,
+        }
+    }
+
     /// The indexes of a table, in each of which each live row of the table has its pair. Constant.
     pub fn indexes(&self, table: u16) -> Option<&Indexes>
         ensures rows { IfSome result (λ group. (h : Held) → slice_get self.now.tables table ≡ Some h → HaveRows h.live group.now) }
@@ -116,9 +165,10 @@ impl Shard {
     /// changes no row.
     pub fn insert_row(&mut self, table: u16, row: Row) -> Result<(), RunError>
         requires { IsKeyed self.old.tables table row }
-        ensures done { OnOk result (RowInserted self.old.tables self.new.tables table row) }
-        ensures stops { IfErr result (InsertStops self.old.tables table row) }
+        ensures done { OnOk result (RowInserted self.old self.new table row) }
+        ensures stops { IfErr result (InsertStops self.old table row) }
         ensures changed { Changed self.old self.new }
+        ensures windows { self.new.windows ≡ self.old.windows }
         ensures kept { OnErr result (self.new.tables ≡ self.old.tables) }
     {
         self.undo.room()?;
@@ -139,6 +189,7 @@ impl Shard {
         requires { HasSlot self.old.tables table slot }
         ensures done { OnOk result (SlotTaken self.old.tables self.new.tables table slot) }
         ensures changed { Changed self.old self.new }
+        ensures windows { self.new.windows ≡ self.old.windows }
         ensures kept { OnErr result (self.new.tables ≡ self.old.tables) }
     {
         self.undo.room()?;
@@ -158,6 +209,7 @@ impl Shard {
         requires { HasKeyOf self.old.tables table slot row }
         ensures done { OnOk result (SlotPut self.old.tables self.new.tables table slot row) }
         ensures changed { Changed self.old self.new }
+        ensures windows { self.new.windows ≡ self.old.windows }
         ensures kept { OnErr result (self.new.tables ≡ self.old.tables) }
     {
         self.undo.room()?;
@@ -172,27 +224,70 @@ impl Shard {
         Ok(())
     }
 
-    /// Takes all changes back, the last one first. Linear in them, each a call of its table and at most one of each of
-    /// the table's indexes; takes no memory.
-    pub fn roll_back(&mut self)
-        requires { (before : List Held) × CanGoBack before self.old }
-        ensures back { (before : List Held) → CanGoBack before self.old → self.new.tables ≡ before }
-        ensures number { self.new.number ≡ self.old.number }
-        ensures columns { self.new.columns ≡ self.old.columns }
-        ensures settled { SettledBack self.old self.new }
+    /// Adds a unit to a window, and answers whether the end of what the window shows has moved.
+    ///
+    /// Aborts with `WindowFull` where the window has had as many units as it may have. Constant on average. An error
+    /// changes no window.
+    pub fn stage_unit(&mut self, window: u16, unit: Rows) -> Result<bool, RunError>
+        requires { window < length self.old.windows }
+        ensures done { IfOk result (UnitStaged self.old self.new window unit) }
+        ensures stops { IfErr result (StagingStops self.old window unit) }
+        ensures changed { Changed self.old self.new }
+        ensures tables { self.new.tables ≡ self.old.tables }
+        ensures kept { OnErr result (self.new.windows ≡ self.old.windows) }
     {
-        self.undo.rollback(&mut self.tables, &mut self.indexes);
+        self.undo.room()?;
+        let Some(units) = self.windows.get_mut(usize::from(window)) else {
+            unreachable!()
+        };
+        units.units_are_held();
+        if units.units() >= WINDOW_UNITS {
+            return Err(RunError::Abort(Reason::WindowFull(window)));
+        }
+        let moved = match units.stage(unit) {
+            Ok(moved) => moved,
+            Err(_) => return Err(RunError::NoMemory),
+        };
+        units.units_are_held();
+        self.undo.note(Change::Staged { window });
+        Ok(moved)
     }
 
-    /// Makes all changes final. Linear in them, each at most a call of its table and one of each of the table's indexes;
-    /// takes no memory.
+    /// Says how many batches a procedure has taken, where there is one of this number. Constant. No rollback takes it
+    /// back.
+    pub fn set_cursor(&mut self, procedure: u16, count: u64)
+        ensures { self.new ≡ record self.old { cursors = set self.old.cursors procedure count } }
+    {
+        if let Some(cursor) = self.cursors.get_mut(usize::from(procedure)) {
+            *cursor = count;
+        }
+    }
+
+    /// Takes all changes back, the last one first. Linear in them, each a call of its window, or of its table and at most
+    /// one of each of the table's indexes; takes no memory.
+    pub fn roll_back(&mut self)
+        requires { (before : HeldShard) × CanGoBack before self.old }
+        ensures back { (before : HeldShard) → CanGoBack before self.old → Same before self.new }
+        ensures settled { (catalog : Catalog) (before : HeldShard) → CanGoBack before self.old → IsOf catalog before → IsSettled catalog self.new }
+    {
+        self.undo
+            .rollback(&mut self.tables, &mut self.indexes, &mut self.windows);
+    }
+
+    /// Makes all changes final. Linear in them, each at most a call of its window, or of its table and of each of the
+    /// table's indexes; takes no memory.
+    ///
+    /// Rows stay, and of each window the number of units and those that may still be seen.
     pub fn keep(&mut self)
-        requires { (before : List Held) × CanGoBack before self.old }
-        ensures same { contents_of self.new.tables ≡ contents_of self.old.tables }
+        requires { (before : HeldShard) × CanGoBack before self.old }
+        ensures tables { tables_of self.new.tables ≡ tables_of self.old.tables }
+        ensures windows { AllHeld self.old.windows → map kept_part self.new.windows ≡ map kept_part self.old.windows }
+        ensures cursors { self.new.cursors ≡ self.old.cursors }
         ensures number { self.new.number ≡ self.old.number }
         ensures columns { self.new.columns ≡ self.old.columns }
-        ensures settled { SettledHere self.old self.new }
+        ensures settled { (catalog : Catalog) → IsOf catalog self.old → IsSettled catalog self.new }
     {
-        self.undo.commit(&mut self.tables, &mut self.indexes);
+        self.undo
+            .commit(&mut self.tables, &mut self.indexes, &mut self.windows);
     }
 }

@@ -1,5 +1,5 @@
 -- Tables between changes, one change further.
-use Rattle.std.proofs.Common.{◌≡◌, ℕ, zero, suc, List, [], ◌∷◌, ◌++◌, refl, sym, ap, subst, ◌∙◌, Some, slice_get, slice_set}
+use Rattle.std.proofs.Common.{◌≡◌, ℕ, zero, suc, List, [], ◌∷◌, ◌++◌, map, refl, sym, ap, subst, ◌∙◌, Some, slice_get, slice_set}
 use Rattle.std.specs.Prelude.{Result, Ok, Err, IfOk, IfErr, OnErr}
 use Rattle.std.specs.FinMap as finite
 use Rattle.ss_value.specs.Rows.{Row}
@@ -10,6 +10,8 @@ use Rattle.ss_undo.specs.declared.change.Change.{Change}
 use Rattle.ss_undo.specs.declared.change.Change.TheVariants.{Inserted, Deleted, Replaced}
 use Rattle.ss_undo.specs.Came.{Came, Step, AreFinal, all_final}
 use Rattle.ss_undo.specs.Laws.{OneTableChanged, FinalAtFirst}
+use Rattle.ss_undo.specs.Windows.{WindowsCame}
+use Rattle.ss_window.specs.Held.{HeldWindow, settled}
 use Rattle.ss_undo.proofs.Back.{set_same}
 use Rattle.ss_table_tests.specs.Runs.{AreKeyed, Runs}
 
@@ -47,15 +49,17 @@ insert_leaves law key tables at place old new row (Err x) e k g ok err = (tt, ap
 -- ---- all tables and their changes
 
 -- two tables without a row
-pub started : (key : List ℕ) (first second : Held) (none one two : List Held) (changes : List Change) → none ≡ [] → one ≡ none ++ first ∷ [] → two ≡ one ++ second ∷ [] → changes ≡ []
-    → first.key ≡ key → second.key ≡ key → first.dead ≡ finite.empty → second.dead ≡ finite.empty → Runs key two changes
-started key first second none one two changes n o t c k l d e =
+pub started : (key : List ℕ) (first second : Held) (none one two : List Held) (windows : List HeldWindow) (changes : List Change) → windows ≡ [] → none ≡ [] → one ≡ none ++ first ∷ [] → two ≡ one ++ second ∷ [] → changes ≡ []
+    → first.key ≡ key → second.key ≡ key → first.dead ≡ finite.empty → second.dead ≡ finite.empty → Runs key two windows changes
+started key first second none one two windows changes w n o t c k l d e =
     let both : first ∷ second ∷ [] ≡ two = sym (t ∙ ap (λ ts. ts ++ second ∷ []) (o ∙ ap (λ ts. ts ++ first ∷ []) n)) in
     let keyed : AreKeyed key two = subst (AreKeyed key) both (k, (l, tt)) in
     record {
       before = two;
       final = subst AreFinal both (d, (e, tt));
       came = subst (λ cs. Came two cs two) (sym c) refl;
+      no_window = w;
+      staged = subst (λ (cs : List Change). WindowsCame [] cs []) (sym c) refl;
       was_keyed = keyed;
       keyed = keyed;
     }
@@ -65,13 +69,15 @@ keyed_final key [] k = tt
 keyed_final key (h ∷ hs) k = (k.0, keyed_final key hs k.1)
 
 -- changes made final
-pub committed : FinalAtFirst → (key : List ℕ) (tables now : List Held) (changes : List Change) → AreKeyed key tables → now ≡ all_final tables → changes ≡ [] → Runs key now changes
-committed law key tables now changes k is empty =
+pub committed : FinalAtFirst → (key : List ℕ) (tables now : List Held) (was windows : List HeldWindow) (changes : List Change) → AreKeyed key tables → now ≡ all_final tables → was ≡ [] → windows ≡ map settled was → changes ≡ [] → Runs key now windows changes
+committed law key tables now was windows changes k is none stay empty =
     let keyed : AreKeyed key now = subst (AreKeyed key) (sym is) (keyed_final key tables k) in
     record {
       before = now;
       final = subst AreFinal (sym is) (law tables).1;
       came = subst (λ cs. Came now cs now) (sym empty) refl;
+      no_window = stay ∙ ap (map settled) none;
+      staged = subst (λ (cs : List Change). WindowsCame [] cs []) (sym empty) refl;
       was_keyed = keyed;
       keyed = keyed;
     }

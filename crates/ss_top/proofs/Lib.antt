@@ -2,7 +2,8 @@ pub mod InputDepth
 pub mod InputRequests
 pub mod RunNumbers
 pub mod RunProgress
-pub mod RunShards
+pub mod Calls
+pub mod Running
 pub mod RunPremises
 pub mod TopReplies
 pub mod TopRefusals

@@ -8,7 +8,7 @@ use Rattle.ss_model.specs.Accepted.{Accepted}
 use Rattle.ss_model.specs.Database.{empty_database}
 use Rattle.ss_model.specs.Replays.{Replays}
 use Rattle.ss_model.proofs.Accounts.{accounts, accepted, three_calls, three_calls_replay}
-use Rattle.ss_proc.specs.Executions.{is_of_tables}
+use Rattle.ss_top.specs.OfTables.{is_of_tables}
 use Rattle.ss_top.specs.RunAnswers.{all_fit, AnswersInOrder}
 use Rattle.ss_top.specs.RunSessions.{one_client}
 

@@ -1,3 +1,4 @@
+pub mod OfTables
 pub mod Starts
 pub mod Refused
 pub mod RunAnswers

@@ -15,7 +15,7 @@ use Rattle.ss_catalog_requests.specs.declared.request.RequestError.{RequestError
 use Rattle.ss_catalog_requests.specs.Requests.{request_of, RefusesAs as RefusesRequestAs}
 use Rattle.ss_top.specs.declared.input.ReadError.{ReadError}
 use Rattle.ss_top.specs.declared.input.ReadError.TheVariants.{Line as OfLine, NoCatalog, Catalog as OfCatalog, Request as OfRequest, NotBuilt}
-use Rattle.ss_proc.specs.Executions.{is_of_tables}
+use Rattle.ss_top.specs.OfTables.{is_of_tables}
 use Rattle.ss_top.specs.Starts.{SaysCatalog, AsksFor, AskInOrder}
 
 -- ---- the catalogue's line

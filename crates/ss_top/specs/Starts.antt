@@ -8,7 +8,7 @@ use Rattle.ss_model.specs.declared.catalog.Catalog.{Catalog}
 use Rattle.ss_model.specs.declared.entry.Request.{Request}
 use Rattle.ss_catalog.specs.Reads.{Reads}
 use Rattle.ss_catalog_requests.specs.Requests.{request_of}
-use Rattle.ss_proc.specs.Executions.{is_of_tables}
+use Rattle.ss_top.specs.OfTables.{is_of_tables}
 
 -- the line's value is read as this catalogue
 pub record SaysCatalog (l : Line) (catalog : Catalog) : Type 0 where

@@ -4,7 +4,7 @@ ghost use Rattle.std.specs.Prelude.{◌≡◌, IfOk, IfErr, true};
 ghost use Rattle.ss_model.specs.Accepted.{Accepted};
 ghost use Rattle.ss_model.specs.Database.{fits_entry};
 ghost use Rattle.ss_model.specs.Report.{asked_entry};
-ghost use Rattle.ss_proc.specs.Executions.{is_of_tables};
+ghost use Rattle.ss_top.specs.OfTables.{is_of_tables};
 ghost use Rattle.ss_top.specs.RunAnswers.{all_fit};
 ghost use Rattle.ss_top.specs.RunSessions.{one_client};
 ghost use Rattle.ss_top.specs.Starts.{SaysCatalog, AsksFor, AskInOrder, StartLines};

@@ -10,7 +10,7 @@ ghost use Rattle.ss_model.specs.Replays.{Replays};
 ghost use Rattle.ss_top.specs.RunAnswers.{all_fit, AnswersInOrder};
 ghost use Rattle.ss_model.specs.Report.{Report, Whole};
 ghost use Rattle.ss_top.specs.RunSessions.{one_client};
-ghost use Rattle.ss_proc.specs.Executions.{is_of_tables};
+ghost use Rattle.ss_top.specs.OfTables.{is_of_tables};
 ghost use Rattle.ss_top.specs.Starts.{Starts};
 ghost use Rattle.ss_top.specs.Refused.{IsRefusedBy};
 ghost use Rattle.ss_top.specs.Statuses.{usage_text, read_fault_text, no_memory_text};

@@ -12,7 +12,7 @@ use Rattle.ss_table.proofs.Maps.{rows_antisymmetric}
 use Rattle.ss_table.proofs.Cells.{get_set_same}
 use Rattle.ss_table.proofs.Cases.{set_twice}
 use Rattle.ss_undo.specs.declared.change.Change.{Change}
-use Rattle.ss_undo.specs.declared.change.Change.TheVariants.{Inserted, Deleted, Replaced}
+use Rattle.ss_undo.specs.declared.change.Change.TheVariants.{Inserted, Deleted, Replaced, Staged}
 use Rattle.ss_undo.specs.Came.{At, Step, Came}
 use Rattle.ss_undo.specs.Ends.{with_one, undone, CanUndo}
 use Rattle.ss_undo.specs.Laws.{GoesBack, OneTableChanged}
@@ -77,6 +77,7 @@ step_back before now (Replaced table slot row) a =
           (some_and (row_at a.new.live slot) a.step.row (λ r. key_of a.new.key row ≡ key_of a.new.key r) a.step.there (subst Q here a.step.same_key)),
       one_back before now table (λ old new. WasReplaced old new slot row) (λ h. replaced h slot row) a (replaced_back a.old a.new slot row a.step),
     )
+step_back before now (Staged window) is = (tt, is)
 
 -- ---- lists of changes
 

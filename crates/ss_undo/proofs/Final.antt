@@ -8,7 +8,7 @@ use Rattle.ss_table.specs.Held.{Held, purged}
 use Rattle.ss_table.specs.Steps.{WasInserted, WasDeleted, WasReplaced}
 use Rattle.ss_table.proofs.Cases.{length_set}
 use Rattle.ss_undo.specs.declared.change.Change.{Change}
-use Rattle.ss_undo.specs.declared.change.Change.TheVariants.{Inserted, Deleted, Replaced}
+use Rattle.ss_undo.specs.declared.change.Change.TheVariants.{Inserted, Deleted, Replaced, Staged}
 use Rattle.ss_undo.specs.Came.{At, Step, Came, AreFinal, all_final}
 use Rattle.ss_undo.specs.Ends.{with_one, settled, CanSettle}
 use Rattle.ss_undo.specs.Laws.{Settles}
@@ -73,6 +73,7 @@ settle_step before mid now (Deleted table slot) a e =
           ∙ buried_set now mid table x a.old g.1
           ∙ ap (buried now) (set_back before mid table (λ old new. WasDeleted old new slot) a),
     )
+settle_step before mid now (Staged window) is e = (tt, ap (buried now) is)
 
 -- ---- lists of changes
 
@@ -80,6 +81,7 @@ pub step_length : (before now : List Held) (c : Change) → Step before c now �
 step_length before now (Inserted table slot) a = ap length a.is ∙ length_set before table a.new
 step_length before now (Deleted table slot) a = ap length a.is ∙ length_set before table a.new
 step_length before now (Replaced table slot row) a = ap length a.is ∙ length_set before table a.new
+step_length before now (Staged window) is = ap length is
 
 pub came_length : (before now : List Held) (cs : List Change) → Came before cs now → length before ≡ length now
 came_length before now [] is = ap length (sym is)

@@ -15,7 +15,7 @@ use Rattle.ss_index.specs.Holding.{Noted, HoldAll}
 use Rattle.ss_index.specs.Laws.{DropsTo}
 use Rattle.ss_index.proofs.Holding.{insert_adds, delete_leaves, replace_adds_and_notes, insert_goes_back, delete_goes_back, replace_goes_back, purge_drops, note_drops}
 use Rattle.ss_undo.specs.declared.change.Change.{Change}
-use Rattle.ss_undo.specs.declared.change.Change.TheVariants.{Inserted, Deleted, Replaced}
+use Rattle.ss_undo.specs.declared.change.Change.TheVariants.{Inserted, Deleted, Replaced, Staged}
 use Rattle.ss_undo.specs.Ends.{with_one}
 use Rattle.ss_undo.specs.Indexed.{Group, noted_by, noted, AreIndexed, columns_in, columns_of, with_row_of, without_row_of}
 use Rattle.ss_undo.proofs.Back.{set_same}
@@ -26,11 +26,12 @@ noted_more : (t : ℕ) (cs : List Change) (c : Change) → noted t (cs ++ c ∷ 
 noted_more t [] c = append-nil (noted_by t c)
 noted_more t (d ∷ ds) c = ap (λ ns. noted_by t d ++ ns) (noted_more t ds c) ∙ sym (append_assoc (noted_by t d) (noted t ds) (noted_by t c))
 
--- the table of a change
+-- the table of a change, and any number where it is of none
 abbrev pub table_of : Change → ℕ
 table_of (Inserted table slot) = table
 table_of (Deleted table slot) = table
 table_of (Replaced table slot row) = table
+table_of (Staged window) = window
 
 none_by : (t : ℕ) (c : Change) → (t ≡ table_of c → ⊥) → noted_by t c ≡ []
 none_by t (Inserted table slot) n = refl
@@ -40,6 +41,7 @@ none_by t (Replaced table slot row) n = by (table == t) refl
     by : (b : Bool) → (table == t) ≡ b → cond {A = Noted} b ((row, slot) ∷ []) [] ≡ []
     by true is = absurd (n (let q : t ≡ table = grind (arith, nat_tests) in q))
     by false is = refl
+none_by t (Staged window) n = refl
 
 -- no other table's old row is noted
 elsewhere : (t : ℕ) (cs : List Change) (c : Change) → (t ≡ table_of c → ⊥) → noted t (cs ++ c ∷ []) ≡ noted t cs
@@ -50,6 +52,9 @@ insert_notes t u slot cs = noted_more t cs (Inserted u slot) ∙ append-nil (not
 
 delete_notes : (t u slot : ℕ) (cs : List Change) → noted t (cs ++ Deleted u slot ∷ []) ≡ noted t cs
 delete_notes t u slot cs = noted_more t cs (Deleted u slot) ∙ append-nil (noted t cs)
+
+unit_notes : (t window : ℕ) (cs : List Change) → noted t (cs ++ Staged window ∷ []) ≡ noted t cs
+unit_notes t window cs = noted_more t cs (Staged window) ∙ append-nil (noted t cs)
 
 replace_notes : (t slot : ℕ) (row : Row) (cs : List Change) → noted t (cs ++ Replaced t slot row ∷ []) ≡ noted t cs ++ (row, slot) ∷ []
 replace_notes t slot row cs =
@@ -181,6 +186,13 @@ module _ (tables : List Table) (indexes : List Group) (t slot : ℕ) (was : Tabl
 -- an insert's note keeps no row
 pub fresh_indexed : (tables : List Table) (indexes : List Group) (t slot : ℕ) (cs : List Change) → AreIndexed tables (cs ++ Inserted t slot ∷ []) indexes → AreIndexed tables cs indexes
 fresh_indexed tables indexes t slot cs all u h group there has = subst (λ ns. HoldAll h ns group) (insert_notes u t slot cs) (all u h group there has)
+
+-- the note of a staged unit keeps no row
+pub unit_noted : (tables : List Table) (indexes : List Group) (window : ℕ) (cs : List Change) → AreIndexed tables cs indexes → AreIndexed tables (cs ++ Staged window ∷ []) indexes
+unit_noted tables indexes window cs all u h group there has = subst (λ ns. HoldAll h ns group) (sym (unit_notes u window cs)) (all u h group there has)
+
+pub unit_indexed : (tables : List Table) (indexes : List Group) (window : ℕ) (cs : List Change) → AreIndexed tables (cs ++ Staged window ∷ []) indexes → AreIndexed tables cs indexes
+unit_indexed tables indexes window cs all u h group there has = subst (λ ns. HoldAll h ns group) (unit_notes u window cs) (all u h group there has)
 
 -- ---- as calls tell it
 

@@ -1,3 +1,4 @@
 pub mod Back
 pub mod Final
 pub mod Indexed
+pub mod Windows

@@ -6,7 +6,7 @@ use Rattle.ss_index.specs.Pairs.{Held}
 use Rattle.ss_index.specs.Indexes.{with_rows, without_rows}
 use Rattle.ss_index.specs.Holding.{Noted, HoldAll}
 use Rattle.ss_undo.specs.declared.change.Change.{Change}
-use Rattle.ss_undo.specs.declared.change.Change.TheVariants.{Inserted, Deleted, Replaced}
+use Rattle.ss_undo.specs.declared.change.Change.TheVariants.{Inserted, Deleted, Replaced, Staged}
 use Rattle.ss_undo.specs.Ends.{with_one}
 
 -- the indexes of one table
@@ -18,6 +18,7 @@ abbrev pub noted_by : ℕ → Change → Noted
 noted_by t (Inserted table slot) = []
 noted_by t (Deleted table slot) = []
 noted_by t (Replaced table slot row) = cond (table == t) ((row, slot) ∷ []) []
+noted_by t (Staged window) = []
 
 -- the old rows of a table that the notes keep
 abbrev pub noted : ℕ → List Change → Noted

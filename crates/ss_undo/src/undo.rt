@@ -1,9 +1,11 @@
-//! The changes since tables were last final.
+//! The changes since tables and windows were last final.
 
-ghost use Rattle.std.specs.Prelude.{◌≡◌, ◌≤◌, ◌+◌, List, [], ◌∷◌, ◌++◌, OnOk};
+ghost use Rattle.std.specs.Prelude.{◌≡◌, ◌≤◌, ◌+◌, List, [], ◌∷◌, ◌++◌, map, OnOk};
 ghost use Rattle.ss_table.specs.Held.{Held};
 ghost use Rattle.ss_undo.specs.Came.{Came, AreFinal, all_final};
 ghost use Rattle.ss_undo.specs.Indexed.{AreIndexed, columns_of};
+ghost use Rattle.ss_undo.specs.Windows.{WindowsCame, AreSettled};
+ghost use Rattle.ss_window.specs.Held.{HeldWindow, settled};
 
 use crate::change::Change;
 use crate::ends::{settle, take_back};
@@ -12,6 +14,7 @@ use ss_table::table::Table;
 use ss_value::NoMemory;
 use ss_value::reserved::Reserved;
 use ss_value::seq::Seq;
+use ss_window::window::Window;
 use std::alloc::Global;
 use std::marker::Model;
 
@@ -65,37 +68,53 @@ impl Undo {
         self.changes.add(change)
     }
 
-    /// Makes all noted changes final: the live rows stay, no slot is dead, and the indexes hold the live rows alone.
+    /// Makes all noted changes final: the live rows stay, no slot is dead, the indexes hold the live rows alone, and the
+    /// units stay that a slide can still show.
     ///
-    /// One call of a table for each change that is a delete, and one of each of its indexes for a delete and for a
-    /// replacement. Takes no memory; rows that were replaced are given up, and the room for notes stays. A table
-    /// without an entry in `indexes` has none.
-    pub fn commit(&mut self, tables: &mut Seq<Table>, indexes: &mut Seq<Indexes>)
+    /// One call of a table for each change that is a delete, one of each of its indexes for a delete and for a
+    /// replacement, and one of a window for each staging. Takes no memory; rows that were replaced are given up, and the
+    /// room for notes stays. A table without an entry in `indexes` has none.
+    pub fn commit(
+        &mut self,
+        tables: &mut Seq<Table>,
+        indexes: &mut Seq<Indexes>,
+        windows: &mut Seq<Window>,
+    )
         requires came { (before : List Held) × AreFinal before × Came before self.old.items tables.old }
         requires indexed { AreIndexed tables.old self.old.items indexes.old }
+        requires windows { (before : List HeldWindow) × AreSettled before × WindowsCame before self.old.items windows.old }
         ensures kept { tables.new ≡ all_final tables.old }
+        ensures settled { windows.new ≡ map settled windows.old }
         ensures empty { self.new.items ≡ [] }
         ensures indexed { AreIndexed tables.new [] indexes.new }
         ensures columns { columns_of indexes.new ≡ columns_of indexes.old }
     {
         while let Some(change) = self.changes.pop() {
-            settle(change, tables, indexes);
+            settle(change, tables, indexes, windows);
         }
     }
 
-    /// Takes all noted changes back, the last one first: tables are as before the first.
+    /// Takes all noted changes back, the last one first: tables and windows are as before the first.
     ///
-    /// One call of a table for each change, and one of each of its indexes but for a delete. Takes no memory.
-    pub fn rollback(&mut self, tables: &mut Seq<Table>, indexes: &mut Seq<Indexes>)
+    /// One call of a table or a window for each change, and one of each of a table's indexes but for a delete. Takes no
+    /// memory.
+    pub fn rollback(
+        &mut self,
+        tables: &mut Seq<Table>,
+        indexes: &mut Seq<Indexes>,
+        windows: &mut Seq<Window>,
+    )
         requires came { (before : List Held) × Came before self.old.items tables.old }
         requires indexed { AreIndexed tables.old self.old.items indexes.old }
+        requires windows { (before : List HeldWindow) × WindowsCame before self.old.items windows.old }
         ensures back { (before : List Held) → Came before self.old.items tables.old → tables.new ≡ before }
+        ensures windows_back { (before : List HeldWindow) → WindowsCame before self.old.items windows.old → windows.new ≡ before }
         ensures empty { self.new.items ≡ [] }
         ensures indexed { AreIndexed tables.new [] indexes.new }
         ensures columns { columns_of indexes.new ≡ columns_of indexes.old }
     {
         while let Some(change) = self.changes.pop() {
-            take_back(change, tables, indexes);
+            take_back(change, tables, indexes, windows);
         }
     }
 }

@@ -1,6 +1,6 @@
 //! The report of a small run, whose lines are decided by hand.
 
-ghost use Rattle.std.specs.Prelude.{◌≡◌, IfOk, length};
+ghost use Rattle.std.specs.Prelude.{◌≡◌, [], IfOk, length};
 ghost use Rattle.ss_shard.specs.Shards.{HasTables};
 
 use super::number_row;
@@ -26,7 +26,9 @@ fn table_of(alloc: Global, name: &[u8]) -> Result<TableDef, Fail> {
 }
 
 /// A catalogue of two tables, the one with the lesser name behind the other.
-fn catalog(alloc: Global) -> Result<Catalog, Fail> {
+fn catalog(alloc: Global) -> Result<Catalog, Fail>
+    ensures { IfOk result (λ catalog. catalog.windows ≡ []) }
+{
     let stock = table_of(alloc, b"stock")?;
     let accounts = table_of(alloc, b"acct")?;
     Ok(Catalog {
@@ -65,6 +67,7 @@ fn put(
 
 /// Both tables, with rows that are not inserted in the order of their keys.
 fn database(alloc: Global, catalog: &Catalog) -> Result<Database, Fail>
+    requires { catalog.now.windows ≡ [] }
     ensures { IfOk result (λ database. HasTables catalog.now database.whole.tables) }
 {
     let Database { mut whole } = opening(alloc, catalog)?;

@@ -10,18 +10,19 @@ use crate::tests::plain::key_of;
 use crate::tests::words::add;
 use ss_table::table::{Slot, Table, TableError};
 use ss_undo::change::Change;
-use ss_undo::laws::{a_note_more, final_at_first, one_table_changed};
+use ss_undo::laws::{a_note_more, a_staging_more, final_at_first, one_table_changed};
 use ss_undo::undo::Undo;
 use ss_value::copies::Copies;
 use ss_value::laws::row_order_is_total;
 use ss_value::order::compare_rows;
 use ss_value::seq::Seq;
 use ss_value::value::Row;
+use ss_window::window::Window;
 use std::alloc::Global;
 use std::marker::Model;
 use std::test::Fail;
 
-/// Two tables of one key and one limit, and the changes since they were last final.
+/// Two tables of one key and one limit, no window, and the changes since they were last final.
 ///
 /// Contracts see the columns of the key alone. That the noted changes are those that were made is kept by the
 /// type.
@@ -29,6 +30,7 @@ use std::test::Fail;
 pub struct Real {
     key: Seq<u8>,
     tables: Seq<Table>,
+    windows: Seq<Window>,
     undo: Undo,
 }
 
@@ -41,7 +43,7 @@ impl Model for Real {
 
     ghost view = { λ r. r.key };
 
-    ghost invariant = { λ r. Runs r.key r.tables r.undo.items };
+    ghost invariant = { λ r. Runs r.key r.tables r.windows r.undo.items };
 }
 
 /// Whether a row has every column of a key.
@@ -158,8 +160,14 @@ impl Real {
         let mut tables = Seq::new(alloc);
         add(&mut tables, Table::new(alloc, key.duplicate(alloc)?, limit))?;
         add(&mut tables, Table::new(alloc, key.duplicate(alloc)?, limit))?;
+        let windows = Seq::new(alloc);
         let undo = Undo::new(alloc);
-        Ok(Real { key, tables, undo })
+        Ok(Real {
+            key,
+            tables,
+            windows,
+            undo,
+        })
     }
 
     /// One of them.
@@ -173,6 +181,7 @@ impl Real {
             return Err("no such table or row".into());
         }
         a_note_more();
+        a_staging_more();
         self.undo.room()?;
         match insert_in(self.key.as_slice(), &mut self.tables, at, row) {
             Err(refused) => Ok(Some(refused)),
@@ -189,6 +198,7 @@ impl Real {
             return Ok(false);
         }
         a_note_more();
+        a_staging_more();
         self.undo.room()?;
         delete_in(self.key.as_slice(), &mut self.tables, at, slot);
         self.undo.note(Change::Deleted { table: at, slot });
@@ -209,6 +219,7 @@ impl Real {
             return Ok(false);
         }
         a_note_more();
+        a_staging_more();
         self.undo.room()?;
         let old = replace_in(self.key.as_slice(), &mut self.tables, at, slot, row);
         self.undo.note(Change::Replaced {
@@ -232,12 +243,14 @@ impl Real {
     pub fn commit(&mut self, alloc: Global) {
         final_at_first();
         let mut indexes = Seq::new(alloc);
-        self.undo.commit(&mut self.tables, &mut indexes);
+        self.undo
+            .commit(&mut self.tables, &mut indexes, &mut self.windows);
     }
 
     /// Takes all changes back.
     pub fn rollback(&mut self, alloc: Global) {
         let mut indexes = Seq::new(alloc);
-        self.undo.rollback(&mut self.tables, &mut indexes);
+        self.undo
+            .rollback(&mut self.tables, &mut indexes, &mut self.windows);
     }
 }

@@ -5,9 +5,9 @@ ghost use Rattle.ss_model.specs.Accepted.{Accepted};
 ghost use Rattle.ss_model.specs.Database.{fits_entry, empty_database};
 ghost use Rattle.ss_model.specs.Replays.{Replays, after};
 ghost use Rattle.ss_model.specs.Report.{asked_entry, asked_entries};
-ghost use Rattle.ss_shard.specs.Shards.{IsSettled};
-ghost use Rattle.ss_shard.specs.Databases.{database_of};
-ghost use Rattle.ss_proc.specs.Executions.{is_of_tables};
+ghost use Rattle.ss_shard.specs.Shards.{Same, IsSettled};
+ghost use Rattle.ss_shard.specs.Windows.{HoldsDatabase};
+ghost use Rattle.ss_top.specs.OfTables.{is_of_tables};
 ghost use Rattle.ss_top.specs.RunAnswers.{all_fit, AnswersInOrder};
 ghost use Rattle.ss_top.specs.RunSessions.{one_client, places_in, RequestListed};
 
@@ -49,8 +49,8 @@ fn list_request(
     requires tables_alone { is_of_tables catalog.now ≡ true }
     requires fits { fits_entry catalog.now (asked_entry request.now.client index request.now.what) ≡ true }
     requires settled { IsSettled catalog.now shard.old }
-    ensures listed { IfSome result (RequestListed catalog.now request.now index shard.old.tables shard.new.tables list.old list.new) }
-    ensures none { IfNone result ((list.new ≡ list.old) × (shard.new.tables ≡ shard.old.tables)) }
+    ensures listed { IfSome result (RequestListed catalog.now request.now index shard.old shard.new list.old list.new) }
+    ensures none { IfNone result ((list.new ≡ list.old) × Same shard.old shard.new) }
     ensures settled { IsSettled catalog.now shard.new }
 {
     let place = list.len() as u64;
@@ -59,7 +59,10 @@ fn list_request(
     };
     match list.push(listed) {
         Ok(()) => {
-            keep(shard);
+            let Some(listed) = list.get(place as usize) else {
+                unreachable!()
+            };
+            keep(shard, &listed.entry);
             Some(place)
         }
         Err(_) => {
@@ -90,7 +93,7 @@ pub fn run_requests(
     ensures in_order { IfOk result (λ s. AnswersInOrder requests.now s.list) }
     ensures places { IfOk result (λ s. s.places ≡ places_in s.list (asked_entries requests.now)) }
     ensures settled { IfOk result (λ s. IsSettled catalog.now s.database.whole) }
-    ensures tables { IfOk result (λ s. database_of catalog.now s.database.whole.tables ≡ after catalog.now (empty_database catalog.now) s.list) }
+    ensures holds { IfOk result (λ s. HoldsDatabase catalog.now s.database.whole (after catalog.now (empty_database catalog.now) s.list)) }
 {
     let mut database = opening(alloc, catalog)?;
     let mut list = Seq::new(alloc);

@@ -1,4 +1,4 @@
-use Rattle.ss_model_laws.proofs.KeptDatabase.{from_kept}
+use Rattle.ss_model_kept.proofs.KeptDatabase.{from_kept}
 use Rattle.ss_model_laws.proofs.WholeDatabase.{kept_is_whole}
 use Rattle.ss_model_laws.proofs.whole.wholeness_is_kept.Goals as goal
 

@@ -1,5 +1,4 @@
-use Rattle.std.proofs.Common.{◌≡◌, ℕ, List, sym, subst, Bor, is_lt, rules}
-use Rattle.std.specs.List.{dedup}
+use Rattle.std.proofs.Common.{ℕ, sym, subst, Bor, is_lt, rules}
 use Rattle.std.specs.Ordering.{eq_by_cmp}
 use Rattle.std.proofs.lemmas.List.Sorted.{ranks_by}
 use Rattle.std.proofs.lemmas.Fn.{always_returns_same, dedup_same}

@@ -1,4 +1,4 @@
-use Rattle.std.proofs.Common.{◌≡◌, ℕ, List, Bor, subst, IfOk, IfErr}
+use Rattle.std.proofs.Common.{ℕ, List, Bor, subst, IfOk, IfErr}
 use Rattle.ss_sql_lex.specs.declared.typed.SourceId.TheVariants.{Table as FromTable}
 use Rattle.ss_value.specs.Rows.{Row}
 use Rattle.ss_operators.specs.Stops.{StopsAs}

@@ -1,35 +1,90 @@
-use Rattle.std.proofs.Common.{◌≡◌, [], length, replicate, Err, sym, ap, subst, ◌∙◌}
-use Rattle.ss_value.specs.Rows.{Rows}
+use Rattle.std.proofs.Common.{◌≡◌, [], replicate, Err, sym, ap, subst, ◌∙◌}
+use Rattle.std.proofs.lemmas.Result.{err_from_is_err_and}
 use Rattle.ss_model.specs.declared.entry.Outcome.TheVariants.{Aborted}
-use Rattle.ss_model.specs.Results.{try_fold}
-use Rattle.ss_model.specs.Bodies.{execute_step}
+use Rattle.ss_model.specs.Bodies.{run_body}
 use Rattle.ss_model.specs.Database.{body_result}
 use Rattle.ss_operators.specs.declared.run_error.RunError.{RunError}
 use Rattle.ss_operators.specs.Stops.{StopsAs}
-use Rattle.ss_shard.specs.Contents.{contents_of}
-use Rattle.ss_shard.proofs.Settling.{starts_here}
-use Rattle.ss_plan.specs.Statements.{context_for}
-use Rattle.ss_proc.specs.Executions.{execution_of}
-use Rattle.ss_proc.proofs.Meant.{body_is_steps}
+use Rattle.ss_shard.specs.Contents.{contents_of, contents_with}
+use Rattle.ss_shard.proofs.Settling.{starts_here, of_same}
+use Rattle.ss_proc.specs.Executions.{context_of}
+use Rattle.ss_proc.proofs.Whole.{back_here}
 use Rattle.ss_proc.proofs.bodies.run_body.Goals as goal
 
-pub returns-in-Ok-clause-ran : goal.returns-in-Ok-clause-ran
-returns-in-Ok-clause-ran c = λ procedure.
-    let catalog = c.args.catalog.now in
-    let context = context_for catalog procedure c.args.frame.now in
-    let s = contents_of c.args.shard.now.tables in
-    ap (body_result catalog s)
-    (body_is_steps context c.args.body.now s c.requires.no_window
-    ∙ ap (λ (reply : Rows). try_fold (execute_step context) c.args.body.now (execution_of catalog c.args.shard.now reply)) (sym c.new-reply.ensures)
-    ∙ c.in-Ok.ensures.done procedure)
+pub returns-in_err-emitted-in-Err-Abort-clause-of_catalog : goal.returns-in_err-emitted-in-Err-Abort-clause-of_catalog
+returns-in_err-emitted-in-Err-Abort-clause-of_catalog c =
+    let catalog = c.args.given.now.catalog.now in
+    let old = c.args.shard.now in
+    let can = c.run_steps.ensures.changed.back old (starts_here catalog old c.requires.settled) in
+    let same = c.roll_back.ensures.back old can in
+    of_same catalog old c.roll_back.new.self same c.requires.settled.of_catalog
 
-pub returns-in-Err-Abort-clause-ran : goal.returns-in-Err-Abort-clause-ran
-returns-in-Err-Abort-clause-ran c = λ procedure.
-    let catalog = c.args.catalog.now in
-    let context = context_for catalog procedure c.args.frame.now in
-    let s = contents_of c.args.shard.now.tables in
-    let start = λ (reply : Rows). try_fold (execute_step context) c.args.body.now (execution_of catalog c.args.shard.now reply) in
-    let stops : start c.new-reply.result ≡ Err c.in-Err-Abort.reason = subst (λ (stop : RunError). StopsAs (start c.new-reply.result) stop) c.in-Err-Abort.field-0-is (c.in-Err-Abort.ensures.stops procedure) in
-    let back = c.roll_back.ensures.back c.args.shard.now.tables (c.execute_steps.ensures.changed.back c.args.shard.now.tables (starts_here catalog c.args.shard.now c.requires.settled)) in
-    ap (body_result catalog s) (body_is_steps context c.args.body.now s c.requires.no_window ∙ ap start (sym c.new-reply.ensures) ∙ stops)
-    ∙ (λ i. record { contents = contents_of (sym back i); outcome = Aborted (sym c.in-Err-Abort.reason-is i); emitted = replicate (length catalog.streams) [] })
+pub returns-in_ok-emitted-in-Err-Abort-clause-of_catalog : goal.returns-in_ok-emitted-in-Err-Abort-clause-of_catalog
+returns-in_ok-emitted-in-Err-Abort-clause-of_catalog c =
+    let catalog = c.args.given.now.catalog.now in
+    let old = c.args.shard.now in
+    let can = c.run_steps.ensures.changed.back old (starts_here catalog old c.requires.settled) in
+    let same = c.roll_back.ensures.back old can in
+    of_same catalog old c.roll_back.new.self same c.requires.settled.of_catalog
+
+pub returns-in-Err-NoMemory-clause-of_catalog : goal.returns-in-Err-NoMemory-clause-of_catalog
+returns-in-Err-NoMemory-clause-of_catalog c =
+    let catalog = c.args.given.now.catalog.now in
+    let old = c.args.shard.now in
+    let can = c.run_steps.ensures.changed.back old (starts_here catalog old c.requires.settled) in
+    let same = c.roll_back-in-Err-NoMemory.ensures.back old can in
+    of_same catalog old c.roll_back-in-Err-NoMemory.new.self same c.requires.settled.of_catalog
+
+pub returns-in_err-emitted-in-Err-Abort-clause-kept : goal.returns-in_err-emitted-in-Err-Abort-clause-kept
+returns-in_err-emitted-in-Err-Abort-clause-kept c =
+    let p = err_from_is_err_and c.from_residual.result c.from_residual.ensures.1 in
+    let catalog = c.args.given.now.catalog.now in
+    let old = c.args.shard.now in
+    let can = c.run_steps.ensures.changed.back old (starts_here catalog old c.requires.settled) in
+    let same = c.roll_back.ensures.back old can in
+    rw p.1 same
+
+pub returns-in_err-emitted-in-Err-Abort-clause-settled : goal.returns-in_err-emitted-in-Err-Abort-clause-settled
+returns-in_err-emitted-in-Err-Abort-clause-settled c =
+    let p = err_from_is_err_and c.from_residual.result c.from_residual.ensures.1 in
+    let catalog = c.args.given.now.catalog.now in
+    let old = c.args.shard.now in
+    let can = c.run_steps.ensures.changed.back old (starts_here catalog old c.requires.settled) in
+    let same = c.roll_back.ensures.back old can in
+    rw p.1 (c.roll_back.ensures.settled catalog old can c.requires.settled.of_catalog)
+
+pub returns-in-Err-NoMemory-clause-kept : goal.returns-in-Err-NoMemory-clause-kept
+returns-in-Err-NoMemory-clause-kept c =
+    let catalog = c.args.given.now.catalog.now in
+    let old = c.args.shard.now in
+    let can = c.run_steps.ensures.changed.back old (starts_here catalog old c.requires.settled) in
+    let same = c.roll_back-in-Err-NoMemory.ensures.back old can in
+    same
+
+pub returns-in-Err-NoMemory-clause-settled : goal.returns-in-Err-NoMemory-clause-settled
+returns-in-Err-NoMemory-clause-settled c =
+    let catalog = c.args.given.now.catalog.now in
+    let old = c.args.shard.now in
+    let can = c.run_steps.ensures.changed.back old (starts_here catalog old c.requires.settled) in
+    let same = c.roll_back-in-Err-NoMemory.ensures.back old can in
+    c.roll_back-in-Err-NoMemory.ensures.settled catalog old can c.requires.settled.of_catalog
+
+pub returns-in_ok-emitted-in-Err-Abort-clause-back : goal.returns-in_ok-emitted-in-Err-Abort-clause-back
+returns-in_ok-emitted-in-Err-Abort-clause-back c =
+    let catalog = c.args.given.now.catalog.now in
+    let old = c.args.shard.now in
+    let can = c.run_steps.ensures.changed.back old (starts_here catalog old c.requires.settled) in
+    let same = c.roll_back.ensures.back old can in
+    back_here catalog old c.roll_back.new.self c.requires.settled (c.roll_back.ensures.settled catalog old can c.requires.settled.of_catalog) same
+
+pub returns-in_ok-emitted-in-Err-Abort-clause-ran : goal.returns-in_ok-emitted-in-Err-Abort-clause-ran
+returns-in_ok-emitted-in-Err-Abort-clause-ran c =
+    let catalog = c.args.given.now.catalog.now in
+    let old = c.args.shard.now in
+    let can = c.run_steps.ensures.changed.back old (starts_here catalog old c.requires.settled) in
+    let same = c.roll_back.ensures.back old can in
+    let s = contents_of old in
+    let stops : run_body (context_of c.args.given.now) c.args.body.now s ≡ Err c.in-Err-Abort.reason = subst (λ (stop : RunError). StopsAs (run_body (context_of c.args.given.now) c.args.body.now s) stop) c.in-Err-Abort.field-0-is c.in-Err-Abort.ensures.stops in
+    let none = c.in_ok-emitted-in-Err-Abort.ensures ∙ ap (λ n. replicate n []) c.len.ensures in
+    ap (body_result catalog s) stops
+    ∙ (λ i. record { contents = contents_with (sym same.tables i) (sym same.windows i); outcome = Aborted (sym c.in-Err-Abort.reason-is i); emitted = sym none i })

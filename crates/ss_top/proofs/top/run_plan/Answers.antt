@@ -1,7 +1,7 @@
-use Rattle.std.proofs.Common.{◌∙◌, ap, sym, subst, length}
+use Rattle.std.proofs.Common.{◌∙◌, ap, sym, subst, length, refl}
 use Rattle.ss_model.specs.Report.{Report, Whole}
+use Rattle.ss_model.specs.Replays.{after}
 use Rattle.ss_model.specs.Database.{empty_database}
-use Rattle.ss_shard.specs.Databases.{database_of}
 use Rattle.ss_top.proofs.TopReplies.{told_report, places_count}
 use Rattle.ss_top.proofs.top.run_plan.Goals as goal
 
@@ -12,6 +12,7 @@ pub returns-clause-report : goal.returns-clause-report
 returns-clause-report c =
     let catalog = c.args.plan.now.catalog in
     let s = c.in_ok-list.field-0 in
-    subst (Report catalog c.args.plan.now.requests (empty_database catalog) 0 s.list Whole) (sym c.in_ok-text.ensures)
-    (told_report catalog c.args.plan.now.requests s.places s.list (empty_database catalog) (database_of catalog s.database.whole.tables)
-    c.requires.clients c.in_ok-list.ensures.in_order c.in_ok-list.ensures.places c.in_ok-list.ensures.tables)
+    let db = after catalog (empty_database catalog) s.list in
+    subst (Report catalog c.args.plan.now.requests (empty_database catalog) 0 s.list Whole) (sym (c.in_ok-text.ensures db c.in_ok-list.ensures.holds.contents.tables))
+    (told_report catalog c.args.plan.now.requests s.places s.list (empty_database catalog) db
+    c.requires.clients c.in_ok-list.ensures.in_order c.in_ok-list.ensures.places refl)

@@ -2,7 +2,7 @@ use Rattle.std.proofs.Common.{[], ◌∷◌, ◌++◌, subst, sym, ap, ◌∙◌
 use Rattle.ss_table.specs.Held.{purged}
 use Rattle.ss_undo.specs.Ends.{CanSettle}
 use Rattle.ss_undo.specs.Indexed.{AreIndexed, columns_of}
-use Rattle.ss_undo.proofs.Indexed.{purged_indexed, note_indexed, fresh_indexed, columns_dropped, found_as, told_as, there_is}
+use Rattle.ss_undo.proofs.Indexed.{purged_indexed, note_indexed, fresh_indexed, columns_dropped, unit_indexed, found_as, told_as, there_is}
 use Rattle.ss_undo.proofs.ends.settle.Goals as goal
 
 pub drop_pairs-requires : goal.drop_pairs-requires
@@ -52,3 +52,7 @@ returns-in-Replaced-clause-indexed c = λ before indexed.
 
 pub returns-in-Replaced-clause-columns : goal.returns-in-Replaced-clause-columns
 returns-in-Replaced-clause-columns c = ap columns_of c.drop_pairs-in-Replaced.ensures ∙ columns_dropped c.args.indexes.now c.in-Replaced.table c.in-Replaced.slot c.in-Replaced.old
+
+pub returns-in-Staged-clause-indexed : goal.returns-in-Staged-clause-indexed
+returns-in-Staged-clause-indexed c = λ before indexed.
+    unit_indexed c.args.tables.now c.args.indexes.now c.in-Staged.window before (subst (λ change. AreIndexed c.args.tables.now (before ++ change ∷ []) c.args.indexes.now) c.in-Staged.is indexed)

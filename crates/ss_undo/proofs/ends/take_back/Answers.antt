@@ -4,7 +4,7 @@ use Rattle.std.specs.FinMap as finite
 use Rattle.ss_table.specs.Held.{key_of, row_at, removed, unmarked, replaced}
 use Rattle.ss_undo.specs.Ends.{CanUndo}
 use Rattle.ss_undo.specs.Indexed.{AreIndexed, columns_of}
-use Rattle.ss_undo.proofs.Indexed.{removed_indexed, unmarked_indexed, put_back_indexed, columns_dropped, found_as, told_as, is_within, some_of}
+use Rattle.ss_undo.proofs.Indexed.{removed_indexed, unmarked_indexed, put_back_indexed, columns_dropped, unit_indexed, found_as, told_as, is_within, some_of}
 use Rattle.ss_undo.proofs.ends.take_back.Goals as goal
 
 pub drop_pairs-requires : goal.drop_pairs-requires
@@ -86,3 +86,7 @@ returns-in-Some-get_mut-2-clause-indexed c = λ before indexed.
 
 pub returns-in-Some-get_mut-2-clause-columns : goal.returns-in-Some-get_mut-2-clause-columns
 returns-in-Some-get_mut-2-clause-columns c = ap columns_of c.drop_pairs-in-Some-get_mut-2.ensures ∙ columns_dropped c.args.indexes.now c.in-Replaced.table c.in-Replaced.slot c.replace-newer.result
+
+pub returns-in-Staged-clause-indexed : goal.returns-in-Staged-clause-indexed
+returns-in-Staged-clause-indexed c = λ before indexed.
+    unit_indexed c.args.tables.now c.args.indexes.now c.in-Staged.window before (subst (λ change. AreIndexed c.args.tables.now (before ++ change ∷ []) c.args.indexes.now) c.in-Staged.is indexed)

@@ -1,5 +1,4 @@
-use Rattle.std.proofs.Common.{◌≡◌, ◌<◌, false, true, sym, ap, ◌∙◌, true≢false, length, arith, slice_get, Some, None}
-use Rattle.std.specs.Option.{option_copied}
+use Rattle.std.proofs.Common.{sym, ◌∙◌, true≢false}
 use Rattle.ss_rows.specs.Sources.{rows_in}
 use Rattle.ss_plan.specs.Found.{rows_found}
 use Rattle.ss_plan.proofs.AtPlaces.{row_there, row_lent, no_lent, place_lent}

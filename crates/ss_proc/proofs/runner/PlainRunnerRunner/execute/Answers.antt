@@ -1,36 +1,61 @@
-use Rattle.std.proofs.Common.{◌≡◌, Some, [], length, replicate, slice_get, subst, true, rules}
-use Rattle.std.specs.Option.{option_map}
-use Rattle.ss_value.specs.Rows.{column_value}
+use Rattle.std.proofs.Common.{◌≡◌, true, List, Option, Ok, Err, Result, IfOk, slice_get, refl, sym, ap, subst, ◌∙◌}
+use Rattle.ss_value.specs.Rows.{Row, Rows}
+use Rattle.ss_model.specs.declared.catalog.Procedure.{Procedure}
 use Rattle.ss_model.specs.declared.entry.Entry.{Entry}
-use Rattle.ss_model.specs.Database.{fits_entry}
-use Rattle.ss_proc.proofs.OfTables.{is_a_call, no_windows, all_calls}
-use Rattle.ss_proc.proofs.Fitting.{fits_steps}
-use Rattle.ss_proc.proofs.Calls.{call_ran}
+use Rattle.ss_model.specs.declared.entry.Entry.TheVariants.{Step as StepEntry}
+use Rattle.ss_model.specs.Database.{Database, fits_entry, has_call, has_step, run_procedure}
+use Rattle.ss_shard.specs.HeldShard.{HeldShard}
+use Rattle.ss_shard.specs.Contents.{contents_of}
+use Rattle.ss_shard.specs.Windows.{HoldsDatabase}
+use Rattle.ss_proc.specs.declared.runner.Executed.{Executed}
+use Rattle.ss_proc.specs.Entries.{IsNext, AreAtHand, AreBatchesOf, batches_by, Ran}
+use Rattle.ss_proc.proofs.Standing.{call_ran, step_ran, named}
 use Rattle.ss_proc.proofs.runner.PlainRunnerRunner.execute.Goals as goal
 
-pub unreachable-requires : goal.unreachable-requires
-unreachable-requires c = is_a_call c.args.catalog.now c.requires.accepted c.requires.tables_alone c.args.entry.now c.requires.fits c.in_default.not-Call
-
-pub run_body-requires-clause-no_window : goal.run_body-requires-clause-no_window
-run_body-requires-clause-no_window c = no_windows c.args.catalog.now c.requires.accepted c.requires.tables_alone
-
-pub run_body-requires-clause-runs : goal.run_body-requires-clause-runs
-run_body-requires-clause-runs c =
+pub returns-in_ok-left-in-Call-clause-ran : goal.returns-in_ok-left-in-Call-clause-ran
+returns-in_ok-left-in-Call-clause-ran c = λ db holds hand.
     let catalog = c.args.catalog.now in
     let n = c.in-Call.procedure in
-    let p = c.in-Some.procedure.now in
-    let found : slice_get catalog.procedures n ≡ Some p = search rules in
-    rw c.as_slice.ensures (fits_steps catalog c.requires.accepted c.requires.tables_alone n p found (all_calls catalog c.requires.accepted c.requires.tables_alone n p found))
-
-pub returns-clause-ran : goal.returns-clause-ran
-returns-clause-ran c =
-    let catalog = c.args.catalog.now in
-    let n = c.in-Call.procedure in
-    let p = c.in-Some.procedure.now in
     let args = c.in-Call.args in
-    let found : slice_get catalog.procedures n ≡ Some p = search rules in
+    let client = c.in-Call.client in
+    let index = c.in-Call.index in
     let fits = subst (λ (e : Entry). fits_entry catalog e ≡ true) c.in-Call.is c.requires.fits in
-    rw c.in-Call.is
-    (call_ran catalog c.args.shard.now c.run_body.new.shard c.in-Call.client c.in-Call.index n args p found fits c.in_ok-outcome.outcome (replicate (length catalog.streams) [])
-    (option_map (λ arg. column_value args arg) c.touched_argument.result) (c.touched_argument.ensures args)
-    (rw c.as_slice.ensures at (c.in_ok-outcome.ensures.ran n)) c.run_body.ensures.tables c.run_body.ensures.indexes c.in_ok-outcome.ensures.back)
+    let none = subst (λ (e : Entry). AreAtHand catalog db e c.args.inputs.now.batches.now) c.in-Call.is hand in
+    let p = named (has_call client args) catalog.procedures n fits refl in
+    let ran = c.in_ok-left-in-Call.ensures.ran p.0 p.1 in
+    let made : Executed = record { outcome = c.in_ok-left-in-Call.left.outcome; emitted = c.new.result } in
+    subst (λ (e : Entry). Ran catalog db e made c.run_procedure.new.shard) (sym c.in-Call.is)
+    (call_ran catalog c.args.shard.now c.run_procedure.new.shard c.requires.settled.of_catalog c.run_procedure.ensures.of_catalog db holds client index n args p.0 p.1 fits c.in_ok-left-in-Call.left.outcome c.in_ok-left-in-Call.left.emitted
+    (subst (λ (batches : List Rows). run_procedure catalog n p.0 args batches (contents_of c.args.shard.now) ≡ record { contents = contents_of c.run_procedure.new.shard; outcome = c.in_ok-left-in-Call.left.outcome; emitted = c.in_ok-left-in-Call.left.emitted }) none ran)
+    made refl c.new.ensures)
+
+three_ok : {A E : Type 0} (P Q R S : A → Type 0) → ((x : A) → P x → Q x → R x → S x) → (r : Result A E) → IfOk r P → IfOk r Q → IfOk r R → IfOk r S
+three_ok P Q R S f (Ok x) p q r = f x p q r
+three_ok P Q R S f (Err e) p q r = tt
+
+pub returns-in_ok-left-in-Step-clause-ran : goal.returns-in_ok-left-in-Step-clause-ran
+returns-in_ok-left-in-Step-clause-ran c =
+    let catalog = c.args.catalog.now in
+    let n = c.in-Step.procedure in
+    let r = c.in-Step.batch in
+    let old = c.args.shard.now in
+    let new = c.run_procedure-in-Step.new.shard in
+    let batches = c.args.inputs.now.batches.now in
+    let left = c.in_ok-left-in-Step.left in
+    let fits = subst (λ (e : Entry). fits_entry catalog e ≡ true) c.in-Step.is c.requires.fits in
+    let next = subst (λ (e : Entry). IsNext e old) c.in-Step.is c.requires.next in
+    let p = named has_step catalog.procedures n fits refl in
+    let ran = subst (λ (args : Row). run_procedure catalog n p.0 args batches (contents_of old) ≡ record { contents = contents_of new; outcome = left.outcome; emitted = left.emitted }) c.new-nothing.ensures (c.in_ok-left-in-Step.ensures.ran p.0 p.1) in
+    three_ok
+    (λ (e : Executed). e.outcome ≡ left.outcome)
+    (λ (e : Executed). e.emitted ≡ batches_by catalog left.emitted (slice_get catalog.procedures n))
+    (λ (e : Executed). c.with_outputs.new.shard ≡ new)
+    (λ (e : Executed). (db : Database) → HoldsDatabase catalog old db → AreAtHand catalog db c.args.entry.now batches → Ran catalog db c.args.entry.now e c.with_outputs.new.shard)
+    (λ e told gave stays db holds hand.
+    let mine = subst (λ (e : Entry). AreAtHand catalog db e batches) c.in-Step.is hand in
+    let at = subst (λ (o : Option Procedure). AreBatchesOf db r batches o) p.1 mine in
+    let batch = gave ∙ ap (batches_by catalog left.emitted) p.1 in
+    subst (λ (entry : Entry). Ran catalog db entry e c.with_outputs.new.shard) (sym c.in-Step.is)
+    (subst (λ (shard : HeldShard). Ran catalog db (StepEntry n r) e shard) (sym stays)
+    (step_ran catalog old new c.requires.settled.of_catalog c.run_procedure-in-Step.ensures.of_catalog db holds n r p.0 p.1 fits next batches at left.outcome left.emitted ran e told batch)))
+    c.with_outputs.result c.with_outputs.ensures.outcome c.with_outputs.ensures.emitted c.with_outputs.ensures.stays

@@ -8,7 +8,7 @@ use Rattle.ss_undo.specs.Came.{Step}
 use Rattle.ss_undo.specs.Indexed.{AreIndexed, Group, columns_of}
 use Rattle.ss_undo.proofs.Back.{one_changed, set_same}
 use Rattle.ss_undo.proofs.Indexed.{inserted_indexed, columns_added, found_as, told_as}
-use Rattle.ss_shard.specs.Contents.{contents_of}
+use Rattle.ss_shard.specs.Contents.{contents_with}
 use Rattle.ss_shard.specs.HeldShard.{HeldShard}
 use Rattle.ss_shard.specs.Rows.{IsKeyed, refused}
 use Rattle.ss_shard.specs.Shards.{Changed}
@@ -45,11 +45,12 @@ invariant_of-self-2 c =
 pub returns-in-Err-clause-stops : goal.returns-in-Err-clause-stops
 returns-in-Err-clause-stops c =
     let was = c.in-Some.rows.now in
-    subst (λ (s : HeldShard). InsertStops s.tables c.args.table c.args.row c.refused.result) c.self.view_is (λ catalog has.
+    subst (λ (s : HeldShard). InsertStops s c.args.table c.args.row c.refused.result) c.self.view_is (λ catalog has.
     let tables = c.self.inside.tables in
-    subst (λ (stop : RunError). StopsAs (insert_row catalog c.args.table c.args.row (contents_of tables)) stop) (sym c.refused.ensures)
-    (subst (λ t. StopsAs (insert_row catalog t c.args.row (contents_of tables)) (refused t c.in-Err.error)) c.from.ensures
-    (refused_so catalog tables c.from.result c.args.row was c.in-Some.ensures.item has
+    let windows = c.self.inside.windows in
+    subst (λ (stop : RunError). StopsAs (insert_row catalog c.args.table c.args.row (contents_with tables windows)) stop) (sym c.refused.ensures)
+    (subst (λ t. StopsAs (insert_row catalog t c.args.row (contents_with tables windows)) (refused t c.in-Err.error)) c.from.ensures
+    (refused_so catalog windows tables c.from.result c.args.row was c.in-Some.ensures.item has
     (at_table tables c.args.table c.from.result was (λ h. HasKey h.key c.args.row) c.from.ensures c.in-Some.ensures.item (subst (λ (s : HeldShard). IsKeyed s.tables c.args.table c.args.row) (sym c.self.view_is) c.requires))
     c.in-Err.error c.in-Err.ensures.cause)))
 
@@ -61,20 +62,23 @@ returns-in-Err-clause-kept c =
 pub returns-in-Err-clause-changed : goal.returns-in-Err-clause-changed
 returns-in-Err-clause-changed c =
     let inside = c.self.inside in
-    let old : HeldShard = record { number = inside.number; tables = inside.tables; changes = inside.undo.items; columns = columns_of inside.indexes } in
-    let new : HeldShard = record { number = inside.number; tables = slice_set inside.tables c.from.result c.insert_indexed.new.rows; changes = c.room.new.self.items; columns = columns_of c.insert_indexed.new.indexes } in
+    let old : HeldShard = record { number = inside.number; tables = inside.tables; changes = inside.undo.items; columns = columns_of inside.indexes; windows = inside.windows; cursors = inside.cursors } in
+    let new : HeldShard = record { number = inside.number; tables = slice_set inside.tables c.from.result c.insert_indexed.new.rows; changes = c.room.new.self.items; columns = columns_of c.insert_indexed.new.indexes; windows = inside.windows; cursors = inside.cursors } in
     subst (λ (s : HeldShard). Changed s new) c.self.view_is
-    (unnoted old new (ap (slice_set inside.tables c.from.result) c.in-Err.ensures.kept ∙ set_same inside.tables c.from.result c.in-Some.rows.now c.in-Some.ensures.item) c.room.ensures.items refl
+    (unnoted old new refl refl (ap (slice_set inside.tables c.from.result) c.in-Err.ensures.kept ∙ set_same inside.tables c.from.result c.in-Some.rows.now c.in-Some.ensures.item) c.room.ensures.items refl
     (ap columns_of c.in-Err.ensures.unpaired))
 
 pub returns-clause-done : goal.returns-clause-done
 returns-clause-done c =
+    let inside = c.self.inside in
     let was = c.in-Some.rows.now in
     let now = c.insert_indexed.new.rows in
-    subst (λ (s : HeldShard). RowInserted s.tables (slice_set c.self.inside.tables c.from.result now) c.args.table c.args.row) c.self.view_is (λ catalog has.
-    let tables = c.self.inside.tables in
-    subst (λ t. insert_row catalog t c.args.row (contents_of tables) ≡ Ok (contents_of (slice_set tables c.from.result now))) c.from.ensures
-    (row_put catalog tables c.from.result c.args.row was c.in-Some.ensures.item has
+    let new : HeldShard = record { number = inside.number; tables = slice_set inside.tables c.from.result now; changes = c.note.new.self.items; columns = columns_of c.insert_indexed.new.indexes; windows = inside.windows; cursors = inside.cursors } in
+    subst (λ (s : HeldShard). RowInserted s new c.args.table c.args.row) c.self.view_is (λ catalog has.
+    let tables = inside.tables in
+    let windows = inside.windows in
+    subst (λ t. insert_row catalog t c.args.row (contents_with tables windows) ≡ Ok (contents_with (slice_set tables c.from.result now) windows)) c.from.ensures
+    (row_put catalog windows tables c.from.result c.args.row was c.in-Some.ensures.item has
     (at_table tables c.args.table c.from.result was (λ h. HasKey h.key c.args.row) c.from.ensures c.in-Some.ensures.item (subst (λ (s : HeldShard). IsKeyed s.tables c.args.table c.args.row) (sym c.self.view_is) c.requires))
     now c.in-Ok.slot c.in-Ok.ensures.ok c.in-Ok.ensures.admitted))
 
@@ -86,13 +90,16 @@ returns-clause-changed c =
     let now = c.insert_indexed.new.rows in
     let slot = c.in-Ok.slot in
     let step = c.in-Ok.ensures.step in
-    let old : HeldShard = record { number = inside.number; tables = tables; changes = inside.undo.items; columns = columns_of inside.indexes } in
-    let new : HeldShard = record { number = inside.number; tables = slice_set tables c.from.result now; changes = c.note.new.self.items; columns = columns_of c.insert_indexed.new.indexes } in
+    let old : HeldShard = record { number = inside.number; tables = inside.tables; changes = inside.undo.items; columns = columns_of inside.indexes; windows = inside.windows; cursors = inside.cursors } in
+    let new : HeldShard = record { number = inside.number; tables = slice_set tables c.from.result now; changes = c.note.new.self.items; columns = columns_of c.insert_indexed.new.indexes; windows = inside.windows; cursors = inside.cursors } in
     subst (λ (s : HeldShard). Changed s new) c.self.view_is
     (noted old new (Inserted c.args.table slot)
     (subst (λ t. Step tables (Inserted t slot) (slice_set tables c.from.result now)) c.from.ensures ((one_changed tables c.from.result slot was now [] c.in-Some.ensures.item).0 step))
+    refl
     (c.note.ensures.items ∙ ap (λ cs. cs ++ Inserted c.args.table slot ∷ []) c.room.ensures.items)
     refl
+    refl
+    (ap columns_of (c.in-Ok.ensures.pairs step) ∙ columns_added inside.indexes c.args.table slot step.row)
+    refl
     (shapes_kept tables c.from.result was now c.in-Some.ensures.item (ap (λ (h : Held). h.key) step.is) (ap (λ (h : Held). h.limit) step.is))
-    (all_set tables c.from.result now c.rows_are_keyed.ensures)
-    (ap columns_of (c.in-Ok.ensures.pairs step) ∙ columns_added inside.indexes c.args.table slot step.row))
+    (all_set tables c.from.result now c.rows_are_keyed.ensures))

@@ -1,0 +1,275 @@
+//! Executions of calls and steps, one behind the other on one store.
+//!
+//! ```text
+//! executions BASE   lines of executions, each with what it comes to
+//!
+//! show [] -> done [[1]]                     a call with its arguments
+//! step b [[[1],[2]]] -> done [] ; q [[3]]   a step of a procedure on its next batch: for each of its inputs the rows
+//! ```
+//!
+//! Outcomes are as in `script`. Behind that of a step stand the streams that its procedure emits to, each with its batch.
+//! Nothing is scheduled: the batches of a step are those that its line gives.
+
+ghost use Rattle.std.specs.Prelude.{◌≡◌, true, IfOk, slice_get};
+ghost use Rattle.ss_model.specs.Accepted.{Accepted};
+ghost use Rattle.ss_model.specs.Database.{fits_entry, has_step, is_streaming};
+ghost use Rattle.ss_shard.specs.HeldShard.{HeldShard};
+ghost use Rattle.ss_shard.specs.Shards.{IsSettled};
+ghost use Rattle.ss_proc.specs.Entries.{RunsBody, IsNext, IsCountable};
+
+use crate::marks::text_of;
+use crate::requests::catalog_of;
+use crate::script::outcome_of;
+use crate::wrong::Wrong;
+use serde_json::Value as Json;
+use ss_catalog_requests::request::request_of;
+use ss_model::catalog::{Catalog, Kind};
+use ss_model::entry::{Asked, Entry};
+use ss_plan::inputs::Inputs;
+use ss_proc::ends::keep;
+use ss_proc::runner::{Executed, PlainRunner, Runner};
+use ss_report::values::{outcome_json, rows_json};
+use ss_shard::database::opening;
+use ss_shard::shard::Shard;
+use ss_value::seq::Seq;
+use ss_value::text::text_of as value_text;
+use ss_value::value::{Row, Rows, Value};
+use std::alloc::Global;
+
+/// Batches that a step could have taken are numbered below this: 2^60.
+const BATCHES: u64 = 1_152_921_504_606_846_976;
+
+/// An execution that is asked for: its entry, and the batch of each input.
+#[derive(Drop)]
+struct Wanted {
+    entry: Entry,
+    batches: Seq<Rows>,
+}
+
+/// The JSON value of a text.
+fn json_of(alloc: Global, text: &str) -> Result<Json, Wrong> {
+    match Json::from_str(alloc, text) {
+        Ok(value) => Ok(value),
+        Err(_) => Err(Wrong::text(alloc, "no JSON")),
+    }
+}
+
+// ---- calls
+
+/// The call of a procedure with these arguments.
+fn call_of(alloc: Global, catalog: &Catalog, name: &str, args: &str) -> Result<Wanted, Wrong>
+    ensures fits { IfOk result (λ w. fits_entry catalog.now w.entry ≡ true) }
+    ensures call { IfOk result (λ w. (s : HeldShard) → RunsBody w.entry × IsNext w.entry s × IsCountable w.entry) }
+{
+    let text = format!(in alloc; "{{\"call\":\"{name}\",\"args\":{args}}}")?;
+    let value = json_of(alloc, text.as_str())?;
+    let Ok(request) = request_of(alloc, catalog, 1, &value) else {
+        return Err(Wrong::text(alloc, "no call"));
+    };
+    let client = request.client;
+    let what = request.what;
+    match what {
+        Asked::Call { procedure, args } => Ok(Wanted {
+            entry: Entry::Call {
+                client,
+                index: 0,
+                procedure,
+                args,
+            },
+            batches: Seq::new(alloc),
+        }),
+        Asked::Push { .. } => Err(Wrong::text(alloc, "no call")),
+    }
+}
+
+// ---- steps
+
+/// A value that stands in JSON.
+fn value_of(alloc: Global, value: &Json) -> Result<Value, Wrong> {
+    if let Some(number) = value.as_i64() {
+        return Ok(Value::Int(number));
+    }
+    let text = value.as_str().unwrap_or("");
+    match value_text(alloc, text.as_bytes()) {
+        Ok(text) => Ok(Value::Text(text)),
+        Err(_) => Err(Wrong::text(alloc, "no value")),
+    }
+}
+
+/// The items of an array, and none of another value.
+fn items_of(value: &Json) -> &[Json] {
+    match value.as_array() {
+        Some(items) => items.as_slice(),
+        None => &[],
+    }
+}
+
+/// A row that stands in JSON.
+fn row_of(alloc: Global, value: &Json) -> Result<Row, Wrong> {
+    let mut row = Seq::new(alloc);
+    for item in items_of(value) {
+        row.push(value_of(alloc, item)?)?;
+    }
+    Ok(row)
+}
+
+/// The rows of a batch that stand in JSON.
+fn rows_of(alloc: Global, value: &Json) -> Result<Rows, Wrong> {
+    let mut rows = Seq::new(alloc);
+    for item in items_of(value) {
+        rows.push(row_of(alloc, item)?)?;
+    }
+    Ok(rows)
+}
+
+/// The batches that stand in JSON.
+fn batches_of(alloc: Global, value: &Json) -> Result<Seq<Rows>, Wrong> {
+    let mut batches = Seq::new(alloc);
+    for item in items_of(value) {
+        batches.push(rows_of(alloc, item)?)?;
+    }
+    Ok(batches)
+}
+
+/// The number of a procedure that takes batches.
+fn streaming_named(catalog: &Catalog, name: &str) -> Option<u16> {
+    let number = catalog
+        .procedures
+        .as_slice()
+        .iter()
+        .position(|procedure| procedure.name.as_str() == name)?;
+    u16::try_from(number).ok()
+}
+
+/// Whether a procedure of this kind takes batches.
+fn is_streaming(kind: Kind) -> bool
+    ensures { result ≡ is_streaming kind }
+{
+    match kind {
+        Kind::Call => false,
+        Kind::Border | Kind::Interior => true,
+    }
+}
+
+/// Whether a procedure takes batches, and is there.
+fn has_step(catalog: &Catalog, procedure: u16) -> bool
+    ensures { result ≡ has_step (slice_get catalog.now.procedures procedure) }
+{
+    match catalog.procedures.get(usize::from(procedure)) {
+        None => false,
+        Some(found) => is_streaming(found.kind),
+    }
+}
+
+/// The step of a procedure on its next batch, which has these rows.
+fn step_of(
+    alloc: Global,
+    catalog: &Catalog,
+    shard: &Shard,
+    name: &str,
+    batches: &str,
+) -> Result<Wanted, Wrong>
+    ensures fits { IfOk result (λ w. fits_entry catalog.now w.entry ≡ true) }
+    ensures step { IfOk result (λ w. RunsBody w.entry × IsNext w.entry shard.now × IsCountable w.entry) }
+{
+    let value = json_of(alloc, batches)?;
+    let batches = batches_of(alloc, &value)?;
+    let Some(procedure) = streaming_named(catalog, name) else {
+        return Err(Wrong::text(alloc, "no procedure has that name"));
+    };
+    let batch = shard.cursor(procedure);
+    if !has_step(catalog, procedure) || batch >= BATCHES {
+        return Err(Wrong::text(alloc, "no step"));
+    }
+    Ok(Wanted {
+        entry: Entry::Step { procedure, batch },
+        batches,
+    })
+}
+
+/// The execution that a line asks for.
+fn wanted_of(alloc: Global, catalog: &Catalog, shard: &Shard, asked: &str) -> Result<Wanted, Wrong>
+    ensures fits { IfOk result (λ w. fits_entry catalog.now w.entry ≡ true) }
+    ensures body { IfOk result (λ w. RunsBody w.entry × IsNext w.entry shard.now × IsCountable w.entry) }
+{
+    let (name, given) = asked.split_once(' ').unwrap_or((asked, ""));
+    if name != "step" {
+        return call_of(alloc, catalog, name, given);
+    }
+    let (name, batches) = given.split_once(' ').unwrap_or((given, ""));
+    step_of(alloc, catalog, shard, name, batches)
+}
+
+// ---- what comes of them
+
+/// The words of what an execution came to.
+fn words_of(alloc: Global, catalog: &Catalog, executed: &Executed) -> Result<String, Wrong> {
+    let outcome = outcome_json(alloc, catalog, &executed.outcome)?;
+    let mut words = outcome.to_string(alloc)?;
+    for batch in executed.emitted.as_slice() {
+        let stream = match catalog.streams.get(usize::from(batch.stream)) {
+            Some(stream) => stream.name.as_str(),
+            None => "",
+        };
+        let rows = rows_json(alloc, batch.rows.as_slice())?;
+        let rows = rows.to_string(alloc)?;
+        let more = format!(in alloc; " ; {stream} {rows}")?;
+        words.push_str(more.as_str())?;
+    }
+    Ok(words)
+}
+
+/// Runs an execution and keeps it, and tells what it came to.
+fn words_after(
+    alloc: Global,
+    catalog: &Catalog,
+    shard: &mut Shard,
+    wanted: &Wanted,
+) -> Result<String, Wrong>
+    requires accepted { Accepted catalog.now }
+    requires fits { fits_entry catalog.now wanted.now.entry ≡ true }
+    requires body { RunsBody wanted.now.entry × IsNext wanted.now.entry shard.old × IsCountable wanted.now.entry }
+    requires settled { IsSettled catalog.now shard.old }
+    ensures { IsSettled catalog.now shard.new }
+{
+    let no_row = Seq::new(alloc);
+    let inputs = Inputs {
+        batches: wanted.batches.as_slice(),
+        inserted: no_row.as_slice(),
+    };
+    let executed = PlainRunner.execute(alloc, catalog, shard, &inputs, &wanted.entry)?;
+    keep(shard, &wanted.entry);
+    words_of(alloc, catalog, &executed)
+}
+
+/// Runs the execution of a line and compares what it came to.
+fn check_line(alloc: Global, catalog: &Catalog, shard: &mut Shard, line: &str) -> Result<(), Wrong>
+    requires accepted { Accepted catalog.now }
+    requires settled { IsSettled catalog.now shard.old }
+    ensures { IsSettled catalog.now shard.new }
+{
+    let Some((asked, want)) = line.split_once(" -> ") else {
+        return Err(Wrong::text(alloc, "an execution without an outcome"));
+    };
+    let (outcome, emitted) = want.split_at(want.find(" ; ").unwrap_or(want.len()));
+    let outcome = outcome_of(alloc, outcome)?;
+    let want = format!(in alloc; "{outcome}{emitted}")?;
+    let asked = text_of(alloc, asked)?;
+    let wanted = wanted_of(alloc, catalog, shard, asked.as_str())?;
+    let came = words_after(alloc, catalog, shard, &wanted)?;
+    if came.as_str() == want.as_str() {
+        return Ok(());
+    }
+    let want = format!(in alloc; "{asked} -> {want}")?;
+    Err(Wrong::answer(alloc, want.as_str(), came.as_str()))
+}
+
+/// A block `executions`.
+pub fn check_executions(alloc: Global, base: &str, lines: &[String]) -> Result<(), Wrong> {
+    let catalog = catalog_of(alloc, base)?;
+    let mut database = opening(alloc, &catalog)?;
+    for line in lines {
+        check_line(alloc, &catalog, &mut database.whole, line.as_str())?;
+    }
+    Ok(())
+}

@@ -1,0 +1,44 @@
+//! The triggers that an event sets off.
+
+ghost use Rattle.std.specs.Prelude.{◌≡◌, ◌<◌, ◌≤◌, ◌↔◌, ℕ, length, true, slice_get, Some};
+ghost use Rattle.std.specs.Int.{IsBitSet};
+ghost use Rattle.ss_model.specs.declared.catalog.TriggerDef.{TriggerDef};
+ghost use Rattle.ss_eetrig.specs.Waiting.{waits_for};
+
+use ss_model::catalog::{Catalog, On};
+use ss_value::sets::ProcSet;
+
+/// What sets triggers off.
+#[derive(Clone, Copy, Debug, PartialEq, Eq, Drop)]
+pub enum TriggerEvent {
+    /// Rows were emitted to this stream.
+    Emitted(u16),
+    /// The end of what this window shows has moved.
+    Moved(u16),
+}
+
+/// Whether a trigger on this runs at an event. Constant.
+pub fn waits_for(event: TriggerEvent, on: On) -> bool
+    ensures { result ≡ waits_for event on }
+{
+    match (event, on) {
+        (TriggerEvent::Emitted(n), On::Stream(m)) => n == m,
+        (TriggerEvent::Moved(n), On::Window(m)) => n == m,
+        _ => false,
+    }
+}
+
+/// The numbers of the triggers that an event sets off. They run in rising order. Linear in the triggers; takes no memory.
+pub fn firings(catalog: &Catalog, event: TriggerEvent) -> ProcSet
+    requires { length catalog.now.triggers ≤ 64 }
+    ensures those { (n : ℕ) (trigger : TriggerDef) → slice_get catalog.now.triggers n ≡ Some trigger → IsBitSet result n ↔ (waits_for event trigger.on ≡ true) }
+    ensures no_other { (n : ℕ) → IsBitSet result n → n < length catalog.now.triggers }
+{
+    let mut fired = ProcSet::empty();
+    for (n, trigger) in catalog.triggers.as_slice().iter().enumerate() {
+        if waits_for(event, trigger.on) {
+            fired.insert(n as u8);
+        }
+    }
+    fired
+}

@@ -1,0 +1,10 @@
+pub mod Related
+pub mod VisibleEntries
+pub mod Respects
+pub mod Slots
+pub mod Agreement
+pub mod Unchanged
+pub mod KeptContents
+pub mod Locality
+pub mod PartLemmas
+pub mod KeptDatabase

@@ -1,0 +1,111 @@
+-- What the functions of the cascade do, by their parts.
+use Rattle.std.proofs.Common.{◌≡◌, ◌≢◌, ◌-◌, ◌+◌, ◌<◌, ◌^◌, nat_le, ℕ, zero, suc, Bool, true, false, cond, List, [], ◌∷◌, length, get_or, drop, refl, sym, ap, subst, ◌∙◌, Ok, arith}
+use Rattle.std.specs.List.{filter}
+use Rattle.std.proofs.lemmas.List.{at_drop_more}
+use Rattle.ss_value.specs.Rows.{Row, Rows}
+use Rattle.ss_sql_lex.specs.declared.typed.Target.{Target}
+use Rattle.ss_sql_lex.specs.declared.typed.Target.TheVariants.{Table as IntoTable, Window as IntoWindow}
+use Rattle.ss_sql_lex.specs.declared.typed.Statement.{Statement}
+use Rattle.ss_sql_lex.specs.declared.typed.Statement.TheVariants.{InsertValues, InsertQuery, Update, Delete}
+use Rattle.ss_model.specs.declared.catalog.Catalog.{Catalog}
+use Rattle.ss_model.specs.declared.catalog.TriggerDef.{TriggerDef}
+use Rattle.ss_model.specs.declared.entry.Reason.TheVariants.{WindowFull}
+use Rattle.ss_model.specs.Results.{OrAbort, ◌>>=◌, try_fold, abort_when}
+use Rattle.ss_model.specs.Contents.{Contents, window_units, append_unit}
+use Rattle.ss_model.specs.Statements.{Context, Execution, Cascade, when_moved, close_unit, stage_row, apply_effect, execute_statement, statement_effect, run_triggers, cascade_to_depth, is_on_window}
+use Rattle.ss_operators.specs.declared.run_error.RunError.{RunError}
+use Rattle.ss_operators.specs.Stops.{StopsAs}
+use Rattle.ss_shard.specs.HeldShard.{HeldShard}
+use Rattle.ss_shard.specs.Contents.{contents_of, contents_with}
+use Rattle.ss_shard.specs.Windows.{unit_added, unit_moves_end}
+use Rattle.ss_plan.specs.declared.statement.Wrote.TheVariants.{Tables, Stage}
+use Rattle.ss_plan.specs.Statements.{FitsTables, FitsTarget, WroteTo, WroteBy, effect_of}
+use Rattle.ss_proc.specs.declared.work.Work.{Work}
+use Rattle.ss_proc.specs.Executions.{execution_of}
+use Rattle.ss_operators.proofs.Walks.{stops_before, stops_same}
+
+-- ---- the triggers of a window at one depth less
+
+pub one_less : (depth : ℕ) (context : Context) (n : ℕ) (w : Execution) → depth ≢ 0 →
+    cascade_to_depth depth context n w ≡ run_triggers context (cascade_to_depth (depth - 1) context) [] (filter (λ t. is_on_window n t.on) (context.catalog).triggers) w
+one_less zero context n w h = absurd (h refl)
+one_less (suc depth) context n w h =
+    let e : suc depth - 1 ≡ depth = omega arith in
+    rw e refl
+
+-- ---- a unit that is closed
+
+module _ (catalog : Catalog) (cascade : Cascade) (n : ℕ) (unit : Rows) (w : Execution) where
+  -- the triggers run where the end has moved
+  abbrev pub then_fires : Bool × Contents → OrAbort Execution
+  then_fires p = when_moved p.0 (cascade n) (record w { contents = p.1 })
+
+  full_or : (b : Bool) (p : Bool × Contents) → abort_when b (WindowFull n) (then_fires p) ≡ (abort_when b (WindowFull n) (Ok p) >>= then_fires)
+  full_or true p = refl
+  full_or false p = refl
+
+  close_by : close_unit catalog cascade n unit w ≡ (unit_added catalog n unit w.contents >>= then_fires)
+  unfolding close_unit
+  close_by = full_or (nat_le (2 ^ 62) (length (window_units w.contents n))) (unit_moves_end catalog n w.contents, append_unit w.contents n unit)
+
+  pub close_stops : (stop : RunError) → StopsAs (unit_added catalog n unit w.contents) stop → StopsAs (close_unit catalog cascade n unit w) stop
+  close_stops stop h = stops_same _ _ stop close_by (stops_before (unit_added catalog n unit w.contents) then_fires stop h)
+
+  pub close_moved : (s : Contents) → unit_added catalog n unit w.contents ≡ Ok (true, s) → close_unit catalog cascade n unit w ≡ cascade n (record w { contents = s })
+  close_moved s e = close_by ∙ ap (λ r. r >>= then_fires) e
+
+  pub close_still : (s : Contents) → unit_added catalog n unit w.contents ≡ Ok (false, s) → close_unit catalog cascade n unit w ≡ Ok (record w { contents = s })
+  close_still s e = close_by ∙ ap (λ r. r >>= then_fires) e
+
+-- ---- a statement that stages
+
+target_there : (catalog : Catalog) (count w : ℕ) (rows : Rows) (target : Target) (old new : HeldShard) → FitsTarget catalog count target → WroteTo target old new (Stage w rows) → (w < length catalog.windows) × (new.tables ≡ old.tables)
+target_there catalog count w rows (IntoTable t) old new fits wrote = absurd wrote
+target_there catalog count w rows (IntoWindow v) old new fits wrote = (subst (λ n. n < length catalog.windows) (sym wrote.0) fits, wrote.1)
+
+pub window_there : (catalog : Catalog) (w : ℕ) (rows : Rows) (st : Statement) (old new : HeldShard) → FitsTables catalog st → WroteBy st old new (Stage w rows) → (w < length catalog.windows) × (new.tables ≡ old.tables)
+window_there catalog w rows (InsertValues target vs) old new fits wrote = target_there catalog (length vs) w rows target old new fits wrote
+window_there catalog w rows (InsertQuery target q) old new fits wrote = target_there catalog (length q.items) w rows target old new fits wrote
+window_there catalog w rows (Update t sets test) old new fits wrote = let no : Stage w rows ≡ Tables = wrote in cc
+window_there catalog w rows (Delete t test) old new fits wrote = let no : Stage w rows ≡ Tables = wrote in cc
+
+module _ (context : Context) (cascade : Cascade) (inserted : Rows) (params : Row) (st : Statement) (old new : HeldShard) (work : Work) where
+  abbrev before : Execution
+  before = execution_of old work
+
+  pub effect_stops : (stop : RunError) → StopsAs (statement_effect context inserted params st (contents_of old)) stop → StopsAs (execute_statement context cascade inserted params st before) stop
+  effect_stops stop h = stops_before (statement_effect context inserted params st (contents_of old)) (apply_effect context.catalog cascade before) stop h
+
+  pub wrote_tables : statement_effect context inserted params st (contents_of old) ≡ Ok (effect_of Tables (contents_of new)) → execute_statement context cascade inserted params st before ≡ Ok (execution_of new work)
+  wrote_tables e = ap (λ r. r >>= apply_effect context.catalog cascade before) e
+
+  -- nothing has changed where rows are to be staged
+  pub staged_by : (w : ℕ) (rows : Rows) → statement_effect context inserted params st (contents_of old) ≡ Ok (effect_of (Stage w rows) (contents_of new)) → new.tables ≡ old.tables → new.windows ≡ old.windows →
+      execute_statement context cascade inserted params st before ≡ try_fold (stage_row context.catalog cascade w) rows (execution_of new work)
+  staged_by w rows e tables windows =
+      ap (λ r. r >>= apply_effect context.catalog cascade before) e
+      ∙ (λ i. try_fold (stage_row context.catalog cascade w) rows (record before { contents = contents_with (sym tables i) (sym windows i) }))
+
+-- ---- the triggers that are set off, one after another
+
+module _ (context : Context) (cascade : Cascade) (inserted : Rows) (p : TriggerDef → Bool) (ts : List TriggerDef) (n : ℕ) (t : TriggerDef) (within : n < length ts) (is : t ≡ get_or ts n t) where
+  abbrev run : List TriggerDef → Execution → OrAbort Execution
+  run = run_triggers context cascade inserted
+
+  abbrev one : Execution → OrAbort Execution
+  one = try_fold (execute_statement context cascade inserted []) t.statements
+
+  here : (w : Execution) → run (filter p (drop n ts)) w ≡ run (cond (p t) (t ∷ filter p (drop (n + 1) ts)) (filter p (drop (n + 1) ts))) w
+  here w = at_drop_more (λ ys. run (filter p ys) w) ts n t within ∙ ap (λ x. run (cond (p x) (x ∷ filter p (drop (n + 1) ts)) (filter p (drop (n + 1) ts))) w) (sym is)
+
+  pub fires_on : (w v : Execution) → p t ≡ true → one w ≡ Ok v → run (filter p (drop (n + 1) ts)) v ≡ run (filter p (drop n ts)) w
+  fires_on w v fires e =
+      sym (here w ∙ ap (λ b. run (cond b (t ∷ filter p (drop (n + 1) ts)) (filter p (drop (n + 1) ts))) w) fires ∙ ap (λ r. r >>= run (filter p (drop (n + 1) ts))) e)
+
+  pub fires_stops : (w : Execution) (stop : RunError) → p t ≡ true → StopsAs (one w) stop → StopsAs (run (filter p (drop n ts)) w) stop
+  fires_stops w stop fires h =
+      stops_same _ _ stop (here w ∙ ap (λ b. run (cond b (t ∷ filter p (drop (n + 1) ts)) (filter p (drop (n + 1) ts))) w) fires)
+      (stops_before (one w) (run (filter p (drop (n + 1) ts))) stop h)
+
+  pub passes_by : (w : Execution) → p t ≡ false → run (filter p (drop (n + 1) ts)) w ≡ run (filter p (drop n ts)) w
+  passes_by w still = sym (here w ∙ ap (λ b. run (cond b (t ∷ filter p (drop (n + 1) ts)) (filter p (drop (n + 1) ts))) w) still)

@@ -1,0 +1,322 @@
+//! How windows move, and the triggers that this fires.
+//!
+//! What a trigger stages may move another window, so these functions call one another. `depth` is how deep the triggers
+//! of windows may still nest: it falls where the triggers of a window run, and at 0 none do. In an accepted catalogue the
+//! number of windows is depth enough, since no chain of triggers meets a window twice.
+
+ghost use Rattle.std.specs.Prelude.{◌≡◌, ◌<◌, [], ◌∷◌, length, IfOk, IfErr, OnOk};
+ghost use Rattle.std.specs.List.{AllByRecursion};
+ghost use Rattle.ss_model.specs.Contents.{window_def};
+ghost use Rattle.ss_model.specs.Statements.{cascade_to_depth};
+ghost use Rattle.ss_shard.specs.Shards.{IsOf, Changed};
+ghost use Rattle.ss_plan.specs.Statements.{FitsTables};
+ghost use Rattle.ss_proc.specs.Executions.{context_of, MayRun};
+ghost use Rattle.ss_proc.specs.Meanings.{Brings, StepStops, close_to_depth, stage_to_depth, stage_all_to_depth, execute_to_depth, execute_all_to_depth, fire_to_depth};
+ghost use Rattle.ss_proc.specs.Meanings.{close_and_fire, execute_and_fire, fire_stream};
+
+use crate::statements::statement_effect;
+use crate::work::{Given, Work, join_unit};
+use ss_eetrig::firings::{TriggerEvent, firings};
+use ss_model::catalog::Catalog;
+use ss_operators::run_error::RunError;
+use ss_plan::statement::Wrote;
+use ss_shard::shard::Shard;
+use ss_sql_lex::typed::Statement;
+use ss_value::seq::Seq;
+use ss_value::value::{Row, Rows};
+use ss_value::{NoMemory, Unit};
+use std::alloc::Global;
+
+/// What a window counts: rows where there is no such window. Constant.
+fn window_unit(catalog: &Catalog, window: u16) -> Unit
+    ensures { result ≡ (window_def catalog.now window).unit }
+{
+    match catalog.windows.get(usize::from(window)) {
+        Some(def) => def.unit,
+        None => Unit::Rows,
+    }
+}
+
+/// The list of one row. Fails only for want of memory.
+fn one_row(alloc: Global, row: Row) -> Result<Rows, NoMemory>
+    ensures { IfOk result (λ rows. rows ≡ row ∷ []) }
+{
+    let mut rows = Seq::new(alloc);
+    rows.push(row)?;
+    Ok(rows)
+}
+
+/// Runs the triggers of a window whose end moved, nested to this depth.
+#[cycle(cascade)]
+fn cascade(
+    alloc: Global,
+    depth: usize,
+    given: &Given,
+    window: u16,
+    shard: &mut Shard,
+    work: &mut Work,
+) -> Result<(), RunError>
+    requires of_catalog { IsOf given.now.catalog.now shard.old }
+    requires runs { MayRun given.now.catalog.now }
+    ensures done { OnOk result (Brings (cascade_to_depth depth (context_of given.now) window) shard.old work.old shard.new work.new) }
+    ensures stops { IfErr result (StepStops (cascade_to_depth depth (context_of given.now) window) shard.old work.old) }
+    ensures changed { Changed shard.old shard.new }
+{
+    if depth == 0 {
+        return Ok(());
+    }
+    let nothing = Seq::new(alloc);
+    let event = TriggerEvent::Moved(window);
+    run_triggers(
+        alloc,
+        depth - 1,
+        given,
+        event,
+        nothing.as_slice(),
+        shard,
+        work,
+    )
+}
+
+/// Closes a unit of a window, and runs the window's triggers if this moves the end of what it shows.
+#[cycle(cascade)]
+fn close_to_depth(
+    alloc: Global,
+    depth: usize,
+    given: &Given,
+    window: u16,
+    unit: Rows,
+    shard: &mut Shard,
+    work: &mut Work,
+) -> Result<(), RunError>
+    requires of_catalog { IsOf given.now.catalog.now shard.old }
+    requires runs { MayRun given.now.catalog.now }
+    requires there { window < length given.now.catalog.now.windows }
+    ensures done { OnOk result (Brings (close_to_depth depth given.now window unit) shard.old work.old shard.new work.new) }
+    ensures stops { IfErr result (StepStops (close_to_depth depth given.now window unit) shard.old work.old) }
+    ensures changed { Changed shard.old shard.new }
+{
+    if shard.stage_unit(window, unit)? {
+        return cascade(alloc, depth, given, window, shard, work);
+    }
+    Ok(())
+}
+
+/// Stages a row in a window: as a unit of its own, or one row more for the unit that is open.
+#[cycle(cascade)]
+fn stage_row(
+    alloc: Global,
+    depth: usize,
+    given: &Given,
+    window: u16,
+    row: Row,
+    shard: &mut Shard,
+    work: &mut Work,
+) -> Result<(), RunError>
+    requires of_catalog { IsOf given.now.catalog.now shard.old }
+    requires runs { MayRun given.now.catalog.now }
+    requires there { window < length given.now.catalog.now.windows }
+    ensures done { OnOk result (Brings (stage_to_depth depth given.now window row) shard.old work.old shard.new work.new) }
+    ensures stops { IfErr result (StepStops (stage_to_depth depth given.now window row) shard.old work.old) }
+    ensures changed { Changed shard.old shard.new }
+{
+    match window_unit(given.catalog, window) {
+        Unit::Rows => {
+            let unit = one_row(alloc, row)?;
+            close_to_depth(alloc, depth, given, window, unit, shard, work)
+        }
+        Unit::Batches => {
+            join_unit(window, row, &mut work.open_units)?;
+            Ok(())
+        }
+    }
+}
+
+/// Stages rows in a window, one after another, up to the first abort. None is copied.
+#[cycle(cascade)]
+fn stage_rows(
+    alloc: Global,
+    depth: usize,
+    given: &Given,
+    window: u16,
+    rows: Rows,
+    shard: &mut Shard,
+    work: &mut Work,
+) -> Result<(), RunError>
+    requires of_catalog { IsOf given.now.catalog.now shard.old }
+    requires runs { MayRun given.now.catalog.now }
+    requires there { window < length given.now.catalog.now.windows }
+    ensures done { OnOk result (Brings (stage_all_to_depth depth given.now window rows) shard.old work.old shard.new work.new) }
+    ensures stops { IfErr result (StepStops (stage_all_to_depth depth given.now window rows) shard.old work.old) }
+    ensures changed { Changed shard.old shard.new }
+{
+    for row in rows.into_vec() {
+        stage_row(alloc, depth, given, window, row, shard, work)?;
+    }
+    Ok(())
+}
+
+/// Runs a statement, with the triggers of the windows that it moves nested to this depth.
+#[cycle(cascade)]
+fn execute_to_depth(
+    alloc: Global,
+    depth: usize,
+    given: &Given,
+    inserted: &[Row],
+    params: &Row,
+    statement: &Statement,
+    shard: &mut Shard,
+    work: &mut Work,
+) -> Result<(), RunError>
+    requires of_catalog { IsOf given.now.catalog.now shard.old }
+    requires runs { MayRun given.now.catalog.now }
+    requires fits { FitsTables given.now.catalog.now statement.now }
+    ensures done { OnOk result (Brings (execute_to_depth depth given.now inserted.now params.now statement.now) shard.old work.old shard.new work.new) }
+    ensures stops { IfErr result (StepStops (execute_to_depth depth given.now inserted.now params.now statement.now) shard.old work.old) }
+    ensures changed { Changed shard.old shard.new }
+{
+    match statement_effect(alloc, given, inserted, params, statement, shard)? {
+        Wrote::Tables => Ok(()),
+        Wrote::Stage { window, rows } => {
+            stage_rows(alloc, depth, given, window, rows, shard, work)
+        }
+    }
+}
+
+/// Runs the statements of a trigger in written order, up to the first abort.
+#[cycle(cascade)]
+fn run_statements(
+    alloc: Global,
+    depth: usize,
+    given: &Given,
+    inserted: &[Row],
+    statements: &[Statement],
+    shard: &mut Shard,
+    work: &mut Work,
+) -> Result<(), RunError>
+    requires of_catalog { IsOf given.now.catalog.now shard.old }
+    requires runs { MayRun given.now.catalog.now }
+    requires fits { AllByRecursion (FitsTables given.now.catalog.now) statements.now }
+    ensures done { OnOk result (Brings (execute_all_to_depth depth given.now inserted.now statements.now) shard.old work.old shard.new work.new) }
+    ensures stops { IfErr result (StepStops (execute_all_to_depth depth given.now inserted.now statements.now) shard.old work.old) }
+    ensures changed { Changed shard.old shard.new }
+{
+    let nothing = Seq::new(alloc);
+    for statement in statements {
+        execute_to_depth(
+            alloc, depth, given, inserted, &nothing, statement, shard, work,
+        )?;
+    }
+    Ok(())
+}
+
+/// Runs the triggers that an event sets off, in written order, where these rows were just inserted.
+#[cycle(cascade)]
+fn run_triggers(
+    alloc: Global,
+    depth: usize,
+    given: &Given,
+    event: TriggerEvent,
+    inserted: &[Row],
+    shard: &mut Shard,
+    work: &mut Work,
+) -> Result<(), RunError>
+    requires of_catalog { IsOf given.now.catalog.now shard.old }
+    requires runs { MayRun given.now.catalog.now }
+    ensures done { OnOk result (Brings (fire_to_depth depth given.now event inserted.now) shard.old work.old shard.new work.new) }
+    ensures stops { IfErr result (StepStops (fire_to_depth depth given.now event inserted.now) shard.old work.old) }
+    ensures changed { Changed shard.old shard.new }
+{
+    let fired = firings(given.catalog, event);
+    for (n, trigger) in given.catalog.triggers.as_slice().iter().enumerate() {
+        if fired.has(n as u8) {
+            run_statements(
+                alloc,
+                depth,
+                given,
+                inserted,
+                trigger.statements.as_slice(),
+                shard,
+                work,
+            )?;
+        }
+    }
+    Ok(())
+}
+
+/// Runs the triggers of a stream in written order, on these rows, with all that they set off.
+///
+/// Aborts as the definition says. What they changed by then is noted in the shard.
+pub fn run_stream_triggers(
+    alloc: Global,
+    given: &Given,
+    stream: u16,
+    rows: &[Row],
+    shard: &mut Shard,
+    work: &mut Work,
+) -> Result<(), RunError>
+    requires of_catalog { IsOf given.now.catalog.now shard.old }
+    requires runs { MayRun given.now.catalog.now }
+    ensures done { OnOk result (Brings (fire_stream given.now stream rows.now) shard.old work.old shard.new work.new) }
+    ensures stops { IfErr result (StepStops (fire_stream given.now stream rows.now) shard.old work.old) }
+    ensures changed { Changed shard.old shard.new }
+{
+    let depth = given.catalog.windows.len();
+    let event = TriggerEvent::Emitted(stream);
+    run_triggers(alloc, depth, given, event, rows, shard, work)
+}
+
+/// Closes a unit of a window, and runs the window's triggers if this moves the end of what it shows.
+///
+/// Aborts with `WindowFull` where the window has had as many units as it may have, and as the triggers do. What was changed
+/// by then is noted in the shard.
+pub fn close_unit(
+    alloc: Global,
+    given: &Given,
+    window: u16,
+    unit: Rows,
+    shard: &mut Shard,
+    work: &mut Work,
+) -> Result<(), RunError>
+    requires of_catalog { IsOf given.now.catalog.now shard.old }
+    requires runs { MayRun given.now.catalog.now }
+    requires there { window < length given.now.catalog.now.windows }
+    ensures done { OnOk result (Brings (close_and_fire given.now window unit) shard.old work.old shard.new work.new) }
+    ensures stops { IfErr result (StepStops (close_and_fire given.now window unit) shard.old work.old) }
+    ensures changed { Changed shard.old shard.new }
+{
+    let depth = given.catalog.windows.len();
+    close_to_depth(alloc, depth, given, window, unit, shard, work)
+}
+
+/// Runs a statement of a body, with the triggers of the windows that it moves.
+///
+/// Aborts as the definition says. What was changed by then is noted in the shard.
+pub fn execute_statement(
+    alloc: Global,
+    given: &Given,
+    params: &Row,
+    statement: &Statement,
+    shard: &mut Shard,
+    work: &mut Work,
+) -> Result<(), RunError>
+    requires of_catalog { IsOf given.now.catalog.now shard.old }
+    requires runs { MayRun given.now.catalog.now }
+    requires fits { FitsTables given.now.catalog.now statement.now }
+    ensures done { OnOk result (Brings (execute_and_fire given.now params.now statement.now) shard.old work.old shard.new work.new) }
+    ensures stops { IfErr result (StepStops (execute_and_fire given.now params.now statement.now) shard.old work.old) }
+    ensures changed { Changed shard.old shard.new }
+{
+    let depth = given.catalog.windows.len();
+    let nothing = Seq::new(alloc);
+    execute_to_depth(
+        alloc,
+        depth,
+        given,
+        nothing.as_slice(),
+        params,
+        statement,
+        shard,
+        work,
+    )
+}

@@ -1,0 +1,71 @@
+//! The batches that an execution emitted.
+
+ghost use Rattle.std.specs.Prelude.{◌≡◌, ◌≤◌, [], ◌∷◌, ◌++◌, get_or, set, length, IfOk, OnOk};
+ghost use Rattle.std.specs.List.{list_any};
+ghost use Rattle.ss_model.specs.Database.{emits_to, output_streams};
+ghost use Rattle.ss_proc.specs.Entries.{batches_for};
+
+use crate::windows::take_unit;
+use ss_model::catalog::{Catalog, Procedure, Step};
+use ss_model::entry::Emitted;
+use ss_value::NoMemory;
+use ss_value::seq::Seq;
+use ss_value::value::Rows;
+use std::alloc::Global;
+
+/// Whether a step emits to a stream. Constant.
+fn emits_to(stream: u16, step: &Step) -> bool
+    ensures { result ≡ emits_to stream step.now }
+{
+    match step {
+        Step::Emit { stream: to, .. } => stream == *to,
+        _ => false,
+    }
+}
+
+/// Whether a body emits to a stream. Linear in its steps.
+fn emits(stream: u16, body: &[Step]) -> bool
+    ensures { result ≡ list_any (emits_to stream) body.now }
+{
+    for step in body {
+        if emits_to(stream, step) {
+            return true;
+        }
+    }
+    false
+}
+
+/// Takes the batch of a stream out, and puts it behind others.
+fn add_output(
+    alloc: Global,
+    stream: u16,
+    left: &mut Seq<Rows>,
+    batches: &mut Seq<Emitted>,
+) -> Result<(), NoMemory>
+    ensures batches { OnOk result (batches.new ≡ batches.old ++ record { stream = stream; rows = get_or left.old stream [] } ∷ []) }
+    ensures left { OnOk result (left.new ≡ set left.old stream []) }
+{
+    let rows = take_unit(alloc, stream, left);
+    batches.push(Emitted { stream, rows })?;
+    Ok(())
+}
+
+/// The batch of each stream that a procedure emits to, in rising order. The rows are moved.
+pub fn emitted_batches(
+    alloc: Global,
+    catalog: &Catalog,
+    procedure: &Procedure,
+    emitted: Seq<Rows>,
+) -> Result<Seq<Emitted>, NoMemory>
+    requires { length catalog.now.streams ≤ 32 }
+    ensures { IfOk result (λ batches. batches ≡ batches_for (output_streams catalog.now procedure.now) emitted) }
+{
+    let mut left = emitted;
+    let mut batches = Seq::new(alloc);
+    for n in 0..catalog.streams.len() {
+        if emits(n as u16, procedure.body.as_slice()) {
+            add_output(alloc, n as u16, &mut left, &mut batches)?;
+        }
+    }
+    Ok(batches)
+}

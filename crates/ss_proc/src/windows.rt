@@ -1,0 +1,80 @@
+//! The owner's windows of batches, which close after the steps.
+
+ghost use Rattle.std.specs.Prelude.{◌≡◌, ◌<◌, ◌≤◌, [], get_or, set, length, OnOk, IfErr, Some};
+ghost use Rattle.ss_model.specs.Bodies.{is_closed_by, close_window};
+ghost use Rattle.ss_shard.specs.Shards.{IsOf, Changed};
+ghost use Rattle.ss_proc.specs.Executions.{context_of, MayRun};
+ghost use Rattle.ss_proc.specs.Meanings.{Brings, StepStops, close_owned};
+
+use crate::cascade::close_unit;
+use crate::work::{Given, Work};
+use ss_model::catalog::WindowDef;
+use ss_operators::run_error::RunError;
+use ss_shard::shard::Shard;
+use ss_value::Unit;
+use ss_value::seq::Seq;
+use ss_value::value::Rows;
+use std::alloc::Global;
+
+/// Whether a window is a window of batches of this procedure. Constant.
+fn is_closed_by(procedure: u16, window: &WindowDef) -> bool
+    ensures { result ≡ is_closed_by procedure (Some window.now) }
+{
+    window.owner == procedure
+        && match window.unit {
+            Unit::Rows => false,
+            Unit::Batches => true,
+        }
+}
+
+/// Takes the list of a number out of its place, which has none then. Takes no memory.
+pub fn take_unit(alloc: Global, window: u16, open_units: &mut Seq<Rows>) -> Rows
+    ensures unit { result ≡ get_or open_units.old window [] }
+    ensures none { open_units.new ≡ set open_units.old window [] }
+{
+    match open_units.get_mut(usize::from(window)) {
+        Some(unit) => std::mem::replace(unit, Seq::new(alloc)),
+        None => Seq::new(alloc),
+    }
+}
+
+/// Closes the unit that the execution has open for a window, with the triggers where this moves the window's end.
+fn close_window(
+    alloc: Global,
+    given: &Given,
+    window: u16,
+    shard: &mut Shard,
+    work: &mut Work,
+) -> Result<(), RunError>
+    requires of_catalog { IsOf given.now.catalog.now shard.old }
+    requires runs { MayRun given.now.catalog.now }
+    requires there { window < length given.now.catalog.now.windows }
+    ensures done { OnOk result (Brings (close_window (context_of given.now) window) shard.old work.old shard.new work.new) }
+    ensures stops { IfErr result (StepStops (close_window (context_of given.now) window) shard.old work.old) }
+    ensures changed { Changed shard.old shard.new }
+{
+    let unit = take_unit(alloc, window, &mut work.open_units);
+    close_unit(alloc, given, window, unit, shard, work)
+}
+
+/// Closes the unit of each window of batches that the procedure owns, in written order, up to the first abort.
+pub fn close_owned(
+    alloc: Global,
+    given: &Given,
+    shard: &mut Shard,
+    work: &mut Work,
+) -> Result<(), RunError>
+    requires of_catalog { IsOf given.now.catalog.now shard.old }
+    requires runs { MayRun given.now.catalog.now }
+    requires few { length given.now.catalog.now.windows ≤ 32 }
+    ensures done { OnOk result (Brings (close_owned given.now) shard.old work.old shard.new work.new) }
+    ensures stops { IfErr result (StepStops (close_owned given.now) shard.old work.old) }
+    ensures changed { Changed shard.old shard.new }
+{
+    for (n, window) in given.catalog.windows.as_slice().iter().enumerate() {
+        if is_closed_by(given.procedure, window) {
+            close_window(alloc, given, n as u16, shard, work)?;
+        }
+    }
+    Ok(())
+}

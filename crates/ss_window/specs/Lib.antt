@@ -1,0 +1,4 @@
+pub mod Slides
+pub mod Held
+pub mod Numbers
+pub mod Laws
