@@ -1,13 +1,15 @@
-//! Executions of calls and steps, one behind the other on one store.
+//! Executions of calls, pushes and steps, one behind the other on one store.
 //!
 //! ```text
 //! executions BASE   lines of executions, each with what it comes to
 //!
 //! show [] -> done [[1]]                     a call with its arguments
+//! push s a 0 [[1]] -> done [] ; s [[1]]     a push to a stream: its source, its number and its rows
 //! step b [[[1],[2]]] -> done [] ; q [[3]]   a step of a procedure on its next batch: for each of its inputs the rows
 //! ```
 //!
-//! Outcomes are as in `script`. Behind that of a step stand the streams that its procedure emits to, each with its batch.
+//! Outcomes are as in `script`. Behind that of a step stand the streams that its procedure emits to, each with its batch,
+//! and behind that of a push that is done its own.
 //! Nothing is scheduled: the batches of a step are those that its line gives.
 
 ghost use Rattle.std.specs.Prelude.{◌≡◌, true, IfOk, slice_get};
@@ -15,7 +17,7 @@ ghost use Rattle.ss_model.specs.Accepted.{Accepted};
 ghost use Rattle.ss_model.specs.Database.{fits_entry, has_step, is_streaming};
 ghost use Rattle.ss_shard.specs.HeldShard.{HeldShard};
 ghost use Rattle.ss_shard.specs.Shards.{IsSettled};
-ghost use Rattle.ss_proc.specs.Entries.{RunsBody, IsNext, IsCountable};
+ghost use Rattle.ss_proc.specs.Entries.{IsNext, IsCountable};
 
 use crate::marks::text_of;
 use crate::requests::catalog_of;
@@ -25,6 +27,7 @@ use serde_json::Value as Json;
 use ss_catalog_requests::request::request_of;
 use ss_model::catalog::{Catalog, Kind};
 use ss_model::entry::{Asked, Entry};
+use ss_plan::batches::Batches;
 use ss_plan::inputs::Inputs;
 use ss_proc::ends::keep;
 use ss_proc::runner::{Executed, PlainRunner, Runner};
@@ -54,32 +57,67 @@ fn json_of(alloc: Global, text: &str) -> Result<Json, Wrong> {
     }
 }
 
-// ---- calls
+// ---- what clients ask for
+
+/// The entry of the request that stands in a JSON text.
+fn asked_of(alloc: Global, catalog: &Catalog, text: &str) -> Result<Wanted, Wrong>
+    ensures fits { IfOk result (λ w. fits_entry catalog.now w.entry ≡ true) }
+    ensures asked { IfOk result (λ w. (s : HeldShard) → IsNext w.entry s × IsCountable w.entry) }
+{
+    let value = json_of(alloc, text)?;
+    let Ok(request) = request_of(alloc, catalog, 1, &value) else {
+        return Err(Wrong::text(alloc, "no request"));
+    };
+    let client = request.client;
+    let index = 0;
+    let entry = match request.what {
+        Asked::Call { procedure, args } => Entry::Call {
+            client,
+            index,
+            procedure,
+            args,
+        },
+        Asked::Push {
+            stream,
+            source,
+            seq,
+            rows,
+        } => Entry::Push {
+            client,
+            index,
+            stream,
+            source,
+            seq,
+            rows,
+        },
+    };
+    Ok(Wanted {
+        entry,
+        batches: Seq::new(alloc),
+    })
+}
 
 /// The call of a procedure with these arguments.
 fn call_of(alloc: Global, catalog: &Catalog, name: &str, args: &str) -> Result<Wanted, Wrong>
     ensures fits { IfOk result (λ w. fits_entry catalog.now w.entry ≡ true) }
-    ensures call { IfOk result (λ w. (s : HeldShard) → RunsBody w.entry × IsNext w.entry s × IsCountable w.entry) }
+    ensures asked { IfOk result (λ w. (s : HeldShard) → IsNext w.entry s × IsCountable w.entry) }
 {
     let text = format!(in alloc; "{{\"call\":\"{name}\",\"args\":{args}}}")?;
-    let value = json_of(alloc, text.as_str())?;
-    let Ok(request) = request_of(alloc, catalog, 1, &value) else {
-        return Err(Wrong::text(alloc, "no call"));
-    };
-    let client = request.client;
-    let what = request.what;
-    match what {
-        Asked::Call { procedure, args } => Ok(Wanted {
-            entry: Entry::Call {
-                client,
-                index: 0,
-                procedure,
-                args,
-            },
-            batches: Seq::new(alloc),
-        }),
-        Asked::Push { .. } => Err(Wrong::text(alloc, "no call")),
-    }
+    asked_of(alloc, catalog, text.as_str())
+}
+
+/// The push of a stream, a source, a number and rows.
+fn push_of(alloc: Global, catalog: &Catalog, given: &str) -> Result<Wanted, Wrong>
+    ensures fits { IfOk result (λ w. fits_entry catalog.now w.entry ≡ true) }
+    ensures asked { IfOk result (λ w. (s : HeldShard) → IsNext w.entry s × IsCountable w.entry) }
+{
+    let (stream, given) = given.split_once(' ').unwrap_or((given, ""));
+    let (source, given) = given.split_once(' ').unwrap_or((given, ""));
+    let (seq, rows) = given.split_once(' ').unwrap_or((given, ""));
+    let text = format!(in alloc;
+        "{{\"push\":\"{stream}\",\"source\":\"{source}\",\"seq\":{seq},\"rows\":{rows}}}"
+    )?;
+    asked_of(alloc, catalog, text.as_str())
 }
 
 // ---- steps
@@ -170,7 +208,7 @@ fn step_of(
     batches: &str,
 ) -> Result<Wanted, Wrong>
     ensures fits { IfOk result (λ w. fits_entry catalog.now w.entry ≡ true) }
-    ensures step { IfOk result (λ w. RunsBody w.entry × IsNext w.entry shard.now × IsCountable w.entry) }
+    ensures step { IfOk result (λ w. IsNext w.entry shard.now × IsCountable w.entry) }
 {
     let value = json_of(alloc, batches)?;
     let batches = batches_of(alloc, &value)?;
@@ -190,9 +228,12 @@ fn step_of(
 /// The execution that a line asks for.
 fn wanted_of(alloc: Global, catalog: &Catalog, shard: &Shard, asked: &str) -> Result<Wanted, Wrong>
     ensures fits { IfOk result (λ w. fits_entry catalog.now w.entry ≡ true) }
-    ensures body { IfOk result (λ w. RunsBody w.entry × IsNext w.entry shard.now × IsCountable w.entry) }
+    ensures next { IfOk result (λ w. IsNext w.entry shard.now × IsCountable w.entry) }
 {
     let (name, given) = asked.split_once(' ').unwrap_or((asked, ""));
+    if name == "push" {
+        return push_of(alloc, catalog, given);
+    }
     if name != "step" {
         return call_of(alloc, catalog, name, given);
     }
@@ -219,6 +260,15 @@ fn words_of(alloc: Global, catalog: &Catalog, executed: &Executed) -> Result<Str
     Ok(words)
 }
 
+/// The batches, lent.
+fn lent<'a>(alloc: Global, batches: &'a [Rows]) -> Result<Batches<'a>, Wrong> {
+    let mut lent = Batches::new(alloc);
+    for rows in batches {
+        lent.push(rows)?;
+    }
+    Ok(lent)
+}
+
 /// Runs an execution and keeps it, and tells what it came to.
 fn words_after(
     alloc: Global,
@@ -228,17 +278,18 @@ fn words_after(
 ) -> Result<String, Wrong>
     requires accepted { Accepted catalog.now }
     requires fits { fits_entry catalog.now wanted.now.entry ≡ true }
-    requires body { RunsBody wanted.now.entry × IsNext wanted.now.entry shard.old × IsCountable wanted.now.entry }
+    requires next { IsNext wanted.now.entry shard.old × IsCountable wanted.now.entry }
     requires settled { IsSettled catalog.now shard.old }
     ensures { IsSettled catalog.now shard.new }
 {
     let no_row = Seq::new(alloc);
+    let batches = lent(alloc, wanted.batches.as_slice())?;
     let inputs = Inputs {
-        batches: wanted.batches.as_slice(),
+        batches: &batches,
         inserted: no_row.as_slice(),
     };
     let executed = PlainRunner.execute(alloc, catalog, shard, &inputs, &wanted.entry)?;
-    keep(shard, &wanted.entry);
+    keep(shard, &wanted.entry, &executed.outcome);
     words_of(alloc, catalog, &executed)
 }
 

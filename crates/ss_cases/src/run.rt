@@ -8,7 +8,7 @@ use ss_top::top::sstore;
 use ss_value::seq::Seq;
 use std::alloc::Global;
 
-/// The mark of an input whose catalogue is accepted, whether it has a stream and isn't built yet, or runs.
+/// The mark of an input whose catalogue is accepted, and so runs.
 const ACCEPTED: &str = "accepted";
 
 /// The most bytes that a run may write.
@@ -34,14 +34,10 @@ pub fn run_on(alloc: Global, input: Vec<u8>) -> Result<Ended, Wrong> {
 
 /// Whether a run that writes this ends so: a refusal is all that is written, and has a status of its own.
 fn ends_so(written: &str, status: Status) -> bool {
-    let refusal = if written.starts_with("[\"input\",") {
-        Status::Input
-    } else if written.starts_with("[\"not_built\",") {
-        Status::NotBuilt
-    } else {
+    if !written.starts_with("[\"input\",") {
         return status == Status::Done;
-    };
-    status == refusal && written.find('\n') == Some(written.len().saturating_sub(1))
+    }
+    status == Status::Input && written.find('\n') == Some(written.len().saturating_sub(1))
 }
 
 /// What a run wrote, where its status is the one that goes with it.
@@ -57,9 +53,9 @@ pub fn report_of(alloc: Global, ended: &Ended) -> Result<&str, Wrong> {
     Ok(written)
 }
 
-/// Whether a line is one with which an input whose catalogue is accepted may begin.
+/// Whether a line is one with which the report of a catalogue alone begins.
 fn begins_accepted(line: &str) -> bool {
-    line == "[\"not_built\",1]" || line.starts_with("[\"table\",") || line.starts_with("[\"done\",")
+    line.starts_with("[\"table\",") || line.starts_with("[\"done\",")
 }
 
 /// Compares the first line of what was written. Where what is wanted has a line feed in it, by its mark, it is all

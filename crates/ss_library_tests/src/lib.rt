@@ -10,7 +10,7 @@
 //! - `sql_texts`: texts with their tokens, what tokens stand for, copies of trees
 //! - `model`: copies of requests and entries
 //! - `plain_queries`: expressions and queries, evaluated by their definitions
-//! - `report`: the report of a small run
+//! - `report`: the report of a stop, and the summary of votes
 #![tactic(auto)]
 
 #[cfg(test)]

@@ -21,9 +21,9 @@ use ss_value::value::{Row, Value};
 use std::alloc::Global;
 
 /// The slots of those of these rows of a table that pass WHERE, by key. Aborts as the first test that does.
-fn matching_slots<'a>(
+fn matching_slots<'a, 'b>(
     alloc: Global,
-    from: ShardRows<'a>,
+    from: ShardRows<'a, 'b>,
     table: u16,
     test: &Option<Expr>,
     params: &Row,

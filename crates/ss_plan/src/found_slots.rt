@@ -8,6 +8,7 @@ ghost use Rattle.ss_plan.specs.Found.{lent_rows};
 ghost use Rattle.ss_plan.specs.Plans.{seen_in, seen_through, AreEnough};
 ghost use Rattle.ss_plan.specs.declared.plan.Plan.TheVariants.{Scan};
 
+use crate::batches::Batches;
 use crate::inputs::Inputs;
 use crate::plan::{Plan, rows_by_plan};
 use crate::source::{ShardRows, rows_seen};
@@ -48,9 +49,9 @@ fn slots_in<'a>(alloc: Global, rows: &[(Slot, &'a Row)]) -> Result<Vec<Slot>, No
 }
 
 /// The slots of the rows of a table that a plan finds, of those that are seen, by key.
-fn slots_by_plan<'a>(
+fn slots_by_plan<'a, 'b>(
     alloc: Global,
-    from: ShardRows<'a>,
+    from: ShardRows<'a, 'b>,
     table: u16,
     plan: Plan,
     test: &Option<Expr>,
@@ -87,8 +88,9 @@ pub fn slots_of(
     ensures scan { plan ≡ Scan → IfOk result (λ slots. slots.items ≡ map (λ p. p.0) (seen_through catalog.now frame.now shard.now.tables table)) }
 {
     let zero = Value::Int(0);
+    let nothing = Batches::new(alloc);
     let inputs = Inputs {
-        batches: &[],
+        batches: &nothing,
         inserted: &[],
     };
     let from = rows_seen(catalog, shard, *frame, inputs, &zero);

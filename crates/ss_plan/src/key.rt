@@ -89,7 +89,7 @@ fn live_row_with<'a>(rows: &'a Table, key: &Row) -> Option<(Slot, &'a Row)>
 }
 
 /// The row of a table with a key, where the execution sees it. Costs as the table's `get`.
-fn seen_with<'a>(from: ShardRows<'a>, table: u16, key: &Row) -> Option<(Slot, &'a Row)>
+fn seen_with<'a, 'b>(from: ShardRows<'a, 'b>, table: u16, key: &Row) -> Option<(Slot, &'a Row)>
     requires tables { HasTables from.catalog.now from.shard.now.tables }
     requires there { table < length from.catalog.now.tables }
     ensures { one_place (option_map lent_row result) ≡ seen_with from.entry table key.now }
@@ -126,9 +126,9 @@ fn at_most_one<'a>(alloc: Global, row: Option<(Slot, &'a Row)>) -> Result<FoundR
 /// A row without this key doesn't pass, and no test of it aborts. Costs one search, logarithmic in the rows of the table,
 /// and one key built, linear in its columns times the front of WHERE and in its bytes. Takes memory for the key and for
 /// the place of one row alone.
-pub fn row_by_key<'a>(
+pub fn row_by_key<'a, 'b>(
     alloc: Global,
-    from: ShardRows<'a>,
+    from: ShardRows<'a, 'b>,
     table: u16,
     test: &Option<Expr>,
     params: &Row,

@@ -1,6 +1,6 @@
 //! Statements, run on the shard that holds their rows.
 //!
-//! - `inputs`: the rows at hand, of batches and emits
+//! - `inputs`: the rows at hand, of batches and emits; `batches`: batches lent from where they stand
 //! - `seen`: which rows of a table an execution sees, in the order of their keys; `listed`: rows by their number
 //! - `source`: all these as the sources of a query; `query`: queries over them
 //! - `plan`: how the rows that pass WHERE are found; `scan`: by a walk over all; `key`: by the key that WHERE names;
@@ -19,6 +19,7 @@
 //! stands behind. The row that is found is tested by the whole WHERE, as in a walk. A JOIN walks.
 #![tactic(auto)]
 
+pub mod batches;
 pub mod bounds;
 mod chosen;
 mod delete;

@@ -24,9 +24,9 @@ use std::alloc::Global;
 
 /// The rows that may pass the WHERE of a query of one table, by the plan for it, and None where its sources are to be
 /// walked. Costs as the plan does.
-fn rows_of_query<'a>(
+fn rows_of_query<'a, 'b>(
     alloc: Global,
-    from: ShardRows<'a>,
+    from: ShardRows<'a, 'b>,
     query: &Query,
     params: &Row,
 ) -> Result<Option<FoundRows<'a>>, NoMemory>
@@ -47,9 +47,9 @@ fn rows_of_query<'a>(
 /// does.
 ///
 /// Costs what the query costs, with what the plan costs in place of the walk. A query with a JOIN walks.
-fn planned_query<'a>(
+fn planned_query<'a, 'b>(
     alloc: Global,
-    from: ShardRows<'a>,
+    from: ShardRows<'a, 'b>,
     query: &Query,
     frame: &Frame,
 ) -> Result<Rows, RunError>

@@ -83,8 +83,8 @@ fn range_end(
 }
 
 /// The row in a slot, with the slot, where it is live and the execution sees it. Constant.
-fn row_seen<'a>(
-    from: ShardRows<'a>,
+fn row_seen<'a, 'b>(
+    from: ShardRows<'a, 'b>,
     table: u16,
     rows: &'a Table,
     slot: Slot,
@@ -104,9 +104,9 @@ fn row_seen<'a>(
 }
 
 /// The rows in some slots that are live and that the execution sees, each with its slot. Constant for each slot.
-fn rows_seen_in<'a>(
+fn rows_seen_in<'a, 'b>(
     alloc: Global,
-    from: ShardRows<'a>,
+    from: ShardRows<'a, 'b>,
     table: u16,
     rows: &'a Table,
     slots: &[Slot],
@@ -127,9 +127,9 @@ fn rows_seen_in<'a>(
 ///
 /// No other row passes WHERE, and no test of one aborts. Costs the index's search, a look at each pair in the range, and
 /// a sort of the rows that are found: n log n comparisons for n of them, and the memory for them and the two ends.
-pub fn rows_in_range<'a>(
+pub fn rows_in_range<'a, 'b>(
     alloc: Global,
-    from: ShardRows<'a>,
+    from: ShardRows<'a, 'b>,
     table: u16,
     rows: &'a Table,
     index: &Index,

@@ -5,5 +5,6 @@ pub mod Owned
 pub mod Whole
 pub mod Batches
 pub mod Standing
+pub mod Pushing
 pub mod Fitting
 pub mod Premises

@@ -5,15 +5,11 @@ use Rattle.ss_model.specs.declared.entry.Entry.TheVariants.{Step as StepEntry}
 use Rattle.ss_model.specs.Database.{fits_entry}
 use Rattle.ss_model.proofs.SlidingSeen.{sliding_seen, fills, accepted}
 use Rattle.ss_proc.specs.Executions.{MayRun, StepRuns}
-use Rattle.ss_proc.specs.Entries.{RunsBody}
 use Rattle.ss_proc.proofs.Fitting.{may_run, body_fits}
 
--- a step of it fits, and has a body that is run
+-- a step of it fits
 pub fits : fits_entry sliding_seen (StepEntry 0 0) ≡ true
 fits = refl
-
-pub has_body : RunsBody (StepEntry 0 0)
-has_body = tt
 
 -- executions of it may run
 pub may : MayRun sliding_seen

@@ -1,5 +1,5 @@
 -- What a call and a step come to on each database that a shard stands for.
-use Rattle.std.proofs.Common.{◌≡◌, ◌+◌, ◌==◌, ◌&&◌, nat_lt, ℕ, true, false, List, [], ◌∷◌, map, get_or, set, length, refl, sym, ap, ◌∙◌, Option, Some, None, slice_get, Bool}
+use Rattle.std.proofs.Common.{◌≡◌, ◌+◌, ◌==◌, ◌&&◌, nat_lt, ℕ, true, false, List, [], ◌∷◌, map, get_or, set, length, refl, sym, ap, subst, ◌∙◌, Option, Some, None, slice_get, Bool}
 use Rattle.std.specs.List.{list_all}
 use Rattle.std.proofs.lemmas.Bool.Decides.{nat_tests}
 use Rattle.std.proofs.lemmas.Option.{get_or_from_slice_get, slice_get_within}
@@ -16,7 +16,11 @@ use Rattle.ss_shard.specs.Shards.{IsOf}
 use Rattle.ss_shard.specs.Windows.{HoldsDatabase, own_database}
 use Rattle.ss_shard.proofs.Standing.{carried}
 use Rattle.ss_proc.specs.declared.runner.Executed.{Executed}
-use Rattle.ss_proc.specs.Entries.{batches_at, batches_for, batches_by, Ran}
+use Rattle.ss_model.specs.Batches.{output_batches}
+use Rattle.ss_shard.specs.Shards.{CanGoBack}
+use Rattle.ss_shard.specs.Sources.{SameNumbers}
+use Rattle.ss_shard.proofs.Placed.{alike_again}
+use Rattle.ss_proc.specs.Entries.{batches_at, batches_for, Ran}
 
 -- ---- a call
 
@@ -35,10 +39,10 @@ module _ (catalog : Catalog) (old new : HeldShard) (is : IsOf catalog old) (now 
       ∙ ap (λ b. only_when b (Some (called (run_procedure catalog n p args [] (contents_of old))))) call
       ∙ ap (λ r. Some (called r)) ran
 
-  pub call_ran : run_procedure catalog n p args [] (contents_of old) ≡ left → (e : Executed) → e.outcome ≡ outcome → e.emitted ≡ [] → Ran catalog db (Call client index n args) e new
-  call_ran ran e told none =
+  pub call_ran : run_procedure catalog n p args [] (contents_of old) ≡ left → CanGoBack old new → (e : Executed) → e.outcome ≡ outcome → e.emitted ≡ [] → Ran catalog db (Call client index n args) e new
+  call_ran ran back e told none =
       let c = carried catalog old new is now db holds (Call client index n args) (called left) (call_value ran) refl in
-      record { applied = c.applied; value = c.value; outcome = told ∙ c.outcome; emitted = none; leaves = c.leaves; counts = c.counts }
+      record { applied = c.applied; value = c.value; outcome = told ∙ c.outcome; emitted = none; leaves = c.leaves; counts = back.cursors ∙ holds.counts ∙ sym c.counts; numbers = subst (λ ns. SameNumbers ns new.sources) (sym c.numbers) (alike_again db.next_numbers old.sources new.sources holds.numbers back.sources) }
 
 -- ---- a step
 
@@ -91,8 +95,8 @@ module _ (catalog : Catalog) (old new : HeldShard) (is : IsOf catalog old) (now 
       ∙ ap (λ bs. Some (stepped (run_procedure catalog n p [] bs (contents_of old)))) (same_batches db r p.inputs batches at_hand)
       ∙ ap (λ x. Some (stepped x)) ran
 
-  pub step_ran : run_procedure catalog n p [] batches (contents_of old) ≡ result → (e : Executed) → e.outcome ≡ outcome → e.emitted ≡ batches_for (output_streams catalog p) emitted → Ran catalog db (StepEntry n r) e new
-  step_ran ran e told gave =
+  pub step_ran : run_procedure catalog n p [] batches (contents_of old) ≡ result → CanGoBack old new → (e : Executed) → e.outcome ≡ outcome → e.emitted ≡ batches_for (output_streams catalog p) emitted → Ran catalog db (StepEntry n r) e new
+  step_ran ran back e told gave =
       let c = carried catalog old new is now db holds (StepEntry n r) (stepped result) (step_value ran) refl in
       record {
         applied = c.applied;
@@ -100,10 +104,11 @@ module _ (catalog : Catalog) (old new : HeldShard) (is : IsOf catalog old) (now 
         outcome = told ∙ c.outcome;
         emitted = gave ∙ ap (batches_for (output_streams catalog p)) c.emitted ∙ by (slice_get catalog.procedures n) found (c.applied).emitted;
         leaves = c.leaves;
-        counts = c.counts;
+        counts = ap (λ counts. set counts n (r + 1)) (back.cursors ∙ holds.counts) ∙ sym c.counts;
+        numbers = subst (λ ns. SameNumbers ns new.sources) (sym c.numbers) (alike_again db.next_numbers old.sources new.sources holds.numbers back.sources);
       }
     where
-      by : (o : Option Procedure) → o ≡ Some p → (es : List Rows) → batches_for (output_streams catalog p) es ≡ batches_by catalog es o
+      by : (o : Option Procedure) → o ≡ Some p → (es : List Rows) → batches_for (output_streams catalog p) es ≡ output_batches catalog es o
       by None e es = cc
       by (Some q) e es = let same : q ≡ p = cc in ap (λ (q : Procedure). batches_for (output_streams catalog q) es) (sym same)
 

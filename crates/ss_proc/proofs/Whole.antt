@@ -44,6 +44,7 @@ back_here catalog old new before after same = record {
   number = same.number;
   columns = same.columns;
   cursors = same.cursors;
+  sources = same.sources;
   final = before.final;
   came = subst (λ (cs : List Change). Came old.tables cs new.tables) (sym after.empty) same.tables;
   settled = before.settled;

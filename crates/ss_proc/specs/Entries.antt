@@ -6,18 +6,16 @@ use Rattle.ss_model.specs.declared.catalog.Procedure.{Procedure}
 use Rattle.ss_model.specs.declared.entry.Emitted.{Emitted}
 use Rattle.ss_model.specs.declared.entry.Entry.{Entry}
 use Rattle.ss_model.specs.declared.entry.Entry.TheVariants.{Call, Push, Step as StepEntry}
-use Rattle.ss_model.specs.Database.{Database, Applied, apply, stream_batches, output_streams, run_procedure}
+use Rattle.ss_model.specs.declared.entry.Outcome.{Outcome}
+use Rattle.ss_model.specs.declared.entry.Outcome.TheVariants.{Done}
+use Rattle.ss_model.specs.Database.{NextNumbers, Database, Applied, apply, stream_batches, run_procedure}
+use Rattle.ss_model.specs.Batches.{emitted_batches}
 use Rattle.ss_shard.specs.HeldShard.{HeldShard}
 use Rattle.ss_shard.specs.Contents.{contents_of}
+use Rattle.ss_shard.specs.Sources.{HasSource, SameNumbers, with_number}
 use Rattle.ss_shard.specs.Windows.{Holds, HoldsDatabase}
 use Rattle.ss_proc.specs.declared.bodies.BodyResult.{BodyResult}
 use Rattle.ss_proc.specs.declared.runner.Executed.{Executed}
-
--- an entry that a body runs: a call or a step
-abbrev pub RunsBody : Entry → Type 0
-RunsBody (Call client index n args) = Unit {0}
-RunsBody (Push client index s source seq rows) = ⊥
-RunsBody (StepEntry n r) = Unit {0}
 
 -- a step's batch is the next one that its procedure takes
 abbrev pub IsNext : Entry → HeldShard → Type 0
@@ -33,7 +31,7 @@ abbrev pub AreBatchesOf : Database → ℕ → List Rows → Option Procedure �
 AreBatchesOf db r batches None = Unit {0}
 AreBatchesOf db r batches (Some p) = batches_at db r p ≡ map Some batches
 
--- the batches at hand are those that the entry takes from the streams of a database; a call takes none
+-- the batches at hand are those that the entry takes from the streams of a database; a call takes none, and a push brings its own
 abbrev pub AreAtHand : Catalog → Database → Entry → List Rows → Type 0
 AreAtHand catalog db (StepEntry n r) batches = AreBatchesOf db r batches (slice_get catalog.procedures n)
 AreAtHand catalog db _ batches = batches ≡ []
@@ -42,34 +40,50 @@ AreAtHand catalog db _ batches = batches ≡ []
 abbrev pub batches_for : List ℕ → List Rows → List Emitted
 batches_for streams emitted = map (λ s. record { stream = s; rows = get_or emitted s [] }) streams
 
--- those of the streams that a procedure of this number emits to
-abbrev pub batches_by : Catalog → List Rows → Option Procedure → List Emitted
-batches_by catalog emitted None = []
-batches_by catalog emitted (Some p) = batches_for (output_streams catalog p) emitted
-
--- those that an entry emits; a call emits none
-abbrev pub emitted_by : Catalog → Entry → List Rows → List Emitted
-emitted_by catalog (StepEntry n r) emitted = batches_by catalog emitted (slice_get catalog.procedures n)
-emitted_by catalog _ emitted = []
-
 -- the counts once an entry is kept: a step, done or aborted, has taken its batch
 abbrev pub counted : Entry → List ℕ → List ℕ
 counted (StepEntry n r) counts = set counts n (r + 1)
 counted _ counts = counts
 
+-- the next numbers once a push is kept that came to this: an accepted one is followed by the next
+abbrev pub raised : ℕ → List ℕ → ℕ → Outcome → List NextNumbers → List NextNumbers
+raised s source seq (Done reply) sources = with_number sources s source (seq + 1)
+raised s source seq _ sources = sources
+
+-- once an entry is kept
+abbrev pub numbered : Entry → Outcome → List NextNumbers → List NextNumbers
+numbered (Push client index s source seq rows) outcome sources = raised s source seq outcome sources
+numbered _ outcome sources = sources
+
+-- the source of an accepted push has its place, and its number can be followed by the next
+abbrev pub HasPlace : ℕ → List ℕ → ℕ → Outcome → List NextNumbers → Type 0
+HasPlace s source seq (Done reply) sources = HasSource sources s source × (seq < 2 ^ 63)
+HasPlace s source seq _ sources = Unit {0}
+
+-- where an entry that came to this is such a push
+abbrev pub IsPlaced : Entry → Outcome → List NextNumbers → Type 0
+IsPlaced (Push client index s source seq rows) outcome sources = HasPlace s source seq outcome sources
+IsPlaced _ outcome sources = Unit {0}
+
 -- an entry has run on a database that the shard stood for: it has a value there, with this outcome and these batches, the shard
--- stands for the tables and windows after it, and the counts after it are those that keeping it gives
+-- stands for the tables and windows after it, and keeping it gives the counts and next numbers after it
 pub record Ran (catalog : Catalog) (db : Database) (e : Entry) (executed : Executed) (shard : HeldShard) : Type 0 where
   pub applied : Applied
   pub value : apply catalog db e ≡ Some applied
   pub outcome : executed.outcome ≡ applied.outcome
-  pub emitted : executed.emitted ≡ emitted_by catalog e applied.emitted
+  pub emitted : executed.emitted ≡ emitted_batches catalog e applied
   pub leaves : Holds catalog shard (applied.db).contents
-  pub counts : (applied.db).counts ≡ counted e db.counts
+  pub counts : counted e shard.cursors ≡ (applied.db).counts
+  pub numbers : SameNumbers (applied.db).next_numbers (numbered e executed.outcome shard.sources)
 
 -- on each database that the shard stood for and from which these batches were taken
 abbrev pub RanOnEach : Catalog → HeldShard → HeldShard → Entry → List Rows → Executed → Type 0
 RanOnEach catalog old new e batches executed = (db : Database) → HoldsDatabase catalog old db → AreAtHand catalog db e batches → Ran catalog db e executed new
+
+-- once it is kept, the shard stands for what the entry leaves on each database where it ran
+abbrev pub Keeps : Catalog → Entry → Outcome → HeldShard → HeldShard → Type 0
+Keeps catalog e outcome old new =
+    (db : Database) (executed : Executed) (ran : Ran catalog db e executed old) → executed.outcome ≡ outcome → HoldsDatabase catalog new (ran.applied).db
 
 -- the procedure of a number came to this with these arguments and batches
 abbrev pub ProcedureRan : Catalog → ℕ → Row → List Rows → HeldShard → HeldShard → BodyResult → Type 0

@@ -5,18 +5,23 @@ ghost use Rattle.ss_model.specs.Accepted.{Accepted};
 ghost use Rattle.ss_model.specs.Database.{fits_entry};
 ghost use Rattle.ss_shard.specs.HeldShard.{HeldShard};
 ghost use Rattle.ss_shard.specs.Shards.{IsOf, CanGoBack, Same, IsSettled};
-ghost use Rattle.ss_proc.specs.Entries.{RunsBody, IsNext, batches_by, ProcedureRan, RanOnEach};
+ghost use Rattle.ss_model.specs.Batches.{output_batches};
+ghost use Rattle.ss_model.specs.Database.{Database};
+ghost use Rattle.ss_shard.specs.Windows.{HoldsDatabase};
+ghost use Rattle.ss_proc.specs.Entries.{IsNext, IsPlaced, ProcedureRan, RanOnEach};
 
 use crate::bodies::{BodyResult, run_body, touched_argument};
 use crate::outputs::emitted_batches;
+use crate::pushes::run_push;
 use crate::work::Given;
 use ss_model::catalog::Catalog;
 use ss_model::entry::{Emitted, Entry, Outcome};
+use ss_plan::batches::Batches;
 use ss_plan::inputs::Inputs;
 use ss_shard::shard::Shard;
 use ss_value::NoMemory;
 use ss_value::seq::Seq;
-use ss_value::value::{Row, Rows};
+use ss_value::value::Row;
 use std::alloc::Global;
 
 /// What an execution came to.
@@ -24,7 +29,8 @@ use std::alloc::Global;
 pub struct Executed {
     /// Its outcome.
     pub outcome: Outcome,
-    /// The batch that it emitted to each of its procedure's streams, in rising order. A call has none.
+    /// Its batches: of a step the one that it emitted to each of its procedure's streams, in rising order, of an accepted
+    /// push its own. A call has none.
     pub emitted: Seq<Emitted>,
 }
 
@@ -33,12 +39,12 @@ pub struct Executed {
 /// An execution is a transaction: it changes all that its body changes, or nothing (Meehan et al., PVLDB 8, 2015, section
 /// 2.3).
 pub trait Runner {
-    /// Runs a call or a step on a shard between executions, on the batches that it takes. The caller then keeps it or takes
-    /// it back, by `ends`.
+    /// Runs an entry on a shard between executions, on the batches that it takes. The caller then keeps it or takes it back,
+    /// by `ends`.
     ///
     /// Answers exactly the outcome and the batches that the entry has on whatever database the shard stands for, and leaves
-    /// the tables and windows that it leaves: after an abort those from before, with empty batches. The counts stay until
-    /// the entry is kept. Fails only for want of memory, which leaves the shard as it was.
+    /// the tables and windows that it leaves: after an abort those from before, with empty batches. Counts and next numbers
+    /// stay until the entry is kept. Fails only for want of memory, after which the shard stands for what it stood for.
     fn execute(
         &self,
         alloc: Global,
@@ -49,12 +55,13 @@ pub trait Runner {
     ) -> Result<Executed, NoMemory>
         requires accepted { Accepted catalog.now }
         requires fits { fits_entry catalog.now entry.now ≡ true }
-        requires body { RunsBody entry.now }
         requires next { IsNext entry.now shard.old }
         requires settled { IsSettled catalog.now shard.old }
         ensures ran { IfOk result (RanOnEach catalog.now shard.old shard.new entry.now inputs.now.batches.now) }
+        ensures placed { IfOk result (λ e. IsPlaced entry.now e.outcome shard.new.sources) }
         ensures of_catalog { IsOf catalog.now shard.new }
         ensures back { IfOk result (λ e. CanGoBack shard.old shard.new) }
+        ensures holds { OnErr result ((db : Database) → HoldsDatabase catalog.now shard.old db → HoldsDatabase catalog.now shard.new db) }
         ensures kept { OnErr result (Same shard.old shard.new) }
         ensures settled { OnErr result (IsSettled catalog.now shard.new) };
 }
@@ -69,7 +76,7 @@ fn run_procedure(
     catalog: &Catalog,
     number: u16,
     args: &Row,
-    batches: &[Rows],
+    batches: &Batches,
     shard: &mut Shard,
 ) -> Result<BodyResult, NoMemory>
     requires accepted { Accepted catalog.now }
@@ -107,7 +114,7 @@ fn with_outputs(
     requires few { length catalog.now.streams ≤ 32 }
     requires back { (before : HeldShard) × CanGoBack before shard.old × IsOf catalog.now before }
     ensures outcome { IfOk result (λ e. e.outcome ≡ left.outcome) }
-    ensures emitted { IfOk result (λ e. e.emitted ≡ batches_by catalog.now left.emitted (slice_get catalog.now.procedures number)) }
+    ensures emitted { IfOk result (λ e. e.emitted ≡ output_batches catalog.now left.emitted (slice_get catalog.now.procedures number)) }
     ensures stays { IfOk result (λ e. shard.new ≡ shard.old) }
     ensures kept { OnErr result ((before : HeldShard) → CanGoBack before shard.old → Same before shard.new) }
     ensures settled { OnErr result (IsSettled catalog.now shard.new) }
@@ -127,7 +134,8 @@ fn with_outputs(
 
 impl Runner for PlainRunner {
     /// Costs the steps of the body and what their triggers do, and for an abort at most as much again. Its own memory is that
-    /// of its open units, batches and reply; what the steps write is noted in the shard.
+    /// of its open units, batches and reply; what the steps write is noted in the shard. A push is logarithmic in its
+    /// stream's sources, and takes a copy of its rows.
     fn execute(
         &self,
         alloc: Global,
@@ -160,8 +168,13 @@ impl Runner for PlainRunner {
                 )?;
                 with_outputs(alloc, catalog, *procedure, left, shard)
             }
-            // a push runs no body
-            Entry::Push { .. } => unreachable!(),
+            Entry::Push {
+                stream,
+                source,
+                seq,
+                rows,
+                ..
+            } => run_push(alloc, shard, *stream, source, *seq, rows),
         }
     }
 }

@@ -4,6 +4,7 @@ ghost use Rattle.std.specs.Prelude.{◌≡◌, ◌∷◌, [], ◌++◌, set, get
 ghost use Rattle.ss_proc.specs.Executions.{empty_work};
 
 use ss_model::catalog::Catalog;
+use ss_plan::batches::Batches;
 use ss_value::NoMemory;
 use ss_value::seq::Seq;
 use ss_value::value::{Row, Rows};
@@ -11,7 +12,7 @@ use std::alloc::Global;
 
 /// What an execution is given: its procedure, arguments and batches. A call has no batch, and a step no argument.
 #[derive(Clone, Copy, Drop)]
-pub struct Given<'a> {
+pub struct Given<'a, 'b: 'a> {
     /// The catalogue.
     pub catalog: &'a Catalog,
     /// The procedure's number.
@@ -21,7 +22,7 @@ pub struct Given<'a> {
     /// The argument that an `arg` procedure's touch set names, and None in every other procedure.
     pub arg: Option<u8>,
     /// The batch of each input, by position.
-    pub batches: &'a [Rows],
+    pub batches: &'a Batches<'b>,
 }
 
 /// How far an execution is, beside its shard: the unit that it has open in each window, its batch for each stream, and its

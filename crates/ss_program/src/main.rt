@@ -1,4 +1,4 @@
-//! The program `sstore`: a catalogue and a script of calls in, replies, the serial list and the tables out.
+//! The program `sstore`: a catalogue and a script of calls and pushes in, replies, the serial list and the tables out.
 //!
 //! It makes the real ends, and calls what `ss_top` promises.
 #![tactic(auto)]

@@ -5,3 +5,8 @@ pub mod Replies
 pub mod Places
 pub mod Told
 pub mod Premises
+pub mod Telling
+pub mod ByClient
+pub mod Weaving
+pub mod OneMore
+pub mod RepliesPremises

@@ -17,6 +17,7 @@ use Rattle.ss_undo.specs.declared.change.Change.{Change}
 use Rattle.ss_undo.specs.Came.{Step, Came}
 use Rattle.ss_undo.proofs.Back.{came_more}
 use Rattle.ss_shard.specs.HeldShard.{HeldShard}
+use Rattle.ss_shard.specs.Sources.{SameNumbers}
 use Rattle.ss_shard.specs.Rows.{StandsIn, RowPut, RowTaken}
 use Rattle.ss_window.specs.Held.{HeldWindow, staged}
 use Rattle.ss_undo.specs.Windows.{WindowStep, WindowsCame}
@@ -24,12 +25,13 @@ use Rattle.ss_undo.proofs.Windows.{windows_more}
 use Rattle.ss_shard.specs.Shards.{shapes_of, frames_of, AllKeyed, AllHeld, Changed}
 
 -- a change that is made and noted
-pub noted_both : (old new : HeldShard) (c : Change) → Step old.tables c new.tables → WindowStep old.windows c new.windows → new.changes ≡ old.changes ++ c ∷ [] → new.number ≡ old.number → new.cursors ≡ old.cursors → new.columns ≡ old.columns
+pub noted_both : (old new : HeldShard) (c : Change) → Step old.tables c new.tables → WindowStep old.windows c new.windows → new.changes ≡ old.changes ++ c ∷ [] → new.number ≡ old.number → new.cursors ≡ old.cursors → new.sources ≡ old.sources → new.columns ≡ old.columns
     → shapes_of new.tables ≡ shapes_of old.tables → (AllKeyed old.tables → AllKeyed new.tables) → frames_of new.windows ≡ frames_of old.windows → (AllHeld old.windows → AllHeld new.windows) → Changed old new
-noted_both old new c step staged items number cursors columns shapes keyed frames held = record {
+noted_both old new c step staged items number cursors sources columns shapes keyed frames held = record {
   columns = columns;
   number = number;
   cursors = cursors;
+  sources = sources;
   shapes = shapes;
   keyed = keyed;
   frames = frames;
@@ -38,6 +40,7 @@ noted_both old new c step staged items number cursors columns shapes keyed frame
     number = number ∙ can.number;
     columns = columns ∙ can.columns;
     cursors = cursors ∙ can.cursors;
+    sources = subst (SameNumbers before.sources) (sym sources) can.sources;
     final = can.final;
     came = subst (λ cs. Came before.tables cs new.tables) (sym items) (came_more before.tables old.tables new.tables old.changes c can.came step);
     settled = can.settled;
@@ -46,17 +49,18 @@ noted_both old new c step staged items number cursors columns shapes keyed frame
 }
 
 -- a change of a row
-pub noted : (old new : HeldShard) (c : Change) → Step old.tables c new.tables → WindowStep old.windows c new.windows → new.changes ≡ old.changes ++ c ∷ [] → new.number ≡ old.number → new.cursors ≡ old.cursors → new.columns ≡ old.columns → new.windows ≡ old.windows
+pub noted : (old new : HeldShard) (c : Change) → Step old.tables c new.tables → WindowStep old.windows c new.windows → new.changes ≡ old.changes ++ c ∷ [] → new.number ≡ old.number → new.cursors ≡ old.cursors → new.sources ≡ old.sources → new.columns ≡ old.columns → new.windows ≡ old.windows
     → shapes_of new.tables ≡ shapes_of old.tables → (AllKeyed old.tables → AllKeyed new.tables) → Changed old new
-noted old new c step staged items number cursors columns windows shapes keyed =
-    noted_both old new c step staged items number cursors columns shapes keyed (ap frames_of windows) (λ h. subst (λ (ws : List HeldWindow). AllHeld ws) (sym windows) h)
+noted old new c step staged items number cursors sources columns windows shapes keyed =
+    noted_both old new c step staged items number cursors sources columns shapes keyed (ap frames_of windows) (λ h. subst (λ (ws : List HeldWindow). AllHeld ws) (sym windows) h)
 
 -- room that is made, and nothing else
-pub unnoted : (old new : HeldShard) → new.cursors ≡ old.cursors → new.windows ≡ old.windows → new.tables ≡ old.tables → new.changes ≡ old.changes → new.number ≡ old.number → new.columns ≡ old.columns → Changed old new
-unnoted old new cursors windows tables items number columns = record {
+pub unnoted : (old new : HeldShard) → new.cursors ≡ old.cursors → new.sources ≡ old.sources → new.windows ≡ old.windows → new.tables ≡ old.tables → new.changes ≡ old.changes → new.number ≡ old.number → new.columns ≡ old.columns → Changed old new
+unnoted old new cursors sources windows tables items number columns = record {
   columns = columns;
   number = number;
   cursors = cursors;
+  sources = sources;
   shapes = ap shapes_of tables;
   keyed = λ h. subst (λ (tables : List Held). AllKeyed tables) (sym tables) h;
   frames = ap frames_of windows;
@@ -65,6 +69,7 @@ unnoted old new cursors windows tables items number columns = record {
     number = number ∙ can.number;
     columns = columns ∙ can.columns;
     cursors = cursors ∙ can.cursors;
+    sources = subst (SameNumbers before.sources) (sym sources) can.sources;
     final = can.final;
     came = subst (λ cs. Came before.tables cs new.tables) (sym items) (subst (Came before.tables old.changes) (sym tables) can.came);
     settled = can.settled;

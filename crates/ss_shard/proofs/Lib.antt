@@ -1,5 +1,7 @@
 pub mod Cases
 pub mod ByKey
+pub mod Numbers
+pub mod Placed
 pub mod Tables
 pub mod Shapes
 pub mod Changing

@@ -63,6 +63,7 @@ starts_here catalog shard s = record {
   number = refl;
   columns = refl;
   cursors = refl;
+  sources = record { streams = refl; numbers = λ s source. refl };
   final = s.final;
   came = subst (λ (changes : List Change). Came shard.tables changes shard.tables) (sym s.empty) refl;
   settled = s.settled;
@@ -76,4 +77,5 @@ of_same catalog old new same is = record {
   indexes = same.columns ∙ is.indexes;
   windows = subst (HasWindows catalog) (sym same.windows) is.windows;
   cursors = ap length same.cursors ∙ is.cursors;
+  sources = same.sources.streams ∙ is.sources;
 }

@@ -115,4 +115,5 @@ still_of catalog old new c is = record {
   indexes = c.columns ∙ is.indexes;
   windows = record { frames = c.frames ∙ is.windows.frames; held = c.held is.windows.held };
   cursors = ap length c.cursors ∙ is.cursors;
+  sources = ap length c.sources ∙ is.sources;
 }

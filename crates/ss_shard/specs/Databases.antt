@@ -1,16 +1,20 @@
 -- A database that one shard holds.
-use Rattle.std.specs.Prelude.{◌≤◌, ℕ, List, map}
+use Rattle.std.specs.Prelude.{◌≡◌, ◌≤◌, ℕ, List, map}
 use Rattle.std.specs.FinMap as finite
 use Rattle.ss_model.specs.declared.catalog.TableDef.{TableDef}
 use Rattle.ss_model.specs.declared.catalog.WindowDef.{WindowDef}
 use Rattle.ss_model.specs.declared.catalog.Catalog.{Catalog}
 use Rattle.ss_model.specs.Database.{Database as Model, empty_database}
+use Rattle.ss_model.specs.WholeDatabase.{WholeDatabase}
 use Rattle.ss_table.specs.Held.{Held}
 use Rattle.ss_index.specs.Pairs.{Held as Index}
 use Rattle.ss_undo.specs.Indexed.{Group}
 use Rattle.ss_window.specs.Held.{HeldWindow, empty_window}
-use Rattle.ss_shard.specs.HeldShard.{HeldShard}
-use Rattle.ss_shard.specs.Contents.{contents_of, row_limit}
+use Rattle.ss_stream.specs.OfDatabase.{AreStreamsOf}
+use Rattle.ss_shard.specs.Shards.{IsSettled}
+use Rattle.ss_shard.specs.Windows.{HoldsDatabase}
+use Rattle.ss_shard.specs.declared.database.Database.{Database}
+use Rattle.ss_shard.specs.Contents.{row_limit}
 
 -- a table that no row was put in
 abbrev pub empty_table : TableDef → Held
@@ -40,6 +44,18 @@ empty_windows defs = map (λ d. empty_window d.unit d.size d.slide) defs
 abbrev pub WindowIsSound : WindowDef → Type 0
 WindowIsSound d = (1 ≤ d.slide) × (d.slide ≤ d.size)
 
--- a database to the model: its tables, windows and counts, and no batch of a stream yet
-abbrev pub database_of : Catalog → HeldShard → Model
-database_of catalog shard = record (empty_database catalog) { contents = contents_of shard; counts = shard.cursors }
+-- a database holds what a database of the model has: its shard the tables, windows, counts and next numbers, and its streams
+-- of each stream the batches that some procedure has still to take
+pub record StandsFor (catalog : Catalog) (database : Database) (db : Model) : Type 0 where
+  pub shard : HoldsDatabase catalog database.whole db
+  pub streams : AreStreamsOf catalog db database.streams.streams
+
+-- between executions: one shard of number 0, with nothing to take back, and what it holds is a whole database
+pub record IsWhole (catalog : Catalog) (database : Database) : Type 0 where
+  pub settled : IsSettled catalog database.whole
+  pub number : database.whole.number ≡ 0
+  pub stands : (db : Model) × StandsFor catalog database db × WholeDatabase catalog db
+
+-- a database of a catalogue whose empty database is whole
+abbrev pub OpensWhole : Catalog → Database → Type 0
+OpensWhole catalog database = WholeDatabase catalog (empty_database catalog) → IsWhole catalog database

@@ -12,7 +12,7 @@ use Rattle.ss_shard.specs.Windows.{Holds, HoldsDatabase, own_database}
 abbrev pub HoldsItself : Type 0
 HoldsItself = (catalog : Catalog) (shard : HeldShard) → IsOf catalog shard → Holds catalog shard (contents_of shard)
 
--- an entry has a value on a database, with this outcome and these batches and counts, and a shard stands for what it leaves
+-- an entry has a value on a database, with this outcome and these batches, counts and next numbers, and a shard stands for what it leaves
 pub record Carried (catalog : Catalog) (db : Database) (e : Entry) (shard : HeldShard) (a : Applied) : Type 0 where
   pub applied : Applied
   pub value : apply catalog db e ≡ Some applied
@@ -20,6 +20,7 @@ pub record Carried (catalog : Catalog) (db : Database) (e : Entry) (shard : Held
   pub emitted : a.emitted ≡ applied.emitted
   pub leaves : Holds catalog shard (applied.db).contents
   pub counts : (applied.db).counts ≡ (a.db).counts
+  pub numbers : (applied.db).next_numbers ≡ (a.db).next_numbers
 
 -- law: what an entry comes to on the shard's own database it comes to on each one that the shard stands for
 abbrev pub CarriedToEach : Type 0

@@ -1,4 +1,5 @@
 pub mod Contents
+pub mod Sources
 pub mod HeldShard
 pub mod Rows
 pub mod Shards

@@ -12,6 +12,7 @@ use Rattle.ss_undo.specs.Came.{Came, AreFinal}
 use Rattle.ss_undo.specs.Windows.{WindowsCame, AreSettled}
 use Rattle.ss_shard.specs.Contents.{row_limit}
 use Rattle.ss_shard.specs.HeldShard.{HeldShard}
+use Rattle.ss_shard.specs.Sources.{SameNumbers}
 
 -- the key and the limit of a table
 abbrev pub shape_of : Held → List ℕ × Option ℕ
@@ -59,28 +60,31 @@ pub record HasWindows (catalog : Catalog) (windows : List HeldWindow) : Type 0 w
   pub frames : frames_of windows ≡ map frame_for catalog.windows
   pub held : AllHeld windows
 
--- the tables, indexes, windows and counts are those of the catalogue
+-- the tables, indexes, windows, counts and next numbers are those of the catalogue
 pub record IsOf (catalog : Catalog) (shard : HeldShard) : Type 0 where
   pub tables : HasTables catalog shard.tables
   pub indexes : HasIndexes catalog shard
   pub windows : HasWindows catalog shard.windows
   pub cursors : length shard.cursors ≡ length catalog.procedures
+  pub sources : length shard.sources ≡ length catalog.streams
 
 -- an execution can be taken back from here to this shard, in which no slot is dead and every window is settled
 pub record CanGoBack (before shard : HeldShard) : Type 0 where
   pub number : shard.number ≡ before.number
   pub columns : shard.columns ≡ before.columns
   pub cursors : shard.cursors ≡ before.cursors
+  pub sources : SameNumbers before.sources shard.sources
   pub final : AreFinal before.tables
   pub came : Came before.tables shard.changes shard.tables
   pub settled : AreSettled before.windows
   pub staged : WindowsCame before.windows shard.changes shard.windows
 
--- what a change of rows and windows leaves as it is: the partition, the counts, the tables' keys, limits and indexes, what
+-- what a change of rows and windows leaves as it is: the partition, the counts and next numbers, the tables' keys, limits and indexes, what
 -- the windows count, their sizes and slides, and where a rollback ends
 pub record Changed (old new : HeldShard) : Type 0 where
   pub number : new.number ≡ old.number
   pub cursors : new.cursors ≡ old.cursors
+  pub sources : new.sources ≡ old.sources
   pub shapes : shapes_of new.tables ≡ shapes_of old.tables
   pub keyed : AllKeyed old.tables → AllKeyed new.tables
   pub columns : new.columns ≡ old.columns
@@ -88,13 +92,14 @@ pub record Changed (old new : HeldShard) : Type 0 where
   pub held : AllHeld old.windows → AllHeld new.windows
   pub back : (before : HeldShard) → CanGoBack before old → CanGoBack before new
 
--- the same rows, units and counts, and indexes on the same columns
+-- the same rows, units, counts and next numbers, and indexes on the same columns
 pub record Same (old new : HeldShard) : Type 0 where
   pub number : new.number ≡ old.number
   pub tables : new.tables ≡ old.tables
   pub columns : new.columns ≡ old.columns
   pub windows : new.windows ≡ old.windows
   pub cursors : new.cursors ≡ old.cursors
+  pub sources : SameNumbers old.sources new.sources
 
 -- between executions: the catalogue's tables, indexes and windows, of which no slot is dead and nothing was staged since,
 -- and nothing to take back

@@ -8,6 +8,7 @@ use Rattle.ss_model.specs.Contents.{Window, Contents, window_units, window_def, 
 use Rattle.ss_model.specs.Database.{Database}
 use Rattle.ss_window.specs.Held.{HeldWindow, unit_count, passed}
 use Rattle.ss_shard.specs.HeldShard.{HeldShard}
+use Rattle.ss_shard.specs.Sources.{SameNumbers}
 use Rattle.ss_shard.specs.Contents.{tables_of, contents_of}
 
 -- whether one unit more moves the end of what a window shows
@@ -33,10 +34,12 @@ pub record Holds (catalog : Catalog) (shard : HeldShard) (s : Contents) : Type 0
   pub tables : tables_of shard.tables ≡ s.tables
   pub windows : map kept_part shard.windows ≡ map_indexed (kept_of catalog) s.windows
 
--- and for a database with these, in which each procedure has taken as many batches as it counts
+-- and for a database with these, in which each procedure has taken as many batches as it counts, and each source has the next
+-- number that it has there
 pub record HoldsDatabase (catalog : Catalog) (shard : HeldShard) (db : Database) : Type 0 where
   pub contents : Holds catalog shard db.contents
   pub counts : shard.cursors ≡ db.counts
+  pub numbers : SameNumbers db.next_numbers shard.sources
 
 -- the database among these that has the shard's own contents
 abbrev pub own_database : HeldShard → Database → Database

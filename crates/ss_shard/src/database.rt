@@ -1,16 +1,19 @@
-//! The shard that holds everything.
+//! The shard that holds everything, and the streams beside it.
 
-ghost use Rattle.std.specs.Prelude.{◌≡◌, IfOk, replicate};
+ghost use Rattle.std.specs.Prelude.{◌≡◌, ◌≤◌, IfOk, length, replicate};
 ghost use Rattle.std.specs.List.{AllByRecursion};
 ghost use Rattle.ss_model.specs.Database.{empty_database};
 ghost use Rattle.ss_shard.specs.Contents.{row_limit};
 ghost use Rattle.ss_shard.specs.Shards.{IsSettled};
-ghost use Rattle.ss_shard.specs.Databases.{WindowIsSound, empty_table, empty_tables, empty_group, empty_indexes, empty_windows, database_of};
+ghost use Rattle.ss_shard.specs.Databases.{WindowIsSound, empty_table, empty_tables, empty_group, empty_indexes, empty_windows, StandsFor, OpensWhole};
 
 use crate::shard::Shard;
+use crate::sources::no_sources;
 use ss_index::index::Index;
 use ss_index::indexes::Indexes;
 use ss_model::catalog::{Catalog, Place, TableDef, WindowDef};
+use ss_stream::streams::Streams;
+use ss_stream::wiring::empty_streams;
 use ss_table::table::Table;
 use ss_value::NoMemory;
 use ss_value::copies::Copies;
@@ -21,11 +24,13 @@ use std::alloc::Global;
 /// The most rows that a placed table has.
 pub const TABLE_ROWS: usize = 1_000_000;
 
-/// A database: one shard that holds all tables, windows and counts.
+/// A database: one shard that holds all tables, windows, counts and next numbers, and the streams.
 #[derive(Drop)]
 pub struct Database {
     /// The shard.
     pub whole: Shard,
+    /// Of each stream the batches that some procedure has still to take.
+    pub streams: Streams,
 }
 
 /// The most rows that a table of this place has, and None of a split one, which has no limit.
@@ -111,17 +116,21 @@ fn zeros(alloc: Global, count: usize) -> Result<Seq<u64>, NoMemory>
 }
 
 /// The database of a catalogue before the first execution. Linear in the catalogue's tables, their keys and indexes, its
-/// windows and its procedures.
+/// windows and its procedures, with a look at each input for each stream.
 pub fn opening(alloc: Global, catalog: &Catalog) -> Result<Database, NoMemory>
-    requires { AllByRecursion WindowIsSound catalog.now.windows }
+    requires sound { AllByRecursion WindowIsSound catalog.now.windows }
+    requires few { length catalog.now.procedures ≤ 64 }
     ensures settled { IfOk result (λ db. IsSettled catalog.now db.whole) }
     ensures number { IfOk result (λ db. db.whole.number ≡ 0) }
-    ensures empty { IfOk result (λ db. database_of catalog.now db.whole ≡ empty_database catalog.now) }
+    ensures stands { IfOk result (λ db. StandsFor catalog.now db (empty_database catalog.now)) }
+    ensures whole { IfOk result (λ db. OpensWhole catalog.now db) }
 {
     let tables = empty_tables(alloc, catalog.tables.as_slice())?;
     let indexes = empty_indexes(alloc, catalog.tables.as_slice())?;
     let windows = empty_windows(alloc, catalog.windows.as_slice())?;
     let cursors = zeros(alloc, catalog.procedures.len())?;
-    let whole = Shard::new(alloc, 0, tables, indexes, windows, cursors);
-    Ok(Database { whole })
+    let sources = no_sources(alloc, catalog.streams.len())?;
+    let whole = Shard::new(alloc, 0, tables, indexes, windows, cursors, sources);
+    let streams = empty_streams(alloc, catalog)?;
+    Ok(Database { whole, streams })
 }

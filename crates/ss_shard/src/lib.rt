@@ -1,7 +1,8 @@
 //! What one partition holds, and what an execution does to it.
 //!
 //! - `pairs`: a row of a table and its pairs, put in together
-//! - `shard`: tables, their indexes and windows, with the changes that a rollback takes back, and counts
+//! - `sources`: the sources of pushes, with the numbers that their next pushes have to carry
+//! - `shard`: tables, their indexes and windows, with the changes that a rollback takes back, counts and sources
 //! - `database`: the shard that holds everything
 //! - `laws`: what a shard stands for
 #![tactic(auto)]
@@ -10,3 +11,4 @@ pub mod database;
 pub mod laws;
 mod pairs;
 pub mod shard;
+pub mod sources;

@@ -2,6 +2,7 @@
 
 ghost use Rattle.std.specs.Prelude.{◌≡◌, ◌<◌, List, [], length, map, set, get_or, Some, OnOk, IfOk, IfErr, OnErr, IfSome, slice_get, option_map};
 ghost use Rattle.std.specs.Option.{option_copied};
+ghost use Rattle.ss_model.specs.Database.{Database};
 ghost use Rattle.ss_model.specs.declared.catalog.Catalog.{Catalog};
 ghost use Rattle.ss_table.specs.Held.{Held};
 ghost use Rattle.ss_index.specs.Holding.{HaveRows};
@@ -10,10 +11,12 @@ ghost use Rattle.ss_shard.specs.Contents.{tables_of};
 ghost use Rattle.ss_shard.specs.HeldShard.{HeldShard};
 ghost use Rattle.ss_shard.specs.Rows.{IsKeyed, HasSlot, HasKeyOf, refused};
 ghost use Rattle.ss_shard.specs.Shards.{IsOf, CanGoBack, Changed, Same, IsSettled, AllHeld};
-ghost use Rattle.ss_shard.specs.Windows.{kept_part};
+ghost use Rattle.ss_shard.specs.Sources.{number_in, HasSource, SameNumbers, with_number};
+ghost use Rattle.ss_shard.specs.Windows.{kept_part, HoldsDatabase};
 ghost use Rattle.ss_shard.specs.Changes.{RowInserted, InsertStops, SlotTaken, SlotPut, UnitStaged, StagingStops};
 
 use crate::pairs::{add_pairs, insert_indexed};
+use crate::sources::Sources;
 use ss_index::indexes::Indexes;
 use ss_model::entry::Reason;
 use ss_operators::run_error::RunError;
@@ -22,6 +25,7 @@ use ss_undo::change::Change;
 use ss_undo::undo::Undo;
 use ss_value::NoMemory;
 use ss_value::seq::Seq;
+use ss_value::text::Name;
 use ss_value::value::{Row, Rows};
 use ss_window::window::Window;
 use std::alloc::Global;
@@ -32,13 +36,13 @@ pub const WINDOW_UNITS: u64 = 4_611_686_018_427_387_904;
 
 /// What one partition holds.
 ///
-/// Its tables, windows and counts have the numbers of the catalogue's. Each change of a row, and each unit that is
+/// Its tables, windows and counts have the numbers of the catalogue's, and its sources those of its streams. Each change of a row, and each unit that is
 /// staged, goes through the calls of this type, which note it, so that all changes of an execution can be taken back, or
 /// kept, without memory. The indexes of a table go along: the pairs of a row stand as long as the table or a note keeps
 /// the row.
 ///
-/// Contracts see the number, the tables, the changes since they were last final, the columns of the indexes, the windows
-/// and the counts. What an index holds follows from the tables and the changes, so no contract speaks of it.
+/// Contracts see the number, the tables, the changes since they were last final, the columns of the indexes, the windows,
+/// the counts and the next numbers. What an index holds follows from the tables and the changes, so no contract speaks of it.
 ///
 /// - `insert_row`: besides the table's `insert` a search and a move of one chunk for each index.
 /// - `delete_row`: nothing for indexes; each drops its pair where the change is kept.
@@ -54,6 +58,8 @@ pub struct Shard {
     windows: Seq<Window>,
     /// How many batches each procedure has taken, by number.
     cursors: Seq<u64>,
+    /// The sources of pushes to each stream, by number.
+    sources: Seq<Sources>,
     /// The changes since tables and windows were last final.
     undo: Undo,
 }
@@ -74,6 +80,7 @@ impl Model for Shard {
       columns = columns_of s.indexes;
       windows = s.windows;
       cursors = s.cursors;
+      sources = s.sources;
     } };
 
     ghost invariant = { λ s. AreIndexed s.tables s.undo.items s.indexes };
@@ -91,7 +98,7 @@ fn refused(table: u16, error: TableError) -> RunError
 }
 
 impl Shard {
-    /// A shard of these tables, indexes, windows and counts, with nothing to take back. A table without an entry in
+    /// A shard of these tables, indexes, windows, counts and sources, with nothing to take back. A table without an entry in
     /// `indexes` has none. Takes no memory.
     pub fn new(
         alloc: Global,
@@ -100,6 +107,7 @@ impl Shard {
         indexes: Seq<Indexes>,
         windows: Seq<Window>,
         cursors: Seq<u64>,
+        sources: Seq<Sources>,
     ) -> Shard
         requires { AreIndexed tables [] indexes }
         ensures number { result.number ≡ number }
@@ -108,6 +116,7 @@ impl Shard {
         ensures columns { result.columns ≡ columns_of indexes }
         ensures windows { result.windows ≡ windows }
         ensures cursors { result.cursors ≡ cursors }
+        ensures sources { result.sources ≡ sources }
     {
         Shard {
             number,
@@ -115,6 +124,7 @@ impl Shard {
             indexes,
             windows,
             cursors,
+            sources,
             undo: Undo::new(alloc),
         }
     }
@@ -146,6 +156,24 @@ impl Shard {
     {
         match self.cursors.get(usize::from(procedure)) {
             Some(count) => *count,
+            None => 0,
+        }
+    }
+
+    /// How many batches each procedure has taken, by number. At no cost.
+    pub fn cursors(&self) -> &[u64]
+        ensures { result.now ≡ self.now.cursors }
+    {
+        self.cursors.as_slice()
+    }
+
+    /// The number that the next push of a source to a stream has to carry. Logarithmic in the stream's sources; takes no
+    /// memory.
+    pub fn next_number(&self, stream: u16, source: &Name) -> u64
+        ensures { result ≡ number_in self.now.sources stream source.now }
+    {
+        match self.sources.get(usize::from(stream)) {
+            Some(sources) => sources.next(source),
             None => 0,
         }
     }
@@ -263,11 +291,39 @@ impl Shard {
         }
     }
 
+    /// Gives a source of a stream its place, with the number 0 where it has none yet: no number changes. Logarithmic in the
+    /// stream's sources, and a copy of the name; fails only for want of memory. No rollback takes the place away.
+    pub fn add_source(&mut self, alloc: Global, stream: u16, source: &Name) -> Result<(), NoMemory>
+        requires { stream < length self.old.sources }
+        ensures same { SameNumbers self.old.sources self.new.sources }
+        ensures stands { OnOk result (HasSource self.new.sources stream source.now) }
+        ensures rest { self.new ≡ record self.old { sources = self.new.sources } }
+    {
+        let Some(sources) = self.sources.get_mut(usize::from(stream)) else {
+            unreachable!()
+        };
+        sources.add(alloc, source)
+    }
+
+    /// Says which number the next push of a source has to carry, where the source has its place. Logarithmic in the
+    /// stream's sources; takes no memory. No rollback takes it back.
+    pub fn set_number(&mut self, stream: u16, source: &Name, next: u64)
+        requires { HasSource self.old.sources stream source.now }
+        ensures { self.new ≡ record self.old { sources = with_number self.old.sources stream source.now next } }
+    {
+        let Some(sources) = self.sources.get_mut(usize::from(stream)) else {
+            unreachable!()
+        };
+        sources.set(source, next);
+    }
+
     /// Takes all changes back, the last one first. Linear in them, each a call of its window, or of its table and at most
     /// one of each of the table's indexes; takes no memory.
     pub fn roll_back(&mut self)
         requires { (before : HeldShard) × CanGoBack before self.old }
         ensures back { (before : HeldShard) → CanGoBack before self.old → Same before self.new }
+        ensures holds { (catalog : Catalog) (before : HeldShard) (db : Database) → CanGoBack before self.old
+            → HoldsDatabase catalog before db → HoldsDatabase catalog self.new db }
         ensures settled { (catalog : Catalog) (before : HeldShard) → CanGoBack before self.old → IsOf catalog before → IsSettled catalog self.new }
     {
         self.undo
@@ -283,6 +339,7 @@ impl Shard {
         ensures tables { tables_of self.new.tables ≡ tables_of self.old.tables }
         ensures windows { AllHeld self.old.windows → map kept_part self.new.windows ≡ map kept_part self.old.windows }
         ensures cursors { self.new.cursors ≡ self.old.cursors }
+        ensures sources { self.new.sources ≡ self.old.sources }
         ensures number { self.new.number ≡ self.old.number }
         ensures columns { self.new.columns ≡ self.old.columns }
         ensures settled { (catalog : Catalog) → IsOf catalog self.old → IsSettled catalog self.new }

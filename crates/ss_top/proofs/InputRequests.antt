@@ -11,25 +11,24 @@ use Rattle.ss_model.specs.declared.entry.Request.{Request}
 use Rattle.ss_model.specs.Database.{fits_entry}
 use Rattle.ss_model.specs.Report.{asked_entry, entries_behind}
 use Rattle.ss_top.specs.declared.input.ReadError.{ReadError}
-use Rattle.ss_top.specs.RunAnswers.{all_fit}
-use Rattle.ss_top.specs.RunSessions.{one_client}
+use Rattle.ss_run.specs.RunAnswers.{all_fit}
 use Rattle.ss_top.specs.Starts.{AsksFor, AskInOrder}
 use Rattle.ss_top.specs.Refused.{RefusesLater, RefusesAmong}
 
 -- ---- lines
 
 -- one line and its request more
-AskInOrder-push : (catalog : Catalog) (ls : List Line) (rs : List Request) (l : Line) (r : Request) → AskInOrder catalog ls rs → AsksFor catalog l r → r.client ≡ 0 → AskInOrder catalog (ls ++ l ∷ []) (rs ++ r ∷ [])
-AskInOrder-push catalog [] [] l r all asks client = (asks, client, tt)
-AskInOrder-push catalog [] (x ∷ rs) l r all asks client = absurd all
-AskInOrder-push catalog (k ∷ ls) [] l r all asks client = absurd all
-AskInOrder-push catalog (k ∷ ls) (x ∷ rs) l r all asks client = (all.0, all.1, AskInOrder-push catalog ls rs l r all.2 asks client)
+AskInOrder-push : (catalog : Catalog) (ls : List Line) (rs : List Request) (l : Line) (r : Request) → AskInOrder catalog ls rs → AsksFor catalog l r → AskInOrder catalog (ls ++ l ∷ []) (rs ++ r ∷ [])
+AskInOrder-push catalog [] [] l r all asks = (asks, tt)
+AskInOrder-push catalog [] (x ∷ rs) l r all asks = absurd all
+AskInOrder-push catalog (k ∷ ls) [] l r all asks = absurd all
+AskInOrder-push catalog (k ∷ ls) (x ∷ rs) l r all asks = (all.0, AskInOrder-push catalog ls rs l r all.1 asks)
 
 -- the line at an index is asked for
-pub asked_more : (catalog : Catalog) (ls : List Line) (i : ℕ) (rs : List Request) (l : Line) (r : Request) → i < length ls → l ≡ get_or ls i l → AskInOrder catalog (take i ls) rs → AsksFor catalog l r → r.client ≡ 0 → AskInOrder catalog (take (i + 1) ls) (rs ++ r ∷ [])
-asked_more catalog ls i rs l r h is all asks client =
+pub asked_more : (catalog : Catalog) (ls : List Line) (i : ℕ) (rs : List Request) (l : Line) (r : Request) → i < length ls → l ≡ get_or ls i l → AskInOrder catalog (take i ls) rs → AsksFor catalog l r → AskInOrder catalog (take (i + 1) ls) (rs ++ r ∷ [])
+asked_more catalog ls i rs l r h is all asks =
     let more : take (i + 1) ls ≡ take i ls ++ l ∷ [] = rw (take_more ls i l h) (ap (λ (x : Line). take i ls ++ x ∷ []) (sym is)) in
-    rw more (AskInOrder-push catalog (take i ls) rs l r all asks client)
+    rw more (AskInOrder-push catalog (take i ls) rs l r all asks)
 
 -- a list is what stands before an index, its item, and what stands behind
 parts_at : {A : Type 0} (xs : List A) (i : ℕ) (x : A) → i < length xs → x ≡ get_or xs i x → xs ≡ take i xs ++ x ∷ drop (suc i) xs
@@ -40,13 +39,6 @@ parts_at (y ∷ xs) (suc i) x h is = ap (λ zs. y ∷ zs) (parts_at xs i x (omeg
 -- the line at an index is the first that is refused
 pub refused_among : (catalog : Catalog) (ls : List Line) (i : ℕ) (rs : List Request) (l : Line) (e : ReadError) → i < length ls → l ≡ get_or ls i l → AskInOrder catalog (take i ls) rs → RefusesLater catalog l e → RefusesAmong catalog ls e
 refused_among catalog ls i rs l e h is fine refused = record { before = take i ls; line = l; behind = drop (suc i) ls; parts = parts_at ls i l h is; requests = rs; fine = fine; refused = refused }
-
--- what is asked for so is client 0's
-pub asked_clients : (catalog : Catalog) (ls : List Line) (rs : List Request) → AskInOrder catalog ls rs → one_client rs ≡ true
-asked_clients catalog [] [] all = refl
-asked_clients catalog [] (r ∷ rs) all = absurd all
-asked_clients catalog (l ∷ ls) [] all = absurd all
-asked_clients catalog (l ∷ ls) (r ∷ rs) all = and_from _ _ (eq-eqb r.client 0 all.1) (asked_clients catalog ls rs all.2)
 
 -- ---- what fits
 

@@ -1,11 +1,5 @@
 pub mod InputDepth
 pub mod InputRequests
-pub mod RunNumbers
-pub mod RunProgress
-pub mod Calls
-pub mod Running
-pub mod RunPremises
-pub mod TopReplies
 pub mod TopRefusals
 pub mod OneInput
 pub mod TopAnswers

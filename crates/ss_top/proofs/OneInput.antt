@@ -17,11 +17,10 @@ use Rattle.ss_catalog.specs.Answers.{IsReadOrRefused}
 use Rattle.ss_catalog_requests.specs.declared.request.RequestError.{RequestError}
 use Rattle.ss_catalog_requests.specs.declared.request.RequestError.TheVariants as request
 use Rattle.ss_catalog_requests.specs.Requests.{request_of, RefusesAs as RefusesRequestAs}
-use Rattle.ss_top.specs.OfTables.{is_of_tables}
 use Rattle.ss_top.specs.declared.input.ReadError.{ReadError}
-use Rattle.ss_top.specs.declared.input.ReadError.TheVariants.{Line as OfLine, NoCatalog, Catalog as OfCatalog, Request as OfRequest, NotBuilt}
+use Rattle.ss_top.specs.declared.input.ReadError.TheVariants.{Line as OfLine, NoCatalog, Catalog as OfCatalog, Request as OfRequest}
 use Rattle.ss_top.specs.Starts.{SaysCatalog, AsksFor, AskInOrder, StartLines, Starts}
-use Rattle.ss_top.specs.Refused.{RefusesCatalog, HasStream, RefusesFirst, RefusesRequest, RefusesLater, RefusesAmong, RefusesLines, IsRefusedBy}
+use Rattle.ss_top.specs.Refused.{RefusesCatalog, RefusesFirst, RefusesRequest, RefusesLater, RefusesAmong, RefusesLines, IsRefusedBy}
 use Rattle.ss_top.specs.Inputs.{says_nothing, HasOneStart, StartsOrRefused, HasOneRefusal}
 
 -- what the laws of a catalogue's value say: one catalogue, not refused where it reads, and one refusal
@@ -96,17 +95,12 @@ said_or_refused : InputLaws → (l : Line) (c : Catalog) (n m : ℕ) (e : Catalo
 said_or_refused laws l c n m e says p h =
     catalog_means m e p (laws.either says.value c e says.reads (subst (λ (d : Data). Refuses d e) (one_value l h.value says.value h.json says.json) h.refused))
 
--- and has a stream or hasn't
-stream_or_none : InputLaws → (l : Line) (c : Catalog) (n : ℕ) → SaysCatalog l c → is_of_tables c ≡ true → HasStream l n → ⊥
-stream_or_none laws l c n says tables h = false≢true (sym (subst (λ (x : Catalog). is_of_tables x ≡ false) (one_said laws l h.catalog c h.says says) h.streams) ∙ tables)
-
--- a catalogue's line that may run isn't refused
-first_is_fine : InputLaws → (l : Line) (c : Catalog) (e : ReadError) → SaysCatalog l c → is_of_tables c ≡ true → says_nothing e ≡ false → RefusesFirst l e → ⊥
-first_is_fine laws l c (OfLine e) says tables p h = has_value l says.value e says.json p h
-first_is_fine laws l c (OfCatalog n e) says tables p h = said_or_refused laws l c n n e says p h
-first_is_fine laws l c (NotBuilt n) says tables p h = stream_or_none laws l c n says tables h
-first_is_fine laws l c NoCatalog says tables p h = h
-first_is_fine laws l c (OfRequest e) says tables p h = h
+-- a line that says a catalogue isn't refused
+first_is_fine : InputLaws → (l : Line) (c : Catalog) (e : ReadError) → SaysCatalog l c → says_nothing e ≡ false → RefusesFirst l e → ⊥
+first_is_fine laws l c (OfLine e) says p h = has_value l says.value e says.json p h
+first_is_fine laws l c (OfCatalog n e) says p h = said_or_refused laws l c n n e says p h
+first_is_fine laws l c NoCatalog says p h = h
+first_is_fine laws l c (OfRequest e) says p h = h
 
 -- two refusals of a catalogue are one
 one_of_catalog : InputLaws → (l : Line) (n m : ℕ) (e f : CatalogError) → says_nothing (OfCatalog n e) ≡ false → says_nothing (OfCatalog m f) ≡ false → RefusesCatalog l n e → RefusesCatalog l m f → OfCatalog n e ≡ OfCatalog m f
@@ -119,19 +113,12 @@ one_of_catalog laws l n m e f p q h k =
 one_first : InputLaws → (l : Line) (e f : ReadError) → says_nothing e ≡ false → says_nothing f ≡ false → RefusesFirst l e → RefusesFirst l f → e ≡ f
 one_first laws l (OfLine e) (OfLine f) p q h k = one_of_bytes l e f p q h k
 one_first laws l (OfLine e) (OfCatalog m f) p q h k = absurd (has_value l k.value e k.json p h)
-one_first laws l (OfLine e) (NotBuilt m) p q h k = absurd (has_value l k.says.value e k.says.json p h)
 one_first laws l (OfLine e) NoCatalog p q h k = absurd k
 one_first laws l (OfLine e) (OfRequest f) p q h k = absurd k
 one_first laws l (OfCatalog n e) (OfLine f) p q h k = absurd (has_value l h.value f h.json q k)
 one_first laws l (OfCatalog n e) (OfCatalog m f) p q h k = one_of_catalog laws l n m e f p q h k
-one_first laws l (OfCatalog n e) (NotBuilt m) p q h k = absurd (said_or_refused laws l k.catalog n n e k.says p h)
 one_first laws l (OfCatalog n e) NoCatalog p q h k = absurd k
 one_first laws l (OfCatalog n e) (OfRequest f) p q h k = absurd k
-one_first laws l (NotBuilt n) (OfLine f) p q h k = absurd (has_value l h.says.value f h.says.json q k)
-one_first laws l (NotBuilt n) (OfCatalog m f) p q h k = absurd (said_or_refused laws l h.catalog m m f h.says q k)
-one_first laws l (NotBuilt n) (NotBuilt m) p q h k = ap NotBuilt (h.here ∙ sym k.here)
-one_first laws l (NotBuilt n) NoCatalog p q h k = absurd k
-one_first laws l (NotBuilt n) (OfRequest f) p q h k = absurd k
 one_first laws l NoCatalog f p q h k = absurd h
 one_first laws l (OfRequest e) f p q h k = absurd h
 
@@ -148,17 +135,12 @@ asked_or_refused c l r e asks p h =
     ok_or_err (request_of c l.number h.value) r e (subst (λ (d : Data). request_of c l.number d ≡ Ok r) (one_value l asks.value h.value asks.json h.json) asks.asks)
     (request_means (request_of c l.number h.value) e p h.refused)
 
--- a request is client 0's or another's
-zero_or_other : (client : ℕ) → client ≡ 0 → (client == 0) ≡ false → ⊥
-zero_or_other client zero other = false≢true (sym (subst (λ (n : ℕ). (n == 0) ≡ false) zero other))
-
--- a request's line that may run isn't refused
-later_is_fine : (c : Catalog) (l : Line) (r : Request) (e : ReadError) → AsksFor c l r → r.client ≡ 0 → says_nothing e ≡ false → RefusesLater c l e → ⊥
-later_is_fine c l r (OfLine e) asks client p h = has_value l asks.value e asks.json p h
-later_is_fine c l r (OfRequest e) asks client p h = asked_or_refused c l r e asks p h
-later_is_fine c l r (NotBuilt n) asks client p h = zero_or_other h.request.client (subst (λ (s : Request). s.client ≡ 0) (one_asked c l r h.request asks h.asks) client) h.other
-later_is_fine c l r NoCatalog asks client p h = h
-later_is_fine c l r (OfCatalog n e) asks client p h = h
+-- a line that asks for a request isn't refused
+later_is_fine : (c : Catalog) (l : Line) (r : Request) (e : ReadError) → AsksFor c l r → says_nothing e ≡ false → RefusesLater c l e → ⊥
+later_is_fine c l r (OfLine e) asks p h = has_value l asks.value e asks.json p h
+later_is_fine c l r (OfRequest e) asks p h = asked_or_refused c l r e asks p h
+later_is_fine c l r NoCatalog asks p h = h
+later_is_fine c l r (OfCatalog n e) asks p h = h
 
 -- two refusals of a request are one
 one_of_request : (c : Catalog) (l : Line) (e f : RequestError) → says_nothing (OfRequest e) ≡ false → says_nothing (OfRequest f) ≡ false → RefusesRequest c l e → RefusesRequest c l f → OfRequest e ≡ OfRequest f
@@ -170,35 +152,27 @@ one_of_request c l e f p q h k =
 one_later : (c : Catalog) (l : Line) (e f : ReadError) → says_nothing e ≡ false → says_nothing f ≡ false → RefusesLater c l e → RefusesLater c l f → e ≡ f
 one_later c l (OfLine e) (OfLine f) p q h k = one_of_bytes l e f p q h k
 one_later c l (OfLine e) (OfRequest f) p q h k = absurd (has_value l k.value e k.json p h)
-one_later c l (OfLine e) (NotBuilt m) p q h k = absurd (has_value l k.asks.value e k.asks.json p h)
 one_later c l (OfLine e) NoCatalog p q h k = absurd k
 one_later c l (OfLine e) (OfCatalog m f) p q h k = absurd k
 one_later c l (OfRequest e) (OfLine f) p q h k = absurd (has_value l h.value f h.json q k)
 one_later c l (OfRequest e) (OfRequest f) p q h k = one_of_request c l e f p q h k
-one_later c l (OfRequest e) (NotBuilt m) p q h k = absurd (asked_or_refused c l k.request e k.asks p h)
 one_later c l (OfRequest e) NoCatalog p q h k = absurd k
 one_later c l (OfRequest e) (OfCatalog m f) p q h k = absurd k
-one_later c l (NotBuilt n) (OfLine f) p q h k = absurd (has_value l h.asks.value f h.asks.json q k)
-one_later c l (NotBuilt n) (OfRequest f) p q h k = absurd (asked_or_refused c l h.request f h.asks q k)
-one_later c l (NotBuilt n) (NotBuilt m) p q h k = ap NotBuilt (h.here ∙ sym k.here)
-one_later c l (NotBuilt n) NoCatalog p q h k = absurd k
-one_later c l (NotBuilt n) (OfCatalog m f) p q h k = absurd k
 one_later c l NoCatalog f p q h k = absurd h
 one_later c l (OfCatalog n e) f p q h k = absurd h
 
 -- ---- requests in order
 
--- the first of lines that ask asks for a request of client 0
+-- the first of lines that ask asks for a request
 record AsksFirst (c : Catalog) (l : Line) (ls : List Line) : Type 0 where
   asked : Request
   asks : AsksFor c l asked
-  client : asked.client ≡ 0
   rest : List Request
   behind : AskInOrder c ls rest
 
 asks_first : (c : Catalog) (l : Line) (ls : List Line) (rs : List Request) → AskInOrder c (l ∷ ls) rs → AsksFirst c l ls
 asks_first c l ls [] all = absurd all
-asks_first c l ls (r ∷ rs) all = record { asked = r; asks = all.0; client = all.1; rest = rs; behind = all.2 }
+asks_first c l ls (r ∷ rs) all = record { asked = r; asks = all.0; rest = rs; behind = all.1 }
 
 -- lines ask for one list of requests
 one_list : (c : Catalog) (ls : List Line) (xs ys : List Request) → AskInOrder c ls xs → AskInOrder c ls ys → xs ≡ ys
@@ -209,7 +183,7 @@ one_list c (l ∷ ls) [] ys h k = absurd h
 one_list c (l ∷ ls) (x ∷ xs) [] h k = absurd k
 one_list c (l ∷ ls) (x ∷ xs) (y ∷ ys) h k =
     let first : x ≡ y = one_asked c l x y h.0 k.0 in
-    let rest : xs ≡ ys = one_list c ls xs ys h.2 k.2 in
+    let rest : xs ≡ ys = one_list c ls xs ys h.1 k.1 in
     cc
 
 -- where all lines ask, none is refused
@@ -217,7 +191,7 @@ all_fine : (c : Catalog) (before : List Line) (l : Line) (behind : List Line) (r
     → AskInOrder c (before ++ l ∷ behind) rs → says_nothing e ≡ false → RefusesLater c l e → ⊥
 all_fine c [] l behind rs e all p h =
     let first : AsksFirst c l behind = asks_first c l behind rs all in
-    later_is_fine c l first.asked e first.asks first.client p h
+    later_is_fine c l first.asked e first.asks p h
 all_fine c (x ∷ before) l behind rs e all p h =
     let first : AsksFirst c x (before ++ l ∷ behind) = asks_first c x (before ++ l ∷ behind) rs all in
     all_fine c before l behind first.rest e first.behind p h
@@ -231,11 +205,11 @@ one_place c [] [] l m ls ms xs ys e f parts a b p q h k =
 one_place c [] (y ∷ cs) l m ls ms xs ys e f parts a b p q h k =
     let same : l ≡ y = cc in
     let first : AsksFirst c y cs = asks_first c y cs ys b in
-    absurd (later_is_fine c y first.asked e first.asks first.client p (subst (λ (x : Line). RefusesLater c x e) same h))
+    absurd (later_is_fine c y first.asked e first.asks p (subst (λ (x : Line). RefusesLater c x e) same h))
 one_place c (x ∷ bs) [] l m ls ms xs ys e f parts a b p q h k =
     let same : m ≡ x = cc in
     let first : AsksFirst c x bs = asks_first c x bs xs a in
-    absurd (later_is_fine c x first.asked f first.asks first.client q (subst (λ (y : Line). RefusesLater c y f) same k))
+    absurd (later_is_fine c x first.asked f first.asks q (subst (λ (y : Line). RefusesLater c y f) same k))
 one_place c (x ∷ bs) (y ∷ cs) l m ls ms xs ys e f parts a b p q h k =
     let behind : bs ++ l ∷ ls ≡ cs ++ m ∷ ms = cc in
     one_place c bs cs l m ls ms (asks_first c x bs xs a).rest (asks_first c y cs ys b).rest e f behind (asks_first c x bs xs a).behind (asks_first c y cs ys b).behind p q h k
@@ -248,18 +222,18 @@ one_among c ls e f p q h k = one_place c h.before k.before h.line k.line h.behin
 -- lines that start aren't refused
 lines_fine : InputLaws → (ls : List Line) (c : Catalog) (rs : List Request) (e : ReadError) → StartLines ls c rs → says_nothing e ≡ false → RefusesLines ls e → ⊥
 lines_fine laws [] c rs e start p h = start
-lines_fine laws (l ∷ ls) c rs e start p (inl h) = first_is_fine laws l c e start.0 start.1 p h
+lines_fine laws (l ∷ ls) c rs e start p (inl h) = first_is_fine laws l c e start.0 p h
 lines_fine laws (l ∷ ls) c rs e start p (inr h) =
     let same : h.catalog ≡ c = one_said laws l h.catalog c h.says start.0 in
     let among : RefusesAmong c ls e = subst (λ (x : Catalog). RefusesAmong x ls e) same h.refused in
-    all_fine c among.before among.line among.behind rs e (subst (λ (xs : List Line). AskInOrder c xs rs) among.parts start.2) p among.refused
+    all_fine c among.before among.line among.behind rs e (subst (λ (xs : List Line). AskInOrder c xs rs) among.parts start.1) p among.refused
 
 -- lines have one refusal
 one_of_lines : InputLaws → (ls : List Line) (e f : ReadError) → says_nothing e ≡ false → says_nothing f ≡ false → RefusesLines ls e → RefusesLines ls f → e ≡ f
 one_of_lines laws [] e f p q h k = h ∙ sym k
 one_of_lines laws (l ∷ ls) e f p q (inl h) (inl k) = one_first laws l e f p q h k
-one_of_lines laws (l ∷ ls) e f p q (inl h) (inr k) = absurd (first_is_fine laws l k.catalog e k.says k.tables_alone p h)
-one_of_lines laws (l ∷ ls) e f p q (inr h) (inl k) = absurd (first_is_fine laws l h.catalog f h.says h.tables_alone q k)
+one_of_lines laws (l ∷ ls) e f p q (inl h) (inr k) = absurd (first_is_fine laws l k.catalog e k.says p h)
+one_of_lines laws (l ∷ ls) e f p q (inr h) (inl k) = absurd (first_is_fine laws l h.catalog f h.says q k)
 one_of_lines laws (l ∷ ls) e f p q (inr h) (inr k) =
     one_among k.catalog ls e f p q (subst (λ (x : Catalog). RefusesAmong x ls e) (one_said laws l h.catalog k.catalog h.says k.says) h.refused) k.refused
 
@@ -268,7 +242,7 @@ one_start_of : InputLaws → (ls : List Line) (a b : Catalog) (xs ys : List Requ
 one_start_of laws [] a b xs ys h k = absurd h
 one_start_of laws (l ∷ ls) a b xs ys h k =
     let same : a ≡ b = one_said laws l a b h.0 k.0 in
-    (same, one_list b ls xs ys (subst (λ (c : Catalog). AskInOrder c ls xs) same h.2) k.2)
+    (same, one_list b ls xs ys (subst (λ (c : Catalog). AskInOrder c ls xs) same h.1) k.1)
 
 -- ---- inputs
 
@@ -285,7 +259,6 @@ long_or_lines input (OfLine (cause.NotJson n)) p h = inr h
 long_or_lines input NoCatalog p h = inr h
 long_or_lines input (OfCatalog n e) p h = inr h
 long_or_lines input (OfRequest e) p h = inr h
-long_or_lines input (NotBuilt n) p h = inr h
 
 start_or_refused : InputLaws → (input : List ℕ) (c : Catalog) (rs : List Request) (e : ReadError) → Starts input c rs → says_nothing e ≡ false → LongOrLines input e → ⊥
 start_or_refused laws input c rs e start p (inl h) = let long : max_input < length input = h.1 in let short : length input ≤ max_input = start.within in omega arith

@@ -7,7 +7,7 @@ use Rattle.ss_lines.specs.declared.line.LineError.TheVariants as cause
 use Rattle.ss_catalog.specs.declared.error.CatalogError.TheVariants as catalog
 use Rattle.ss_catalog_requests.specs.declared.request.RequestError.TheVariants as request
 use Rattle.ss_top.specs.declared.input.ReadError.{ReadError}
-use Rattle.ss_top.specs.declared.input.ReadError.TheVariants.{Line as OfLine, NoCatalog, Catalog as OfCatalog, Request as OfRequest, NotBuilt}
+use Rattle.ss_top.specs.declared.input.ReadError.TheVariants.{Line as OfLine, NoCatalog, Catalog as OfCatalog, Request as OfRequest}
 use Rattle.ss_top.specs.declared.status.Status.{Status}
 use Rattle.ss_top.specs.declared.status.Status.TheVariants.{NoMemory}
 use Rattle.ss_top.specs.Refused.{IsRefusedBy}
@@ -27,7 +27,6 @@ silent_ends (OfCatalog n catalog.NoMemory) faults now left rest says leaves stay
 silent_ends (OfCatalog n e) faults now left rest says leaves stayed = absurd (false≢true says)
 silent_ends (OfRequest request.NoMemory) faults now left rest says leaves stayed = refl
 silent_ends (OfRequest e) faults now left rest says leaves stayed = absurd (false≢true says)
-silent_ends (NotBuilt n) faults now left rest says leaves stayed = absurd (false≢true says)
 
 -- the refusal says something and has this status, or memory was wanting
 abbrev EndsSo : ReadError → Status → Type 0

@@ -1,5 +1,5 @@
 -- Why the bytes of an input are refused: their first refusal, line by line.
-use Rattle.std.specs.Prelude.{◌≡◌, ◌≤◌, ◌<◌, ◌⊎◌, ◌==◌, ℕ, List, [], ◌∷◌, ◌++◌, length, true, false, Ok}
+use Rattle.std.specs.Prelude.{◌≡◌, ◌≤◌, ◌<◌, ◌⊎◌, ℕ, List, [], ◌∷◌, ◌++◌, length, Ok}
 use Rattle.serde_json.specs.Data.{Data}
 use Rattle.ss_lines.specs.declared.line.Line.{Line}
 use Rattle.ss_lines.specs.declared.line.LineError.TheVariants as cause
@@ -8,15 +8,13 @@ use Rattle.ss_lines.specs.Lines.{lines_of, max_input}
 use Rattle.ss_lines.specs.Refusals.{RefusesAs}
 use Rattle.ss_model.specs.declared.catalog.Catalog.{Catalog}
 use Rattle.ss_model.specs.declared.entry.Request.{Request}
-use Rattle.ss_model.specs.Accepted.{Accepted}
 use Rattle.ss_catalog.specs.declared.error.CatalogError.{CatalogError}
 use Rattle.ss_catalog.specs.Reads.{Refuses}
 use Rattle.ss_catalog_requests.specs.declared.request.RequestError.{RequestError}
 use Rattle.ss_catalog_requests.specs.Requests.{request_of, RefusesAs as RefusesRequestAs}
 use Rattle.ss_top.specs.declared.input.ReadError.{ReadError}
-use Rattle.ss_top.specs.declared.input.ReadError.TheVariants.{Line as OfLine, NoCatalog, Catalog as OfCatalog, Request as OfRequest, NotBuilt}
-use Rattle.ss_top.specs.OfTables.{is_of_tables}
-use Rattle.ss_top.specs.Starts.{SaysCatalog, AsksFor, AskInOrder}
+use Rattle.ss_top.specs.declared.input.ReadError.TheVariants.{Line as OfLine, NoCatalog, Catalog as OfCatalog, Request as OfRequest}
+use Rattle.ss_top.specs.Starts.{SaysCatalog, AskInOrder}
 
 -- ---- the catalogue's line
 
@@ -27,19 +25,10 @@ pub record RefusesCatalog (l : Line) (line : ℕ) (e : CatalogError) : Type 0 wh
   pub json : value_at l ≡ Ok value
   pub refused : Refuses value e
 
--- its catalogue is accepted, and has a stream
-pub record HasStream (l : Line) (line : ℕ) : Type 0 where
-  pub here : line ≡ l.number
-  pub catalog : Catalog
-  pub says : SaysCatalog l catalog
-  pub accepted : Accepted catalog
-  pub streams : is_of_tables catalog ≡ false
-
--- the catalogue's line is refused so: for its bytes, then for its value, then for what isn't built
+-- the catalogue's line is refused so: for its bytes, then for its value
 abbrev pub RefusesFirst : Line → ReadError → Type 0
 RefusesFirst l (OfLine e) = RefusesAs (value_at l) e
 RefusesFirst l (OfCatalog line e) = RefusesCatalog l line e
-RefusesFirst l (NotBuilt line) = HasStream l line
 RefusesFirst l NoCatalog = ⊥
 RefusesFirst l (OfRequest e) = ⊥
 
@@ -51,18 +40,10 @@ pub record RefusesRequest (catalog : Catalog) (l : Line) (e : RequestError) : Ty
   pub json : value_at l ≡ Ok value
   pub refused : RefusesRequestAs (request_of catalog l.number value) e
 
--- its request fits the catalogue, and isn't client 0's
-pub record IsOtherClient (catalog : Catalog) (l : Line) (line : ℕ) : Type 0 where
-  pub here : line ≡ l.number
-  pub request : Request
-  pub asks : AsksFor catalog l request
-  pub other : (request.client == 0) ≡ false
-
 -- a request's line is refused so, in the same order
 abbrev pub RefusesLater : Catalog → Line → ReadError → Type 0
 RefusesLater catalog l (OfLine e) = RefusesAs (value_at l) e
 RefusesLater catalog l (OfRequest e) = RefusesRequest catalog l e
-RefusesLater catalog l (NotBuilt line) = IsOtherClient catalog l line
 RefusesLater catalog l NoCatalog = ⊥
 RefusesLater catalog l (OfCatalog line e) = ⊥
 
@@ -78,11 +59,10 @@ pub record RefusesAmong (catalog : Catalog) (lines : List Line) (e : ReadError) 
 
 -- ---- inputs
 
--- the first line is a catalogue without a stream, and one behind it is refused so
+-- the first line is a catalogue, and one behind it is refused so
 pub record RefusesBehind (l : Line) (ls : List Line) (e : ReadError) : Type 0 where
   pub catalog : Catalog
   pub says : SaysCatalog l catalog
-  pub tables_alone : is_of_tables catalog ≡ true
   pub refused : RefusesAmong catalog ls e
 
 -- the first refusal of lines; where there are none, the catalogue is missing

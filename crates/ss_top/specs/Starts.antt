@@ -1,5 +1,5 @@
--- What the bytes of an input say: a catalogue without a stream, and requests of client 0.
-use Rattle.std.specs.Prelude.{◌≡◌, ◌≤◌, ℕ, List, [], ◌∷◌, length, true, Ok}
+-- What the bytes of an input say: a catalogue, and requests.
+use Rattle.std.specs.Prelude.{◌≡◌, ◌≤◌, ℕ, List, [], ◌∷◌, length, Ok}
 use Rattle.serde_json.specs.Data.{Data}
 use Rattle.ss_lines.specs.declared.line.Line.{Line}
 use Rattle.ss_lines.specs.Json.{value_at}
@@ -8,7 +8,6 @@ use Rattle.ss_model.specs.declared.catalog.Catalog.{Catalog}
 use Rattle.ss_model.specs.declared.entry.Request.{Request}
 use Rattle.ss_catalog.specs.Reads.{Reads}
 use Rattle.ss_catalog_requests.specs.Requests.{request_of}
-use Rattle.ss_top.specs.OfTables.{is_of_tables}
 
 -- the line's value is read as this catalogue
 pub record SaysCatalog (l : Line) (catalog : Catalog) : Type 0 where
@@ -22,16 +21,16 @@ pub record AsksFor (catalog : Catalog) (l : Line) (r : Request) : Type 0 where
   pub json : value_at l ≡ Ok value
   pub asks : request_of catalog l.number value ≡ Ok r
 
--- each line asks for its request, as client 0
+-- each line asks for its request
 abbrev pub AskInOrder : Catalog → List Line → List Request → Type 0
 AskInOrder catalog [] [] = Unit {0}
-AskInOrder catalog (l ∷ ls) (r ∷ rs) = AsksFor catalog l r × (r.client ≡ 0) × AskInOrder catalog ls rs
+AskInOrder catalog (l ∷ ls) (r ∷ rs) = AsksFor catalog l r × AskInOrder catalog ls rs
 AskInOrder catalog _ _ = ⊥
 
--- the first line says the catalogue, which has no stream, and the others ask for the requests
+-- the first line says the catalogue, and the others ask for the requests
 abbrev pub StartLines : List Line → Catalog → List Request → Type 0
 StartLines [] catalog requests = ⊥
-StartLines (l ∷ ls) catalog requests = SaysCatalog l catalog × (is_of_tables catalog ≡ true) × AskInOrder catalog ls requests
+StartLines (l ∷ ls) catalog requests = SaysCatalog l catalog × AskInOrder catalog ls requests
 
 -- the bytes are read as this catalogue and these requests
 pub record Starts (input : List ℕ) (catalog : Catalog) (requests : List Request) : Type 0 where

@@ -13,9 +13,9 @@ use Rattle.ss_catalog.specs.declared.error.CatalogError.TheVariants as catalog
 use Rattle.ss_catalog_requests.specs.declared.request.RequestError.{RequestError}
 use Rattle.ss_catalog_requests.specs.declared.request.RequestError.TheVariants as request
 use Rattle.ss_top.specs.declared.input.ReadError.{ReadError}
-use Rattle.ss_top.specs.declared.input.ReadError.TheVariants.{Line as OfLine, NoCatalog, Catalog as OfCatalog, Request as OfRequest, NotBuilt as NotBuiltAt}
+use Rattle.ss_top.specs.declared.input.ReadError.TheVariants.{Line as OfLine, NoCatalog, Catalog as OfCatalog, Request as OfRequest}
 use Rattle.ss_top.specs.declared.status.Status.{Status}
-use Rattle.ss_top.specs.declared.status.Status.TheVariants.{Done, Usage, Input, ReadFault, WriteFault, NoMemory, NotBuilt}
+use Rattle.ss_top.specs.declared.status.Status.TheVariants.{Done, Usage, Input, ReadFault, WriteFault, NoMemory}
 
 -- the program's exit status
 abbrev pub status_number : Status → ℕ
@@ -25,7 +25,6 @@ status_number Input = 2
 status_number ReadFault = 3
 status_number WriteFault = 4
 status_number NoMemory = 6
-status_number NotBuilt = 10
 
 -- ---- texts
 
@@ -44,10 +43,6 @@ no_memory_text = codes "[\"no_memory\"]\n"
 -- a refused line with its code, and what it is refused for
 abbrev pub input_text : ℕ → List ℕ → List Data → List ℕ
 input_text line code about = line_text (array_of (string (codes "input") ∷ count line ∷ string code ∷ about))
-
--- a line that isn't built
-abbrev pub not_built_text : ℕ → List ℕ
-not_built_text line = line_text (array_of (string (codes "not_built") ∷ count line ∷ []))
 
 -- what a fault of a SQL text is refused for
 abbrev pub sql_fault : List ℕ → ℕ → List ℕ → ℕ → List Data
@@ -107,7 +102,6 @@ refusal_text (OfLine e) = bytes_refusal e
 refusal_text NoCatalog = input_text 1 (codes "C1") (string (codes "$") ∷ [])
 refusal_text (OfCatalog line e) = catalog_refusal line e
 refusal_text (OfRequest e) = request_refusal e
-refusal_text (NotBuiltAt line) = not_built_text line
 
 -- ---- the statuses of refusals
 
@@ -133,7 +127,6 @@ refusal_status (OfLine e) = bytes_status e
 refusal_status NoCatalog = Input
 refusal_status (OfCatalog line e) = catalog_status e
 refusal_status (OfRequest e) = request_status e
-refusal_status (NotBuiltAt line) = NotBuilt
 
 -- ---- the words of the command line
 

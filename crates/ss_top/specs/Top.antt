@@ -11,13 +11,15 @@ use Rattle.ss_model.specs.declared.entry.Listed.{Listed}
 use Rattle.ss_model.specs.declared.entry.Request.{Request}
 use Rattle.ss_model.specs.Accepted.{Accepted}
 use Rattle.ss_model.specs.Database.{empty_database}
-use Rattle.ss_model.specs.Replays.{Replays}
+use Rattle.ss_model.specs.Orders.{Orders}
+use Rattle.ss_model.specs.Replays.{Replays, after}
 use Rattle.ss_model.specs.Report.{Report, Whole}
-use Rattle.ss_top.specs.RunAnswers.{AnswersInOrder}
+use Rattle.ss_model.specs.Settling.{Drained}
+use Rattle.ss_run.specs.RunAnswers.{AnswersInOrder}
 use Rattle.ss_top.specs.declared.input.ReadError.{ReadError}
 use Rattle.ss_top.specs.declared.input.ReadError.TheVariants.{Line as OfLine}
 use Rattle.ss_top.specs.declared.status.Status.{Status}
-use Rattle.ss_top.specs.declared.status.Status.TheVariants.{Done, Usage, Input, ReadFault, WriteFault, NoMemory, NotBuilt}
+use Rattle.ss_top.specs.declared.status.Status.TheVariants.{Done, Usage, Input, ReadFault, WriteFault, NoMemory}
 use Rattle.ss_top.specs.Starts.{Starts}
 use Rattle.ss_top.specs.Refused.{IsRefusedBy}
 use Rattle.ss_top.specs.Statuses.{refusal_status, refusal_text, no_memory_text}
@@ -72,7 +74,7 @@ pub record IsRefused (input : List ℕ) (status : Status) (w : Sunk) : Type 0 wh
   pub is : refusal_status refusal ≡ status
   pub told : Tells (refusal_text refusal) w
 
--- the bytes are a catalogue that is accepted and has no stream, and requests; there is one list that replays from the empty database and answers the requests in order, and the text is its report
+-- the bytes are a catalogue that is accepted, and requests; there is one list that replays from the empty database, has the orders, answers the requests in order and leaves no batch untaken, and the text is its report
 pub record IsRun (input text : List ℕ) : Type 0 where
   pub catalog : Catalog
   pub requests : List Request
@@ -80,7 +82,9 @@ pub record IsRun (input text : List ℕ) : Type 0 where
   pub starts : Starts input catalog requests
   pub accepted : Accepted catalog
   pub replays : Replays catalog (empty_database catalog) list
+  pub orders : Orders catalog (empty_database catalog) list
   pub in_order : AnswersInOrder requests list
+  pub drained : Drained catalog (after catalog (empty_database catalog) list)
   pub report : Report catalog requests (empty_database catalog) 0 list Whole text
 
 -- a run whose whole report was written
@@ -103,4 +107,3 @@ Empties Input before now = IfSome before (λ input. length input ≤ max_input �
 Empties ReadFault before now = Unit {0}
 Empties WriteFault before now = IsAtEnd now
 Empties NoMemory before now = Unit {0}
-Empties NotBuilt before now = IsAtEnd now

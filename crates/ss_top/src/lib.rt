@@ -1,9 +1,8 @@
-//! All that the program `sstore` does, as a library: a catalogue and a script of calls in, replies, the serial list
-//! and the tables out.
+//! All that the program `sstore` does, as a library: a catalogue and a script of calls and pushes in, replies, the
+//! serial list and the tables out.
 //!
 //! - `top`: the one call `sstore`, whose contract is the program's promise
 //! - `input`: reads the input's lines
-//! - `run`: runs the requests
 //! - `refusals`, `status`: what is told where nothing ran, and how a run ends
 //! - `start`: what is told where the words of the command line can't be had
 //! - `laws`: an input has one answer
@@ -12,7 +11,6 @@
 mod input;
 pub mod laws;
 mod refusals;
-mod run;
 pub mod start;
 pub mod status;
 pub mod top;

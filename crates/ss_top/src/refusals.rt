@@ -5,7 +5,7 @@ ghost use Rattle.serde_json.specs.Data.{string};
 ghost use Rattle.serde_json.specs.View.{view};
 ghost use Rattle.serde_json.specs.Written.{has_float};
 ghost use Rattle.ss_model.specs.ReportLines.{array_of, count, line_text};
-ghost use Rattle.ss_top.specs.Statuses.{input_text, not_built_text, sql_fault, fault_code, counted_word, bytes_refusal, catalog_refusal, request_refusal, refusal_text, bytes_status, catalog_status, request_status, refusal_status};
+ghost use Rattle.ss_top.specs.Statuses.{input_text, sql_fault, fault_code, counted_word, bytes_refusal, catalog_refusal, request_refusal, refusal_text, bytes_status, catalog_status, request_status, refusal_status};
 ghost use Rattle.ss_top.specs.Top.{sunk, Tells, EndsRefused};
 
 use crate::input::ReadError;
@@ -103,13 +103,6 @@ fn fault_line(
     line_text(alloc, &value)
 }
 
-fn not_built_line(alloc: Global, line: u64) -> Result<String, AllocError>
-    ensures { IfOk result (λ text. string_bytes text ≡ not_built_text line) }
-{
-    let value = json!(in alloc; ["not_built", line])?;
-    line_text(alloc, &value)
-}
-
 // ---- what a catalogue is refused for
 
 fn fault_code(alloc: Global, code: u8) -> Result<String, AllocError>
@@ -204,7 +197,6 @@ fn refusal_line(alloc: Global, error: &ReadError) -> Result<String, AllocError>
         ReadError::NoCatalog => word_line(alloc, 1, "C1", "$"),
         ReadError::Catalog { line, error } => catalog_line(alloc, *line, error),
         ReadError::Request(error) => request_line(alloc, *error),
-        ReadError::NotBuilt { line } => not_built_line(alloc, *line),
     }
 }
 
@@ -249,7 +241,6 @@ fn status_of(error: &ReadError) -> Status
         ReadError::NoCatalog => Status::Input,
         ReadError::Catalog { error, .. } => catalog_status(error),
         ReadError::Request(error) => request_status(*error),
-        ReadError::NotBuilt { .. } => Status::NotBuilt,
     }
 }
 

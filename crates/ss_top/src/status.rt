@@ -18,8 +18,6 @@ pub enum Status {
     WriteFault,
     /// 6: the run as a whole found no memory.
     NoMemory,
-    /// 10: the input asks for what isn't built yet, and nothing ran.
-    NotBuilt,
 }
 
 impl Status {
@@ -34,7 +32,6 @@ impl Status {
             Status::ReadFault => 3,
             Status::WriteFault => 4,
             Status::NoMemory => 6,
-            Status::NotBuilt => 10,
         }
     }
 }

@@ -6,11 +6,11 @@ ghost use Rattle.ss_lines.specs.Causes.{Rose, TakesAtMost};
 ghost use Rattle.ss_lines.specs.Lines.{max_input};
 ghost use Rattle.ss_model.specs.Accepted.{Accepted};
 ghost use Rattle.ss_model.specs.Database.{empty_database};
-ghost use Rattle.ss_model.specs.Replays.{Replays};
-ghost use Rattle.ss_top.specs.RunAnswers.{all_fit, AnswersInOrder};
+ghost use Rattle.ss_model.specs.Orders.{Orders};
+ghost use Rattle.ss_model.specs.Replays.{Replays, after};
 ghost use Rattle.ss_model.specs.Report.{Report, Whole};
-ghost use Rattle.ss_top.specs.RunSessions.{one_client};
-ghost use Rattle.ss_top.specs.OfTables.{is_of_tables};
+ghost use Rattle.ss_model.specs.Settling.{Drained};
+ghost use Rattle.ss_run.specs.RunAnswers.{all_fit, AnswersInOrder};
 ghost use Rattle.ss_top.specs.Starts.{Starts};
 ghost use Rattle.ss_top.specs.Refused.{IsRefusedBy};
 ghost use Rattle.ss_top.specs.Statuses.{usage_text, read_fault_text, no_memory_text};
@@ -20,11 +20,11 @@ ghost use Rattle.ss_top.specs.Top.{is_run, sunk, Tells, LeavesAt, IsRefused, IsT
 use crate::input::{Plan, ReadError, read_plan};
 use crate::laws::an_input_has_one_answer;
 use crate::refusals::{NO_MEMORY, USAGE, refuse, tell};
-use crate::run::session::{Session, run_requests};
 use crate::status::Status;
 use ss_lines::{Sink, Source, read_lines, write_all};
 use ss_model::entry::Listed;
-use ss_report::write_report;
+use ss_report::{End, write_report};
+use ss_run::session::{Session, run_requests};
 use ss_value::NoMemory;
 use ss_value::seq::Seq;
 use std::alloc::Global;
@@ -46,8 +46,6 @@ fn read_input<S: Source>(alloc: Global, source: &mut S) -> Result<Plan, ReadErro
     ensures end { OnOk result (IsAtEnd (S.left source.new)) }
     ensures starts { IfOk result (λ p. IfSome (S.left source.old) (λ input. Starts input p.catalog p.requests)) }
     ensures accepted { IfOk result (λ p. Accepted p.catalog) }
-    ensures tables_alone { IfOk result (λ p. is_of_tables p.catalog ≡ true) }
-    ensures clients { IfOk result (λ p. one_client p.requests ≡ true) }
     ensures fit { IfOk result (λ p. all_fit p.catalog p.requests ≡ true) }
     ensures refused { IfErr result (λ e. IfSome (S.left source.old) (λ input. IsRefusedBy input e)) }
     ensures leaves { IfErr result (λ e. LeavesAt e (S.faults source.old) (S.faults source.new) (S.left source.old) (S.left source.new)) }
@@ -69,25 +67,26 @@ struct ToldRun {
 /// Runs what was asked for, and makes the report. Fails only for want of memory of the run as a whole.
 fn run_plan(alloc: Global, plan: &Plan) -> Result<ToldRun, NoMemory>
     requires accepted { Accepted plan.now.catalog }
-    requires tables_alone { is_of_tables plan.now.catalog ≡ true }
     requires fit { all_fit plan.now.catalog plan.now.requests ≡ true }
-    requires clients { one_client plan.now.requests ≡ true }
     ensures replays { IfOk result (λ t. Replays plan.now.catalog (empty_database plan.now.catalog) t.list) }
+    ensures orders { IfOk result (λ t. Orders plan.now.catalog (empty_database plan.now.catalog) t.list) }
     ensures in_order { IfOk result (λ t. AnswersInOrder plan.now.requests t.list) }
+    ensures drained { IfOk result (λ t. Drained plan.now.catalog (after plan.now.catalog (empty_database plan.now.catalog) t.list)) }
     ensures report { IfOk result (λ t. Report plan.now.catalog plan.now.requests (empty_database plan.now.catalog) 0 t.list Whole t.text) }
 {
     let Session {
         list,
-        places,
+        answers,
         database,
     } = run_requests(alloc, &plan.catalog, &plan.requests)?;
     let text = write_report(
         alloc,
         &plan.catalog,
         &plan.requests,
-        &places,
+        &answers,
+        0,
         &list,
-        &database,
+        &End::Tables(database),
     )?;
     Ok(ToldRun { list, text })
 }
@@ -122,8 +121,6 @@ pub fn sstore<S: Source, K: Sink>(
     // A refusal is the first that the bytes have.
     ensures input { result ≡ Status.Input → IfSome (S.left source.old) (λ input.
         IsRefused input Status.Input (sunk (K.written sink.old) (K.written sink.new) (K.faults sink.old) (K.faults sink.new))) }
-    ensures not_built { result ≡ Status.NotBuilt → IfSome (S.left source.old) (λ input.
-        IsRefused input Status.NotBuilt (sunk (K.written sink.old) (K.written sink.new) (K.faults sink.old) (K.faults sink.new))) }
 
     // An input has one answer, and gets it, unless a fault was counted or memory was wanting.
     ensures refused { is_run words.now ≡ true → Stayed (S.faults source.old) (S.faults source.new)
@@ -131,8 +128,8 @@ pub fn sstore<S: Source, K: Sink>(
     ensures started { is_run words.now ≡ true → Stayed (S.faults source.old) (S.faults source.new) → Stayed (K.faults sink.old) (K.faults sink.new)
         → IfSome (S.left source.old) (λ input. EndsAsStarted input result) }
 
-    // The headline: the catalogue is accepted, the replies and tables are those of one list that replays, and the
-    // bytes are its report.
+    // The headline: the catalogue is accepted, the replies and tables are those of one list that replays, has the
+    // orders and leaves no batch untaken, and the bytes are its report.
     ensures done { result ≡ Status.Done → IfSome (S.left source.old) (λ input.
         IsToldRun input (sunk (K.written sink.old) (K.written sink.new) (K.faults sink.old) (K.faults sink.new))) }
     ensures cut { result ≡ Status.WriteFault → IfSome (S.left source.old) (λ input.

@@ -1,14 +1,12 @@
-//! The report of a small run, whose lines are decided by hand.
+//! Reports that no case makes: of a stop, and of votes. Their lines are decided by hand.
 
-ghost use Rattle.std.specs.Prelude.{◌≡◌, [], IfOk, length};
-ghost use Rattle.ss_shard.specs.Shards.{HasTables};
+ghost use Rattle.std.specs.Prelude.{◌≡◌, ◌<◌, IfOk, length};
+ghost use Rattle.ss_report.specs.Told.{HasEndTables};
 
 use super::number_row;
 use ss_model::catalog::{Catalog, Place, TableDef};
-use ss_model::entry::{Asked, Entry, Listed, Outcome, Reason, Request};
-use ss_report::write_report;
-use ss_shard::database::{Database, opening};
-use ss_shard::shard::Shard;
+use ss_model::entry::{Answer, Asked, Entry, Listed, Outcome, Reason, Request};
+use ss_report::{End, write_report};
 use ss_value::seq::Seq;
 use ss_value::text::name_of;
 use std::alloc::Global;
@@ -26,9 +24,7 @@ fn table_of(alloc: Global, name: &[u8]) -> Result<TableDef, Fail> {
 }
 
 /// A catalogue of two tables, the one with the lesser name behind the other.
-fn catalog(alloc: Global) -> Result<Catalog, Fail>
-    ensures { IfOk result (λ catalog. catalog.windows ≡ []) }
-{
+fn catalog(alloc: Global) -> Result<Catalog, Fail> {
     let stock = table_of(alloc, b"stock")?;
     let accounts = table_of(alloc, b"acct")?;
     Ok(Catalog {
@@ -41,59 +37,19 @@ fn catalog(alloc: Global) -> Result<Catalog, Fail>
     })
 }
 
-/// Inserts a row into a table of one key column. Fails where there is no such table, or the row lacks that column.
-fn put(
-    alloc: Global,
-    catalog: &Catalog,
-    shard: &mut Shard,
-    at: u16,
-    row: &[i64],
-) -> Result<(), Fail>
-    requires { HasTables catalog.now shard.old.tables }
-    ensures { HasTables catalog.now shard.new.tables }
-{
-    let row = number_row(alloc, row)?;
-    let Some(table) = catalog.tables.get(usize::from(at)) else {
-        return Err("no such table".into());
-    };
-    match table.key.as_slice() {
-        [column] if usize::from(*column) < row.len() => {
-            shard.insert_row(at, row).or(Err("refused"))?;
-            Ok(())
-        }
-        _ => Err("no such key".into()),
-    }
-}
-
-/// Both tables, with rows that are not inserted in the order of their keys.
-fn database(alloc: Global, catalog: &Catalog) -> Result<Database, Fail>
-    requires { catalog.now.windows ≡ [] }
-    ensures { IfOk result (λ database. HasTables catalog.now database.whole.tables) }
-{
-    let Database { mut whole } = opening(alloc, catalog)?;
-    put(alloc, catalog, &mut whole, 0, &[7, 70])?;
-    put(alloc, catalog, &mut whole, 0, &[-2, 5])?;
-    put(alloc, catalog, &mut whole, 1, &[1, -5])?;
-    Ok(Database { whole })
-}
-
-/// A call on this line of the input.
-fn request_at(alloc: Global, line: u64) -> Request {
+/// A client's call on this line of the input.
+fn request_at(alloc: Global, line: u64, client: u8) -> Request {
     let what = Asked::Call {
         procedure: 0,
         args: Seq::new(alloc),
     };
-    Request {
-        line,
-        client: 0,
-        what,
-    }
+    Request { line, client, what }
 }
 
 /// An entry of a call with this outcome.
-fn listed_at(alloc: Global, index: u64, outcome: Outcome) -> Listed {
+fn listed_at(alloc: Global, client: u8, index: u64, outcome: Outcome) -> Listed {
     let entry = Entry::Call {
-        client: 0,
+        client,
         index,
         procedure: 0,
         args: Seq::new(alloc),
@@ -101,59 +57,92 @@ fn listed_at(alloc: Global, index: u64, outcome: Outcome) -> Listed {
     Listed { entry, outcome }
 }
 
-/// Three requests, not on lines in a row.
-fn requests(alloc: Global) -> Result<Seq<Request>, Fail>
-    ensures { IfOk result (λ requests. length requests ≡ 3) }
-{
+/// Four requests of two clients, not on lines in a row.
+fn requests(alloc: Global) -> Result<Seq<Request>, Fail> {
     let lines = vec![in alloc;
-        request_at(alloc, 2),
-        request_at(alloc, 3),
-        request_at(alloc, 5),
+        request_at(alloc, 2, 0),
+        request_at(alloc, 3, 1),
+        request_at(alloc, 5, 0),
+        request_at(alloc, 6, 1),
     ]?;
     Ok(Seq::from_vec(lines))
 }
 
-/// Where their entries stand: the second found no memory.
-fn places(alloc: Global) -> Result<Seq<Option<u64>>, Fail>
-    ensures { IfOk result (λ places. length places ≡ 3) }
+/// One row.
+fn done(alloc: Global) -> Result<Outcome, Fail> {
+    let rows = vec![in alloc; number_row(alloc, &[1, -5])?]?;
+    Ok(Outcome::Done(Seq::from_vec(rows)))
+}
+
+/// The second call of client 0 found no memory, and the second one of client 1 has no answer. The first ones stand at
+/// this place and behind it.
+fn answers(alloc: Global, first: u64) -> Result<Seq<Seq<Answer>>, Fail>
+    requires { first < 100 }
 {
-    Ok(Seq::from_vec(vec![in alloc; Some(0), None, Some(1)]?))
+    let listed = Answer::Listed {
+        place: first,
+        outcome: done(alloc)?,
+    };
+    let other = Answer::Listed {
+        place: first + 1,
+        outcome: Outcome::Aborted(Reason::KeyTaken(1)),
+    };
+    let client_0 = Seq::from_vec(vec![in alloc; listed, Answer::NoMemory]?);
+    let client_1 = Seq::from_vec(vec![in alloc; other]?);
+    Ok(Seq::from_vec(vec![in alloc; client_0, client_1]?))
 }
 
 /// A list of two entries.
-fn list(alloc: Global) -> Result<Seq<Listed>, Fail> {
-    let rows = Seq::from_vec(vec![in alloc; number_row(alloc, &[1, -5])?]?);
-    let done = listed_at(alloc, 0, Outcome::Done(rows));
-    let aborted = listed_at(alloc, 2, Outcome::Aborted(Reason::KeyTaken(1)));
+fn list(alloc: Global) -> Result<Seq<Listed>, Fail>
+    ensures { IfOk result (λ list. length list ≡ 2) }
+{
+    let done = listed_at(alloc, 0, 0, done(alloc)?);
+    let aborted = listed_at(alloc, 1, 0, Outcome::Aborted(Reason::KeyTaken(1)));
     Ok(Seq::from_vec(vec![in alloc; done, aborted]?))
 }
 
-/// The report of the run.
-fn report(alloc: Global) -> Result<Seq<u8>, Fail> {
-    let catalog = catalog(alloc)?;
+/// The report of the run that begins at this place and ends so.
+fn report(alloc: Global, catalog: &Catalog, first: u64, end: &End) -> Result<Seq<u8>, Fail>
+    requires first { first < 100 }
+    requires tables { HasEndTables catalog.now end.now }
+{
     let requests = requests(alloc)?;
-    let places = places(alloc)?;
+    let answers = answers(alloc, first)?;
     let list = list(alloc)?;
-    let database = database(alloc, &catalog)?;
-    Ok(write_report(alloc, &catalog, &requests, &places, &list, &database)?)
+    Ok(write_report(alloc, catalog, &requests, &answers, first, &list, end)?)
 }
 
-/// The tables stand by their names and their rows by their keys.
+/// Places go on from the first one, and a request that never ran tells the disk's count of faults.
 #[test]
-fn report_of_three_requests(rt: HostRuntime) -> Result<(), Fail> {
-    let bytes = report(rt.alloc())?;
-    assert_eq!(rt; std::str::from_utf8(bytes.as_slice())?, EXPECTED);
+fn report_of_a_stop(rt: HostRuntime) -> Result<(), Fail> {
+    let catalog = catalog(rt.alloc())?;
+    let end = End::Stopped {
+        status: 5,
+        count: 11,
+        faults: 3,
+    };
+    let bytes = report(rt.alloc(), &catalog, 10, &end)?;
+    assert_eq!(rt; std::str::from_utf8(bytes.as_slice())?, STOPPED);
     Ok(())
 }
 
-const EXPECTED: &str = "[\"reply\",2,0,[\"done\",[[1,-5]]]]\n\
-    [\"reply\",3,\"no_memory\"]\n\
-    [\"reply\",5,1,[\"aborted\",\"key_taken\",\"acct\"]]\n\
-    [\"call\",0,0,0,[\"done\",[[1,-5]]]]\n\
-    [\"call\",1,0,2,[\"aborted\",\"key_taken\",\"acct\"]]\n\
-    [\"table\",\"acct\",1]\n\
-    [\"row\",\"acct\",[1,-5]]\n\
-    [\"table\",\"stock\",2]\n\
-    [\"row\",\"stock\",[-2,5]]\n\
-    [\"row\",\"stock\",[7,70]]\n\
-    [\"done\",2]\n";
+/// One line with the number of entries, none of which is a push or a step.
+#[test]
+fn report_of_votes(rt: HostRuntime) -> Result<(), Fail> {
+    let catalog = catalog(rt.alloc())?;
+    let end = End::Voter { votes: 4 };
+    let bytes = report(rt.alloc(), &catalog, 0, &end)?;
+    assert_eq!(rt;
+        std::str::from_utf8(bytes.as_slice())?,
+        "[\"voter\",4,0,0,2]\n"
+    );
+    Ok(())
+}
+
+const STOPPED: &str = "[\"reply\",2,10,[\"done\",[[1,-5]]]]\n\
+    [\"reply\",3,11,[\"aborted\",\"key_taken\",\"acct\"]]\n\
+    [\"reply\",5,\"no_memory\"]\n\
+    [\"reply\",6,\"halted\",3]\n\
+    [\"call\",10,0,0,[\"done\",[[1,-5]]]]\n\
+    [\"call\",11,1,0,[\"aborted\",\"key_taken\",\"acct\"]]\n\
+    [\"stopped\",5,11]\n";

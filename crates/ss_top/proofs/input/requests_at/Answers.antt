@@ -2,7 +2,7 @@ use Rattle.std.proofs.Common.{◌≡◌, ◌++◌, ◌∷◌, [], rules}
 use Rattle.std.proofs.lemmas.Result.{err_from_is_err_and}
 use Rattle.ss_lines.specs.declared.line.LineError.TheVariants.{NoMemory}
 use Rattle.ss_top.specs.declared.input.ReadError.TheVariants.{Line as OfLine}
-use Rattle.ss_top.proofs.InputRequests.{EachFits-push, each_fits, asked_more, asked_clients, refused_among}
+use Rattle.ss_top.proofs.InputRequests.{EachFits-push, each_fits, asked_more, refused_among}
 use Rattle.ss_top.proofs.input.requests_at.Goals as goal
 
 pub returns-in_err-request-clause-refused : goal.returns-in_err-request-clause-refused
@@ -19,12 +19,9 @@ loop-line-preserved c =
     let pushed : c.push.new.self ≡ c.loop-line.requests ++ c.in_ok-request.request ∷ [] = search rules in
     let asks = c.in_ok-request.ensures in
     rw pushed (record {
-      asked = asked_more c.args.catalog.now c.args.lines.now c.loop-line.line-index c.loop-line.requests c.line-item.result c.in_ok-request.request c.loop-line-test.true c.line-item.is c.loop-line.invariant.asked asks.asks asks.client;
+      asked = asked_more c.args.catalog.now c.args.lines.now c.loop-line.line-index c.loop-line.requests c.line-item.result c.in_ok-request.request c.loop-line-test.true c.line-item.is c.loop-line.invariant.asked asks.asks;
       fits = EachFits-push c.args.catalog.now c.loop-line.requests c.in_ok-request.request c.loop-line.invariant.fits asks.fits;
     })
-
-pub returns-clause-clients : goal.returns-clause-clients
-returns-clause-clients c = asked_clients c.args.catalog.now _ c.loop-line.requests c.loop-line.invariant.asked
 
 pub returns-clause-fit : goal.returns-clause-fit
 returns-clause-fit c = each_fits c.args.catalog.now c.loop-line.requests c.loop-line.invariant.fits

@@ -36,14 +36,15 @@ returns-clause-changed c =
     let inside = c.self.inside in
     let tables = inside.tables in
     let now = c.mark_dead.new.self in
-    let old : HeldShard = record { number = inside.number; tables = inside.tables; changes = inside.undo.items; columns = columns_of inside.indexes; windows = inside.windows; cursors = inside.cursors } in
-    let new : HeldShard = record { number = inside.number; tables = slice_set tables c.from.result now; changes = c.note.new.self.items; columns = columns_of inside.indexes; windows = inside.windows; cursors = inside.cursors } in
+    let old : HeldShard = record { number = inside.number; tables = inside.tables; changes = inside.undo.items; columns = columns_of inside.indexes; windows = inside.windows; cursors = inside.cursors; sources = inside.sources } in
+    let new : HeldShard = record { number = inside.number; tables = slice_set tables c.from.result now; changes = c.note.new.self.items; columns = columns_of inside.indexes; windows = inside.windows; cursors = inside.cursors; sources = inside.sources } in
     subst (λ (s : HeldShard). Changed s new) c.self.view_is
     (noted old new (Deleted c.args.table c.args.slot)
     (subst (λ t. Step tables (Deleted t c.args.slot) (slice_set tables c.from.result now)) c.from.ensures
     ((one_changed tables c.from.result c.args.slot c.in-Some.rows.now now [] c.in-Some.ensures.item).1 c.mark_dead.ensures.step))
     refl
     (c.note.ensures.items ∙ ap (λ cs. cs ++ Deleted c.args.table c.args.slot ∷ []) c.room.ensures.items)
+    refl
     refl
     refl
     refl

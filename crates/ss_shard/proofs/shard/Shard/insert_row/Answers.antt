@@ -62,10 +62,10 @@ returns-in-Err-clause-kept c =
 pub returns-in-Err-clause-changed : goal.returns-in-Err-clause-changed
 returns-in-Err-clause-changed c =
     let inside = c.self.inside in
-    let old : HeldShard = record { number = inside.number; tables = inside.tables; changes = inside.undo.items; columns = columns_of inside.indexes; windows = inside.windows; cursors = inside.cursors } in
-    let new : HeldShard = record { number = inside.number; tables = slice_set inside.tables c.from.result c.insert_indexed.new.rows; changes = c.room.new.self.items; columns = columns_of c.insert_indexed.new.indexes; windows = inside.windows; cursors = inside.cursors } in
+    let old : HeldShard = record { number = inside.number; tables = inside.tables; changes = inside.undo.items; columns = columns_of inside.indexes; windows = inside.windows; cursors = inside.cursors; sources = inside.sources } in
+    let new : HeldShard = record { number = inside.number; tables = slice_set inside.tables c.from.result c.insert_indexed.new.rows; changes = c.room.new.self.items; columns = columns_of c.insert_indexed.new.indexes; windows = inside.windows; cursors = inside.cursors; sources = inside.sources } in
     subst (λ (s : HeldShard). Changed s new) c.self.view_is
-    (unnoted old new refl refl (ap (slice_set inside.tables c.from.result) c.in-Err.ensures.kept ∙ set_same inside.tables c.from.result c.in-Some.rows.now c.in-Some.ensures.item) c.room.ensures.items refl
+    (unnoted old new refl refl refl (ap (slice_set inside.tables c.from.result) c.in-Err.ensures.kept ∙ set_same inside.tables c.from.result c.in-Some.rows.now c.in-Some.ensures.item) c.room.ensures.items refl
     (ap columns_of c.in-Err.ensures.unpaired))
 
 pub returns-clause-done : goal.returns-clause-done
@@ -73,7 +73,7 @@ returns-clause-done c =
     let inside = c.self.inside in
     let was = c.in-Some.rows.now in
     let now = c.insert_indexed.new.rows in
-    let new : HeldShard = record { number = inside.number; tables = slice_set inside.tables c.from.result now; changes = c.note.new.self.items; columns = columns_of c.insert_indexed.new.indexes; windows = inside.windows; cursors = inside.cursors } in
+    let new : HeldShard = record { number = inside.number; tables = slice_set inside.tables c.from.result now; changes = c.note.new.self.items; columns = columns_of c.insert_indexed.new.indexes; windows = inside.windows; cursors = inside.cursors; sources = inside.sources } in
     subst (λ (s : HeldShard). RowInserted s new c.args.table c.args.row) c.self.view_is (λ catalog has.
     let tables = inside.tables in
     let windows = inside.windows in
@@ -90,13 +90,14 @@ returns-clause-changed c =
     let now = c.insert_indexed.new.rows in
     let slot = c.in-Ok.slot in
     let step = c.in-Ok.ensures.step in
-    let old : HeldShard = record { number = inside.number; tables = inside.tables; changes = inside.undo.items; columns = columns_of inside.indexes; windows = inside.windows; cursors = inside.cursors } in
-    let new : HeldShard = record { number = inside.number; tables = slice_set tables c.from.result now; changes = c.note.new.self.items; columns = columns_of c.insert_indexed.new.indexes; windows = inside.windows; cursors = inside.cursors } in
+    let old : HeldShard = record { number = inside.number; tables = inside.tables; changes = inside.undo.items; columns = columns_of inside.indexes; windows = inside.windows; cursors = inside.cursors; sources = inside.sources } in
+    let new : HeldShard = record { number = inside.number; tables = slice_set tables c.from.result now; changes = c.note.new.self.items; columns = columns_of c.insert_indexed.new.indexes; windows = inside.windows; cursors = inside.cursors; sources = inside.sources } in
     subst (λ (s : HeldShard). Changed s new) c.self.view_is
     (noted old new (Inserted c.args.table slot)
     (subst (λ t. Step tables (Inserted t slot) (slice_set tables c.from.result now)) c.from.ensures ((one_changed tables c.from.result slot was now [] c.in-Some.ensures.item).0 step))
     refl
     (c.note.ensures.items ∙ ap (λ cs. cs ++ Inserted c.args.table slot ∷ []) c.room.ensures.items)
+    refl
     refl
     refl
     (ap columns_of (c.in-Ok.ensures.pairs step) ∙ columns_added inside.indexes c.args.table slot step.row)

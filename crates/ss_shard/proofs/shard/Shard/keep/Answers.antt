@@ -30,6 +30,7 @@ returns-clause-settled c = λ catalog given.
         indexes = c.commit.ensures.columns ∙ is.indexes;
         windows = subst (HasWindows catalog) (sym c.commit.ensures.settled) (windows_settled catalog inside.windows is.windows);
         cursors = is.cursors;
+        sources = is.sources;
       };
       final = subst (λ (tables : List Held). AreFinal tables) (sym c.commit.ensures.kept) (all_are_final inside.tables);
       settled = subst (λ (windows : List HeldWindow). AreSettled windows) (sym c.commit.ensures.settled) (all_settled inside.windows is.windows.held);

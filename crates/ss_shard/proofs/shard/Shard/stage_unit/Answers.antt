@@ -35,10 +35,10 @@ returns-then-units-ge-WINDOW_UNITS-clause-stops c =
 pub returns-then-units-ge-WINDOW_UNITS-clause-changed : goal.returns-then-units-ge-WINDOW_UNITS-clause-changed
 returns-then-units-ge-WINDOW_UNITS-clause-changed c =
     let inside = c.self.inside in
-    let old : HeldShard = record { number = inside.number; tables = inside.tables; changes = inside.undo.items; columns = columns_of inside.indexes; windows = inside.windows; cursors = inside.cursors } in
-    let new : HeldShard = record { number = inside.number; tables = inside.tables; changes = c.room.new.self.items; columns = columns_of inside.indexes; windows = slice_set inside.windows c.from.result c.in-Some.units.now; cursors = inside.cursors } in
+    let old : HeldShard = record { number = inside.number; tables = inside.tables; changes = inside.undo.items; columns = columns_of inside.indexes; windows = inside.windows; cursors = inside.cursors; sources = inside.sources } in
+    let new : HeldShard = record { number = inside.number; tables = inside.tables; changes = c.room.new.self.items; columns = columns_of inside.indexes; windows = slice_set inside.windows c.from.result c.in-Some.units.now; cursors = inside.cursors; sources = inside.sources } in
     subst (λ (s : HeldShard). Changed s new) c.self.view_is
-    (unnoted old new refl (set_same inside.windows c.from.result c.in-Some.units.now c.in-Some.ensures.item) refl c.room.ensures.items refl refl)
+    (unnoted old new refl refl (set_same inside.windows c.from.result c.in-Some.units.now c.in-Some.ensures.item) refl c.room.ensures.items refl refl)
 
 pub returns-then-units-ge-WINDOW_UNITS-clause-kept : goal.returns-then-units-ge-WINDOW_UNITS-clause-kept
 returns-then-units-ge-WINDOW_UNITS-clause-kept c = set_same c.self.inside.windows c.from.result c.in-Some.units.now c.in-Some.ensures.item ∙ ap (λ (s : HeldShard). s.windows) c.self.view_is
@@ -46,10 +46,10 @@ returns-then-units-ge-WINDOW_UNITS-clause-kept c = set_same c.self.inside.window
 pub returns-in-Err-clause-changed : goal.returns-in-Err-clause-changed
 returns-in-Err-clause-changed c =
     let inside = c.self.inside in
-    let old : HeldShard = record { number = inside.number; tables = inside.tables; changes = inside.undo.items; columns = columns_of inside.indexes; windows = inside.windows; cursors = inside.cursors } in
-    let new : HeldShard = record { number = inside.number; tables = inside.tables; changes = c.room.new.self.items; columns = columns_of inside.indexes; windows = slice_set inside.windows c.from.result c.stage.new.self; cursors = inside.cursors } in
+    let old : HeldShard = record { number = inside.number; tables = inside.tables; changes = inside.undo.items; columns = columns_of inside.indexes; windows = inside.windows; cursors = inside.cursors; sources = inside.sources } in
+    let new : HeldShard = record { number = inside.number; tables = inside.tables; changes = c.room.new.self.items; columns = columns_of inside.indexes; windows = slice_set inside.windows c.from.result c.stage.new.self; cursors = inside.cursors; sources = inside.sources } in
     subst (λ (s : HeldShard). Changed s new) c.self.view_is
-    (unnoted old new refl (ap (slice_set inside.windows c.from.result) c.in-Err.ensures.err.0 ∙ set_same inside.windows c.from.result c.in-Some.units.now c.in-Some.ensures.item) refl c.room.ensures.items refl refl)
+    (unnoted old new refl refl (ap (slice_set inside.windows c.from.result) c.in-Err.ensures.err.0 ∙ set_same inside.windows c.from.result c.in-Some.units.now c.in-Some.ensures.item) refl c.room.ensures.items refl refl)
 
 pub returns-in-Err-clause-kept : goal.returns-in-Err-clause-kept
 returns-in-Err-clause-kept c =
@@ -59,7 +59,7 @@ returns-in-Err-clause-kept c =
 pub returns-clause-done : goal.returns-clause-done
 returns-clause-done c =
     let inside = c.self.inside in
-    let new : HeldShard = record { number = inside.number; tables = inside.tables; changes = c.note.new.self.items; columns = columns_of inside.indexes; windows = slice_set inside.windows c.from.result c.stage.new.self; cursors = inside.cursors } in
+    let new : HeldShard = record { number = inside.number; tables = inside.tables; changes = c.note.new.self.items; columns = columns_of inside.indexes; windows = slice_set inside.windows c.from.result c.stage.new.self; cursors = inside.cursors; sources = inside.sources } in
     subst (λ (s : HeldShard). UnitStaged s new c.args.window c.args.unit c.in-Ok.moved) c.self.view_is (λ catalog has.
     let tables = inside.tables in
     let windows = inside.windows in
@@ -74,12 +74,12 @@ returns-clause-changed c =
     let inside = c.self.inside in
     let windows = inside.windows in
     let was = c.in-Some.units.now in
-    let old : HeldShard = record { number = inside.number; tables = inside.tables; changes = inside.undo.items; columns = columns_of inside.indexes; windows = inside.windows; cursors = inside.cursors } in
-    let new : HeldShard = record { number = inside.number; tables = inside.tables; changes = c.note.new.self.items; columns = columns_of inside.indexes; windows = slice_set inside.windows c.from.result c.stage.new.self; cursors = inside.cursors } in
+    let old : HeldShard = record { number = inside.number; tables = inside.tables; changes = inside.undo.items; columns = columns_of inside.indexes; windows = inside.windows; cursors = inside.cursors; sources = inside.sources } in
+    let new : HeldShard = record { number = inside.number; tables = inside.tables; changes = c.note.new.self.items; columns = columns_of inside.indexes; windows = slice_set inside.windows c.from.result c.stage.new.self; cursors = inside.cursors; sources = inside.sources } in
     subst (λ (s : HeldShard). Changed s new) c.self.view_is
     (noted_both old new (Staged c.args.window) refl
     (subst (λ w. WindowStep windows (Staged w) (slice_set windows c.from.result c.stage.new.self)) c.from.ensures
     (record { old = was; unit = c.args.unit; here = c.in-Some.ensures.item; is = ap (slice_set windows c.from.result) c.in-Ok.ensures.staged }))
-    (c.note.ensures.items ∙ ap (λ cs. cs ++ Staged c.args.window ∷ []) c.room.ensures.items) refl refl refl refl (λ h. h)
+    (c.note.ensures.items ∙ ap (λ cs. cs ++ Staged c.args.window ∷ []) c.room.ensures.items) refl refl refl refl refl (λ h. h)
     (frames_kept windows c.from.result was c.stage.new.self c.in-Some.ensures.item (ap frame_of c.in-Ok.ensures.staged))
     (held_set windows c.from.result c.stage.new.self c.units_are_held-2.ensures))

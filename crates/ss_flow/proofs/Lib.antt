@@ -1,0 +1,6 @@
+pub mod Kept
+pub mod Following
+pub mod Passing
+pub mod Emitting
+pub mod Advancing
+pub mod Premises

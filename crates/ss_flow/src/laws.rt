@@ -1,0 +1,14 @@
+//! Laws of the definitions, each the contract of a function that does nothing.
+
+ghost use Rattle.ss_flow.specs.Follows.{BatchesHaveStreams, StreamsFollow};
+
+/// After an entry each stream is as before, passed by the step's procedure where it takes the stream, and with the batch
+/// behind it that travels with the entry.
+pub fn streams_follow()
+    ensures { StreamsFollow }
+{}
+
+/// The batches that travel with an entry are for streams of the catalogue.
+pub fn batches_have_streams()
+    ensures { BatchesHaveStreams }
+{}

@@ -1,0 +1,7 @@
+use Rattle.std.proofs.Common.{◌≡◌, count_by, take}
+use Rattle.ss_model.specs.declared.entry.Listed.{Listed}
+use Rattle.ss_model.specs.Report.{is_step}
+use Rattle.ss_report.proofs.summary.steps.Given as goal
+
+abbrev pub invariant-loop-listed : goal.invariant-loop-listed
+invariant-loop-listed l = l.count ≡ count_by (λ (x : Listed). is_step x.entry) (take l.listed-index l.list)

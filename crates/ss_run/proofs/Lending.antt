@@ -1,0 +1,115 @@
+-- What a ready entry takes from the streams of a database.
+use Rattle.std.proofs.Common.{◌≡◌, ◌≢◌, ◌⊎◌, inl, inr, ◌≤◌, ◌<◌, ◌+◌, ◌-◌, ◌∙◌, ◌||◌, ◌==◌, ℕ, zero, suc, nat_lt, Bool, true, false, cond, List, [], ◌∷◌, map, length, drop, get_or, slice_get, unwrap_or, Some, None, arith, ap, sym, subst, refl}
+use Rattle.std.proofs.lemmas.Bool.{ltb-true, le-ltb, cases_eq}
+use Rattle.std.proofs.lemmas.Bool.Decides.{Decides-eqb}
+use Rattle.std.proofs.lemmas.Option.{slice_get-get_or, slice_get_within}
+use Rattle.std.proofs.lemmas.List.{length-drop, get_or-drop}
+use Rattle.std.specs.declared.option.Option.{Option}
+use Rattle.std.specs.Option.{option_map}
+use Rattle.std.specs.List.{AllByRecursion, filter, list_any, list_all, range_with_len}
+use Rattle.ss_value.specs.Rows.{Rows}
+use Rattle.ss_model.specs.declared.catalog.Procedure.{Procedure}
+use Rattle.ss_model.specs.declared.catalog.Catalog.{Catalog}
+use Rattle.ss_model.specs.declared.entry.Entry.{Entry}
+use Rattle.ss_model.specs.declared.entry.Entry.TheVariants.{Call, Push, Step as StepEntry}
+use Rattle.ss_model.specs.Accepted.{Accepted}
+use Rattle.ss_model.specs.Database.{Database, batch_count, stream_batches, is_ready, is_ready_entry, takes_stream}
+use Rattle.ss_model.specs.Orders.{procedure_takes}
+use Rattle.ss_model.proofs.Truths.{first_of_two, second_of_two}
+use Rattle.ss_stream.specs.Pending.{cursor_at, least_passed, pending_batch}
+use Rattle.ss_stream.specs.Streams.{ReservedStreams, stream_at}
+use Rattle.ss_stream.specs.OfDatabase.{AreStreamsOf, consumer_cursors, kept_stream}
+use Rattle.ss_sched.proofs.Counts.{inputs_below}
+use Rattle.ss_shard.specs.HeldShard.{HeldShard}
+use Rattle.ss_shard.specs.Windows.{HoldsDatabase}
+use Rattle.ss_proc.specs.Entries.{AreAtHand, IsNext}
+use Rattle.ss_run.specs.Stands.{HasBatch, HasBatches, batch_at, batches_for}
+use Rattle.ss_run.proofs.Progress.{kept_at, kept_many}
+
+module _ (catalog : Catalog) (db : Database) where
+  -- no consumer is before the first batch that is kept
+  least_filtered : (n : ℕ) (count : ℕ → ℕ) (test : ℕ → Bool) (a k q : ℕ) → test q ≡ true → a ≤ q → q < a + k → least_passed n (map (λ p. cursor_at (count p) p) (filter test (range_with_len a k))) ≤ count q
+  least_filtered n count test a zero q is from to = absurd (omega arith)
+  least_filtered n count test a (suc k) q is from to = by (cases_eq a q) (λ ne. least_filtered n count test (a + 1) k q is (omega arith) (omega arith))
+    where
+      kept : (b : Bool) (rest : List ℕ) → least_passed n (map (λ p. cursor_at (count p) p) rest) ≤ count q → least_passed n (map (λ p. cursor_at (count p) p) (cond b (a ∷ rest) rest)) ≤ count q
+      kept true rest le = omega arith
+      kept false rest le = le
+
+      by : (a ≡ q) ⊎ (a ≡ q → ⊥) → (a ≢ q → least_passed n (map (λ p. cursor_at (count p) p) (filter test (range_with_len (a + 1) k))) ≤ count q)
+          → least_passed n (map (λ p. cursor_at (count p) p) (filter test (range_with_len a (suc k)))) ≤ count q
+      by (inl e) later = let here : test a ≡ true = subst (λ x. test x ≡ true) (sym e) is in let same = ap count e in rw here (omega arith)
+      by (inr ne) later = kept (test a) (filter test (range_with_len (a + 1) k)) (later ne)
+
+  -- a batch that a consumer has still to take is kept
+  kept_batch : (q s r : ℕ) → q < length catalog.procedures → procedure_takes catalog q s ≡ true → batch_count db q ≡ r → r < length (stream_batches db s) → pending_batch (kept_stream catalog db s) r ≡ Some (get_or (stream_batches db s) r [])
+  kept_batch q s r within tk count below =
+      let bs = stream_batches db s in
+      let least : ℕ = least_passed (0 + length bs) (consumer_cursors catalog db s) in
+      let first_le : least ≤ batch_count db q = least_filtered (0 + length bs) (batch_count db) (λ q. procedure_takes catalog q s) 0 (length catalog.procedures) q tk (omega arith) (omega arith) in
+      let not_before : nat_lt r least ≡ false = le-ltb r least (omega arith) in
+      let zero_less : least - 0 ≡ least = omega arith in
+      let there : r - least < length (drop least bs) = simp length-drop (omega arith) in
+      let same : least + (r - least) ≡ r = omega arith in
+      rw (not_before, zero_less) (slice_get-get_or (drop least bs) (r - least) [] there ∙ ap Some (get_or-drop least bs (r - least) [] ∙ ap (λ n. get_or bs n []) same))
+
+  module _ (accepted : Accepted catalog) (streams : ReservedStreams) (are : AreStreamsOf catalog db streams.streams) (q r : ℕ) (count : batch_count db q ≡ r) (d : Procedure) (here : slice_get catalog.procedures q ≡ Some d) where
+    -- of a stream that the procedure takes, the batch that it takes next
+    record Lends (s : ℕ) : Type 0 where
+      there : HasBatch streams r s
+      is : slice_get (stream_batches db s) r ≡ Some (batch_at streams r s)
+
+    lends : (s : ℕ) → takes_stream s d ≡ true → s < length catalog.streams → r < length (stream_batches db s) → Lends s
+    lends s tk within below =
+        let takes : procedure_takes catalog q s ≡ true = rw here tk in
+        let kept : pending_batch (stream_at streams s) r ≡ Some (get_or (stream_batches db s) r []) = rw (kept_at catalog db streams.streams are s within) (kept_batch q s r (slice_get_within catalog.procedures q d here) takes count below) in
+        let many = kept_many catalog db streams.streams are in
+        record {
+          there = (omega arith, rw kept refl);
+          is = slice_get-get_or (stream_batches db s) r [] below ∙ ap Some (sym (ap (λ (o : Option Rows). unwrap_or o []) kept));
+        }
+
+    later : (x s : ℕ) (xs : List ℕ) → list_any (λ i. i == s) xs ≡ true → list_any (λ i. i == s) (x ∷ xs) ≡ true
+    later x s xs any = by (x == s)
+      where
+        by : (b : Bool) → (b || list_any (λ i. i == s) xs) ≡ true
+        by true = refl
+        by false = any
+
+    -- of all inputs
+    record LendsAll (xs : List ℕ) : Type 0 where
+      there : AllByRecursion (HasBatch streams r) xs
+      are_all : map (λ s. slice_get (stream_batches db s) r) xs ≡ map Some (map (batch_at streams r) xs)
+
+    lends_all : (xs : List ℕ) → ((s : ℕ) → list_any (λ i. i == s) xs ≡ true → takes_stream s d ≡ true) → AllByRecursion (λ s. s < length catalog.streams) xs → list_all (λ s. nat_lt r (length (stream_batches db s))) xs ≡ true → LendsAll xs
+    lends_all [] takes within all = record { there = tt; are_all = refl }
+    lends_all (x ∷ xs) takes within all =
+        let first = lends x (takes x (ap (λ b. b || list_any (λ i. i == x) xs) ((Decides-eqb x x).1 refl))) within.0 (ltb-true _ _ (first_of_two _ _ all)) in
+        let rest = lends_all xs (λ s any. takes s (later x s xs any)) within.1 (second_of_two (nat_lt r (length (stream_batches db x))) _ all) in
+        record { there = (first.there, rest.there); are_all = rw (first.is, rest.are_all) refl }
+
+    lends_inputs : is_ready db q r d ≡ true → LendsAll d.inputs
+    lends_inputs ready = lends_all d.inputs (λ s any. any) (inputs_below catalog accepted (length catalog.streams) q d (omega arith) here) (second_of_two _ _ ready)
+
+  -- ---- of an entry
+
+  -- what a ready entry finds: its batches, and its count
+  pub record Finds (streams : ReservedStreams) (e : Entry) : Type 0 where
+    pub there : HasBatches catalog streams e
+    pub at_hand : AreAtHand catalog db e (batches_for catalog streams e)
+    pub next : (shard : HeldShard) → HoldsDatabase catalog shard db → IsNext e shard
+
+  finds_step : (accepted : Accepted catalog) (streams : ReservedStreams) → AreStreamsOf catalog db streams.streams → (q r : ℕ) (o : Option Procedure) → slice_get catalog.procedures q ≡ o → unwrap_or (option_map (is_ready db q r) o) false ≡ true → Finds streams (StepEntry q r)
+  finds_step accepted streams are q r None here ready = cc
+  finds_step accepted streams are q r (Some d) here ready =
+      let count : batch_count db q ≡ r = eqb_is (batch_count db q) r (second_of_two _ _ (first_of_two _ _ ready)) in
+      let all = lends_inputs accepted streams are q r count d here ready in
+      record { there = rw here all.there; at_hand = rw here all.are_all; next = λ shard holds. ap (λ (ns : List ℕ). get_or ns q 0) holds.counts ∙ count }
+    where
+      eqb_is : (a b : ℕ) → (a == b) ≡ true → a ≡ b
+      eqb_is a b e = (Decides-eqb a b).0 e
+
+  pub finds : Accepted catalog → (streams : ReservedStreams) → AreStreamsOf catalog db streams.streams → (e : Entry) → is_ready_entry catalog db e ≡ true → Finds streams e
+  finds accepted streams are (Call client index p args) ready = record { there = tt; at_hand = refl; next = λ shard holds. tt }
+  finds accepted streams are (Push client index s source seq rows) ready = record { there = tt; at_hand = refl; next = λ shard holds. tt }
+  finds accepted streams are (StepEntry q r) ready = finds_step accepted streams are q r (slice_get catalog.procedures q) refl ready

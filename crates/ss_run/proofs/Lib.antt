@@ -1,0 +1,12 @@
+pub mod OneReplied
+pub mod BySteps
+pub mod Entries
+pub mod NextSteps
+pub mod Progress
+pub mod Lending
+pub mod SettledLists
+pub mod Asked
+pub mod Told
+pub mod Opening
+pub mod Premises
+pub mod PushPremises

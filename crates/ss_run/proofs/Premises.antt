@@ -1,0 +1,36 @@
+-- The premises of a run at the workflow that splits a batch and joins it again, and a list that answers them.
+use Rattle.std.proofs.Common.{◌≡◌, ℕ, pos, codes, [], ◌∷◌, true, refl, inl, replicate, arith}
+use Rattle.ss_value.specs.declared.value.Value.TheVariants.{Int}
+use Rattle.ss_model.specs.declared.entry.Answer.TheVariants.{Listed as ListedAnswer}
+use Rattle.ss_model.specs.declared.entry.Asked.TheVariants.{Push as PushAsked}
+use Rattle.ss_model.specs.declared.entry.Outcome.TheVariants.{Done}
+use Rattle.ss_model.specs.declared.entry.Request.{Request}
+use Rattle.ss_model.specs.Accepted.{Accepted}
+use Rattle.ss_model.specs.Report.{Whole}
+use Rattle.ss_report_laws.specs.Replies.{AreTold}
+use Rattle.ss_report_laws.proofs.OneMore.{pushed_one, told_nothing}
+use Rattle.ss_model_laws.proofs.Workflow.{accepted, workflow}
+use Rattle.ss_model_laws.proofs.WorkflowRun.{whole_batch}
+use Rattle.ss_run.specs.RunAnswers.{AnswersInOrder, all_fit}
+use Rattle.ss_run.proofs.Told.{told_next}
+
+-- client 0 pushes a batch, and then the same one again
+abbrev pushes : ℕ → Request
+pushes line = record { line = line; client = 0; what = PushAsked 0 (codes "a") 0 ((Int (pos 7) ∷ []) ∷ []) }
+
+-- the premises of the run
+pub is_accepted : Accepted workflow
+is_accepted = accepted
+
+pub both_fit : all_fit workflow (pushes 2 ∷ pushes 3 ∷ []) ≡ true
+both_fit = refl
+
+-- the first push alone, and the four steps that it sets off
+pub in_order : AnswersInOrder (pushes 2 ∷ []) whole_batch
+in_order = inl (refl, tt)
+
+pub told : AreTold (pushes 2 ∷ []) 0 whole_batch Whole ((ListedAnswer 0 (Done []) ∷ []) ∷ replicate 7 [])
+told =
+    told_next [] [] whole_batch (replicate 8 []) _ (pushes 2) (ListedAnswer 0 (Done [])) (told_nothing 0 Whole 8)
+    (record { at_end = refl; by_steps = record { steps = _; is = refl; all_steps = refl } })
+    (pushed_one 0 (ListedAnswer 0 (Done [])) (replicate 8 []) _ (omega arith) refl)

@@ -1,0 +1,32 @@
+use Rattle.ss_model.specs.Database.{empty_database}
+use Rattle.ss_model_laws.proofs.Orders.{matching_stays, replays_orders}
+use Rattle.ss_model_laws.proofs.WholeDatabase.{empty_whole, whole_after}
+use Rattle.ss_sched.proofs.Counts.{few_procedures}
+use Rattle.ss_run.specs.Stands.{database_at}
+use Rattle.ss_run.proofs.Entries.{if_ok}
+use Rattle.ss_run.proofs.Opening.{sound_windows}
+use Rattle.ss_run.proofs.session.run_requests.Goals as goal
+
+pub opening-requires-clause-sound : goal.opening-requires-clause-sound
+opening-requires-clause-sound c = sound_windows c.args.catalog.now c.requires.accepted
+
+pub opening-requires-clause-few : goal.opening-requires-clause-few
+opening-requires-clause-few c = few_procedures c.args.catalog.now c.requires.accepted
+
+pub returns-clause-orders : goal.returns-clause-orders
+returns-clause-orders c =
+    let catalog = c.args.catalog.now in
+    let wired = c.requires.accepted.wired in
+    if_ok c.run_from.result (λ s at. replays_orders catalog wired (empty_database catalog) s.list (matching_stays catalog wired).starts at.replays) c.run_from.ensures.at
+
+pub returns-clause-whole : goal.returns-clause-whole
+returns-clause-whole c =
+    let catalog = c.args.catalog.now in
+    if_ok c.run_from.result
+    (
+    λ s at. record {
+      settled = at.settled;
+      number = at.number;
+      stands = (database_at catalog s.list, at.stands, whole_after catalog c.requires.accepted (empty_database catalog) s.list (empty_whole catalog c.requires.accepted));
+    }
+    ) c.run_from.ensures.at

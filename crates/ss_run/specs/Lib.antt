@@ -1,0 +1,4 @@
+pub mod RunAnswers
+pub mod Stands
+pub mod BySteps
+pub mod Replies

@@ -1,0 +1,141 @@
+//! One request, with all that it sets off.
+
+ghost use Rattle.std.specs.Prelude.{◌≡◌, ◌≤◌, ◌<◌, [], true, length, slice_get, IfOk, IfSome, IfNone, Some};
+ghost use Rattle.ss_model.specs.declared.entry.Request.{Request};
+ghost use Rattle.ss_model.specs.Accepted.{Accepted};
+ghost use Rattle.ss_model.specs.Database.{fits_entry};
+ghost use Rattle.ss_model.specs.Report.{asked_entry};
+ghost use Rattle.ss_run.specs.BySteps.{AnswersRequest, IsAnswered};
+ghost use Rattle.ss_run.specs.Stands.{IsAt, JoinedAs};
+
+use crate::entry::{Store, answer_entry};
+use crate::hints::{put_hints, run_hints};
+use ss_model::catalog::Catalog;
+use ss_model::entry::{Answer, Asked, Entry, Outcome, Request};
+use ss_sched::inbox::{Inbox, Work};
+use ss_sched::wake::wake_list;
+use ss_value::NoMemory;
+use ss_value::copies::Copies;
+use ss_value::seq::Seq;
+use std::alloc::Global;
+
+/// The entry of a request, which is the one at `index` among its client's.
+///
+/// A copy of what is asked for: linear in it. Fails only for want of memory.
+fn entry_of(alloc: Global, request: &Request, index: u64) -> Result<Entry, NoMemory>
+    ensures { IfOk result (λ e. e ≡ asked_entry request.now.client index request.now.what) }
+{
+    let client = request.client;
+    let entry = match request.what.duplicate(alloc)? {
+        Asked::Call { procedure, args } => Entry::Call {
+            client,
+            index,
+            procedure,
+            args,
+        },
+        Asked::Push {
+            stream,
+            source,
+            seq,
+            rows,
+        } => Entry::Push {
+            client,
+            index,
+            stream,
+            source,
+            seq,
+            rows,
+        },
+    };
+    Ok(entry)
+}
+
+/// Runs one request, which is the one at `index` among its client's, and puts it at the end of the list. Answers its
+/// place and its outcome.
+///
+/// None is for want of memory alone: then list and store are as they were.
+fn run_request(
+    alloc: Global,
+    catalog: &Catalog,
+    store: &mut Store,
+    request: &Request,
+    index: u64,
+) -> Option<(u64, Outcome)>
+    requires accepted { Accepted catalog.now }
+    requires fits { fits_entry catalog.now (asked_entry request.now.client index request.now.what) ≡ true }
+    requires at { IsAt catalog.now store.old.database store.old.list }
+    ensures at { IsAt catalog.now store.new.database store.new.list }
+    ensures some { IfSome result (JoinedAs store.old.list store.new.list (asked_entry request.now.client index request.now.what)) }
+    ensures none { IfNone result (store.new.list ≡ store.old.list) }
+{
+    let Ok(entry) = entry_of(alloc, request, index) else {
+        return None;
+    };
+    answer_entry(alloc, catalog, store, entry)
+}
+
+/// Serves one request: it runs, and then the steps that it sets off, and those that they set off, until no hint waits.
+///
+/// Answers its place and its outcome, or that there was no memory for it: then list and store are as they were.
+fn serve(
+    alloc: Global,
+    catalog: &Catalog,
+    store: &mut Store,
+    inbox: &mut Inbox<usize>,
+    request: &Request,
+    index: u64,
+) -> Answer
+    requires accepted { Accepted catalog.now }
+    requires fits { fits_entry catalog.now (asked_entry request.now.client index request.now.what) ≡ true }
+    requires at { IsAt catalog.now store.old.database store.old.list }
+    requires hints { inbox.old.hints ≡ [] }
+    requires jobs { inbox.old.jobs ≡ [] }
+    ensures at { IsAt catalog.now store.new.database store.new.list }
+    ensures answered { IsAnswered store.old.list store.new.list (asked_entry request.now.client index request.now.what) result }
+    ensures hints { inbox.new.hints ≡ [] }
+    ensures jobs { inbox.new.jobs ≡ [] }
+    ensures room { inbox.new.room ≡ inbox.old.room }
+{
+    let Some((place, outcome)) = run_request(alloc, catalog, store, request, index) else {
+        return Answer::NoMemory;
+    };
+    let Some(listed) = store.list.get(place as usize) else {
+        unreachable!()
+    };
+    put_hints(catalog, inbox, &wake_list(catalog, &listed.entry));
+    run_hints(alloc, catalog, store, inbox);
+    Answer::Listed { place, outcome }
+}
+
+/// Puts a request, by its number, into the inbox, takes it, and serves it.
+pub fn pump(
+    alloc: Global,
+    catalog: &Catalog,
+    store: &mut Store,
+    inbox: &mut Inbox<usize>,
+    requests: &Seq<Request>,
+    number: usize,
+    index: u64,
+) -> Answer
+    requires accepted { Accepted catalog.now }
+    requires there { number < length requests.now }
+    requires fits { (r : Request) → slice_get requests.now number ≡ Some r → fits_entry catalog.now (asked_entry r.client index r.what) ≡ true }
+    requires at { IsAt catalog.now store.old.database store.old.list }
+    requires hints { inbox.old.hints ≡ [] }
+    requires jobs { inbox.old.jobs ≡ [] }
+    requires room { 1 ≤ inbox.old.room }
+    ensures at { IsAt catalog.now store.new.database store.new.list }
+    ensures answered { AnswersRequest requests.now number index store.old.list store.new.list result }
+    ensures hints { inbox.new.hints ≡ [] }
+    ensures jobs { inbox.new.jobs ≡ [] }
+    ensures room { inbox.new.room ≡ inbox.old.room }
+{
+    inbox.put_job(number);
+    let Some(Work::Job(number)) = inbox.take() else {
+        unreachable!()
+    };
+    let Some(request) = requests.get(number) else {
+        unreachable!()
+    };
+    serve(alloc, catalog, store, inbox, request, index)
+}

@@ -1,0 +1,154 @@
+//! The longest path from the border to each procedure.
+
+ghost use Rattle.std.specs.Prelude.{◌≡◌, ◌≤◌, ◌<◌, ◌+◌, length, get_or, ℕ};
+ghost use Rattle.std.specs.List.{AllByRecursion, list_any};
+ghost use Rattle.ss_model.specs.Accepted.{Accepted};
+ghost use Rattle.ss_model.specs.Database.{emits_to};
+ghost use Rattle.ss_model.specs.Settling.{emitting_procedure};
+ghost use Rattle.ss_sched.specs.Ranks.{AreEmitters, AreRanks, AreCounted, greatest_rank, rank_by};
+
+use ss_model::catalog::{Catalog, Procedure, Step};
+use std::marker::Model;
+
+/// The most procedures of a catalogue.
+const PROCEDURES: usize = 64;
+
+/// The most streams of a catalogue.
+const STREAMS: usize = 32;
+
+/// The rank of each procedure of a catalogue: the longest path from the border to it, in procedures behind the first.
+///
+/// Contracts see the list of them, by number. A table of 64 bytes in place, with no memory of its own.
+#[derive(Drop)]
+pub struct Ranks {
+    by_number: [u8; PROCEDURES],
+}
+
+impl Model for Ranks {
+    ghost use Rattle.std.specs.Prelude.{ℕ, List};
+
+    ghost Value = { List ℕ };
+
+    ghost view = { λ r. r.by_number };
+}
+
+/// A table of zeros.
+fn zeros() -> [u8; PROCEDURES]
+    ensures zero { (q : ℕ) → get_or result q 0 ≡ 0 }
+    ensures long { length result ≡ 64 }
+{
+    [0; PROCEDURES]
+}
+
+/// Whether one of these steps emits to a stream. A look at each.
+fn emits(body: &[Step], stream: u16) -> bool
+    ensures { result ≡ list_any (emits_to stream) body.now }
+{
+    for step in body {
+        if let Step::Emit { stream: to, .. } = step {
+            if *to == stream {
+                return true;
+            }
+        }
+    }
+    false
+}
+
+/// The first procedure that emits to a stream, and 0 where none does. A look at each step of the catalogue.
+fn emitting_procedure(catalog: &Catalog, stream: u16) -> u16
+    requires { Accepted catalog.now }
+    ensures emitter { result ≡ emitting_procedure catalog.now stream }
+    ensures small { result < 64 }
+{
+    for (number, procedure) in catalog.procedures.as_slice().iter().enumerate() {
+        if emits(procedure.body.as_slice(), stream) {
+            return number as u16;
+        }
+    }
+    0
+}
+
+/// The emitter of each stream. A look at each step of the catalogue for each stream.
+fn emitters(catalog: &Catalog) -> [u16; STREAMS]
+    requires { Accepted catalog.now }
+    ensures emitters { AreEmitters catalog.now result }
+    ensures small { (s : ℕ) → get_or result s 0 < 64 }
+{
+    let mut found = [0; STREAMS];
+    for stream in 0..catalog.streams.len() {
+        found[stream] = emitting_procedure(catalog, stream as u16);
+    }
+    found
+}
+
+/// The greatest rank of the emitters of these streams, and 0 of none. A look at each.
+fn greatest(inputs: &[u16], emitters: &[u16], ranks: &[u8]) -> u8
+    requires streams { AllByRecursion (λ s. s < length emitters.now) inputs.now }
+    requires procedures { (s : ℕ) → s < length emitters.now → get_or emitters.now s 0 < length ranks.now }
+    ensures { result ≡ greatest_rank ranks.now emitters.now inputs.now }
+{
+    let mut most = 0;
+    for stream in inputs {
+        let emitter = emitters[usize::from(*stream)];
+        most = most.max(ranks[usize::from(emitter)]);
+    }
+    most
+}
+
+/// The rank of a procedure, where those of the emitters of its inputs are known. A look at each input.
+fn next_rank(procedure: &Procedure, emitters: &[u16], ranks: &[u8; PROCEDURES]) -> u8
+    requires streams { AllByRecursion (λ s. s < length emitters.now) procedure.now.inputs }
+    requires procedures { (s : ℕ) → s < length emitters.now → get_or emitters.now s 0 < 64 }
+    requires small { (q : ℕ) → get_or ranks.now q 0 ≤ 64 }
+    ensures { result ≡ rank_by ranks.now emitters.now procedure.now }
+{
+    if procedure.kind.is_border() {
+        return 0;
+    }
+    1 + greatest(procedure.inputs.as_slice(), emitters, ranks)
+}
+
+/// The ranks with paths of one procedure more counted. A look at each input of each procedure.
+fn next_ranks(
+    catalog: &Catalog,
+    emitters: &[u16; STREAMS],
+    ranks: &[u8; PROCEDURES],
+) -> [u8; PROCEDURES]
+    requires accepted { Accepted catalog.now }
+    requires emitters { AreEmitters catalog.now emitters.now }
+    requires there { (s : ℕ) → get_or emitters.now s 0 < 64 }
+    requires small { (q : ℕ) → get_or ranks.now q 0 ≤ 64 }
+    ensures { (depth : ℕ) → AreCounted catalog.now depth ranks.now → AreCounted catalog.now (depth + 1) result }
+{
+    let mut by_number = zeros();
+    for (number, procedure) in catalog.procedures.as_slice().iter().enumerate() {
+        by_number[number] = next_rank(procedure, emitters, ranks);
+    }
+    by_number
+}
+
+impl Ranks {
+    /// The ranks of a catalogue's procedures.
+    ///
+    /// No path has more procedures than the catalogue, so that many rounds are enough. A look at each step of the
+    /// catalogue for each stream, and in each round one at each input of each procedure. Takes no memory.
+    pub fn of(catalog: &Catalog) -> Ranks
+        requires { Accepted catalog.now }
+        ensures { AreRanks catalog.now result }
+    {
+        let emitters = emitters(catalog);
+        let mut by_number = zeros();
+        for round in 0..catalog.procedures.len() {
+            by_number = next_ranks(catalog, &emitters, &by_number);
+        }
+        Ranks { by_number }
+    }
+
+    /// The rank of a procedure. Constant.
+    pub fn of_procedure(&self, procedure: u16) -> u8
+        requires { procedure < 64 }
+        ensures { result ≡ get_or self.now procedure 0 }
+    {
+        self.by_number[usize::from(procedure)]
+    }
+}

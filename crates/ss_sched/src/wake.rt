@@ -1,0 +1,90 @@
+//! Who has to be woken after an execution.
+
+ghost use Rattle.std.specs.Prelude.{◌≡◌, ◌<◌, ◌↔◌, ℕ, true, IsTrue};
+ghost use Rattle.std.specs.Int.{IsBitSet};
+ghost use Rattle.std.specs.List.{AllByRecursion, list_any};
+ghost use Rattle.ss_model.specs.Accepted.{Accepted};
+ghost use Rattle.ss_model.specs.Database.{fits_entry, emits_to, takes_stream};
+ghost use Rattle.ss_model.specs.Wakes.{wakes};
+ghost use Rattle.ss_sched.specs.Wakes.{may_append};
+
+use ss_model::catalog::{Catalog, Procedure, Step};
+use ss_model::entry::Entry;
+use ss_value::sets::ProcSet;
+
+/// The set of one stream.
+fn just(stream: u16) -> ProcSet
+    requires { stream < 64 }
+    ensures { (s : ℕ) → IsBitSet result s ↔ (s ≡ stream) }
+{
+    let mut streams = ProcSet::empty();
+    streams.insert(stream as u8);
+    streams
+}
+
+/// The streams to which these steps emit. A look at each step.
+fn body_outputs(body: &[Step]) -> ProcSet
+    requires { (s : ℕ) → list_any (emits_to s) body.now ≡ true → s < 64 }
+    ensures { (s : ℕ) → IsBitSet result s ↔ (list_any (emits_to s) body.now ≡ true) }
+{
+    let mut streams = ProcSet::empty();
+    for step in body {
+        if let Step::Emit { stream, .. } = step {
+            streams.insert(*stream as u8);
+        }
+    }
+    streams
+}
+
+/// The streams to which an entry may append a batch. Of a step a look at each step of its body.
+fn entry_outputs(catalog: &Catalog, entry: &Entry) -> ProcSet
+    requires accepted { Accepted catalog.now }
+    requires fits { fits_entry catalog.now entry.now ≡ true }
+    ensures { (s : ℕ) → IsBitSet result s ↔ (may_append catalog.now entry.now s ≡ true) }
+{
+    match entry {
+        Entry::Call { .. } => ProcSet::empty(),
+        Entry::Push { stream, .. } => just(*stream),
+        Entry::Step { procedure, .. } => {
+            let Some(found) = catalog.procedures.get(usize::from(*procedure)) else {
+                unreachable!()
+            };
+            body_outputs(found.body.as_slice())
+        }
+    }
+}
+
+/// Whether a procedure takes one of these streams. A look at each input.
+fn takes_any(procedure: &Procedure, streams: &ProcSet) -> bool
+    requires { AllByRecursion (λ s. s < 64) procedure.now.inputs }
+    ensures { IsTrue result ↔ ((s : ℕ) × IsBitSet streams.now s × (takes_stream s procedure.now ≡ true)) }
+{
+    for input in procedure.inputs.as_slice() {
+        if streams.has(*input as u8) {
+            return true;
+        }
+    }
+    false
+}
+
+/// The procedures that an entry may make ready: each consumer of a stream to which it appends, and for a push, accepted
+/// or refused, the border procedure of its stream.
+///
+/// A look at each input of each procedure, and for a step one at each step of its body. Takes no memory.
+///
+/// Source: the partition-engine triggers of S-Store, by which a procedure's output sets off the one behind it (Meehan
+/// et al., PVLDB 8, 2015, section 3.2).
+pub fn wake_list(catalog: &Catalog, entry: &Entry) -> ProcSet
+    requires accepted { Accepted catalog.now }
+    requires fits { fits_entry catalog.now entry.now ≡ true }
+    ensures { (q : ℕ) → IsBitSet result q ↔ (wakes catalog.now entry.now q ≡ true) }
+{
+    let streams = entry_outputs(catalog, entry);
+    let mut woken = ProcSet::empty();
+    for (number, procedure) in catalog.procedures.as_slice().iter().enumerate() {
+        if takes_any(procedure, &streams) {
+            woken.insert(number as u8);
+        }
+    }
+    woken
+}

@@ -1,0 +1,105 @@
+//! The sources of pushes, with the numbers that their next pushes have to carry.
+
+ghost use Rattle.std.specs.Prelude.{◌≡◌, List, ℕ, IfOk, OnOk, OnErr, IsSome, replicate};
+ghost use Rattle.std.specs.FinMap as finite;
+ghost use Rattle.ss_shard.specs.Sources.{number_of, push_outcome};
+
+use ss_model::entry::Outcome;
+use ss_value::NoMemory;
+use ss_value::seq::Seq;
+use ss_value::text::Name;
+use std::alloc::Global;
+use std::collections::BTreeMap;
+use std::marker::Model;
+
+/// The sources of a stream, by the bytes of their names, each with the number that its next push has to carry.
+///
+/// A source without a place has the number 0, as one that never pushed. Contracts see a finite map. A look-up is
+/// logarithmic in the number of sources.
+#[derive(Drop)]
+pub struct Sources {
+    numbers: BTreeMap<Vec<u8>, u64>,
+}
+
+impl Model for Sources {
+    ghost use Rattle.std.specs.Prelude.{map};
+    ghost use Rattle.std.specs.FinMap.{from_entries};
+    ghost use Rattle.ss_model.specs.Database.{NextNumbers};
+    ghost use Rattle.ss_shard.specs.Sources.{coded_numbers};
+
+    ghost Value = { NextNumbers };
+
+    ghost coded = { coded_numbers };
+
+    ghost view = { λ s. from_entries (map (λ e. (e.0.items, e.1)) s.numbers.entries) };
+}
+
+impl Sources {
+    /// No source has a place yet. Takes no memory.
+    pub fn new(alloc: Global) -> Sources
+        ensures { result ≡ finite.empty }
+    {
+        Sources {
+            numbers: BTreeMap::new(alloc),
+        }
+    }
+
+    /// The number that the next push of a source has to carry. Logarithmic; takes no memory.
+    pub fn next(&self, source: &Name) -> u64
+        ensures { result ≡ number_of self.now source.now }
+    {
+        self.numbers.get(source.as_bytes()).copied().unwrap_or(0)
+    }
+
+    /// Gives a source its place, with the number 0 where it has none yet: no number changes. Logarithmic, and a copy of the
+    /// name; fails only for want of memory.
+    pub fn add(&mut self, alloc: Global, source: &Name) -> Result<(), NoMemory>
+        ensures same { (name : List ℕ) → number_of self.new name ≡ number_of self.old name }
+        ensures stands { OnOk result (IsSome (finite.get self.new source.now)) }
+    {
+        if self.numbers.contains_key(source.as_bytes()) {
+            return Ok(());
+        }
+        let name = Vec::from_slice(alloc, source.as_bytes())?;
+        self.numbers.insert(name, 0)?;
+        Ok(())
+    }
+
+    /// Gives a source that has its place this number. Logarithmic; takes no memory.
+    pub fn set(&mut self, source: &Name, next: u64)
+        requires { IsSome (finite.get self.old source.now) }
+        ensures { self.new ≡ finite.insert self.old source.now next }
+    {
+        let Some(number) = self.numbers.get_mut(source.as_bytes()) else {
+            unreachable!()
+        };
+        *number = next;
+    }
+}
+
+/// No sources of so many streams.
+pub fn no_sources(alloc: Global, count: usize) -> Result<Seq<Sources>, NoMemory>
+    ensures { IfOk result (λ made. made ≡ replicate count finite.empty) }
+{
+    let mut made = Seq::new(alloc);
+    for _ in 0..count {
+        made.push(Sources::new(alloc))?;
+    }
+    Ok(made)
+}
+
+/// What a push of this number comes to where the next one is that: done, a duplicate, or behind a gap. Constant.
+///
+/// Source: batches of S-Store come in the order of their numbers, each once (Meehan et al., PVLDB 8, 2015, section 2.2).
+pub fn push_outcome(alloc: Global, seq: u64, next: u64) -> Outcome
+    ensures { result ≡ push_outcome seq next }
+{
+    if seq == next {
+        return Outcome::Done(Seq::new(alloc));
+    }
+    if seq < next {
+        Outcome::Duplicate(next)
+    } else {
+        Outcome::Gap(next)
+    }
+}

@@ -1,0 +1,67 @@
+-- Streams that are made again from what is kept of them.
+use Rattle.std.proofs.Common.{◌≡◌, ◌≤◌, ◌<◌, ◌+◌, ◌^◌, ◌∙◌, ℕ, zero, suc, min, List, [], ◌∷◌, ◌++◌, Some, map, length, get_or, set, slice_get, arith, ap, sym, subst, refl}
+use Rattle.std.proofs.lemmas.List.{get_or-set_other, length-map, map-append}
+use Rattle.std.proofs.lemmas.List.FromFn.{map-range_with_len_more}
+use Rattle.std.proofs.lemmas.Option.{get_or_from_slice_get}
+use Rattle.std.specs.List.{AllByRecursion, range_with_len}
+use Rattle.ss_value.specs.Rows.{Rows}
+use Rattle.ss_stream.specs.declared.cursor.Cursor.{Cursor}
+use Rattle.ss_stream.specs.Pending.{CanResume, IsPending, Pending, ReservedStream, least_cursor, least_passed, resumed}
+use Rattle.ss_stream.specs.Streams.{CanResumeAll, cursors_at, resumed_streams}
+use Rattle.ss_stream.proofs.Least.{least-min, within-more}
+use Rattle.ss_stream.proofs.Opening.{same_maps}
+
+-- the least of some cursors, counted from a number that none is above
+pub least-of_some : (n : ℕ) (cs : List Cursor) → 0 < length cs → AllByRecursion (λ c. c.passed ≤ n) cs → least_passed n cs ≡ least_cursor cs
+least-of_some n [] some within = absurd (omega arith)
+least-of_some n (c ∷ cs) some within =
+    let le : c.passed ≤ n = within.0 in
+    let e : min n c.passed ≡ c.passed = omega arith in
+    sym (least-min n c.passed cs) ∙ ap (λ k. least_passed k cs) e
+
+pub resumed-pending : (batches : List Rows) (cursors : List Cursor) → CanResume batches cursors → IsPending (resumed batches cursors)
+resumed-pending batches cursors ok = record {
+  within = ok.within;
+  least = sym (least-of_some (least_cursor cursors + length batches) cursors ok.some ok.within);
+  small = ok.few;
+}
+
+pub least-from_far : (n : ℕ) (batches : List Rows) (cursors : List Cursor) → CanResume batches cursors → 2 ^ 62 ≤ n → least_passed n cursors ≡ least_cursor cursors
+least-from_far n batches cursors ok far = least-of_some n cursors ok.some (within-more (least_cursor cursors + length batches) n cursors (let h = ok.few in omega arith) ok.within)
+
+-- ---- all streams
+
+-- what is taken out at a place that has not been reached before
+pub taken_out : {A : Type 0} (now was : List A) (i : ℕ) (d x : A) → slice_get now i ≡ Some x → get_or now i d ≡ get_or was i d → x ≡ get_or was i d
+taken_out now was i d x is same = sym (get_or_from_slice_get now i x d is) ∙ same
+
+-- behind that place nothing has changed
+pub rest_stays : {A : Type 0} (old new was : List A) (i : ℕ) (d x : A) → new ≡ set old i x → ((s : ℕ) → i ≤ s → get_or old s d ≡ get_or was s d) → (s : ℕ) → i + 1 ≤ s → get_or new s d ≡ get_or was s d
+rest_stays old new was i d x is same s le = ap (λ xs. get_or xs s d) is ∙ get_or-set_other old i s x d (λ e. let h : s ≡ i = e in absurd (omega arith)) ∙ same s (omega arith)
+
+-- a stream more
+pub made_more : (xs ys : List ReservedStream) (x : ReservedStream) (f : ℕ → Pending) (n : ℕ) → ys ≡ xs ++ x ∷ [] → x.pending ≡ f n → map (λ s. s.pending) xs ≡ map f (range_with_len 0 n)
+    → map (λ s. s.pending) ys ≡ map f (range_with_len 0 (n + 1))
+made_more xs ys x f n is p so_far =
+    ap (map (λ (s : ReservedStream). s.pending)) is ∙ map-append (λ (s : ReservedStream). s.pending) xs (x ∷ [])
+    ∙ ap (λ (zs : List Pending). zs ++ x.pending ∷ []) so_far ∙ ap (λ (z : Pending). map f (range_with_len 0 n) ++ z ∷ []) p ∙ sym (map-range_with_len_more f 0 n n (omega arith))
+
+cursors_of_list : (counts : List ℕ) (consumers : List (List ℕ)) (s : ℕ) → get_or (map (cursors_at counts) consumers) s [] ≡ cursors_at counts (get_or consumers s [])
+cursors_of_list counts [] s = refl
+cursors_of_list counts (q ∷ qs) zero = refl
+cursors_of_list counts (q ∷ qs) (suc s) = cursors_of_list counts qs s
+
+-- the lists of cursors can be put with the kept batches, and make the streams
+pub lists_can : (counts : List ℕ) (consumers : List (List ℕ)) (kept : List (List Rows)) (lists : List (List Cursor)) → CanResumeAll counts consumers kept → lists ≡ map (cursors_at counts) consumers
+    → (s : ℕ) → s < length lists → CanResume (get_or kept s []) (get_or lists s [])
+lists_can counts consumers kept lists can is s lt =
+    let long : length lists ≡ length consumers = ap length is ∙ length-map consumers (cursors_at counts) in
+    subst (λ (cs : List Cursor). CanResume (get_or kept s []) cs) (sym (ap (λ (ls : List (List Cursor)). get_or ls s []) is ∙ cursors_of_list counts consumers s)) (can.each s (omega arith))
+
+pub lists_make : (counts : List ℕ) (consumers : List (List ℕ)) (kept : List (List Rows)) (lists : List (List Cursor)) → lists ≡ map (cursors_at counts) consumers
+    → map (λ s. resumed (get_or kept s []) (get_or lists s [])) (range_with_len 0 (length lists)) ≡ resumed_streams counts consumers kept
+lists_make counts consumers kept lists is =
+    let long : length lists ≡ length consumers = ap length is ∙ length-map consumers (cursors_at counts) in
+    ap (λ n. map (λ s. resumed (get_or kept s []) (get_or lists s [])) (range_with_len 0 n)) long
+    ∙ same_maps (λ s. resumed (get_or kept s []) (get_or lists s [])) (λ s. resumed (get_or kept s []) (cursors_at counts (get_or consumers s []))) (range_with_len 0 (length consumers))
+    (λ s. ap (resumed (get_or kept s [])) (ap (λ (ls : List (List Cursor)). get_or ls s []) is ∙ cursors_of_list counts consumers s))

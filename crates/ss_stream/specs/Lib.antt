@@ -1,0 +1,3 @@
+pub mod Pending
+pub mod Streams
+pub mod OfDatabase

@@ -1,0 +1,182 @@
+//! The batches of one stream that some consumer has still to take.
+
+ghost use Rattle.std.specs.Prelude.{◌≡◌, ◌≤◌, ◌<◌, ◌+◌, ◌-◌, ◌^◌, ◌∷◌, ◌++◌, map, drop, length, [], IsOk, IfOk, OnOk, IfErr, OnErr};
+ghost use Rattle.std.specs.Option.{option_copied};
+ghost use Rattle.std.specs.List.{AllByRecursion};
+ghost use Rattle.std.specs.VecDeque.{deque_capacity};
+ghost use Rattle.ss_stream.specs.Pending.{emitted_count, least_passed, pending_at_first, pending_from, with_batch, moved_cursor, passed_by, pending_batch, HasNext, CanResume, resumed};
+
+use crate::cursor::Cursor;
+use ss_value::NoMemory;
+use ss_value::seq::Seq;
+use ss_value::value::Rows;
+use std::alloc::Global;
+use std::collections::VecDeque;
+use std::marker::Model;
+
+/// The batches of a stream from the first one that some consumer has still to take.
+///
+/// Contracts see that first number, the batches from there on, the cursors, and the room: how many emits can't fail.
+#[derive(Drop)]
+pub struct Stream {
+    first: u64,
+    batches: VecDeque<Rows>,
+    cursors: Vec<Cursor>,
+}
+
+impl Model for Stream {
+    ghost use Rattle.ss_stream.specs.Pending.{ReservedStream, coded_reserved};
+
+    ghost Value = { ReservedStream };
+
+    ghost coded = { coded_reserved };
+
+    ghost use Rattle.std.specs.Prelude.{◌-◌};
+    ghost use Rattle.std.specs.VecDeque.{deque_capacity, deque_len};
+    ghost use Rattle.ss_stream.specs.Pending.{IsPending, reserved_stream};
+
+    ghost view = { λ s. reserved_stream s.first s.batches.items s.cursors.items (deque_capacity s.batches - deque_len s.batches) };
+
+    ghost invariant = { λ s. IsPending (record { first = s.first; batches = s.batches.items; cursors = s.cursors.items }) };
+}
+
+/// The least of these cursors, and of the number of batches ever. A look at each cursor.
+fn least_passed(ever: u64, cursors: &[Cursor]) -> u64
+    ensures { result ≡ least_passed ever cursors.now }
+{
+    let mut least = ever;
+    for cursor in cursors {
+        least = least.min(cursor.passed);
+    }
+    least
+}
+
+/// A cursor after a batch that this consumer passed.
+fn moved(cursor: Cursor, consumer: u16) -> Cursor
+    requires { cursor.consumer ≡ consumer → cursor.passed < 2 ^ 62 }
+    ensures { result ≡ moved_cursor consumer cursor }
+{
+    if cursor.consumer != consumer {
+        return cursor;
+    }
+    Cursor {
+        consumer: cursor.consumer,
+        passed: cursor.passed + 1,
+    }
+}
+
+/// Moves the cursors of this consumer by one further. A look at each cursor.
+fn move_cursors(cursors: &mut Vec<Cursor>, consumer: u16)
+    requires { AllByRecursion (λ c. c.consumer ≡ consumer → c.passed < 2 ^ 62) cursors.old.items }
+    ensures { cursors.new.items ≡ map (moved_cursor consumer) cursors.old.items }
+{
+    for cursor in cursors.iter_mut() {
+        *cursor = moved(*cursor, consumer);
+    }
+}
+
+/// Gives up the batches before this number, the oldest first. Constant for each, and takes no memory.
+fn give_up(first: u64, batches: &mut VecDeque<Rows>, least: u64)
+    requires rises { first ≤ least }
+    requires within { least ≤ first + length batches.old.items }
+    ensures items { batches.new.items ≡ drop (least - first) batches.old.items }
+    ensures room { deque_capacity batches.new ≡ deque_capacity batches.old }
+{
+    let mut at = first;
+    while at < least {
+        batches.pop_front();
+        at += 1;
+    }
+}
+
+impl Stream {
+    /// The stream of these consumers before its first batch. Takes no memory.
+    pub fn new(alloc: Global, cursors: Vec<Cursor>) -> Stream
+        requires { AllByRecursion (λ c. c.passed ≡ 0) cursors.items }
+        ensures { result.pending ≡ record { first = 0; batches = []; cursors = cursors.items } }
+    {
+        Stream {
+            first: 0,
+            batches: VecDeque::new(alloc),
+            cursors,
+        }
+    }
+
+    /// The stream with these cursors of which these batches are kept, from the least cursor on. Takes no memory.
+    pub fn resume(cursors: Seq<Cursor>, kept: Seq<Rows>) -> Stream
+        requires { CanResume kept cursors }
+        ensures { result.pending ≡ resumed kept cursors }
+    {
+        Stream {
+            first: least_passed(u64::MAX, cursors.as_slice()),
+            batches: VecDeque::from(kept.into_vec()),
+            cursors: cursors.into_vec(),
+        }
+    }
+
+    /// How many batches were ever emitted.
+    pub fn emitted(&self) -> u64
+        ensures { result ≡ emitted_count self.now.pending }
+    {
+        self.first + self.batches.len() as u64
+    }
+
+    /// Makes room for one emit.
+    pub fn reserve(&mut self) -> Result<(), NoMemory>
+        ensures pending { self.new.pending ≡ self.old.pending }
+        ensures room { self.old.spare ≤ self.new.spare }
+        ensures ok { OnOk result (1 ≤ self.new.spare) }
+    {
+        match self.batches.reserve(1) {
+            Ok(()) => Ok(()),
+            Err(_) => Err(NoMemory),
+        }
+    }
+
+    /// Puts a batch behind the others, and answers its number.
+    pub fn emit(&mut self, rows: Rows) -> Result<u64, (NoMemory, Rows)>
+        requires { emitted_count self.old.pending < 2 ^ 62 }
+        ensures number { IfOk result (λ r. r ≡ emitted_count self.old.pending) }
+        ensures joined { OnOk result (self.new.pending ≡ with_batch self.old.pending rows) }
+        ensures kept { IfErr result (λ e. (self.new.pending ≡ self.old.pending) × (e.1 ≡ rows)) }
+        ensures room { self.old.spare ≤ self.new.spare + 1 }
+        ensures free { 1 ≤ self.old.spare → IsOk result }
+    {
+        let number = self.first + self.batches.len() as u64;
+        if self.cursors.is_empty() {
+            // nobody has to take it
+            self.first = number + 1;
+            return Ok(number);
+        }
+        match self.batches.push_back(rows) {
+            Ok(()) => Ok(number),
+            Err(refused) => Err((NoMemory, refused.value)),
+        }
+    }
+
+    /// The batch of a number, and None exactly where all consumers passed it or it isn't emitted.
+    pub fn batch(&self, r: u64) -> Option<&Rows>
+        ensures { option_copied result ≡ pending_batch self.now.pending r }
+    {
+        if r < self.first {
+            return None;
+        }
+        let Ok(at) = usize::try_from(r - self.first) else {
+            return None;
+        };
+        self.batches.get(at)
+    }
+
+    /// Moves a consumer by one batch further, and gives up what all consumers have then passed.
+    pub fn pass(&mut self, consumer: u16)
+        requires { HasNext self.old.pending consumer }
+        ensures passed { self.new.pending ≡ passed_by self.old.pending consumer }
+        ensures room { self.old.spare ≤ self.new.spare }
+    {
+        let ever = self.first + self.batches.len() as u64;
+        move_cursors(&mut self.cursors, consumer);
+        let least = least_passed(ever, self.cursors.as_slice());
+        give_up(self.first, &mut self.batches, least);
+        self.first = least;
+    }
+}
