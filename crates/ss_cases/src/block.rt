@@ -6,7 +6,7 @@ use crate::wrong::Wrong;
 use crate::{examples, executions, inputs, plans, queries, requests, script, sql};
 use std::alloc::Global;
 
-/// What the lines of a block are. The modules that run them say what each means.
+/// The kind of a block. The module that runs it says what its lines mean.
 #[derive(Clone, Copy, Debug, PartialEq, Eq, Drop)]
 pub enum BlockKind {
     /// A text that other blocks name.
@@ -32,7 +32,7 @@ pub enum BlockKind {
 }
 
 impl BlockKind {
-    /// The kind with this word.
+    /// The kind with this word, if there is one.
     pub fn of(word: &str) -> Option<BlockKind> {
         match word {
             "base" => Some(BlockKind::Base),
@@ -58,7 +58,7 @@ impl BlockKind {
         }
     }
 
-    /// Whether each line of the block is a case; else the block is one.
+    /// Whether each line of the block is a case. Else the whole block is one, or it is a base.
     pub fn has_rows(self) -> bool {
         !matches!(
             self,
@@ -70,7 +70,7 @@ impl BlockKind {
         )
     }
 
-    /// Whether the block's head names a base.
+    /// Whether the first line of the block names a base.
     fn has_base(self) -> bool {
         !matches!(
             self,
@@ -83,15 +83,15 @@ impl BlockKind {
 #[derive(Drop)]
 pub struct Block {
     pub kind: BlockKind,
-    /// What stands behind the kind's word.
+    /// The rest of the first line, behind the kind's word.
     pub name: String,
     /// The number of the line with that word, from 1 on.
     pub number: u64,
     pub lines: Vec<String>,
 }
 
-/// The text that a block's rows are put into; empty where its kind has none. Of `parse` and `type` it is the form of
-/// their texts.
+/// The text of the base that a block names; empty where its kind has none. Of `parse` and `type` it is the form of their
+/// texts.
 pub fn base_of(alloc: Global, bases: &Bases, block: &Block) -> Result<String, Wrong> {
     if matches!(block.kind, BlockKind::Parse | BlockKind::Type) {
         return Ok(String::from_str(alloc, block.name.as_str())?);
@@ -116,7 +116,7 @@ pub fn column(alloc: Global, row: &str) -> Result<(&str, &str), Wrong> {
     }
 }
 
-/// Runs the case of a row. The folder is that of the case file, with its slash.
+/// Runs the case of a row. `folder` is that of the case file, with its slash.
 pub fn run_row(
     rt: &HostRuntime,
     folder: &str,

@@ -1,4 +1,4 @@
-//! Executions of calls, pushes and steps, one behind the other on one store.
+//! Executions of calls, pushes and steps, one after another on one database.
 //!
 //! ```text
 //! executions BASE   lines of executions, each with what it comes to
@@ -15,8 +15,8 @@
 ghost use Rattle.std.specs.Prelude.{◌≡◌, true, IfOk, slice_get};
 ghost use Rattle.ss_model.specs.Accepted.{Accepted};
 ghost use Rattle.ss_model.specs.Database.{fits_entry, has_step, is_streaming};
-ghost use Rattle.ss_shard.specs.HeldShard.{HeldShard};
-ghost use Rattle.ss_shard.specs.Shards.{IsSettled};
+ghost use Rattle.ss_shard.specs.ShardValue.{ShardValue};
+ghost use Rattle.ss_shard.specs.Shards.{IsCommitted};
 ghost use Rattle.ss_proc.specs.Entries.{IsNext, IsCountable};
 
 use crate::marks::text_of;
@@ -24,27 +24,21 @@ use crate::requests::catalog_of;
 use crate::script::outcome_of;
 use crate::wrong::Wrong;
 use serde_json::Value as Json;
-use ss_catalog_requests::request::request_of;
-use ss_model::catalog::{Catalog, Kind};
-use ss_model::entry::{Asked, Entry};
-use ss_plan::batches::Batches;
-use ss_plan::inputs::Inputs;
-use ss_proc::ends::keep;
-use ss_proc::runner::{Executed, PlainRunner, Runner};
-use ss_report::values::{outcome_json, rows_json};
-use ss_shard::database::opening;
-use ss_shard::shard::Shard;
-use ss_value::seq::Seq;
-use ss_value::text::text_of as value_text;
-use ss_value::value::{Row, Rows, Value};
+use ss_catalog_requests::request_of;
+use ss_model::{Asked, Catalog, Entry, Kind};
+use ss_plan::{Batches, Inputs};
+use ss_proc::{Executed, PlainRunner, Runner, commit};
+use ss_report::{outcome_json, rows_json};
+use ss_shard::{Shard, opening};
+use ss_value::{Row, Rows, Seq, Value, text_of as value_text};
 use std::alloc::Global;
 
-/// Batches that a step could have taken are numbered below this: 2^60.
+/// The batch of a step is numbered below this, 2^60: a list has no more entries.
 const BATCHES: u64 = 1_152_921_504_606_846_976;
 
 /// An execution that is asked for: its entry, and the batch of each input.
 #[derive(Drop)]
-struct Wanted {
+struct AskedExecution {
     entry: Entry,
     batches: Seq<Rows>,
 }
@@ -60,9 +54,9 @@ fn json_of(alloc: Global, text: &str) -> Result<Json, Wrong> {
 // ---- what clients ask for
 
 /// The entry of the request that stands in a JSON text.
-fn asked_of(alloc: Global, catalog: &Catalog, text: &str) -> Result<Wanted, Wrong>
-    ensures fits { IfOk result (λ w. fits_entry catalog.now w.entry ≡ true) }
-    ensures asked { IfOk result (λ w. (s : HeldShard) → IsNext w.entry s × IsCountable w.entry) }
+fn asked_of(alloc: Global, catalog: &Catalog, text: &str) -> Result<AskedExecution, Wrong>
+    ensures ok { IfOk result (λ w. fits_entry catalog.now w.entry ≡ true) }
+    ensures asked { IfOk result (λ w. (s : ShardValue) → IsNext w.entry s × IsCountable w.entry) }
 {
     let value = json_of(alloc, text)?;
     let Ok(request) = request_of(alloc, catalog, 1, &value) else {
@@ -91,25 +85,30 @@ fn asked_of(alloc: Global, catalog: &Catalog, text: &str) -> Result<Wanted, Wron
             rows,
         },
     };
-    Ok(Wanted {
+    Ok(AskedExecution {
         entry,
         batches: Seq::new(alloc),
     })
 }
 
 /// The call of a procedure with these arguments.
-fn call_of(alloc: Global, catalog: &Catalog, name: &str, args: &str) -> Result<Wanted, Wrong>
+fn call_of(
+    alloc: Global,
+    catalog: &Catalog,
+    name: &str,
+    args: &str,
+) -> Result<AskedExecution, Wrong>
     ensures fits { IfOk result (λ w. fits_entry catalog.now w.entry ≡ true) }
-    ensures asked { IfOk result (λ w. (s : HeldShard) → IsNext w.entry s × IsCountable w.entry) }
+    ensures asked { IfOk result (λ w. (s : ShardValue) → IsNext w.entry s × IsCountable w.entry) }
 {
     let text = format!(in alloc; "{{\"call\":\"{name}\",\"args\":{args}}}")?;
     asked_of(alloc, catalog, text.as_str())
 }
 
 /// The push of a stream, a source, a number and rows.
-fn push_of(alloc: Global, catalog: &Catalog, given: &str) -> Result<Wanted, Wrong>
-    ensures fits { IfOk result (λ w. fits_entry catalog.now w.entry ≡ true) }
-    ensures asked { IfOk result (λ w. (s : HeldShard) → IsNext w.entry s × IsCountable w.entry) }
+fn push_of(alloc: Global, catalog: &Catalog, given: &str) -> Result<AskedExecution, Wrong>
+    ensures ok { IfOk result (λ w. fits_entry catalog.now w.entry ≡ true) }
+    ensures asked { IfOk result (λ w. (s : ShardValue) → IsNext w.entry s × IsCountable w.entry) }
 {
     let (stream, given) = given.split_once(' ').unwrap_or((given, ""));
     let (source, given) = given.split_once(' ').unwrap_or((given, ""));
@@ -189,7 +188,7 @@ fn is_streaming(kind: Kind) -> bool
     }
 }
 
-/// Whether a procedure takes batches, and is there.
+/// Whether a procedure is there and takes batches.
 fn has_step(catalog: &Catalog, procedure: u16) -> bool
     ensures { result ≡ has_step (slice_get catalog.now.procedures procedure) }
 {
@@ -206,9 +205,9 @@ fn step_of(
     shard: &Shard,
     name: &str,
     batches: &str,
-) -> Result<Wanted, Wrong>
+) -> Result<AskedExecution, Wrong>
     ensures fits { IfOk result (λ w. fits_entry catalog.now w.entry ≡ true) }
-    ensures step { IfOk result (λ w. IsNext w.entry shard.now × IsCountable w.entry) }
+    ensures ok { IfOk result (λ w. IsNext w.entry shard.now × IsCountable w.entry) }
 {
     let value = json_of(alloc, batches)?;
     let batches = batches_of(alloc, &value)?;
@@ -219,14 +218,19 @@ fn step_of(
     if !has_step(catalog, procedure) || batch >= BATCHES {
         return Err(Wrong::text(alloc, "no step"));
     }
-    Ok(Wanted {
+    Ok(AskedExecution {
         entry: Entry::Step { procedure, batch },
         batches,
     })
 }
 
 /// The execution that a line asks for.
-fn wanted_of(alloc: Global, catalog: &Catalog, shard: &Shard, asked: &str) -> Result<Wanted, Wrong>
+fn execution_of(
+    alloc: Global,
+    catalog: &Catalog,
+    shard: &Shard,
+    asked: &str,
+) -> Result<AskedExecution, Wrong>
     ensures fits { IfOk result (λ w. fits_entry catalog.now w.entry ≡ true) }
     ensures next { IfOk result (λ w. IsNext w.entry shard.now × IsCountable w.entry) }
 {
@@ -241,7 +245,7 @@ fn wanted_of(alloc: Global, catalog: &Catalog, shard: &Shard, asked: &str) -> Re
     step_of(alloc, catalog, shard, name, batches)
 }
 
-// ---- what comes of them
+// ---- what executions come to
 
 /// The words of what an execution came to.
 fn words_of(alloc: Global, catalog: &Catalog, executed: &Executed) -> Result<String, Wrong> {
@@ -269,19 +273,20 @@ fn lent<'a>(alloc: Global, batches: &'a [Rows]) -> Result<Batches<'a>, Wrong> {
     Ok(lent)
 }
 
-/// Runs an execution and keeps it, and tells what it came to.
+/// Runs an execution and commits it. Answers the words of what it came to.
 fn words_after(
     alloc: Global,
     catalog: &Catalog,
     shard: &mut Shard,
-    wanted: &Wanted,
+    wanted: &AskedExecution,
 ) -> Result<String, Wrong>
     requires accepted { Accepted catalog.now }
     requires fits { fits_entry catalog.now wanted.now.entry ≡ true }
     requires next { IsNext wanted.now.entry shard.old × IsCountable wanted.now.entry }
-    requires settled { IsSettled catalog.now shard.old }
-    ensures { IsSettled catalog.now shard.new }
+    requires committed { IsCommitted catalog.now shard.old }
+    ensures { IsCommitted catalog.now shard.new }
 {
+    // Only a trigger is given inserted rows.
     let no_row = Seq::new(alloc);
     let batches = lent(alloc, wanted.batches.as_slice())?;
     let inputs = Inputs {
@@ -289,15 +294,15 @@ fn words_after(
         inserted: no_row.as_slice(),
     };
     let executed = PlainRunner.execute(alloc, catalog, shard, &inputs, &wanted.entry)?;
-    keep(shard, &wanted.entry, &executed.outcome);
+    commit(shard, &wanted.entry, &executed.outcome);
     words_of(alloc, catalog, &executed)
 }
 
 /// Runs the execution of a line and compares what it came to.
 fn check_line(alloc: Global, catalog: &Catalog, shard: &mut Shard, line: &str) -> Result<(), Wrong>
     requires accepted { Accepted catalog.now }
-    requires settled { IsSettled catalog.now shard.old }
-    ensures { IsSettled catalog.now shard.new }
+    requires committed { IsCommitted catalog.now shard.old }
+    ensures { IsCommitted catalog.now shard.new }
 {
     let Some((asked, want)) = line.split_once(" -> ") else {
         return Err(Wrong::text(alloc, "an execution without an outcome"));
@@ -306,7 +311,7 @@ fn check_line(alloc: Global, catalog: &Catalog, shard: &mut Shard, line: &str) -
     let outcome = outcome_of(alloc, outcome)?;
     let want = format!(in alloc; "{outcome}{emitted}")?;
     let asked = text_of(alloc, asked)?;
-    let wanted = wanted_of(alloc, catalog, shard, asked.as_str())?;
+    let wanted = execution_of(alloc, catalog, shard, asked.as_str())?;
     let came = words_after(alloc, catalog, shard, &wanted)?;
     if came.as_str() == want.as_str() {
         return Ok(());

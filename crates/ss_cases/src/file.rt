@@ -18,7 +18,7 @@
 //! Most kinds have rows: each line is a case, and its columns part at ` ~ `. The last column is the first line that
 //! the program writes, or `accepted` for a catalogue that is accepted, or, where it has a `␤`, all that is written.
 //! The status has to be the one that goes with what is written. The lines of a `base` are a text that the blocks
-//! behind it name, in later files too. The kinds are listed in `block`, and the modules that run them tell the
+//! behind it name, in later files too. The kinds are listed in `block`, and the modules that run them say the
 //! columns of each; `marks` has what stands for bytes that a line can't hold.
 
 use crate::bases::Bases;
@@ -27,7 +27,7 @@ use crate::wrong::{Wrong, reason_of};
 use std::alloc::Global;
 use std::{fs, io};
 
-/// How many cases ran, and how many of them, and of other parts, are wrong.
+/// How many cases ran, and how many of them, and of the other parts of files, are wrong.
 #[derive(Drop)]
 pub struct Count {
     pub cases: u64,
@@ -35,12 +35,12 @@ pub struct Count {
 }
 
 impl Count {
-    /// None.
+    /// No case.
     pub fn new() -> Count {
         Count { cases: 0, wrong: 0 }
     }
 
-    /// Adds those of another count.
+    /// Adds the cases of another count.
     pub fn add(&mut self, other: &Count) {
         self.cases = self.cases.saturating_add(other.cases);
         self.wrong = self.wrong.saturating_add(other.wrong);
@@ -70,7 +70,7 @@ impl<'a> Reader<'a> {
         println!(self.rt; "{name}:{number} {reason}")
     }
 
-    /// Reports a case that ran.
+    /// Counts a case that ran, and reports what is wrong with it.
     fn report_case(&mut self, number: u64, outcome: Result<(), Wrong>) -> io::Result<()> {
         self.count.cases = self.count.cases.saturating_add(1);
         self.report(number, outcome)
@@ -89,7 +89,7 @@ impl<'a> Reader<'a> {
         Ok(())
     }
 
-    /// Runs a block that is read whole.
+    /// Runs a block of which every line has been read.
     fn run_block(&mut self, block: &Block) -> io::Result<()> {
         let alloc = self.rt.alloc();
         if block.lines.is_empty() {
@@ -130,12 +130,13 @@ impl<'a> Reader<'a> {
                     self.run_block(block)?;
                     open = None;
                 }
-                None => match opened(alloc, line, number) {
+                None => match block_opening(alloc, line, number) {
                     Ok(block) => open = block,
                     Err(wrong) => self.report(number, Err(wrong))?,
                 },
             }
         }
+        // Behind the last line feed stands an empty line, which has closed the last block.
         if open.is_none() {
             return Ok(());
         }
@@ -143,8 +144,8 @@ impl<'a> Reader<'a> {
     }
 }
 
-/// The block that a line opens: none where it is empty or a comment.
-fn opened(alloc: Global, line: &str, number: u64) -> Result<Option<Block>, Wrong> {
+/// The block that a line opens; None where the line is empty or a comment.
+fn block_opening(alloc: Global, line: &str, number: u64) -> Result<Option<Block>, Wrong> {
     if line.is_empty() || line.starts_with('#') {
         return Ok(None);
     }
@@ -181,7 +182,7 @@ fn line_at(bytes: &[u8], at: usize) -> u64 {
     number
 }
 
-/// The text of a file. Where it has none, the line at which it can't be read, and why.
+/// The text of a file, or the line at which it can't be read, and why.
 fn text_in(rt: &HostRuntime, name: &str) -> Result<String, (u64, Wrong)> {
     let alloc = rt.alloc();
     let bytes = match fs::read(rt, name) {
@@ -210,6 +211,7 @@ pub fn run_file(rt: &HostRuntime, bases: &mut Bases, name: &str) -> io::Result<C
         Ok(text) => reader.run_lines(text.as_str())?,
         Err((number, wrong)) => reader.report(number, Err(wrong))?,
     }
+    // A file that runs nothing would pass without a word.
     if reader.count.cases == 0 {
         reader.report(0, Err(Wrong::text(rt.alloc(), "no case")))?;
     }

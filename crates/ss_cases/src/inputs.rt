@@ -8,7 +8,7 @@
 //! both BASE      FROM ~ TO ~ LINE ~ FROM ~ TO ~ LINE: each edit alone has its line, and both have that of the first
 //! ```
 
-use crate::bases::{edited, filled};
+use crate::bases::{edit_once, fill_first};
 use crate::block::column;
 use crate::run::check_run;
 use crate::wrong::Wrong;
@@ -23,7 +23,7 @@ pub fn check_input(alloc: Global, row: &str) -> Result<(), Wrong> {
 /// A row of `fill`.
 pub fn check_fill(alloc: Global, base: &str, row: &str) -> Result<(), Wrong> {
     let (piece, line) = column(alloc, row)?;
-    let input = filled(alloc, base, piece)?;
+    let input = fill_first(alloc, base, piece)?;
     check_run(alloc, input.as_str(), line)
 }
 
@@ -31,7 +31,7 @@ pub fn check_fill(alloc: Global, base: &str, row: &str) -> Result<(), Wrong> {
 pub fn check_edit(alloc: Global, base: &str, row: &str) -> Result<(), Wrong> {
     let (from, rest) = column(alloc, row)?;
     let (to, line) = column(alloc, rest)?;
-    let input = edited(alloc, base, from, to)?;
+    let input = edit_once(alloc, base, from, to)?;
     check_run(alloc, input.as_str(), line)
 }
 
@@ -42,9 +42,9 @@ pub fn check_both(alloc: Global, base: &str, row: &str) -> Result<(), Wrong> {
     let (line, rest) = column(alloc, rest)?;
     let (other_from, rest) = column(alloc, rest)?;
     let (other_to, other_line) = column(alloc, rest)?;
-    let first = edited(alloc, base, from, to)?;
-    let second = edited(alloc, base, other_from, other_to)?;
-    let both = edited(alloc, first.as_str(), other_from, other_to)?;
+    let first = edit_once(alloc, base, from, to)?;
+    let second = edit_once(alloc, base, other_from, other_to)?;
+    let both = edit_once(alloc, first.as_str(), other_from, other_to)?;
     check_run(alloc, first.as_str(), line)?;
     check_run(alloc, second.as_str(), other_line)?;
     check_run(alloc, both.as_str(), line)

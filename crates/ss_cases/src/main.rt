@@ -4,11 +4,13 @@
 //! of the output, its name and its number of cases, and the last line has the totals. A case that comes out
 //! differently, and a file or a block that can't be read, is reported before its file's line as `FILE:LINE`.
 //!
-//! - `file`: the form of a case file, and its blocks one behind the other
-//! - `block`: the kinds of blocks, and what runs each
-//! - `inputs`, `requests`, `examples`: what the blocks of each kind mean
+//! A file is read by `file` and `block`, and each kind of block has its meaning in one of the modules behind them:
+//!
+//! - `file`: the form of a case file, whose blocks run one after another
+//! - `block`: the kinds of blocks, and which module runs each
+//! - `inputs`, `requests`, `examples`: whole inputs, requests on a catalogue, and inputs in files of their own
 //! - `script`, `queries`: short forms of whole runs over tables, of queries and of bodies
-//! - `executions`: calls and steps by themselves, with the batches that they take
+//! - `executions`: calls, pushes and steps by themselves, with the batches that they take
 //! - `plans`: how the rows are found that a step looks for
 //! - `sql`: texts with their trees, which `parsed_trees` and `typed_trees` print, with `signs` for their operators;
 //!   `scopes` has the names that typed texts may use
@@ -41,7 +43,7 @@ use file::{Count, run_file};
 use std::process::ExitCode;
 use std::{env, io};
 
-/// Runs the files in their order. A base of one file is known in those behind it.
+/// Runs the files in the order of the command line. A base of one file is known in those behind it.
 fn run_files(rt: &HostRuntime) -> io::Result<Count> {
     let mut bases = Bases::new(rt.alloc());
     let mut total = Count::new();
@@ -63,6 +65,7 @@ fn main(rt: HostRuntime) -> ExitCode {
         Ok(total) if total.cases > 0 && total.wrong == 0 => ExitCode::from(0),
         Ok(_) => ExitCode::from(1),
         Err(error) => {
+            // Where this fails too, only the status is left to say so.
             let _printed = eprintln!(rt; "{error}");
             ExitCode::from(1)
         }

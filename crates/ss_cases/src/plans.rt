@@ -8,13 +8,13 @@
 //! STEP counts from 0 on, and `2.0` is the first step inside the third one. PLAN is `scan`, `key`, or `range` with the
 //! number of the index; a step that looks for no rows of one table, as an INSERT of values and a JOIN do, has `none`.
 
-use crate::bases::filled;
+use crate::bases::fill_first;
 use crate::block::column;
 use crate::requests::catalog_of;
 use crate::wrong::Wrong;
-use ss_model::catalog::{Catalog, Inner, Procedure, Step};
-use ss_plan::plan::{Plan, plan_of};
-use ss_sql_lex::typed::{Expr, Query, SourceId, Statement};
+use ss_model::{Catalog, Inner, Procedure, Step};
+use ss_plan::{Plan, plan_of};
+use ss_sql_lex::{Expr, Query, SourceId, Statement};
 use std::alloc::{AllocError, Global};
 
 /// The rows of one table that may pass a WHERE.
@@ -129,5 +129,5 @@ pub fn check_plan(alloc: Global, base: &str, row: &str) -> Result<(), Wrong> {
 /// A row of `planned`.
 pub fn check_planned(alloc: Global, base: &str, row: &str) -> Result<(), Wrong> {
     let (piece, rest) = column(alloc, row)?;
-    check_plan(alloc, filled(alloc, base, piece)?.as_str(), rest)
+    check_plan(alloc, fill_first(alloc, base, piece)?.as_str(), rest)
 }

@@ -13,7 +13,7 @@
 //! A step is a statement, `return QUERY`, or `abort CODE CONDITION`. The base of `bodies` is a catalogue with one
 //! request, and its `@` gets the steps. Outcomes are as in `script`. No text of these rows has a `"` or `\` in it.
 
-use crate::bases::filled;
+use crate::bases::fill_first;
 use crate::block::column;
 use crate::marks::bytes_of;
 use crate::run::{check_run, report_of, run_on};
@@ -52,15 +52,15 @@ pub fn check_query(alloc: Global, base: &str, row: &str) -> Result<(), Wrong> {
     let (given, rest) = column(alloc, row)?;
     let (query, outcome) = column(alloc, rest)?;
     let inserts = inserts_of(alloc, given)?;
-    let input = filled(alloc, base, inserts.as_str())?;
-    let input = filled(alloc, input.as_str(), query)?;
+    let input = fill_first(alloc, base, inserts.as_str())?;
+    let input = fill_first(alloc, input.as_str(), query)?;
     let outcome = outcome_of(alloc, outcome)?;
     let want = format!(in alloc; "[\"reply\",3,1,{outcome}]")?;
     let ended = run_on(alloc, bytes_of(alloc, input.as_str())?)?;
     check_replies(alloc, report_of(alloc, &ended)?, want.as_str())
 }
 
-/// Compares the first two lines of a report: that the rows were inserted, and what the query came to.
+/// Compares the first two lines of a report: the first says that the rows were inserted, the second what the query came to.
 fn check_replies(alloc: Global, written: &str, want: &str) -> Result<(), Wrong> {
     let mut lines = written.split('\n');
     let inserted = lines.next().unwrap_or("no line");
@@ -99,7 +99,7 @@ fn steps_of(alloc: Global, body: &str) -> Result<String, AllocError> {
 pub fn check_body(alloc: Global, base: &str, row: &str) -> Result<(), Wrong> {
     let (body, outcome) = column(alloc, row)?;
     let steps = steps_of(alloc, body)?;
-    let input = filled(alloc, base, steps.as_str())?;
+    let input = fill_first(alloc, base, steps.as_str())?;
     let outcome = outcome_of(alloc, outcome)?;
     let want = format!(in alloc; "[\"reply\",2,0,{outcome}]")?;
     check_run(alloc, input.as_str(), want.as_str())

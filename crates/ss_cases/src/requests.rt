@@ -13,8 +13,8 @@ use crate::marks::{bytes_of, text_of};
 use crate::run::{check_report, check_run, report_of, run_on};
 use crate::wrong::Wrong;
 use serde_json::Value as Json;
-use ss_catalog::read::read_catalog;
-use ss_model::catalog::Catalog;
+use ss_catalog::read_catalog;
+use ss_model::Catalog;
 use std::alloc::Global;
 
 /// The line between the requests of a block and its report.
@@ -45,7 +45,7 @@ pub fn check_block(alloc: Global, base: &str, lines: &[String]) -> Result<(), Wr
     check_report(alloc, written, bytes_of(alloc, report.as_str())?.as_slice())
 }
 
-/// The catalogue of a base, the marks in it taken for what they mean.
+/// The catalogue of a base, whose marks are taken for what they mean.
 pub fn catalog_of(alloc: Global, base: &str) -> Result<Catalog, Wrong>
     ensures { IfOk result Accepted }
 {

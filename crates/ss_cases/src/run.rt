@@ -1,11 +1,10 @@
-//! One run of the program over memory, and whether it answered as its case says.
+//! One run of the program on an input in memory, and whether it answered as its case says.
 
 use crate::marks::bytes_of;
 use crate::wrong::Wrong;
 use ss_lines::{MemorySink, MemorySource};
-use ss_top::status::Status;
-use ss_top::top::sstore;
-use ss_value::seq::Seq;
+use ss_top::{Status, sstore};
+use ss_value::Seq;
 use std::alloc::Global;
 
 /// The mark of an input whose catalogue is accepted, and so runs.
@@ -16,23 +15,23 @@ const ROOM: usize = 1_048_576;
 
 /// How a run ended, and what it wrote.
 #[derive(Drop)]
-pub struct Ended {
+pub struct RunResult {
     pub status: Status,
     pub written: Vec<u8>,
 }
 
 /// Runs `run` on an input.
-pub fn run_on(alloc: Global, input: Vec<u8>) -> Result<Ended, Wrong> {
+pub fn run_on(alloc: Global, input: Vec<u8>) -> Result<RunResult, Wrong> {
     let mut words = Vec::new(alloc);
     words.push(String::from_str(alloc, "run")?)?;
     let mut source = MemorySource::new(Seq::from_vec(input));
     let mut sink = MemorySink::new(alloc, ROOM)?;
     let status = sstore(alloc, &words, &mut source, &mut sink);
-    let written = Vec::from_slice(alloc, sink.written())?;
-    Ok(Ended { status, written })
+    let written = Vec::from_slice(alloc, sink.as_bytes())?;
+    Ok(RunResult { status, written })
 }
 
-/// Whether a run that writes this ends so: a refusal is all that is written, and has a status of its own.
+/// Whether this status goes with what was written: a refusal has a status of its own, and is all that is written.
 fn ends_so(written: &str, status: Status) -> bool {
     if !written.starts_with("[\"input\",") {
         return status == Status::Done;
@@ -41,7 +40,7 @@ fn ends_so(written: &str, status: Status) -> bool {
 }
 
 /// What a run wrote, where its status is the one that goes with it.
-pub fn report_of(alloc: Global, ended: &Ended) -> Result<&str, Wrong> {
+pub fn report_of(alloc: Global, ended: &RunResult) -> Result<&str, Wrong> {
     let Ok(written) = std::str::from_utf8(&ended.written) else {
         return Err(Wrong::text(alloc, "the report is no UTF-8"));
     };
@@ -58,8 +57,8 @@ fn begins_accepted(line: &str) -> bool {
     line.starts_with("[\"table\",") || line.starts_with("[\"done\",")
 }
 
-/// Compares the first line of what was written. Where what is wanted has a line feed in it, by its mark, it is all
-/// that was written.
+/// Compares the first line of what was written. Where `want` has a line feed in it, by its mark, it is all that has to be
+/// written.
 pub fn check_line(alloc: Global, written: &str, want: &str) -> Result<(), Wrong> {
     if want.contains('␤') {
         return check_report(alloc, written, bytes_of(alloc, want)?.as_slice());
@@ -80,7 +79,7 @@ pub fn check_run(alloc: Global, input: &str, want: &str) -> Result<(), Wrong> {
     check_line(alloc, written, want)
 }
 
-/// Compares a whole report; the first line that differs is what came.
+/// Compares a whole report; the first line that differs is reported.
 pub fn check_report(alloc: Global, written: &str, want: &[u8]) -> Result<(), Wrong> {
     if written.as_bytes() == want {
         return Ok(());

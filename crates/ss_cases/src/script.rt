@@ -16,7 +16,7 @@
 //! `done [[1,2]]`, `aborted "key_taken","t"`. A line of no kind makes an input or a report that is none, so its case
 //! is wrong.
 
-use crate::bases::filled;
+use crate::bases::fill_first;
 use crate::marks::text_of;
 use crate::run::{check_report, report_of, run_on};
 use crate::wrong::Wrong;
@@ -118,6 +118,7 @@ impl Script {
 
     /// Adds a line.
     fn add_line(&mut self, alloc: Global, line: &str) -> Result<(), AllocError> {
+        // A call is known by what stands inside its line, so the marks at the front of a line go first.
         if let Some(table) = line.strip_prefix("* ") {
             self.add_table(table)
         } else if let Some(procedure) = line.strip_prefix("+ ") {
@@ -153,7 +154,7 @@ impl Script {
 /// The script of a base and the lines in its hole.
 fn script_of(alloc: Global, base: &str, lines: &[String]) -> Result<Script, Wrong> {
     let lines = lines.join(alloc, "␤")?;
-    let text = text_of(alloc, filled(alloc, base, lines.as_str())?.as_str())?;
+    let text = text_of(alloc, fill_first(alloc, base, lines.as_str())?.as_str())?;
     let mut script = Script::new(alloc);
     for line in text.split('\n') {
         if !line.is_empty() {

@@ -5,7 +5,7 @@
 //! type FORM      TEXT ~ TYPED TREE, where it may be `emit` too: a query whose rows go to a stream
 //! ```
 //!
-//! `parsed_trees` and `typed_trees` tell how trees, and refusals in their places, are printed, and `scopes` what
+//! `parsed_trees` and `typed_trees` say how trees, and refusals in place of them, are printed, and `scopes` says what
 //! names stand for.
 
 ghost use Rattle.std.specs.Prelude.{IsTrue};
@@ -16,11 +16,9 @@ use crate::marks::text_of;
 use crate::scopes::scope_of;
 use crate::wrong::Wrong;
 use crate::{parsed_trees, typed_trees};
-use ss_sql_lex::tree::{ConditionTree, QueryTree, StatementTree};
-use ss_sql_parse::parse::{parse_condition, parse_query, parse_statement};
-use ss_sql_type::column_limit::is_narrow;
-use ss_sql_type::scope::Scope;
-use ss_sql_type::typing::{type_condition, type_query, type_statement};
+use ss_sql_lex::{ConditionTree, QueryTree, StatementTree};
+use ss_sql_parse::{parse_condition, parse_query, parse_statement};
+use ss_sql_type::{Scope, is_narrow, type_condition, type_query, type_statement};
 use std::alloc::{AllocError, Global};
 
 /// What a text is.
@@ -49,26 +47,26 @@ fn form_of(alloc: Global, word: &str) -> Result<Form, Wrong> {
 fn parsed_statement(alloc: Global, text: &str) -> Result<String, AllocError> {
     match parse_statement(alloc, text.as_bytes()) {
         Ok(tree) => parsed_trees::statement(alloc, &tree),
-        Err(error) => parsed_trees::refused(alloc, error),
+        Err(error) => parsed_trees::parse_refusal(alloc, error),
     }
 }
 
 fn parsed_query(alloc: Global, text: &str) -> Result<String, AllocError> {
     match parse_query(alloc, text.as_bytes()) {
         Ok(tree) => parsed_trees::query(alloc, &tree),
-        Err(error) => parsed_trees::refused(alloc, error),
+        Err(error) => parsed_trees::parse_refusal(alloc, error),
     }
 }
 
 fn parsed_condition(alloc: Global, text: &str) -> Result<String, AllocError> {
     match parse_condition(alloc, text.as_bytes()) {
         Ok(tree) => parsed_trees::condition(alloc, &tree),
-        Err(error) => parsed_trees::refused(alloc, error),
+        Err(error) => parsed_trees::parse_refusal(alloc, error),
     }
 }
 
 /// The printed tree of a text, or its refusal.
-fn parsed(alloc: Global, form: Form, text: &str) -> Result<String, AllocError> {
+fn parsed_tree(alloc: Global, form: Form, text: &str) -> Result<String, AllocError> {
     match form {
         Form::Statement => parsed_statement(alloc, text),
         Form::Query | Form::Emit => parsed_query(alloc, text),
@@ -83,7 +81,7 @@ fn typed_statement(alloc: Global, scope: &Scope, tree: &StatementTree) -> Result
 {
     match type_statement(alloc, scope, tree) {
         Ok(typed) => typed_trees::statement(alloc, &typed),
-        Err(error) => typed_trees::refused(alloc, error),
+        Err(error) => typed_trees::type_refusal(alloc, error),
     }
 }
 
@@ -92,7 +90,7 @@ fn typed_query(alloc: Global, scope: &Scope, tree: &QueryTree) -> Result<String,
 {
     match type_query(alloc, scope, tree) {
         Ok(typed) => typed_trees::query(alloc, &typed),
-        Err(error) => typed_trees::refused(alloc, error),
+        Err(error) => typed_trees::type_refusal(alloc, error),
     }
 }
 
@@ -101,37 +99,37 @@ fn typed_condition(alloc: Global, scope: &Scope, tree: &ConditionTree) -> Result
 {
     match type_condition(alloc, scope, tree) {
         Ok(typed) => typed_trees::condition(alloc, &typed),
-        Err(error) => typed_trees::refused(alloc, error),
+        Err(error) => typed_trees::type_refusal(alloc, error),
     }
 }
 
 /// The printed typed tree of a text, or its refusal.
-fn typed_in(alloc: Global, scope: &Scope, form: Form, text: &str) -> Result<String, AllocError>
+fn typed_tree_in(alloc: Global, scope: &Scope, form: Form, text: &str) -> Result<String, AllocError>
     requires { IsTrue (scope_narrow scope.now) }
 {
     match form {
         Form::Statement => match parse_statement(alloc, text.as_bytes()) {
             Ok(tree) => typed_statement(alloc, scope, &tree),
-            Err(error) => parsed_trees::refused(alloc, error),
+            Err(error) => parsed_trees::parse_refusal(alloc, error),
         },
         Form::Query | Form::Emit => match parse_query(alloc, text.as_bytes()) {
             Ok(tree) => typed_query(alloc, scope, &tree),
-            Err(error) => parsed_trees::refused(alloc, error),
+            Err(error) => parsed_trees::parse_refusal(alloc, error),
         },
         Form::Condition => match parse_condition(alloc, text.as_bytes()) {
             Ok(tree) => typed_condition(alloc, scope, &tree),
-            Err(error) => parsed_trees::refused(alloc, error),
+            Err(error) => parsed_trees::parse_refusal(alloc, error),
         },
     }
 }
 
 /// The printed typed tree of a text in the scope of all rows, or its refusal.
-fn typed(alloc: Global, form: Form, text: &str) -> Result<String, Wrong> {
+fn typed_tree(alloc: Global, form: Form, text: &str) -> Result<String, Wrong> {
     let scope = scope_of(alloc, form == Form::Emit)?;
     if !is_narrow(&scope) {
         return Err(Wrong::text(alloc, "too many columns"));
     }
-    Ok(typed_in(alloc, &scope, form, text)?)
+    Ok(typed_tree_in(alloc, &scope, form, text)?)
 }
 
 // ---- rows
@@ -148,7 +146,7 @@ fn check_tree(alloc: Global, tree: &str, want: &str) -> Result<(), Wrong> {
 pub fn check_parsed(alloc: Global, form: &str, row: &str) -> Result<(), Wrong> {
     let (text, want) = column(alloc, row)?;
     let form = form_of(alloc, form)?;
-    let tree = parsed(alloc, form, text_of(alloc, text)?.as_str())?;
+    let tree = parsed_tree(alloc, form, text_of(alloc, text)?.as_str())?;
     check_tree(alloc, tree.as_str(), want)
 }
 
@@ -156,6 +154,6 @@ pub fn check_parsed(alloc: Global, form: &str, row: &str) -> Result<(), Wrong> {
 pub fn check_typed(alloc: Global, form: &str, row: &str) -> Result<(), Wrong> {
     let (text, want) = column(alloc, row)?;
     let form = form_of(alloc, form)?;
-    let tree = typed(alloc, form, text_of(alloc, text)?.as_str())?;
+    let tree = typed_tree(alloc, form, text_of(alloc, text)?.as_str())?;
     check_tree(alloc, tree.as_str(), want)
 }

@@ -9,7 +9,7 @@ use std::io;
 pub enum Wrong {
     /// Out of memory, so nothing is known of the case.
     NoMemory,
-    /// What was wanted and what came, or what can't be read.
+    /// What the case expects and what came, or what can't be read.
     Text(String),
 }
 
@@ -22,7 +22,7 @@ impl Wrong {
         }
     }
 
-    /// Another answer than the one that the case wants.
+    /// Another answer than the one that the case expects.
     pub fn answer(alloc: Global, want: &str, came: &str) -> Wrong {
         match format!(in alloc; "differs\n  want {want}\n  came {came}") {
             Ok(text) => Wrong::Text(text),

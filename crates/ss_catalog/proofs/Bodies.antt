@@ -1,4 +1,4 @@
--- A body says one list of steps at most, or one fault at most, and no steps beside a fault.
+-- A body is read as one list of steps at most, or has one first fault at most, and not both.
 use Rattle.std.proofs.Common.{◌+◌, ℕ, List, Some, None}
 use Rattle.std.specs.Prelude.{Ok}
 use Rattle.ss_value.specs.declared.schema.Column.{Column}

@@ -6,6 +6,7 @@ use Rattle.std.specs.Cmp.Lexicographic.{slice_cmp}
 use Rattle.std.proofs.lemmas.Cmp.{nat_list_cmp_total, tied_itself}
 use Rattle.std.proofs.lemmas.Map.Text.{is_eq-slice_cmp}
 use Rattle.std.proofs.lemmas.Slice.Eq.{bytes_eq-Decides}
+use Rattle.ss_lemmas.proofs.Results.{map_some}
 use Rattle.json.specs.Token.{Token}
 use Rattle.json.specs.Lex.{tokens}
 use Rattle.json.specs.Json as json
@@ -68,10 +69,6 @@ put_in_order k d no_members inside h = (inside, (tt, tt))
 put_in_order k d (member l e ms) inside h = put_at (slice_cmp nat_cmp k l) k l d e ms refl inside h (put_in_order k d ms inside h.1.1)
 
 -- ---- what is read
-
-map_some : {A B : Type 0} (f : A → B) (o : Option A) (b : B) → option_map f o ≡ Some b → (a : A) × (o ≡ Some a) × (f a ≡ b)
-map_some f None b h = absurd (cc)
-map_some f (Some a) b h = (a, refl, some_same (Some (f a)) (f a) b refl h)
 
 then_some : {A B : Type 0} (f : A → Option B) (o : Option A) (b : B) → option_and_then f o ≡ Some b → (a : A) × (o ≡ Some a) × (f a ≡ Some b)
 then_some f None b h = absurd (cc)

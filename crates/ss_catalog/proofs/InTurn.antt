@@ -1,4 +1,4 @@
--- Checks in turn: each tells one thing at most, and nothing where it passes; so do they all.
+-- Checks one after another: each reports one thing at most, and nothing where it passes; and so do all together.
 use Rattle.std.proofs.Common.{◌≡◌, ◌<◌, ◌⊎◌, ℕ, Option, Some, None, sym, ap, subst, ◌∙◌, inl, inr}
 use Rattle.std.proofs.lemmas.Bool.{cases_order}
 use Rattle.ss_model.specs.declared.catalog.Catalog.{Catalog}
@@ -16,11 +16,11 @@ IsOnce {A = A} Found = (a b : A) → Found a → Found b → a ≡ b
 
 -- ---- a check, and others behind it
 
--- an error that tells what is found
-abbrev pub Told : {A : Type 0} → (A → CatalogError) → (A → Type 0) → CatalogError → Type 0
-Told {A = A} tell Found e = (a : A) × (e ≡ tell a) × Found a
+-- an error that reports what is found
+abbrev pub Reported : {A : Type 0} → (A → CatalogError) → (A → Type 0) → CatalogError → Type 0
+Reported {A = A} tell Found e = (a : A) × (e ≡ tell a) × Found a
 
--- checks that come so far, that tell one error at most, and none where they pass
+-- checks that come so far, that report one error at most, and none where they pass
 pub record InTurn (Before After : Type 0) (Tells : CatalogError → Type 0) : Type 0 where
   pub reached : (e : CatalogError) → Tells e → Before
   pub earlier : After → Before
@@ -29,7 +29,7 @@ pub record InTurn (Before After : Type 0) (Tells : CatalogError → Type 0) : Ty
 
 module _ {A Before After : Type 0} (tell : A → CatalogError) (Found : A → Type 0)
     (reached : (a : A) → Found a → Before) (earlier : After → Before) (once : IsOnce Found) (either : (a : A) → Found a → After → ⊥) where
-  pub one_check : InTurn Before After (Told tell Found)
+  pub one_check : InTurn Before After (Reported tell Found)
   one_check = record {
     reached = λ e h. reached h.0 h.2;
     earlier = earlier;
@@ -73,9 +73,9 @@ first_once P m n h k = neither_below m n (λ below. k.1 m below h.0) (λ below. 
 
 pub first_with_once : (f : ℕ → Option ℕ) → IsOnce (λ (x : ℕ × ℕ). IsFirstWith f (Some x))
 first_with_once f x y h k =
-    let place : x.0 ≡ y.0 = neither_below x.0 y.0 (λ below. none_or_some (f x.0) x.1 (k.1 x.0 below) h.0) (λ below. none_or_some (f y.0) y.1 (h.1 y.0 below) k.0) in
-    let found : x.1 ≡ y.1 = some_same (f y.0) x.1 y.1 (subst (λ (n : ℕ). f n ≡ Some x.1) place h.0) k.0 in
-    λ i. (place i, found i)
+    let placement : x.0 ≡ y.0 = neither_below x.0 y.0 (λ below. none_or_some (f x.0) x.1 (k.1 x.0 below) h.0) (λ below. none_or_some (f y.0) y.1 (h.1 y.0 below) k.0) in
+    let found : x.1 ≡ y.1 = some_same (f y.0) x.1 y.1 (subst (λ (n : ℕ). f n ≡ Some x.1) placement h.0) k.0 in
+    λ i. (placement i, found i)
 
 -- the first of what holds of the same numbers
 pub first_kept : (P Q : ℕ → Type 0) → ((n : ℕ) → P n → Q n) → ((n : ℕ) → Q n → P n) → (x : Option ℕ) → IsFirst P x → IsFirst Q x
@@ -94,7 +94,7 @@ pub record OfCatalog {X : Type 0} (Finds : Catalog → Option X → Type 0) : Ty
 abbrev pub Comes : (Outline → Catalog → Type 0) → Type 0
 Comes Stage = (o : Outline) × (c : Catalog) × Stage o c
 
--- with a catalogue that comes so far something is found, of which this is told
+-- with a catalogue that comes so far something is found, of which this is reported
 abbrev pub Finding : {X A : Type 0} → (Outline → Catalog → Type 0) → (Catalog → Option X → Type 0) → (Catalog → X → A) → A → Type 0
 Finding {X = X} Stage Finds name a = (o : Outline) × (c : Catalog) × (x : X) × Stage o c × Finds c (Some x) × (a ≡ name c x)
 
@@ -110,5 +110,5 @@ module _ {X A : Type 0} (Stage : Outline → Catalog → Type 0) (same : (o p : 
   finding_or_none : (a : A) → Finding Stage Finds name a → Comes (λ (o : Outline) (c : Catalog). Stage o c × Finds c None) → ⊥
   finding_or_none a h k = finds.none k.1 h.2 k.2.1 (finds.kept h.1 k.1 (Some h.2) (same h.0 k.0 h.1 k.1 h.3 k.2.0) h.4)
 
-  pub catalog_check : InTurn (Comes Stage) (Comes (λ (o : Outline) (c : Catalog). Stage o c × Finds c None)) (Told tell (Finding Stage Finds name))
+  pub catalog_check : InTurn (Comes Stage) (Comes (λ (o : Outline) (c : Catalog). Stage o c × Finds c None)) (Reported tell (Finding Stage Finds name))
   catalog_check = one_check tell (Finding Stage Finds name) (λ a h. (h.0, h.1, h.3)) (λ k. (k.0, k.1, k.2.0)) finding_once finding_or_none

@@ -65,7 +65,7 @@ leads_back c text (Some t) h = (h.0, leads_into c text t h.0 h.1, h.2)
 pub trigger_cycle_kept : (a b : Catalog) (t : ℕ) → IsSameCatalog a b → IsOnTriggerCycle a t → IsOnTriggerCycle b t
 trigger_cycle_kept a b t = kept (λ (c : Catalog). IsOnTriggerCycle c t) (λ (c : Catalog) (text : List ℕ). leads_back c text (slice_get c.triggers t)) a b
 
--- ---- places and windows
+-- ---- placements and windows
 
 pub site_kept : (a b : Catalog) (site : Option Site) → IsSameCatalog a b → IsFirstSite a site → IsFirstSite b site
 site_kept a b site = kept (λ (c : Catalog). IsFirstSite c site) (λ (c : Catalog) (text : List ℕ) h. h) a b

@@ -9,9 +9,9 @@ use Rattle.serde_json.specs.Data.{unsigned, negative, float, Data, null, boolean
 use Rattle.serde_json.specs.Find.{get, get_member, as_number, as_u64, as_i64, as_str}
 use Rattle.serde_json.specs.Written.{has_float, items_have_float, members_have_float}
 use Rattle.ss_value.specs.Words.{is_name}
-use Rattle.ss_catalog_json.specs.declared.json_readers.Many.{Many}
-use Rattle.ss_catalog_json.specs.Readings.{OrFault, Reading, ◌>>=◌, inside, key_step, item_step, or_here, only_where, read_word, read_name, read_between, are_so_many, read_items_from, read_array_of, is_key, unknown_key, told_key, object_of, read_key, read_or, read_key_or, no_key}
-use Rattle.ss_catalog_laws.proofs.Readings.{then_with, inside_holds, where_holds, any_holds, holds_with}
+use Rattle.ss_catalog_json.specs.declared.json_readers.ItemCount.{ItemCount}
+use Rattle.ss_catalog_json.specs.Readings.{OrFault, Reading, ◌>>=◌, inside, key_step, item_step, or_here, only_where, read_word, read_name, read_between, is_count_allowed, read_items_from, read_array_of, is_key, unknown_key, unknown_key_way, object_of, read_key, read_or, read_key_or, no_key}
+use Rattle.ss_catalog_laws.proofs.CallerLemmas.{then_with, inside_holds, where_holds, any_holds, holds_with}
 use Rattle.ss_catalog.proofs.Texts.{some_same}
 use Rattle.ss_catalog.proofs.InTurn.{none_or_some}
 use Rattle.ss_catalog.proofs.InOrder.{IsInOrder, AreInOrder, MembersInOrder, get_in_order, found_first, found_behind}
@@ -96,12 +96,12 @@ module _ {A : Type 0} (read : Reading A) (none : ReadsNoFloat read) where
       then_with (List A) (λ (xs : List A). HaveNoFloat (item d ds)) (λ (xs : List A). HaveNoFloat ds) (read_items_from (suc n) read ds) _
       (items_none (suc n) ds so.1) (λ xs more. one_more d ds here more))
 
-  pub array_none : (size : Many) → ReadsNoFloat (read_array_of size read)
+  pub array_none : (size : ItemCount) → ReadsNoFloat (read_array_of size read)
   array_none size null so = tt
   array_none size (boolean b) so = tt
   array_none size (number n) so = tt
   array_none size (string s) so = tt
-  array_none size (array ds) so = where_holds (λ (xs : List A). HaveNoFloat ds) (are_so_many size ds) (read_items_from 0 read ds) (λ so_many. items_none 0 ds so)
+  array_none size (array ds) so = where_holds (λ (xs : List A). HaveNoFloat ds) (is_count_allowed size ds) (read_items_from 0 read ds) (λ so_many. items_none 0 ds so)
   array_none size (object ms) so = tt
 
 -- ---- objects
@@ -144,7 +144,7 @@ object_none keys (string s) so = tt
 object_none keys (array ds) so = tt
 object_none keys (object ms) so = by (unknown_key keys ms) refl
   where
-    by : (o : Option (List ℕ)) → unknown_key keys ms ≡ o → IfOk (told_key o) (λ (u : ⊤). HasNoneIfAt (object ms) keys)
+    by : (o : Option (List ℕ)) → unknown_key keys ms ≡ o → IfOk (unknown_key_way o) (λ (u : ⊤). HasNoneIfAt (object ms) keys)
     by None is = λ all. members_none keys ms so is (named (object ms) keys all)
     by (Some k) is = tt
 

@@ -1,4 +1,4 @@
--- What has one answer at most, a value or a fault.
+-- Readings that have one answer at most, a value or a fault.
 use Rattle.std.proofs.Common.{◌≡◌, ◌+◌, ℕ, List, [], ◌∷◌, sym, ap, ◌∙◌, inl, inr}
 use Rattle.std.specs.Prelude.{Result, Ok, Err}
 use Rattle.ss_catalog_resolve.specs.declared.fault.SqlFault.{SqlFault}

@@ -9,8 +9,8 @@ use Rattle.ss_value.specs.declared.schema.Column.{Column}
 use Rattle.ss_model.specs.declared.catalog.Kind.{Kind}
 use Rattle.ss_model.specs.declared.catalog.Kind.TheVariants.{Call, Border, Interior}
 use Rattle.ss_model.specs.Database.{is_call}
-use Rattle.ss_catalog_outline.specs.declared.types.PlaceOutline.{PlaceOutline}
-use Rattle.ss_catalog_outline.specs.declared.types.PlaceOutline.TheVariants.{Part as PartPlace, By}
+use Rattle.ss_catalog_outline.specs.declared.types.PlacementOutline.{PlacementOutline}
+use Rattle.ss_catalog_outline.specs.declared.types.PlacementOutline.TheVariants.{Part as PartPlace, By}
 use Rattle.ss_catalog_outline.specs.declared.types.TouchOutline.{TouchOutline}
 use Rattle.ss_catalog_outline.specs.declared.types.TouchOutline.TheVariants.{Arg, All}
 use Rattle.ss_catalog_outline.specs.declared.types.GivenOutline.{GivenOutline}
@@ -21,13 +21,13 @@ use Rattle.ss_catalog_outline.specs.declared.types.StepOutline.TheVariants.{Retu
 use Rattle.ss_catalog_outline.specs.declared.types.Outline.{Outline}
 use Rattle.ss_catalog_outline.specs.declared.steps.StepForm.{StepForm}
 use Rattle.ss_catalog_outline.specs.declared.steps.StepForm.TheVariants.{Insert as InsertForm, ReturnAll as ReturnAllForm, Emit as EmitForm, Sql as SqlForm, AbortIf as AbortIfForm, ForEach as ForEachForm, Return as ReturnForm}
-use Rattle.ss_catalog_json.specs.declared.json_readers.Many.TheVariants.{Any, AtLeastOne, JustOne}
+use Rattle.ss_catalog_json.specs.declared.json_readers.ItemCount.TheVariants.{Any, AtLeastOne, JustOne}
 use Rattle.ss_catalog_json.specs.Readings.{Reading, ◌>>=◌, inside, item_step, or_here, read_word, read_name, read_between, read_array_of, has_key, object_of, read_key, no_key}
-use Rattle.ss_catalog_outline.specs.Tables.{kind_of, read_kind, read_pair, read_column, read_columns, read_words, read_part, read_place, part_keys, by_keys, table_object, read_table, stream_keys, read_stream, unit_of, read_unit, window_keys, read_window, trigger_keys, read_trigger}
+use Rattle.ss_catalog_outline.specs.Tables.{kind_of, read_kind, read_pair, read_column, read_columns, read_words, read_part, read_placement, part_keys, by_keys, table_object, read_table, stream_keys, read_stream, unit_of, read_unit, window_keys, read_window, trigger_keys, read_trigger}
 use Rattle.ss_catalog_outline.specs.Steps.{read_given_arg, given_text, read_given, form_of, may_stand, read_alone, read_int, read_test, read_inner_as, read_inner, read_insert, read_for_each, read_emit, read_step_as, read_step}
 use Rattle.ss_catalog_outline.specs.Procedures.{read_touch_part, read_touch_multi, read_touch_form, read_touch, kind_word, read_procedure_kind, read_args, read_inputs, procedure_keys, read_procedure}
 use Rattle.ss_catalog_outline.specs.Outlines.{section_keys, read_outline}
-use Rattle.ss_catalog_laws.proofs.Readings.{then_any, then_with, inside_holds, where_holds, any_holds, holds_with, of_read}
+use Rattle.ss_catalog_laws.proofs.CallerLemmas.{then_any, then_with, inside_holds, where_holds, any_holds, holds_with, of_read}
 use Rattle.ss_catalog.proofs.InOrder.{IsInOrder, AreInOrder}
 use Rattle.ss_catalog.proofs.NoFloats.{HasNoFloat, ReadsNoFloat, HaveNoFloat, one_more, word_none, word_of_none, name_none, between_none, signed_none, array_none, HasNoneAt, HasNoneIfAt, object_none, key_none, key_or_none, no_key_none, then_object, then_key, then_key_or}
 
@@ -65,17 +65,17 @@ words_none = array_none read_word word_none AtLeastOne
 part_none : ReadsNoFloat read_part
 part_none = between_none 0 7
 
--- the key of a table's place, and its keys
-abbrev place_key : Bool → List ℕ
-place_key b = cond b (codes "part") (codes "by")
+-- the key of a table's placement, and its keys
+abbrev placement_key : Bool → List ℕ
+placement_key b = cond b (codes "part") (codes "by")
 
 abbrev table_keys : Bool → List (List ℕ)
-table_keys b = codes "name" ∷ codes "columns" ∷ codes "key" ∷ place_key b ∷ codes "indexes" ∷ []
+table_keys b = codes "name" ∷ codes "columns" ∷ codes "key" ∷ placement_key b ∷ codes "indexes" ∷ []
 
 module _ (d : Data) (so : IsInOrder d) where
-  place_by : (b : Bool) → IfOk (cond b (read_key (codes "part") read_part d >>= λ p. Ok (PartPlace p)) (read_key (codes "by") read_word d >>= λ c. Ok (By c))) (λ (x : PlaceOutline). HasNoneAt d (place_key b))
-  place_by true = then_with ℕ (λ (x : PlaceOutline). HasNoneAt d (codes "part")) (λ x. HasNoneAt d (codes "part")) (read_key (codes "part") read_part d) (λ p. Ok (PartPlace p)) (key_none read_part part_none (codes "part") d so) (λ p none. none)
-  place_by false = then_with (List ℕ) (λ (x : PlaceOutline). HasNoneAt d (codes "by")) (λ x. HasNoneAt d (codes "by")) (read_key (codes "by") read_word d) (λ c. Ok (By c)) (key_none read_word word_none (codes "by") d so) (λ c none. none)
+  placement_by : (b : Bool) → IfOk (cond b (read_key (codes "part") read_part d >>= λ p. Ok (PartPlace p)) (read_key (codes "by") read_word d >>= λ c. Ok (By c))) (λ (x : PlacementOutline). HasNoneAt d (placement_key b))
+  placement_by true = then_with ℕ (λ (x : PlacementOutline). HasNoneAt d (codes "part")) (λ x. HasNoneAt d (codes "part")) (read_key (codes "part") read_part d) (λ p. Ok (PartPlace p)) (key_none read_part part_none (codes "part") d so) (λ p none. none)
+  placement_by false = then_with (List ℕ) (λ (x : PlacementOutline). HasNoneAt d (codes "by")) (λ x. HasNoneAt d (codes "by")) (read_key (codes "by") read_word d) (λ c. Ok (By c)) (key_none read_word word_none (codes "by") d so) (λ c none. none)
 
   table_by : (b : Bool) → IfOk (cond b (object_of part_keys d) (object_of by_keys d)) (λ (u : ⊤). HasNoneIfAt d (table_keys b))
   table_by true = object_none part_keys d so
@@ -90,7 +90,7 @@ table_none d so =
     then_key d so (codes "name") read_name name_none _ (λ name a.
     then_key d so (codes "columns") read_columns columns_none _ (λ columns b.
     then_key d so (codes "key") read_words words_none _ (λ key c.
-    then_with PlaceOutline (λ x. HasNoFloat d) (λ x. HasNoneAt d (place_key (has_key (codes "part") d))) (read_place d) _ (place_by d so (has_key (codes "part") d)) (λ place p.
+    then_with PlacementOutline (λ x. HasNoFloat d) (λ x. HasNoneAt d (placement_key (has_key (codes "part") d))) (read_placement d) _ (placement_by d so (has_key (codes "part") d)) (λ placement p.
     then_key_or d so (codes "indexes") (read_array_of Any read_words) indexes_none [] _ (λ indexes i. whole (a, (b, (c, (p, (i, tt)))))))))))
 
 -- ---- streams, windows and triggers

@@ -1,4 +1,4 @@
--- A value has one answer: it reads as one catalogue, or it has one refusal, want of memory aside.
+-- A value has one answer: it reads as one catalogue, or it has one refusal, out of memory aside.
 use Rattle.std.proofs.Common.{◌≡◌, ◌⊎◌, ℕ, List, true, false, Option, Some, None, refl, sym, ap, subst, ◌∙◌, inl, inr}
 use Rattle.std.specs.Prelude.{◌++◌, codes}
 use Rattle.std.proofs.lemmas.Bool.{both_ways}
@@ -21,19 +21,19 @@ use Rattle.ss_catalog_checks.specs.StreamEnds.{refused_stream}
 use Rattle.ss_catalog_checks.specs.Owners.{refused_window}
 use Rattle.ss_catalog.specs.declared.error.CatalogError.{CatalogError}
 use Rattle.ss_catalog.specs.declared.error.CatalogError.TheVariants.{NoMemory, Shape, Twice, Unknown, SqlFault, WorkflowCycle, TriggerCycle, LocalityBroken, StreamEnds, WindowOwner, Limit}
-use Rattle.ss_catalog.specs.Checks.{IsShaped, HasOwnNames, IsNamed, IsNumbered, IsResolved, HasWorkflows, HasCascades, IsLocal, HasEnds, HasOwners, procedure_name, trigger_name, stream_name, window_name, site_name, site_number}
+use Rattle.ss_catalog.specs.Checks.{IsShaped, HasDistinctNames, HasKnownNames, IsNumbered, IsResolved, HasAcyclicWorkflows, HasAcyclicTriggers, IsLocal, HasRightEnds, HasRightOwners, procedure_name, trigger_name, stream_name, window_name, site_name, site_number}
 use Rattle.ss_catalog.specs.Reads.{IsMisshapen, HasTwice, HasUnknown, IsTooMany, HasWorkflowCycle, HasTriggerCycle, HasBadEnds, HasBadOwner, IsOverLimit, Refuses}
 use Rattle.ss_catalog.specs.Answers.{HasOneCatalog, IsReadOrRefused, HasOneRefusal}
 use Rattle.ss_catalog.proofs.OneAnswer.{ok_same, err_same, ok_or_err}
 use Rattle.ss_catalog.proofs.Texts.{SqlLaws, some_same}
 use Rattle.ss_catalog.proofs.Resolved.{resolved_same, resolved_or_faulty, fault_same}
 use Rattle.ss_catalog.proofs.Kept.{IsSameCatalog, same_with_text, kept, cycle_kept, trigger_cycle_kept, site_kept, stream_kept, window_kept}
-use Rattle.ss_catalog.proofs.InTurn.{IsOnce, Told, InTurn, one_check, and_then, none_or_some, none_with, first_once, first_with_once, first_kept, OfCatalog, Comes, Finding, catalog_check}
+use Rattle.ss_catalog.proofs.InTurn.{IsOnce, Reported, InTurn, one_check, and_then, none_or_some, none_with, first_once, first_with_once, first_kept, OfCatalog, Comes, Finding, catalog_check}
 
 -- ---- what a value reads as
 
 -- what passes all checks resolves
-resolved_of : (d : Data) (o : Outline) (c : Catalog) → HasOwners d o c → IsResolved d o c
+resolved_of : (d : Data) (o : Outline) (c : Catalog) → HasRightOwners d o c → IsResolved d o c
 resolved_of d o c passes = passes.0.0.0.0.0
 
 -- what resolves is the outline of its value
@@ -104,20 +104,20 @@ streams_found = record { kept = stream_kept; once = λ c. some_same (refused_str
 windows_found : OfCatalog FirstWindow
 windows_found = record { kept = window_kept; once = λ c. some_same (refused_window c); none = λ c. none_or_some (refused_window c) }
 
--- ---- what is told of it
+-- ---- what is reported of it
 
-abbrev site_told : Catalog → Site → List ℕ × ℕ
-site_told c site = (site_name c site, site_number site)
+abbrev site_reported : Catalog → Site → List ℕ × ℕ
+site_reported c site = (site_name c site, site_number site)
 
--- nothing that is told depends on the text
-told_kept : {X A : Type 0} (name : Catalog → X → A) → ((c : Catalog) (text : List ℕ) (x : X) → name c x ≡ name (record c { text = text }) x) → (a b : Catalog) (x : X) → IsSameCatalog a b → name a x ≡ name b x
-told_kept name free a b x same = kept (λ (c : Catalog). name a x ≡ name c x) (λ (c : Catalog) (text : List ℕ) h. h ∙ free c text x) a b same refl
+-- nothing that is reported depends on the text
+reported_kept : {X A : Type 0} (name : Catalog → X → A) → ((c : Catalog) (text : List ℕ) (x : X) → name c x ≡ name (record c { text = text }) x) → (a b : Catalog) (x : X) → IsSameCatalog a b → name a x ≡ name b x
+reported_kept name free a b x same = kept (λ (c : Catalog). name a x ≡ name c x) (λ (c : Catalog) (text : List ℕ) h. h ∙ free c text x) a b same refl
 
-abbrev tell_sql : SqlSite → CatalogError
-tell_sql site = SqlFault site.name site.number site.fault
+abbrev report_sql : SqlSite → CatalogError
+report_sql site = SqlFault site.name site.number site.fault
 
-abbrev tell_site : List ℕ × ℕ → CatalogError
-tell_site at = LocalityBroken at.0 at.1
+abbrev report_site : List ℕ × ℕ → CatalogError
+report_site at = LocalityBroken at.0 at.1
 
 -- ---- the checks, one after another
 
@@ -128,28 +128,28 @@ module _ (d : Data) where
 
   -- it passes all checks
   abbrev Passes : Type 0
-  Passes = Comes (λ (o : Outline) (c : Catalog). HasOwners d o c × (over_limit o ≡ None))
+  Passes = Comes (λ (o : Outline) (c : Catalog). HasRightOwners d o c × (over_limit o ≡ None))
 
   -- its SQL has this first fault
   abbrev HasFault : SqlSite → Type 0
   HasFault site = (o : Outline) × IsNumbered d o × FaultAt o site
 
   abbrev BreaksAt : List ℕ × ℕ → Type 0
-  BreaksAt = Finding (HasCascades d) IsFirstSite site_told
+  BreaksAt = Finding (HasAcyclicTriggers d) IsFirstSite site_reported
 
-  -- what each check tells, in their order
+  -- what each check reports, in order
   abbrev CountTold : CatalogError → Type 0
-  CountTold = Told Limit (IsOverLimit d)
+  CountTold = Reported Limit (IsOverLimit d)
 
   abbrev CatalogTold : CatalogError → Type 0
   CatalogTold e =
-      Told WorkflowCycle (HasWorkflowCycle d) e ⊎ (Told TriggerCycle (HasTriggerCycle d) e ⊎ (Told tell_site BreaksAt e
-      ⊎ (Told StreamEnds (HasBadEnds d) e ⊎ (Told WindowOwner (HasBadOwner d) e ⊎ CountTold e))))
+      Reported WorkflowCycle (HasWorkflowCycle d) e ⊎ (Reported TriggerCycle (HasTriggerCycle d) e ⊎ (Reported report_site BreaksAt e
+      ⊎ (Reported StreamEnds (HasBadEnds d) e ⊎ (Reported WindowOwner (HasBadOwner d) e ⊎ CountTold e))))
 
   abbrev AnyTold : CatalogError → Type 0
   AnyTold e =
-      Told Shape (IsMisshapen d) e ⊎ (Told Twice (HasTwice d) e ⊎ (Told Unknown (HasUnknown d) e
-      ⊎ (Told Limit (IsTooMany d) e ⊎ (Told tell_sql HasFault e ⊎ CatalogTold e))))
+      Reported Shape (IsMisshapen d) e ⊎ (Reported Twice (HasTwice d) e ⊎ (Reported Unknown (HasUnknown d) e
+      ⊎ (Reported Limit (IsTooMany d) e ⊎ (Reported report_sql HasFault e ⊎ CatalogTold e))))
 
   -- ---- of the outline
 
@@ -163,21 +163,21 @@ module _ (d : Data) where
   misshapen_once : IsOnce (IsMisshapen d)
   misshapen_once a b h k = h.2 ∙ ap (λ (way : List ℕ). codes "$" ++ way) (err_same (read_outline d) h.0 k.0 h.1 k.1) ∙ sym k.2
 
-  shapes : InTurn (Unit {0}) (ComesWith (IsShaped d)) (Told Shape (IsMisshapen d))
+  shapes : InTurn (Unit {0}) (ComesWith (IsShaped d)) (Reported Shape (IsMisshapen d))
   shapes = one_check Shape (IsMisshapen d) (λ path h. tt) (λ k. tt) misshapen_once (λ path h k. ok_or_err (read_outline d) k.0 h.0 k.1 h.1)
 
-  names_once : InTurn (ComesWith (IsShaped d)) (ComesWith (HasOwnNames d)) (Told Twice (HasTwice d))
+  names_once : InTurn (ComesWith (IsShaped d)) (ComesWith (HasDistinctNames d)) (Reported Twice (HasTwice d))
   names_once = one_check Twice (HasTwice d) (λ name h. (h.0, h.1)) (λ k. (k.0, k.1.0))
       (λ a b h k. found_same name_twice h.0 k.0 a b h.1 k.1 h.2 k.2) (λ a h k. not_there name_twice h.0 k.0 a h.1 k.1.0 h.2 k.1.1)
 
-  names_known : InTurn (ComesWith (HasOwnNames d)) (ComesWith (IsNamed d)) (Told Unknown (HasUnknown d))
+  names_known : InTurn (ComesWith (HasDistinctNames d)) (ComesWith (HasKnownNames d)) (Reported Unknown (HasUnknown d))
   names_known = one_check Unknown (HasUnknown d) (λ name h. (h.0, h.1)) (λ k. (k.0, k.1.0))
       (λ a b h k. found_same name_unknown h.0 k.0 a b h.1.0 k.1.0 h.2 k.2) (λ a h k. not_there name_unknown h.0 k.0 a h.1.0 k.1.0.0 h.2 k.1.1)
 
   too_many_or_not : (o p : Outline) → IsShaped d o → IsShaped d p → is_too_many_to_number o ≡ true → is_too_many_to_number p ≡ false → ⊥
   too_many_or_not o p h k many few = both_ways (is_too_many_to_number p) few (subst (λ (x : Outline). is_too_many_to_number x ≡ true) (same_outline d o p h k) many)
 
-  numbers : InTurn (ComesWith (IsNamed d)) (ComesWith (IsNumbered d)) (Told Limit (IsTooMany d))
+  numbers : InTurn (ComesWith (HasKnownNames d)) (ComesWith (IsNumbered d)) (Reported Limit (IsTooMany d))
   numbers = one_check Limit (IsTooMany d) (λ counted h. (h.0, h.1)) (λ k. (k.0, k.1.0))
       (λ a b h k. found_same over_limit h.0 k.0 a b h.1.0.0 k.1.0.0 h.3 k.3) (λ a h k. too_many_or_not h.0 k.0 h.1.0.0 k.1.0.0.0 h.2 k.1.1)
 
@@ -190,39 +190,39 @@ module _ (d : Data) where
     sql_or_none : (site : SqlSite) → HasFault site → Comes (IsResolved d) → ⊥
     sql_or_none site h k = resolved_or_faulty laws k.0 k.1 site k.2.1 (subst (λ (x : Outline). FaultAt x site) (same_outline d h.0 k.0 h.1.0.0.0 k.2.0.0.0.0) h.2)
 
-    sql : InTurn (ComesWith (IsNumbered d)) (Comes (IsResolved d)) (Told tell_sql HasFault)
-    sql = one_check tell_sql HasFault (λ site h. (h.0, h.1)) (λ k. (k.0, k.2.0)) sql_once sql_or_none
+    sql : InTurn (ComesWith (IsNumbered d)) (Comes (IsResolved d)) (Reported report_sql HasFault)
+    sql = one_check report_sql HasFault (λ site h. (h.0, h.1)) (λ k. (k.0, k.2.0)) sql_once sql_or_none
 
     -- ---- of the catalogue
 
     same_resolved : (o p : Outline) (a b : Catalog) → IsResolved d o a → IsResolved d p b → IsSameCatalog a b
     same_resolved = same_catalog laws d
 
-    workflows : InTurn (Comes (IsResolved d)) (Comes (HasWorkflows d)) (Told WorkflowCycle (HasWorkflowCycle d))
+    workflows : InTurn (Comes (IsResolved d)) (Comes (HasAcyclicWorkflows d)) (Reported WorkflowCycle (HasWorkflowCycle d))
     workflows = catalog_check (IsResolved d) same_resolved FirstCycle cycles_found
-        procedure_name (told_kept procedure_name (λ c text x. refl)) WorkflowCycle
+        procedure_name (reported_kept procedure_name (λ c text x. refl)) WorkflowCycle
 
-    cascades : InTurn (Comes (HasWorkflows d)) (Comes (HasCascades d)) (Told TriggerCycle (HasTriggerCycle d))
-    cascades = catalog_check (HasWorkflows d) (λ o p a b h k. same_resolved o p a b h.0 k.0) FirstTriggerCycle trigger_cycles_found
-        trigger_name (told_kept trigger_name (λ c text x. refl)) TriggerCycle
+    cascades : InTurn (Comes (HasAcyclicWorkflows d)) (Comes (HasAcyclicTriggers d)) (Reported TriggerCycle (HasTriggerCycle d))
+    cascades = catalog_check (HasAcyclicWorkflows d) (λ o p a b h k. same_resolved o p a b h.0 k.0) FirstTriggerCycle trigger_cycles_found
+        trigger_name (reported_kept trigger_name (λ c text x. refl)) TriggerCycle
 
-    localities : InTurn (Comes (HasCascades d)) (Comes (IsLocal d)) (Told tell_site BreaksAt)
-    localities = catalog_check (HasCascades d) (λ o p a b h k. same_resolved o p a b h.0.0 k.0.0) IsFirstSite sites_found
-        site_told (told_kept site_told (λ c text x. refl)) tell_site
+    localities : InTurn (Comes (HasAcyclicTriggers d)) (Comes (IsLocal d)) (Reported report_site BreaksAt)
+    localities = catalog_check (HasAcyclicTriggers d) (λ o p a b h k. same_resolved o p a b h.0.0 k.0.0) IsFirstSite sites_found
+        site_reported (reported_kept site_reported (λ c text x. refl)) report_site
 
-    ends : InTurn (Comes (IsLocal d)) (Comes (HasEnds d)) (Told StreamEnds (HasBadEnds d))
+    ends : InTurn (Comes (IsLocal d)) (Comes (HasRightEnds d)) (Reported StreamEnds (HasBadEnds d))
     ends = catalog_check (IsLocal d) (λ o p a b h k. same_resolved o p a b h.0.0.0 k.0.0.0) FirstStream streams_found
-        stream_name (told_kept stream_name (λ c text x. refl)) StreamEnds
+        stream_name (reported_kept stream_name (λ c text x. refl)) StreamEnds
 
-    owners : InTurn (Comes (HasEnds d)) (Comes (HasOwners d)) (Told WindowOwner (HasBadOwner d))
-    owners = catalog_check (HasEnds d) (λ o p a b h k. same_resolved o p a b h.0.0.0.0 k.0.0.0.0) FirstWindow windows_found
-        window_name (told_kept window_name (λ c text x. refl)) WindowOwner
+    owners : InTurn (Comes (HasRightEnds d)) (Comes (HasRightOwners d)) (Reported WindowOwner (HasBadOwner d))
+    owners = catalog_check (HasRightEnds d) (λ o p a b h k. same_resolved o p a b h.0.0.0.0 k.0.0.0.0) FirstWindow windows_found
+        window_name (reported_kept window_name (λ c text x. refl)) WindowOwner
 
     -- the outline of what passes
-    shape_passed : (o : Outline) (c : Catalog) → HasOwners d o c → IsShaped d o
+    shape_passed : (o : Outline) (c : Catalog) → HasRightOwners d o c → IsShaped d o
     shape_passed o c h = shape_of d o c (resolved_of d o c h)
 
-    counts : InTurn (Comes (HasOwners d)) Passes CountTold
+    counts : InTurn (Comes (HasRightOwners d)) Passes CountTold
     counts = one_check Limit (IsOverLimit d) (λ counted h. (h.0, h.1, h.2)) (λ k. (k.0, k.1, k.2.0))
         (λ a b h k. found_same over_limit h.0 k.0 a b (shape_passed h.0 h.1 h.2) (shape_passed k.0 k.1 k.2) h.3 k.3)
         (λ a h k. not_there over_limit h.0 k.0 a (shape_passed h.0 h.1 h.2) (shape_passed k.0 k.1 k.2.0) h.3 k.2.1)
@@ -235,38 +235,38 @@ module _ (d : Data) where
     pub all_checks : InTurn (Unit {0}) Passes AnyTold
     all_checks = and_then shapes (and_then names_once (and_then names_known (and_then numbers (and_then sql of_catalog))))
 
--- ---- each refusal is told by a check
+-- ---- each refusal is reported by a check
 
 module _ (d : Data) where
   by_catalog : (e : CatalogError) → CatalogTold d e → (e ≡ NoMemory) ⊎ AnyTold d e
-  by_catalog e told = inr (inr (inr (inr (inr (inr told)))))
+  by_catalog e reported = inr (inr (inr (inr (inr (inr reported)))))
 
-  told_of : (e : CatalogError) → Refuses d e → (e ≡ NoMemory) ⊎ AnyTold d e
-  told_of NoMemory k = inl refl
-  told_of (Shape path) k = inr (inl (path, refl, k))
-  told_of (Twice name) k = inr (inr (inl (name, refl, k)))
-  told_of (Unknown name) k = inr (inr (inr (inl (name, refl, k))))
-  told_of (SqlFault name step fault) k = inr (inr (inr (inr (inr (inl (record { name = name; number = step; fault = fault }, refl, k))))))
-  told_of (WorkflowCycle name) k = by_catalog (WorkflowCycle name) (inl (name, refl, k))
-  told_of (TriggerCycle name) k = by_catalog (TriggerCycle name) (inr (inl (name, refl, k)))
-  told_of (LocalityBroken name step) k = by_catalog (LocalityBroken name step) (inr (inr (inl ((name, step), refl, (k.0, k.1, k.2, k.3, k.4, λ i. (k.5 i, k.6 i))))))
-  told_of (StreamEnds name) k = by_catalog (StreamEnds name) (inr (inr (inr (inl (name, refl, k)))))
-  told_of (WindowOwner name) k = by_catalog (WindowOwner name) (inr (inr (inr (inr (inl (name, refl, k))))))
-  told_of (Limit counted) (inl k) = inr (inr (inr (inr (inl (counted, refl, k)))))
-  told_of (Limit counted) (inr k) = by_catalog (Limit counted) (inr (inr (inr (inr (inr (counted, refl, k))))))
+  reported_of : (e : CatalogError) → Refuses d e → (e ≡ NoMemory) ⊎ AnyTold d e
+  reported_of NoMemory k = inl refl
+  reported_of (Shape path) k = inr (inl (path, refl, k))
+  reported_of (Twice name) k = inr (inr (inl (name, refl, k)))
+  reported_of (Unknown name) k = inr (inr (inr (inl (name, refl, k))))
+  reported_of (SqlFault name step fault) k = inr (inr (inr (inr (inr (inl (record { name = name; number = step; fault = fault }, refl, k))))))
+  reported_of (WorkflowCycle name) k = by_catalog (WorkflowCycle name) (inl (name, refl, k))
+  reported_of (TriggerCycle name) k = by_catalog (TriggerCycle name) (inr (inl (name, refl, k)))
+  reported_of (LocalityBroken name step) k = by_catalog (LocalityBroken name step) (inr (inr (inl ((name, step), refl, (k.0, k.1, k.2, k.3, k.4, λ i. (k.5 i, k.6 i))))))
+  reported_of (StreamEnds name) k = by_catalog (StreamEnds name) (inr (inr (inr (inl (name, refl, k)))))
+  reported_of (WindowOwner name) k = by_catalog (WindowOwner name) (inr (inr (inr (inr (inl (name, refl, k))))))
+  reported_of (Limit counted) (inl k) = inr (inr (inr (inr (inl (counted, refl, k)))))
+  reported_of (Limit counted) (inr k) = by_catalog (Limit counted) (inr (inr (inr (inr (inr (counted, refl, k))))))
 
   module _ (laws : SqlLaws) where
-    passed_or_told : (e : CatalogError) → Passes d → (e ≡ NoMemory) ⊎ AnyTold d e → e ≡ NoMemory
-    passed_or_told e passed (inl is) = is
-    passed_or_told e passed (inr told) = absurd ((all_checks d laws).either e told passed)
+    passed_or_reported : (e : CatalogError) → Passes d → (e ≡ NoMemory) ⊎ AnyTold d e → e ≡ NoMemory
+    passed_or_reported e passed (inl is) = is
+    passed_or_reported e passed (inr reported) = absurd ((all_checks d laws).either e reported passed)
 
-    one_told : (e f : CatalogError) → (e ≡ NoMemory → ⊥) → (f ≡ NoMemory → ⊥) → (e ≡ NoMemory) ⊎ AnyTold d e → (f ≡ NoMemory) ⊎ AnyTold d f → e ≡ f
-    one_told e f some other (inl is) k = absurd (some is)
-    one_told e f some other (inr told) (inl is) = absurd (other is)
-    one_told e f some other (inr told) (inr too) = (all_checks d laws).once e f told too
+    one_reported : (e f : CatalogError) → (e ≡ NoMemory → ⊥) → (f ≡ NoMemory → ⊥) → (e ≡ NoMemory) ⊎ AnyTold d e → (f ≡ NoMemory) ⊎ AnyTold d f → e ≡ f
+    one_reported e f some other (inl is) k = absurd (some is)
+    one_reported e f some other (inr reported) (inl is) = absurd (other is)
+    one_reported e f some other (inr reported) (inr too) = (all_checks d laws).once e f reported too
 
 pub read_or_refused : SqlLaws → IsReadOrRefused
-read_or_refused laws d c e h k = passed_or_told d laws e (h.outline, c, (h.passes, h.limits)) (told_of d e k)
+read_or_refused laws d c e h k = passed_or_reported d laws e (h.outline, c, (h.passes, h.limits)) (reported_of d e k)
 
 pub one_refusal : SqlLaws → HasOneRefusal
-one_refusal laws d e f h k some other = one_told d laws e f some other (told_of d e h) (told_of d f k)
+one_refusal laws d e f h k some other = one_reported d laws e f some other (reported_of d e h) (reported_of d f k)

@@ -41,7 +41,7 @@ module _ {A T : Type 0} (g : Sql A) (laws : RuleLaws g) (untyped : RefusedOrType
   no_memory_told fault e = cc
 
   parsed_or_not : (t : T) (fault : SqlFault) → IsTyped g faults typed text t → IsUnparsed g faults typed text fault → ⊥
-  parsed_or_not t fault h k = no_memory_told fault (sym (ap parse_fault (laws.either text h.tree k.error h.parsed k.is)) ∙ k.told)
+  parsed_or_not t fault h k = no_memory_told fault (sym (ap parse_fault (laws.either text h.tree k.error h.parsed k.is)) ∙ k.reported)
 
   typed_or_not : (t : T) (fault : SqlFault) → IsTyped g faults typed text t → IsUntyped g faults typed text fault → ⊥
   typed_or_not t fault h k =
@@ -52,23 +52,23 @@ module _ {A T : Type 0} (g : Sql A) (laws : RuleLaws g) (untyped : RefusedOrType
   either_way t fault h (inl k) = parsed_or_not t fault h k
   either_way t fault h (inr k) = typed_or_not t fault h k
 
-  -- an error that is told is no want of memory
+  -- an error that is reported is not `NoMemory`
   not_for_memory : (error : ParseError) (fault : SqlFault) → parse_fault error ≡ Some fault → error ≡ parse.NoMemory → ⊥
-  not_for_memory error fault told is = no_memory_told fault (sym (ap parse_fault is) ∙ told)
+  not_for_memory error fault reported is = no_memory_told fault (sym (ap parse_fault is) ∙ reported)
 
   unparsed_same : (e f : SqlFault) → IsUnparsed g faults typed text e → IsUnparsed g faults typed text f → e ≡ f
   unparsed_same e f h k =
-      let same = laws.refused_once text h.error k.error h.is k.is (not_for_memory h.error e h.told) (not_for_memory k.error f k.told) in
-      some_same (parse_fault k.error) e f (sym (ap parse_fault same) ∙ h.told) k.told
+      let same = laws.refused_once text h.error k.error h.is k.is (not_for_memory h.error e h.reported) (not_for_memory k.error f k.reported) in
+      some_same (parse_fault k.error) e f (sym (ap parse_fault same) ∙ h.reported) k.reported
 
   unparsed_or_untyped : (e f : SqlFault) → IsUnparsed g faults typed text e → IsUntyped g faults typed text f → ⊥
-  unparsed_or_untyped e f h k = not_for_memory h.error e h.told (laws.either text k.tree h.error k.parsed h.is)
+  unparsed_or_untyped e f h k = not_for_memory h.error e h.reported (laws.either text k.tree h.error k.parsed h.is)
 
   untyped_same : (e f : SqlFault) → IsUntyped g faults typed text e → IsUntyped g faults typed text f → e ≡ f
   untyped_same e f h k =
       let one : faults h.tree ≡ faults k.tree = ap faults (laws.one_tree text h.tree k.tree h.parsed k.parsed) in
       let same = least (faults k.tree) h.error k.error (subst (λ (fs : List TypeError). IsLeast fs h.error) one h.is) k.is in
-      sym h.told ∙ ap type_fault same ∙ k.told
+      sym h.reported ∙ ap type_fault same ∙ k.reported
 
   fault_same : (e f : SqlFault) → Says g faults typed text (Err e) → Says g faults typed text (Err f) → e ≡ f
   fault_same e f (inl h) (inl k) = unparsed_same e f h k

@@ -1,7 +1,7 @@
 pub mod Texts
 pub mod Checks
 pub mod Reads
-pub mod Told
+pub mod SqlFaults
 pub mod Accepts
 pub mod Answers
 pub use Rattle.ss_model.specs.Accepted

@@ -1,4 +1,4 @@
-//! The checks on a catalogue whose names are numbers and whose SQL is typed.
+//! The checks of a catalogue whose names are numbers and whose SQL is typed.
 
 ghost use Rattle.std.specs.Prelude.{◌≡◌, None, IfOk, OnOk, IfErr};
 ghost use Rattle.serde_json.specs.Data.{Data};
@@ -9,20 +9,17 @@ ghost use Rattle.ss_catalog_checks.specs.Firsts.{IsFirst};
 ghost use Rattle.ss_catalog_checks.specs.Localities.{IsFirstSite};
 ghost use Rattle.ss_catalog_checks.specs.Owners.{refused_window};
 ghost use Rattle.ss_catalog_checks.specs.Workflows.{IsOnCycle};
-ghost use Rattle.ss_catalog.specs.Checks.{IsResolved, HasWorkflows, HasCascades, IsLocal, HasEnds, site_name, site_number};
+ghost use Rattle.ss_catalog.specs.Checks.{IsResolved, HasAcyclicWorkflows, HasAcyclicTriggers, IsLocal, HasRightEnds, site_name, site_number};
 ghost use Rattle.ss_catalog.specs.Reads.{Refuses};
-ghost use Rattle.ss_catalog.specs.Told.{IsBrokenAt};
+ghost use Rattle.ss_catalog.specs.SqlFaults.{IsBrokenAt};
 
 use crate::error::CatalogError;
 use crate::names::{procedure_name, stream_name, trigger_name, window_name};
-use ss_catalog_checks::cascades::trigger_cycle;
-use ss_catalog_checks::cycles::workflow_cycle;
-use ss_catalog_checks::locality::{Site, refused_site};
-use ss_catalog_checks::owners::refused_window;
-use ss_catalog_checks::stream_ends::refused_stream;
-use ss_model::catalog::Catalog;
-use ss_value::NoMemory;
-use ss_value::text::Name;
+use ss_catalog_checks::{
+    Site, refused_site, refused_stream, refused_window, trigger_cycle, workflow_cycle,
+};
+use ss_model::Catalog;
+use ss_value::{Name, NoMemory};
 use std::alloc::Global;
 
 /// C5: no workflow has a cycle.
@@ -39,10 +36,10 @@ pub fn check_workflows(alloc: Global, catalog: &Catalog) -> Result<(), CatalogEr
     }
 }
 
-/// C6: no trigger leads back.
+/// C6: no trigger leads back to its window.
 pub fn check_cascades(alloc: Global, catalog: &Catalog) -> Result<(), CatalogError>
     ensures ok { OnOk result (IsFirst (IsOnTriggerCycle catalog.now) None) }
-    ensures refused { (d : Data) (o : Outline) → HasWorkflows d o catalog.now → IfErr result (Refuses d) }
+    ensures refused { (d : Data) (o : Outline) → HasAcyclicWorkflows d o catalog.now → IfErr result (Refuses d) }
 {
     match trigger_cycle(alloc, catalog)? {
         None => Ok(()),
@@ -53,7 +50,7 @@ pub fn check_cascades(alloc: Global, catalog: &Catalog) -> Result<(), CatalogErr
     }
 }
 
-/// The procedure or trigger of a site.
+/// The name of the procedure or trigger of a site.
 fn site_name(alloc: Global, catalog: &Catalog, site: Site) -> Result<Name, NoMemory>
     ensures { IfOk result (λ name. name ≡ site_name catalog.now site) }
 {
@@ -63,7 +60,7 @@ fn site_name(alloc: Global, catalog: &Catalog, site: Site) -> Result<Name, NoMem
     }
 }
 
-/// Its step or statement.
+/// The number of the step or statement of a site.
 fn site_number(site: Site) -> usize
     ensures { result ≡ site_number site }
 {
@@ -89,7 +86,7 @@ fn locality_broken(alloc: Global, catalog: &Catalog, site: Site) -> CatalogError
 /// C7: all SQL keeps to its touch set.
 pub fn check_locality(alloc: Global, catalog: &Catalog) -> Result<(), CatalogError>
     ensures ok { OnOk result (IsFirstSite catalog.now None) }
-    ensures refused { (d : Data) (o : Outline) → HasCascades d o catalog.now → IfErr result (Refuses d) }
+    ensures refused { (d : Data) (o : Outline) → HasAcyclicTriggers d o catalog.now → IfErr result (Refuses d) }
 {
     match refused_site(alloc, catalog)? {
         None => Ok(()),
@@ -97,7 +94,7 @@ pub fn check_locality(alloc: Global, catalog: &Catalog) -> Result<(), CatalogErr
     }
 }
 
-/// C8: streams begin and end as they should.
+/// C8: streams have the ends that they should.
 pub fn check_stream_ends(alloc: Global, catalog: &Catalog) -> Result<(), CatalogError>
     ensures ok { OnOk result (refused_stream catalog.now ≡ None) }
     ensures refused { (d : Data) (o : Outline) → IsLocal d o catalog.now → IfErr result (Refuses d) }
@@ -111,10 +108,10 @@ pub fn check_stream_ends(alloc: Global, catalog: &Catalog) -> Result<(), Catalog
     }
 }
 
-/// C9: windows are their owners' alone.
+/// C9: the owner of each window is a streaming procedure, and SQL that names the window runs in it alone.
 pub fn check_window_owners(alloc: Global, catalog: &Catalog) -> Result<(), CatalogError>
     ensures ok { OnOk result (refused_window catalog.now ≡ None) }
-    ensures refused { (d : Data) (o : Outline) → HasEnds d o catalog.now → IfErr result (Refuses d) }
+    ensures refused { (d : Data) (o : Outline) → HasRightEnds d o catalog.now → IfErr result (Refuses d) }
 {
     match refused_window(catalog) {
         None => Ok(()),

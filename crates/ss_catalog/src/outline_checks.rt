@@ -1,4 +1,4 @@
-//! The outline of a value, and the checks on what is written.
+//! The outline of a value, and the checks of what is written.
 
 ghost use Rattle.std.specs.Prelude.{◌≡◌, ◌++◌, codes, false, None, IfOk, OnOk, IfErr};
 ghost use Rattle.serde_json.specs.Data.{Data};
@@ -7,21 +7,18 @@ ghost use Rattle.ss_model.specs.declared.catalog.Catalog.{Catalog};
 ghost use Rattle.ss_catalog_outline.specs.Limits.{is_too_many_to_number, over_limit};
 ghost use Rattle.ss_catalog_outline.specs.Twice.{name_twice};
 ghost use Rattle.ss_catalog_outline.specs.Unknown.{name_unknown};
-ghost use Rattle.ss_catalog.specs.Checks.{IsShaped, HasOwnNames, IsNamed, HasOwners};
+ghost use Rattle.ss_catalog.specs.Checks.{IsShaped, HasDistinctNames, HasKnownNames, HasRightOwners};
 ghost use Rattle.ss_catalog.specs.Reads.{Refuses};
 
 use crate::error::{CatalogError, Word};
 use serde_json::Value as Json;
-use ss_catalog_json::read_error::ReadError;
-use ss_catalog_names::twice::name_twice;
-use ss_catalog_names::unknown::name_unknown;
-use ss_catalog_outline::limits::{is_too_many_to_number, over_limit};
-use ss_catalog_outline::read::read_outline;
-use ss_catalog_outline::types::Outline;
+use ss_catalog_json::ReadError;
+use ss_catalog_names::{name_twice, name_unknown};
+use ss_catalog_outline::{Outline, is_too_many_to_number, over_limit, read_outline};
 use ss_value::NoMemory;
 use std::alloc::Global;
 
-/// The path of a way from the whole.
+/// The path to a fault, from the way to it: `$` stands for the whole value.
 fn path_of(alloc: Global, way: &Word) -> Result<Word, NoMemory>
     ensures { IfOk result (λ path. path ≡ codes "$" ++ way.now) }
 {
@@ -30,7 +27,7 @@ fn path_of(alloc: Global, way: &Word) -> Result<Word, NoMemory>
     Ok(Word::from_string(path))
 }
 
-/// C1: the outline of a value, or the path to what isn't as it should be.
+/// C1: the outline of a value, or the path to its first fault.
 pub fn read_shape(alloc: Global, value: &Json) -> Result<Outline, CatalogError>
     ensures ok { IfOk result (IsShaped (view value.now)) }
     ensures refused { IfErr result (Refuses (view value.now)) }
@@ -45,7 +42,7 @@ pub fn read_shape(alloc: Global, value: &Json) -> Result<Outline, CatalogError>
     }
 }
 
-/// C2: no name stands twice.
+/// C2: no name is a duplicate.
 pub fn check_names_once(alloc: Global, outline: &Outline) -> Result<(), CatalogError>
     ensures ok { OnOk result (name_twice outline.now ≡ None) }
     ensures refused { (d : Data) → IsShaped d outline.now → IfErr result (Refuses d) }
@@ -56,10 +53,10 @@ pub fn check_names_once(alloc: Global, outline: &Outline) -> Result<(), CatalogE
     }
 }
 
-/// C3: each name in a field is there.
+/// C3: each name in a field is known.
 pub fn check_names_known(alloc: Global, outline: &Outline) -> Result<(), CatalogError>
     ensures ok { OnOk result (name_unknown outline.now ≡ None) }
-    ensures refused { (d : Data) → HasOwnNames d outline.now → IfErr result (Refuses d) }
+    ensures refused { (d : Data) → HasDistinctNames d outline.now → IfErr result (Refuses d) }
 {
     match name_unknown(alloc, outline)? {
         Some(name) => Err(CatalogError::Unknown(name)),
@@ -67,17 +64,18 @@ pub fn check_names_known(alloc: Global, outline: &Outline) -> Result<(), Catalog
     }
 }
 
-/// C10, as far as it comes before SQL is read: the parts can be numbered.
+/// C10, as far as it comes before SQL is read: no list is too long for the numbers of typed trees.
 #[tactic(auto, using(crate::proofs::Limits::too_many_is_over))]
 pub fn check_numbering(outline: &Outline) -> Result<(), CatalogError>
     ensures ok { OnOk result (is_too_many_to_number outline.now ≡ false) }
-    ensures refused { (d : Data) → IsNamed d outline.now → IfErr result (Refuses d) }
+    ensures refused { (d : Data) → HasKnownNames d outline.now → IfErr result (Refuses d) }
 {
     if !is_too_many_to_number(outline) {
         return Ok(());
     }
     match over_limit(outline) {
         Some(counted) => Err(CatalogError::Limit(counted)),
+        // What can't be numbered is over its limit.
         None => unreachable!(),
     }
 }
@@ -85,7 +83,7 @@ pub fn check_numbering(outline: &Outline) -> Result<(), CatalogError>
 /// C10: no count is over its limit.
 pub fn check_counts(outline: &Outline) -> Result<(), CatalogError>
     ensures ok { OnOk result (over_limit outline.now ≡ None) }
-    ensures refused { (d : Data) (c : Catalog) → HasOwners d outline.now c → IfErr result (Refuses d) }
+    ensures refused { (d : Data) (c : Catalog) → HasRightOwners d outline.now c → IfErr result (Refuses d) }
 {
     match over_limit(outline) {
         Some(over) => Err(CatalogError::Limit(over)),

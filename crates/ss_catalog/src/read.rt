@@ -17,15 +17,15 @@ use crate::outline_checks::{
 };
 use crate::resolve::{resolve_sql, text_of};
 use serde_json::Value as Json;
-use ss_catalog_checks::laws::{
+use ss_catalog_checks::{
     acyclic_workflows_have_levels, unrefused_sql_is_local, unrefused_streams_end_well,
     unrefused_windows_are_owned, unreturning_batches_go_forward, unreturning_triggers_have_ranks,
 };
 use ss_catalog_laws::{resolved_has_form, resolved_is_typed};
-use ss_model::catalog::Catalog;
+use ss_model::Catalog;
 use std::alloc::Global;
 
-/// What passes all checks is accepted.
+/// What passes all checks is accepted: a law that calls, one by one, the laws that it follows from.
 fn what_reads_is_accepted()
     ensures { Accepts }
 {
@@ -41,22 +41,24 @@ fn what_reads_is_accepted()
 
 /// The catalogue of a value, or the first thing that is wrong with it.
 ///
-/// The checks go in this order, each over the whole: shape (C1); names that stand twice (C2); names of nothing (C3);
-/// counts too large to be numbered (C10); SQL (C4); cycles of workflows (C5) and of triggers (C6); locality (C7); the
-/// ends of streams (C8); the owners of windows (C9); all other counts (C10). What is read is accepted, and keeps the
-/// value's compact text, which reads as the same value: it has no float, so there is one such text.
+/// The checks go in this order, each over the whole: shape (C1); duplicate names (C2); unknown names (C3); counts too
+/// large to be numbered (C10); SQL (C4); cycles of workflows (C5) and of triggers (C6); locality (C7); the ends of
+/// streams (C8); the owners of windows (C9); all other counts (C10). What is read is accepted, and has the value's compact
+/// text, which reads as the same value: it has no float, so there is one such text. The value has to have at most 127
+/// levels, as each value has that is read from a text, since it is printed again.
 ///
-/// Time is linear in the value but for these: each SQL text walks the names of the tables, windows and inputs, and
-/// C5 to C9 take the times that the page of each check in `ss_catalog_checks` says. `NoMemory` says nothing of the value.
+/// Takes time linear in the value, with two exceptions: each SQL text walks the names of the tables, windows and inputs,
+/// and C5 to C9 take the times that the pages of the checks in `ss_catalog_checks` say.
 pub fn read_catalog(alloc: Global, value: &Json) -> Result<Catalog, CatalogError>
     requires { depth (view value.now) ≤ max_depth }
-    ensures reads { IfOk result (Reads (view value.now)) }
+    ensures ok { IfOk result (Reads (view value.now)) }
     ensures accepted { IfOk result Accepted }
     ensures refused { IfErr result (Refuses (view value.now)) }
 {
     let outline = read_shape(alloc, value)?;
     check_names_once(alloc, &outline)?;
     check_names_known(alloc, &outline)?;
+    // Before any SQL is read: the numbers in typed trees have 16 bits, and those of columns 8.
     check_numbering(&outline)?;
     let text = text_of(alloc, value)?;
     let catalog = resolve_sql(alloc, &outline, text)?;
@@ -65,6 +67,7 @@ pub fn read_catalog(alloc: Global, value: &Json) -> Result<Catalog, CatalogError
     check_locality(alloc, &catalog)?;
     check_stream_ends(alloc, &catalog)?;
     check_window_owners(alloc, &catalog)?;
+    // Last in the order of refusals; counts that can't be numbered were refused above.
     check_counts(&outline)?;
     what_reads_is_accepted();
     Ok(catalog)

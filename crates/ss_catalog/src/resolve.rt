@@ -1,4 +1,4 @@
-//! The catalogue that an outline stands for, and the text of a value.
+//! The catalogue that an outline resolves to, and the text of a value.
 
 ghost use Rattle.std.specs.Prelude.{◌≡◌, ◌≤◌, false, IfOk, IfErr};
 ghost use Rattle.serde_json.specs.Data.{Data, depth};
@@ -7,21 +7,20 @@ ghost use Rattle.serde_json.specs.View.{view};
 ghost use Rattle.ss_catalog_outline.specs.Limits.{is_too_many_to_number};
 ghost use Rattle.ss_catalog_resolve.specs.Bodies.{Resolves};
 ghost use Rattle.ss_catalog.specs.Checks.{IsNumbered};
-ghost use Rattle.ss_catalog.specs.Told.{IsToldAs};
+ghost use Rattle.ss_catalog.specs.SqlFaults.{IsSqlFaultAt};
 ghost use Rattle.ss_catalog.specs.Reads.{Refuses};
 ghost use Rattle.ss_catalog.specs.Texts.{IsCompactTextOf};
 
 use crate::error::CatalogError;
 use serde_json::Value as Json;
-use ss_catalog_outline::types::Outline;
-use ss_catalog_resolve::fault::{ResolveError, SqlSite};
+use ss_catalog_outline::Outline;
 use ss_catalog_resolve::resolve::resolve;
-use ss_model::catalog::Catalog;
-use ss_value::NoMemory;
-use ss_value::seq::Seq;
+use ss_catalog_resolve::{ResolveError, SqlSite};
+use ss_model::Catalog;
+use ss_value::{NoMemory, Seq};
 use std::alloc::Global;
 
-/// The compact text of a value: linear in it.
+/// The compact text of a value. Linear in the value.
 pub fn text_of(alloc: Global, value: &Json) -> Result<Seq<u8>, NoMemory>
     requires { depth (view value.now) ≤ max_depth }
     ensures { IfOk result (IsCompactTextOf (view value.now)) }
@@ -32,9 +31,9 @@ pub fn text_of(alloc: Global, value: &Json) -> Result<Seq<u8>, NoMemory>
     }
 }
 
-/// C4 at this place. A step's number over 32 bits, which no line has room for, is reported as out of memory.
+/// C4 at a site. A step's number over 32 bits, which no line has room for, is reported as out of memory.
 fn sql_fault(site: SqlSite) -> CatalogError
-    ensures { IsToldAs site result }
+    ensures { IsSqlFaultAt site result }
 {
     match u32::try_from(site.number) {
         Ok(step) => CatalogError::SqlFault {
@@ -47,7 +46,7 @@ fn sql_fault(site: SqlSite) -> CatalogError
 }
 
 /// C4: the catalogue of an outline whose SQL is of the grammar and well typed, or the first fault in it.
-#[tactic(auto, using(crate::proofs::Told::told_refuses))]
+#[tactic(auto, using(crate::proofs::SqlFaultSites::reported_refuses))]
 pub fn resolve_sql(alloc: Global, outline: &Outline, text: Seq<u8>) -> Result<Catalog, CatalogError>
     requires { is_too_many_to_number outline.now ≡ false }
     ensures ok { IfOk result (Resolves outline.now) }

@@ -2,7 +2,9 @@
 use Rattle.std.proofs.Common.{◌≡◌, ◌==◌, ◌<◌, ◌≤◌, ◌+◌, inl, inr, ◌&&◌, ◌||◌, not, ◌++◌, ℕ, zero, suc, Bool, true, false, cond, List, [], ◌∷◌, map, length, get_or, slice_get, Option, Some, None, arith, refl, ap, sym, subst, ◌∙◌}
 use Rattle.std.specs.List.{AllByRecursion, filter, flat_map, list_all, list_any, position, position_or_len, prefix_len}
 use Rattle.std.proofs.lemmas.Option.{slice_get_within, slice_get-get_or}
-use Rattle.std.proofs.lemmas.Bool.{and_parts, not-false, or_cases, eqb-true, eq-eqb, ltb-true, lt-ltb}
+use Rattle.std.proofs.lemmas.Bool.{and_parts, not-false, or_cases, eqb-true, eq-eqb, ltb-true, lt-ltb, or_right, or_left}
+use Rattle.ss_lemmas.proofs.EachOf.{all_from}
+use Rattle.ss_lemmas.proofs.Bools.{some_same, any_of_both, neither_left}
 use Rattle.ss_sql_lex.specs.declared.typed.Expr.{Expr}
 use Rattle.ss_sql_lex.specs.declared.typed.Expr.TheVariants.{Param}
 use Rattle.ss_sql_lex.specs.declared.typed.Item.{Item}
@@ -19,8 +21,8 @@ use Rattle.ss_value.specs.Rows.{Row}
 use Rattle.ss_model.specs.declared.catalog.Catalog.{Catalog}
 use Rattle.ss_model.specs.declared.catalog.Inner.{Inner}
 use Rattle.ss_model.specs.declared.catalog.Inner.TheVariants.{Sql as InnerSql, AbortIf as InnerAbortIf}
-use Rattle.ss_model.specs.declared.catalog.Place.{Place}
-use Rattle.ss_model.specs.declared.catalog.Place.TheVariants.{Part as PlacedAt, By}
+use Rattle.ss_model.specs.declared.catalog.Placement.{Placement}
+use Rattle.ss_model.specs.declared.catalog.Placement.TheVariants.{Part as PlacedAt, By}
 use Rattle.ss_model.specs.declared.catalog.Procedure.{Procedure}
 use Rattle.ss_model.specs.declared.catalog.Step.{Step}
 use Rattle.ss_model.specs.declared.catalog.Step.TheVariants.{Sql, AbortIf, ForEach, Emit, Return}
@@ -29,7 +31,7 @@ use Rattle.ss_model.specs.declared.catalog.Touch.TheVariants.{Part, Arg, Multi, 
 use Rattle.ss_model.specs.declared.catalog.TriggerDef.{TriggerDef}
 use Rattle.ss_model.specs.Claims.{Claims, SourceClaim, JoinClaim, QueryClaim, ValuesClaim, RowsClaim, StatementClaim, TriggerClaim, InnerClaim, StepClaim, UsesOnly}
 use Rattle.ss_model.specs.Conjuncts.{IsLimited, SourceLimited, JoinLimited, QueryLimited, StatementLimited, StepLimited}
-use Rattle.ss_model.specs.Contents.{default_window, owner_from, window_owner, table_place}
+use Rattle.ss_model.specs.Contents.{default_window, owner_from, window_owner, table_placement}
 use Rattle.ss_model.specs.Database.{emits_to}
 use Rattle.ss_model.specs.Feeds.{goes_into}
 use Rattle.ss_model.specs.Partitions.{GivesArgument, SelectsArgument, local_claims}
@@ -43,20 +45,8 @@ use Rattle.ss_model.specs.declared.catalog.On.TheVariants.{Stream as OnStream, W
 use Rattle.ss_model.specs.declared.catalog.WindowDef.{WindowDef}
 use Rattle.ss_catalog_checks.specs.Runs.{is_owner, runs_in}
 use Rattle.ss_catalog_checks.specs.Owners.{reads_from, joins_with, query_names, statement_names, inner_names, step_names, trigger_names, steps_name, runs_outside, is_named_outside, is_call_procedure, is_misowned, is_refused_window, refused_window}
-use Rattle.ss_catalog_checks.proofs.Counts.{some_same}
-use Rattle.ss_catalog_checks.proofs.Ending.{range_at, all_at, some_of_all}
+use Rattle.ss_catalog_checks.proofs.Ending.{range_at, all_at}
 use Rattle.ss_catalog_checks.proofs.Searches.{none_passes}
-
-or_true_left : (a b : Bool) → a ≡ true → (a || b) ≡ true
-or_true_left a b e = ap (λ c. c || b) e
-
-or_true_right : (a b : Bool) → b ≡ true → (a || b) ≡ true
-or_true_right true b e = refl
-or_true_right false b e = e
-
-neither_left : (a b : Bool) → (a || b) ≡ false → a ≡ false
-neither_left true b e = absurd (cc)
-neither_left false b e = refl
 
 neither_right : (a b : Bool) → (a || b) ≡ false → b ≡ false
 neither_right true b e = absurd (cc)
@@ -64,45 +54,42 @@ neither_right false b e = e
 
 -- ---- the tests mean what the model says
 
-limited_so : (touch : Touch) (place : Option Place) (source : ℕ) (test : Option Expr) → is_limited touch place source test ≡ true → IsLimited touch place source test
+limited_so : (touch : Touch) (placement : Option Placement) (source : ℕ) (test : Option Expr) → is_limited touch placement source test ≡ true → IsLimited touch placement source test
 limited_so (Arg a) (Some (By c)) source test h = h
 limited_so (Arg a) (Some (PlacedAt x)) source test h = tt
 limited_so (Arg a) None source test h = tt
-limited_so (Part x) place source test h = tt
-limited_so (Multi xs) place source test h = tt
-limited_so All place source test h = tt
+limited_so (Part x) placement source test h = tt
+limited_so (Multi xs) placement source test h = tt
+limited_so All placement source test h = tt
 
 argument_so : (a : ℕ) (o : Option Expr) → is_argument a o ≡ true → o ≡ Some (Param a)
 argument_so a (Some (Param n)) h = ap (λ n. Some (Param n)) (eqb-true n a h)
 argument_so a (Some _) h = absurd (cc)
 argument_so a None h = absurd (cc)
 
-some_here : {A : Type 0} (x y : A) → Some x ≡ Some y → x ≡ y
-some_here x y e = cc
-
 item_so : (a : ℕ) (o : Option Item) → is_argument_item a o ≡ true → o ≡ Some (Plain (Param a))
-item_so a (Some (Plain x)) h = ap (λ x. Some (Plain x)) (some_here x (Param a) (argument_so a (Some x) h))
+item_so a (Some (Plain x)) h = ap (λ x. Some (Plain x)) (some_same x (Param a) (argument_so a (Some x) h))
 item_so a (Some Count) h = absurd (cc)
 item_so a (Some (Sum x)) h = absurd (cc)
 item_so a (Some (Min x)) h = absurd (cc)
 item_so a (Some (Max x)) h = absurd (cc)
 item_so a None h = absurd (cc)
 
-gives_so : (touch : Touch) (place : Option Place) (vs : List Expr) → gives_argument touch place vs ≡ true → GivesArgument touch place vs
+gives_so : (touch : Touch) (placement : Option Placement) (vs : List Expr) → gives_argument touch placement vs ≡ true → GivesArgument touch placement vs
 gives_so (Arg a) (Some (By c)) vs h = argument_so a (slice_get vs c) h
 gives_so (Arg a) (Some (PlacedAt x)) vs h = tt
 gives_so (Arg a) None vs h = tt
-gives_so (Part x) place vs h = tt
-gives_so (Multi xs) place vs h = tt
-gives_so All place vs h = tt
+gives_so (Part x) placement vs h = tt
+gives_so (Multi xs) placement vs h = tt
+gives_so All placement vs h = tt
 
-selects_so : (touch : Touch) (place : Option Place) (items : List Item) → selects_argument touch place items ≡ true → SelectsArgument touch place items
+selects_so : (touch : Touch) (placement : Option Placement) (items : List Item) → selects_argument touch placement items ≡ true → SelectsArgument touch placement items
 selects_so (Arg a) (Some (By c)) items h = item_so a (slice_get items c) h
 selects_so (Arg a) (Some (PlacedAt x)) items h = tt
 selects_so (Arg a) None items h = tt
-selects_so (Part x) place items h = tt
-selects_so (Multi xs) place items h = tt
-selects_so All place items h = tt
+selects_so (Part x) placement items h = tt
+selects_so (Multi xs) placement items h = tt
+selects_so All placement items h = tt
 
 all_of_two : (xs ys : List Bool) → list_all (λ b. b) (xs ++ ys) ≡ true → (list_all (λ b. b) xs ≡ true) × (list_all (λ b. b) ys ≡ true)
 all_of_two [] ys h = (refl, h)
@@ -130,23 +117,23 @@ module _ (catalog : Catalog) (q : ℕ) (p : Procedure) where
 
   query_claim : (x : Query) → is_local_query catalog p.touch x ≡ true → ((w : ℕ) → query_names w x ≡ true → Owns w) → QueryClaim (local_claims catalog q p) x
   query_claim x h f = (
-    source_claim x.from 0 x.test ((and_parts _ _ h).0) (λ w e. f w (or_true_left (reads_from w x.from) _ e)),
-    join_claim x.joined x.test ((and_parts _ _ h).1) (λ w e. f w (or_true_right (reads_from w x.from) _ e)),
+    source_claim x.from 0 x.test ((and_parts _ _ h).0) (λ w e. f w (or_left (reads_from w x.from) _ e)),
+    join_claim x.joined x.test ((and_parts _ _ h).1) (λ w e. f w (or_right (reads_from w x.from) _ e)),
   )
 
   values_claim : (params : Row) (target : Target) (vs : List Expr) → takes_values catalog p.touch target vs ≡ true → ((w : ℕ) → goes_into w target ≡ true → Owns w) → ValuesClaim (local_claims catalog q p) params target vs
-  values_claim params (IntoTable t) vs h f = ((and_parts _ _ h).0, gives_so p.touch (table_place (slice_get catalog.tables t)) vs ((and_parts _ _ h).1))
+  values_claim params (IntoTable t) vs h f = ((and_parts _ _ h).0, gives_so p.touch (table_placement (slice_get catalog.tables t)) vs ((and_parts _ _ h).1))
   values_claim params (IntoWindow w) vs h f = f w (eq-eqb w w refl)
 
   rows_claim : (params : Row) (target : Target) (x : Query) → takes_items catalog p.touch target x.items ≡ true → ((w : ℕ) → goes_into w target ≡ true → Owns w) → RowsClaim (local_claims catalog q p) params target x
-  rows_claim params (IntoTable t) x h f = ((and_parts _ _ h).0, selects_so p.touch (table_place (slice_get catalog.tables t)) x.items ((and_parts _ _ h).1))
+  rows_claim params (IntoTable t) x h f = ((and_parts _ _ h).0, selects_so p.touch (table_placement (slice_get catalog.tables t)) x.items ((and_parts _ _ h).1))
   rows_claim params (IntoWindow w) x h f = f w (eq-eqb w w refl)
 
   statement_claim : (params : Row) (s : Statement) → is_local_statement catalog p.touch s ≡ true → ((w : ℕ) → statement_names w s ≡ true → Owns w) → StatementClaim (local_claims catalog q p) params s
   statement_claim params (InsertValues target vs) h f = values_claim params target vs h f
   statement_claim params (InsertQuery target x) h f = (
-    query_claim x ((and_parts _ _ h).0) (λ w e. f w (or_true_right (goes_into w target) _ e)),
-    rows_claim params target x ((and_parts _ _ h).1) (λ w e. f w (or_true_left (goes_into w target) _ e)),
+    query_claim x ((and_parts _ _ h).0) (λ w e. f w (or_right (goes_into w target) _ e)),
+    rows_claim params target x ((and_parts _ _ h).1) (λ w e. f w (or_left (goes_into w target) _ e)),
   )
   statement_claim params (Update t sets test) h f = (and_parts _ _ h).0
   statement_claim params (Delete t test) h f = (and_parts _ _ h).0
@@ -154,8 +141,8 @@ module _ (catalog : Catalog) (q : ℕ) (p : Procedure) where
   statements_claim : (ss : List Statement) → list_all (is_local_statement catalog p.touch) ss ≡ true → ((w : ℕ) → list_any (statement_names w) ss ≡ true → Owns w) → AllByRecursion (StatementClaim (local_claims catalog q p) []) ss
   statements_claim [] h f = tt
   statements_claim (s ∷ ss) h f = (
-    statement_claim [] s ((and_parts _ _ h).0) (λ w e. f w (or_true_left (statement_names w s) _ e)),
-    statements_claim ss ((and_parts _ _ h).1) (λ w e. f w (or_true_right (statement_names w s) _ e)),
+    statement_claim [] s ((and_parts _ _ h).0) (λ w e. f w (or_left (statement_names w s) _ e)),
+    statements_claim ss ((and_parts _ _ h).1) (λ w e. f w (or_right (statement_names w s) _ e)),
   )
 
   inner_claim : (x : Inner) → is_local_inner catalog p.touch x ≡ true → ((w : ℕ) → inner_names w x ≡ true → Owns w) → InnerClaim (local_claims catalog q p) x
@@ -165,14 +152,14 @@ module _ (catalog : Catalog) (q : ℕ) (p : Procedure) where
   inners_claim : (xs : List Inner) → list_all (λ b. b) (map (is_local_inner catalog p.touch) xs) ≡ true → ((w : ℕ) → list_any (inner_names w) xs ≡ true → Owns w) → AllByRecursion (InnerClaim (local_claims catalog q p)) xs
   inners_claim [] h f = tt
   inners_claim (x ∷ xs) h f = (
-    inner_claim x ((and_parts _ _ h).0) (λ w e. f w (or_true_left (inner_names w x) _ e)),
-    inners_claim xs ((and_parts _ _ h).1) (λ w e. f w (or_true_right (inner_names w x) _ e)),
+    inner_claim x ((and_parts _ _ h).0) (λ w e. f w (or_left (inner_names w x) _ e)),
+    inners_claim xs ((and_parts _ _ h).1) (λ w e. f w (or_right (inner_names w x) _ e)),
   )
 
   -- ---- what the steps of a call procedure read
 
   source_limited : (x : SourceId) (source : ℕ) (test : Option Expr) → is_local_source catalog p.touch x source test ≡ true → SourceLimited catalog p.touch x source test
-  source_limited (FromTable t) source test h = limited_so p.touch (table_place (slice_get catalog.tables t)) source test ((and_parts _ _ h).1)
+  source_limited (FromTable t) source test h = limited_so p.touch (table_placement (slice_get catalog.tables t)) source test ((and_parts _ _ h).1)
   source_limited (FromWindow w) source test h = tt
   source_limited (FromBatch i) source test h = tt
   source_limited Inserted source test h = tt
@@ -187,8 +174,8 @@ module _ (catalog : Catalog) (q : ℕ) (p : Procedure) where
   statement_limited : (s : Statement) → is_local_statement catalog p.touch s ≡ true → StatementLimited catalog p.touch s
   statement_limited (InsertValues target vs) h = tt
   statement_limited (InsertQuery target x) h = query_limited x ((and_parts _ _ h).0)
-  statement_limited (Update t sets test) h = limited_so p.touch (table_place (slice_get catalog.tables t)) 0 test ((and_parts _ _ h).1)
-  statement_limited (Delete t test) h = limited_so p.touch (table_place (slice_get catalog.tables t)) 0 test ((and_parts _ _ h).1)
+  statement_limited (Update t sets test) h = limited_so p.touch (table_placement (slice_get catalog.tables t)) 0 test ((and_parts _ _ h).1)
+  statement_limited (Delete t test) h = limited_so p.touch (table_placement (slice_get catalog.tables t)) 0 test ((and_parts _ _ h).1)
 
   step_limited : (x : Step) → list_all (λ b. b) (verdicts catalog p.touch x) ≡ true → StepLimited catalog p.touch x
   step_limited (Sql s) h = statement_limited s ((and_parts _ _ h).0)
@@ -243,7 +230,7 @@ module _ (catalog : Catalog) (inputs : ℕ) (inserted : Bool) (w : ℕ) where
   step_there : (x : Step) → step_in_scope catalog inputs inserted x ≡ true → step_names w x ≡ true → w < length catalog.windows
   step_there (Sql s) h e = statement_there s h e
   step_there (AbortIf c code) h e = query_there c.query h e
-  step_there (ForEach input body) h e = some_of_all (w < length catalog.windows) (inner_names w) (inner_in_scope catalog inputs inserted) (λ x y g. inner_there x g y) body ((and_parts _ _ h).1) e
+  step_there (ForEach input body) h e = any_of_both (w < length catalog.windows) (inner_names w) (inner_in_scope catalog inputs inserted) (λ x y g. inner_there x g y) body ((and_parts _ _ h).1) e
   step_there (Emit s x) h e = query_there x ((and_parts _ _ h).1) e
   step_there (Return x) h e = query_there x h e
 
@@ -273,10 +260,6 @@ none_at p xs n x h e = by (p x) refl
         let within = slice_get_within xs n x e in
         let found : position p xs ≡ Some (position_or_len p xs) = ap (λ b. cond b (Some (position_or_len p xs)) None) (lt-ltb (position_or_len p xs) (length xs) (omega arith)) in
         absurd (cc)
-
-all_from : {A : Type 0} (g : A → Bool) (xs : List A) → ((n : ℕ) (x : A) → slice_get xs n ≡ Some x → g x ≡ true) → list_all g xs ≡ true
-all_from g [] f = refl
-all_from g (x ∷ xs) f = ap (λ b. b && list_all g xs) (f zero x refl) ∙ all_from g xs (λ n y e. f (suc n) y e)
 
 filtered_all : {A : Type 0} (P : A → Type 0) (f : A → Bool) (xs : List A) → ((n : ℕ) (x : A) → slice_get xs n ≡ Some x → f x ≡ true → P x) → AllByRecursion P (filter f xs)
 filtered_all P f [] k = tt
@@ -335,13 +318,13 @@ module _ (catalog : Catalog) (scope : catalog_in_scope catalog ≡ true) (allowe
   step_owns : (w : ℕ) → list_any (step_names w) p.body ≡ true → window_owner catalog w ≡ Some q
   step_owns w h =
       at_window w (window_owner catalog w ≡ Some q)
-      (some_of_all (w < length catalog.windows) (step_names w) (step_in_scope catalog (length p.inputs) false) (λ x y g. step_there catalog (length p.inputs) false w x g y) p.body in_scope h)
+      (any_of_both (w < length catalog.windows) (step_names w) (step_in_scope catalog (length p.inputs) false) (λ x y g. step_there catalog (length p.inputs) false w x g y) p.body in_scope h)
       (λ d e. step_owns_it w d e h)
 
   trigger_owns : (n : ℕ) (t : TriggerDef) → slice_get catalog.triggers n ≡ Some t → runs_in catalog t.on q ≡ true → (w : ℕ) → trigger_names w t ≡ true → window_owner catalog w ≡ Some q
   trigger_owns n t st runs w h =
       at_window w (window_owner catalog w ≡ Some q)
-      (some_of_all (w < length catalog.windows) (statement_names w) (statement_in_scope catalog 0 (is_on_a_stream t.on)) (λ x y g. statement_there catalog 0 (is_on_a_stream t.on) w x g y) t.statements
+      (any_of_both (w < length catalog.windows) (statement_names w) (statement_in_scope catalog 0 (is_on_a_stream t.on)) (λ x y g. statement_there catalog 0 (is_on_a_stream t.on) w x g y) t.statements
       (all_at (trigger_in_scope catalog) catalog.triggers n t ((and_parts _ _ scope).1) st) h)
       (λ d e. trigger_owns_it n t st runs w d e h)
 
@@ -387,8 +370,8 @@ module _ (catalog : Catalog) (scope : catalog_in_scope catalog ≡ true) (allowe
   steps_claim args [] h f g = tt
   steps_claim args (x ∷ body) h f g =
       let r = all_of_two (verdicts catalog p.touch x) (flat_map (verdicts catalog p.touch) body) h in (
-        step_claim args x r.0 (λ w e. f w (or_true_left (step_names w x) _ e)) (λ s e. g s (or_true_left (emits_to s x) _ e)),
-        steps_claim args body r.1 (λ w e. f w (or_true_right (step_names w x) _ e)) (λ s e. g s (or_true_right (emits_to s x) _ e)),
+        step_claim args x r.0 (λ w e. f w (or_left (step_names w x) _ e)) (λ s e. g s (or_left (emits_to s x) _ e)),
+        steps_claim args body r.1 (λ w e. f w (or_right (step_names w x) _ e)) (λ s e. g s (or_right (emits_to s x) _ e)),
       )
 
   pub uses_only : (args : Row) → UsesOnly claims catalog q args p

@@ -5,6 +5,7 @@ use Rattle.std.proofs.lemmas.Bool.{and_parts, or_cases, not-false, eqb-true, ltb
 use Rattle.std.proofs.lemmas.Option.{slice_get-get_or}
 use Rattle.std.proofs.lemmas.List.Folds.{Any-from_list_any}
 use Rattle.std.proofs.lemmas.List.FromFn.{get_or-range_with_len, length-range_with_len}
+use Rattle.ss_lemmas.proofs.Bools.{some_same, any_of_both, any_at}
 use Rattle.ss_model.specs.declared.catalog.Catalog.{Catalog}
 use Rattle.ss_model.specs.declared.catalog.Kind.{Kind}
 use Rattle.ss_model.specs.declared.catalog.Kind.TheVariants.{Call as CallKind, Border, Interior}
@@ -22,8 +23,8 @@ use Rattle.ss_model.specs.Settling.{procedure_numbers, emitting_procedure, borde
 use Rattle.ss_model.specs.Statements.{is_on_stream}
 use Rattle.ss_catalog_checks.specs.StreamEnds.{is_interior, emitters, consumers, border_consumers, interior_consumers, ends_at_border, ends_inside, ends_badly, refuses_triggers, workflow_of, awaited_stream, is_foreign, foreign_among, foreign_inputs, refused_streams, refused_stream}
 use Rattle.ss_catalog_checks.specs.Guarantees.{StreamsEndWell}
-use Rattle.ss_catalog_checks.proofs.Counts.{some_same, none_counted, one_counted, some_counted, as_strong, filter_none, empty_left, empty_right}
-use Rattle.ss_catalog_checks.proofs.Firsts.{empty_from_none}
+use Rattle.ss_lemmas.proofs.Counts.{none_counted, one_counted, some_counted, as_strong, filter_none, empty_left, empty_right}
+use Rattle.ss_lemmas.proofs.Firsts.{empty_from_none}
 use Rattle.ss_catalog_checks.proofs.Searches.{found_passes, none_passes}
 
 -- ---- lists
@@ -40,18 +41,6 @@ pub all_at : {A : Type 0} (g : A → Bool) (xs : List A) (n : ℕ) (x : A) → l
 all_at g [] n x h e = absurd (cc)
 all_at g (y ∷ xs) zero x h e = subst (λ z. g z ≡ true) (some_same y x e) ((and_parts (g y) (list_all g xs) h).0)
 all_at g (y ∷ xs) (suc n) x h e = all_at g xs n x ((and_parts (g y) (list_all g xs) h).1) e
-
--- one of a list that passes one test, where all pass another
-pub some_of_all : {A : Type 0} (C : Type 0) (f g : A → Bool) → ((x : A) → f x ≡ true → g x ≡ true → C) → (xs : List A) → list_all g xs ≡ true → list_any f xs ≡ true → C
-some_of_all C f g k [] h e = absurd (cc)
-some_of_all C f g k (x ∷ xs) h e =
-    let b = and_parts (g x) (list_all g xs) h in
-    elim (or_cases (f x) (list_any f xs) e) [ inl y ↦ k x y b.0 | inr y ↦ some_of_all C f g k xs b.1 y ]
-
-pub any_at : {A : Type 0} (p : A → Bool) (xs : List A) (n : ℕ) (x : A) → slice_get xs n ≡ Some x → p x ≡ true → list_any p xs ≡ true
-any_at p [] n x e h = absurd (cc)
-any_at p (y ∷ xs) zero x e h = ap (λ b. b || list_any p xs) (ap p (some_same y x e) ∙ h)
-any_at p (y ∷ xs) (suc n) x e h = elim (p y) as (λ b. (b || list_any p xs) ≡ true) [ true ↦ refl | false ↦ any_at p xs n x e h ]
 
 -- a procedure with something
 pub record Having (f : Procedure → Bool) (ps : List Procedure) (q : ℕ) : Type 0 where
@@ -136,10 +125,10 @@ module _ (catalog : Catalog) (numbers : numbers_in_range catalog ≡ true) (scop
   emits_there p s e =
       let d = having (λ d. list_any (emits_to s) d.body) catalog.procedures p e in
       let h = all_at (procedure_in_scope catalog) catalog.procedures p d.procedure ((and_parts _ _ scope).0) d.stands in
-      some_of_all (s < length catalog.streams) (emits_to s) (step_in_scope catalog (length d.procedure.inputs) false) (emit_there catalog (length d.procedure.inputs) s) d.procedure.body h d.has
+      any_of_both (s < length catalog.streams) (emits_to s) (step_in_scope catalog (length d.procedure.inputs) false) (emit_there catalog (length d.procedure.inputs) s) d.procedure.body h d.has
 
   inputs_there : (p : Procedure) (s : ℕ) → list_all (λ s. nat_lt s (length catalog.streams)) p.inputs ≡ true → takes_stream s p ≡ true → s < length catalog.streams
-  inputs_there p s h t = some_of_all (s < length catalog.streams) (λ i. i == s) (λ i. nat_lt i (length catalog.streams)) (λ i e l. subst (λ k. k < length catalog.streams) (eqb-true i s e) (ltb-true i _ l)) p.inputs h t
+  inputs_there p s h t = any_of_both (s < length catalog.streams) (λ i. i == s) (λ i. nat_lt i (length catalog.streams)) (λ i e l. subst (λ k. k < length catalog.streams) (eqb-true i s e) (ltb-true i _ l)) p.inputs h t
 
   takes_there : (n : ℕ) (p : Procedure) (s : ℕ) → slice_get catalog.procedures n ≡ Some p → takes_stream s p ≡ true → s < length catalog.streams
   takes_there n p s e t =

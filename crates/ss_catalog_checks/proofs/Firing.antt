@@ -2,10 +2,12 @@
 use Rattle.std.proofs.Common.{◌≡◌, ◌==◌, ◌<◌, ◌≤◌, ◌+◌, ◌&&◌, ◌||◌, ◌⊎◌, inl, inr, ℕ, zero, suc, Bool, true, false, cond, List, [], ◌∷◌, map, length, get_or, slice_get, Option, Some, None, arith, refl, ap, sym, subst, ◌∙◌}
 use Rattle.std.specs.Bool.{Decides}
 use Rattle.std.specs.List.{list_any, filter, flat_map, range_with_len}
-use Rattle.std.proofs.lemmas.Bool.{cases_eq, cases_lt, eq-eqb, ne_eqb, or_cases, or_left, or_right, and_parts, and_from}
+use Rattle.std.proofs.lemmas.Bool.{cases_lt, eq-eqb, or_cases, or_left, or_right, and_parts, and_from}
 use Rattle.std.proofs.lemmas.List.{get_or_past}
 use Rattle.std.proofs.lemmas.List.Folds.{Any-from_list_any, list_any-append, list_any_at}
 use Rattle.std.proofs.lemmas.List.FromFn.{get_or-range_with_len, length-range_with_len}
+use Rattle.std.proofs.lemmas.Option.{slice_get_within}
+use Rattle.ss_lemmas.proofs.Numbers.{eqb_turned}
 use Rattle.ss_sql_lex.specs.declared.typed.Target.{Target}
 use Rattle.ss_sql_lex.specs.declared.typed.Target.TheVariants.{Table as IntoTable, Window as IntoWindow}
 use Rattle.ss_sql_lex.specs.declared.typed.Statement.{Statement}
@@ -17,7 +19,7 @@ use Rattle.ss_model.specs.declared.catalog.TriggerDef.{TriggerDef}
 use Rattle.ss_model.specs.Statements.{is_on_window}
 use Rattle.ss_model.specs.Feeds.{goes_into, stages_into, feeds}
 use Rattle.ss_catalog_checks.specs.Cascades.{inserts_into, LeadsInto, at_once, onward, goes_back, LeadsBack, SomeLeadsBack, IsOnTriggerCycle, target_windows, statement_windows, inserted_windows, edges_from, trigger_edges, window_edges}
-use Rattle.ss_catalog_checks.specs.Graphs.{Reached, at_once as reached_at_once, onward as reached_onward, is_among, has_edge, edge, joins, is_edge, IsGraphOf, StartsWithin, TellsReached}
+use Rattle.ss_catalog_checks.specs.Graphs.{Reached, at_once as reached_at_once, onward as reached_onward, is_among, has_edge, edge, joins, is_edge, IsGraphOf, StartsWithin, FlagsReached}
 use Rattle.ss_catalog_checks.proofs.Graphs.{or_none}
 
 zero_plus : (n : ℕ) → 0 + n ≡ n
@@ -49,19 +51,11 @@ pub feeder : (ts : List TriggerDef) (m k : ℕ) → list_any (λ t. inserts_into
 feeder [] m k h = absurd (cc)
 feeder (t ∷ ts) m k h = feeder_by t ts m k (feeder ts m k) (is_on_window m t.on) refl h
 
-number_there : {A : Type 0} (xs : List A) (n : ℕ) (x : A) → slice_get xs n ≡ Some x → n < length xs
-number_there [] n x e = absurd (cc)
-number_there (y ∷ xs) zero x e = omega arith
-number_there (y ∷ xs) (suc n) x e = let l = number_there xs n x e in omega arith
-
 -- ---- the edges
-
-turned : (m k : ℕ) → (m == k) ≡ (k == m)
-turned m k = elim (cases_eq m k) [ inl e ↦ eq-eqb m k e ∙ sym (eq-eqb k m (sym e)) | inr d ↦ ne_eqb m k d ∙ sym (ne_eqb k m (λ e. d (sym e))) ]
 
 among_target : (m : ℕ) (x : Target) → is_among (target_windows x) m ≡ goes_into m x
 among_target m (IntoTable t) = refl
-among_target m (IntoWindow k) = or_none (m == k) ∙ turned m k
+among_target m (IntoWindow k) = or_none (m == k) ∙ eqb_turned m k
 
 among_statement : (m : ℕ) (s : Statement) → is_among (statement_windows s) m ≡ stages_into m s
 among_statement m (InsertValues target vs) = among_target m target
@@ -143,8 +137,8 @@ module _ (catalog : Catalog) (graph : List (List ℕ)) (is : IsGraphOf (window_e
     starts_within n e m h =
         is.closed n m (is.has_these n m ∙ fires catalog.triggers i t n m stands (ap (is_on_window n) e ∙ eq-eqb n n refl) (sym (among_all m t.statements) ∙ h))
 
-    -- what flags tell
-    module _ (seen : List Bool) (tells : TellsReached (has_edge graph) (is_among (inserted_windows t)) seen) where
+    -- what the flags say
+    module _ (seen : List Bool) (tells : FlagsReached (has_edge graph) (is_among (inserted_windows t)) seen) where
       abbrev is_back : ℕ → Bool
       is_back k = get_or seen k false && goes_back catalog t.on k
 
@@ -176,5 +170,5 @@ pub no_cascade : (catalog : Catalog) → ((k : ℕ) → k < length catalog.trigg
 no_cascade catalog f k c = f k (there (slice_get catalog.triggers k) refl c) c
   where
     there : (o : Option TriggerDef) → slice_get catalog.triggers k ≡ o → SomeLeadsBack catalog o → k < length catalog.triggers
-    there (Some t) e b = number_there catalog.triggers k t e
+    there (Some t) e b = slice_get_within catalog.triggers k t e
     there None e b = absurd b

@@ -12,7 +12,7 @@ use Rattle.ss_model.specs.Database.{emits_to, takes_stream}
 use Rattle.ss_model.specs.Orders.{procedure_has, procedure_emits, procedure_takes}
 use Rattle.ss_model.specs.Settling.{procedure_numbers}
 use Rattle.ss_catalog_checks.specs.declared.graph.Edge.{Edge}
-use Rattle.ss_catalog_checks.specs.Graphs.{Reached, at_once as reached_at_once, onward as reached_onward, is_among, has_edge, edge, joins, is_edge, IsGraphOf, TellsReached}
+use Rattle.ss_catalog_checks.specs.Graphs.{Reached, at_once as reached_at_once, onward as reached_onward, is_among, has_edge, edge, joins, is_edge, IsGraphOf, FlagsReached}
 use Rattle.ss_catalog_checks.specs.Workflows.{LeadsTo, at_once, onward, IsOnCycle, emit_edges, take_edge, procedure_edges, workflow_edges}
 use Rattle.ss_catalog_checks.proofs.Graphs.{or_none}
 use Rattle.ss_catalog_checks.proofs.Ending.{range_at}
@@ -172,7 +172,7 @@ module _ (catalog : Catalog) where
     fills_leads s q (itself e) t = at_once q s e t
     fills_leads s q (another r l e) t = onward r q s l e t
 
-    -- what stands at a node that is reached
+    -- what is known of a node that is reached
     pub record Means (n : ℕ) : Type 0 where
       pub procedure : n < length catalog.procedures → LeadsTo catalog p n
       pub stream : (s : ℕ) → n ≡ length catalog.procedures + s → Fills s
@@ -214,14 +214,14 @@ module _ (catalog : Catalog) where
     reach q (at_once x s e t) = reached_onward (reached_at_once (stands p (count + s) (emit_there p s e))) (stands (count + s) _ (take_there _ s t))
     reach q (onward k x s l e t) = reached_onward (reached_onward (reach k l) (stands k (count + s) (emit_there k s e))) (stands (count + s) _ (take_there _ s t))
 
-    -- what flags tell of a cycle
-    pub cycle_told : (seen : List Bool) (r : Bool) → TellsReached (has_edge graph) (is_among (get_or graph p [])) seen → r ≡ get_or seen p false → Decides r (IsOnCycle catalog p)
-    cycle_told seen r tells e = (λ t. (means p ((tells p).0 (sym e ∙ t))).procedure within, λ l. e ∙ (tells p).1 (reach p l))
+    -- what the flags say of a cycle
+    pub cycle_flagged : (seen : List Bool) (r : Bool) → FlagsReached (has_edge graph) (is_among (get_or graph p [])) seen → r ≡ get_or seen p false → Decides r (IsOnCycle catalog p)
+    cycle_flagged seen r tells e = (λ t. (means p ((tells p).0 (sym e ∙ t))).procedure within, λ l. e ∙ (tells p).1 (reach p l))
 
     -- where a procedure has no edges
     no_start : get_or graph p [] ≡ [] → (n : ℕ) → At n → ⊥
     no_start e n (reached_at_once h) = let z : is_among [] n ≡ true = subst (λ ns. is_among ns n ≡ true) e h in absurd (cc)
     no_start e n (reached_onward r h) = no_start e _ r
 
-    pub no_edges_told : get_or graph p [] ≡ [] → Decides false (IsOnCycle catalog p)
-    no_edges_told e = (λ t. absurd (cc), λ l. absurd (no_start e p (reach p l)))
+    pub no_edges_reported : get_or graph p [] ≡ [] → Decides false (IsOnCycle catalog p)
+    no_edges_reported e = (λ t. absurd (cc), λ l. absurd (no_start e p (reach p l)))

@@ -4,7 +4,7 @@ use Rattle.std.specs.List.{count_by, range_with_len}
 use Rattle.std.proofs.lemmas.Bool.{cases_eq, or_cases, or_left, or_right, and_parts, and_from, false_from_ne_true}
 use Rattle.std.proofs.lemmas.List.FromFn.{length-range_with_len}
 use Rattle.std.proofs.lemmas.List.Sums.{count_by-le-length}
-use Rattle.ss_catalog_checks.proofs.Counts.{fewer_counted}
+use Rattle.ss_lemmas.proofs.Counts.{fewer_counted}
 use Rattle.ss_catalog_checks.proofs.Ending.{range_at}
 
 module _ (edge : ℕ → ℕ → Bool) where

@@ -1,10 +1,8 @@
-pub mod Firsts
 pub mod Ways
 pub mod Searches
 pub mod Graphs
 pub mod Handing
 pub mod Firing
-pub mod Counts
 pub mod Noting
 pub mod Ending
 pub mod Owning

@@ -5,11 +5,11 @@ use Rattle.std.proofs.lemmas.Bool.{ltb-true, lt-ltb, le-ltb}
 use Rattle.ss_model.specs.declared.catalog.Procedure.{Procedure}
 use Rattle.ss_model.specs.Orders.{procedure_has}
 use Rattle.ss_catalog_checks.specs.declared.tallies.Count.{Count}
-use Rattle.ss_catalog_checks.specs.Tallies.{count_with, noted, count_at, StayBelow}
-use Rattle.ss_catalog_checks.proofs.Counts.{tick, count_cons}
-use Rattle.ss_catalog_checks.proofs.Firsts.{range_on, range_done}
+use Rattle.ss_catalog_checks.specs.Tallies.{count_with, tally, count_at, StayBelow}
+use Rattle.ss_lemmas.proofs.Counts.{tick, count_cons}
+use Rattle.ss_lemmas.proofs.Firsts.{range_on, range_done}
 
--- a mark that stands counts no more
+-- a mark that is counted counts no more
 pub counted_twice : (m : ℕ) (t : Count) → count_with m (count_with m t) ≡ count_with m t
 counted_twice m t = by (nat_lt t.below m) refl
   where
@@ -18,14 +18,14 @@ counted_twice m t = by (nat_lt t.below m) refl
     by false e = ap (λ b. cond b (record { count = suc t.count; below = m }) t) e
 
 -- a procedure that passes twice counts once
-pub noted_twice : (a b : Bool) (m : ℕ) (t : Count) → noted b m (noted a m t) ≡ noted (a || b) m t
+pub noted_twice : (a b : Bool) (m : ℕ) (t : Count) → tally b m (tally a m t) ≡ tally (a || b) m t
 noted_twice true true m t = counted_twice m t
 noted_twice true false m t = refl
 noted_twice false true m t = refl
 noted_twice false false m t = refl
 
 -- no more are counted than the mark says
-pub noted_below : (a : Bool) (m : ℕ) (t : Count) → t.count ≤ t.below → (noted a m t).count ≤ (noted a m t).below
+pub noted_below : (a : Bool) (m : ℕ) (t : Count) → t.count ≤ t.below → (tally a m t).count ≤ (tally a m t).below
 noted_below false m t h = h
 noted_below true m t h = by (nat_lt t.below m) refl
   where
@@ -34,12 +34,12 @@ noted_below true m t h = by (nat_lt t.below m) refl
     by false e = h
 
 -- the tallies that a procedure noted stay below their marks
-pub stay_below : (passes : ℕ → Bool) (m : ℕ) (before after : List Count) → StayBelow before → ((s : ℕ) → count_at after s ≡ noted (passes s) m (count_at before s)) → StayBelow after
+pub stay_below : (passes : ℕ → Bool) (m : ℕ) (before after : List Count) → StayBelow before → ((s : ℕ) → count_at after s ≡ tally (passes s) m (count_at before s)) → StayBelow after
 stay_below passes m before after h e = λ s. subst (λ t. t.count ≤ t.below) (sym (e s)) (noted_below (passes s) m (count_at before s) (h s))
 
 -- ---- all procedures
 
-module _ (has : ℕ → Bool) (n p total : ℕ) (h : p < n) (t u : Count) (e : u ≡ noted (has p) (suc p) t) (below : t.below ≤ p) where
+module _ (has : ℕ → Bool) (n p total : ℕ) (h : p < n) (t u : Count) (e : u ≡ tally (has p) (suc p) t) (below : t.below ≤ p) where
   -- one more procedure, of those that are still to be counted
   pub count_on : t.count + count_by has (range_with_len p (n - p)) ≡ total → u.count + count_by has (range_with_len (p + 1) (n - (p + 1))) ≡ total
   count_on c =
@@ -47,14 +47,14 @@ module _ (has : ℕ → Bool) (n p total : ℕ) (h : p < n) (t u : Count) (e : u
       let d : count_by has (range_with_len p (n - p)) ≡ tick (has p) + rest = ap (count_by has) (range_on n p h) ∙ count_cons has p (range_with_len (p + 1) (n - (p + 1))) in
       ap (λ v. v.count + rest) e ∙ by (has p) rest (ap (λ k. t.count + k) (sym d) ∙ c)
     where
-      by : (b : Bool) (rest : ℕ) → t.count + (tick b + rest) ≡ total → (noted b (suc p) t).count + rest ≡ total
+      by : (b : Bool) (rest : ℕ) → t.count + (tick b + rest) ≡ total → (tally b (suc p) t).count + rest ≡ total
       by true rest c = let l = lt-ltb t.below (suc p) (omega arith) in ap (λ b. (cond b (record { count = suc t.count; below = suc p }) t).count + rest) l ∙ omega arith
       by false rest c = omega arith
 
   pub below_on : u.below ≤ p + 1
   below_on = subst (λ v. v.below ≤ p + 1) (sym e) (by (has p))
     where
-      by : (b : Bool) → (noted b (suc p) t).below ≤ p + 1
+      by : (b : Bool) → (tally b (suc p) t).below ≤ p + 1
       by true = let l = lt-ltb t.below (suc p) (omega arith) in subst (λ b. (cond b (record { count = suc t.count; below = suc p }) t).below ≤ p + 1) (sym l) (omega arith)
       by false = omega arith
 

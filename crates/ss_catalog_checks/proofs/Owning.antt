@@ -1,7 +1,8 @@
 -- Where no window is refused, owners are streaming procedures.
-use Rattle.std.proofs.Common.{◌≡◌, ◌<◌, ◌||◌, ℕ, zero, suc, nat_lt, Bool, true, false, List, [], ◌∷◌, length, slice_get, Option, Some, None, arith, refl, ap, sym, subst, ◌∙◌}
+use Rattle.std.proofs.Common.{◌≡◌, ◌<◌, ℕ, zero, suc, nat_lt, true, false, List, [], ◌∷◌, length, slice_get, Option, Some, None, arith, refl, ap, sym, subst, ◌∙◌}
 use Rattle.std.proofs.lemmas.Bool.{and_parts, ltb-true}
 use Rattle.std.proofs.lemmas.Option.{slice_get_within}
+use Rattle.ss_lemmas.proofs.Bools.{some_same, neither_left}
 use Rattle.ss_model.specs.declared.catalog.Catalog.{Catalog}
 use Rattle.ss_model.specs.declared.catalog.Kind.{Kind}
 use Rattle.ss_model.specs.declared.catalog.Kind.TheVariants.{Call as CallKind, Border, Interior}
@@ -12,13 +13,8 @@ use Rattle.ss_model.specs.Contents.{window_owner, owner_from}
 use Rattle.ss_model.specs.Database.{is_call, is_streaming}
 use Rattle.ss_model.specs.Orders.{procedure_has}
 use Rattle.ss_catalog_checks.specs.Owners.{is_call_procedure, is_named_outside, is_misowned, is_refused_window, refused_window}
-use Rattle.ss_catalog_checks.proofs.Counts.{some_same}
 use Rattle.ss_catalog_checks.proofs.Ending.{all_at}
 use Rattle.ss_catalog_checks.proofs.Searches.{none_passes}
-
-or_none : (a b : Bool) → (a || b) ≡ false → a ≡ false
-or_none true b e = absurd (cc)
-or_none false b e = refl
 
 streams : (k : Kind) → is_call k ≡ false → is_streaming k ≡ true
 streams CallKind e = absurd (cc)
@@ -37,7 +33,7 @@ module _ (catalog : Catalog) (numbers : numbers_in_range catalog ≡ true) (none
       let within : w < length catalog.windows = slice_get_within catalog.windows w d i in
       let refused : is_refused_window catalog w ≡ false = none_passes (is_refused_window catalog) 0 (length catalog.windows) none w (omega arith) (omega arith) in
       let parts : is_misowned catalog w (Some d) ≡ false = sym (ap (is_misowned catalog w) i) ∙ refused in
-      let call : is_call_procedure catalog d.owner ≡ false = or_none _ (is_named_outside catalog d.owner w) parts in
+      let call : is_call_procedure catalog d.owner ≡ false = neither_left _ (is_named_outside catalog d.owner w) parts in
       let there : d.owner < length catalog.procedures = ltb-true _ _ (all_at (λ d. nat_lt d.owner (length catalog.procedures)) catalog.windows w d ((and_parts _ _ ((and_parts _ _ ((and_parts _ _ numbers).0)).0)).1) i) in
       subst (λ q. procedure_has (λ p. is_streaming p.kind) (slice_get catalog.procedures q) ≡ true) (some_same d.owner q e) (has_streaming catalog.procedures d.owner there call)
 

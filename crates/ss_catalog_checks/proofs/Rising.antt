@@ -3,6 +3,7 @@ use Rattle.std.proofs.Common.{◌≡◌, ◌==◌, ◌<◌, ◌≤◌, inl, inr,
 use Rattle.std.specs.List.{AllByRecursion, filter, list_any}
 use Rattle.std.proofs.lemmas.Bool.{and_parts, and_from, or_left, or_right, cases_lt, eqb-true, eq-eqb, ltb-true, le-leb}
 use Rattle.std.proofs.lemmas.List.Folds.{Any-from_list_any, list_any-from_Any}
+use Rattle.ss_lemmas.proofs.Bools.{any_of_both}
 use Rattle.ss_sql_lex.specs.declared.typed.Statement.{Statement}
 use Rattle.ss_sql_lex.specs.declared.typed.Statement.TheVariants.{InsertValues, InsertQuery, Update, Delete}
 use Rattle.ss_sql_lex.specs.declared.typed.Target.TheVariants.{Table as IntoTable, Window as IntoWindow}
@@ -24,7 +25,7 @@ use Rattle.ss_catalog_checks.specs.Cascades.{inserts_into, LeadsInto, at_once as
 use Rattle.ss_catalog_checks.specs.Firsts.{IsFirst}
 use Rattle.ss_catalog_checks.specs.Guarantees.{HasLevels, HasRanks}
 use Rattle.ss_catalog_checks.specs.Workflows.{LeadsTo, at_once, onward, IsOnCycle}
-use Rattle.ss_catalog_checks.proofs.Ending.{all_at, some_of_all}
+use Rattle.ss_catalog_checks.proofs.Ending.{all_at}
 use Rattle.ss_catalog_checks.proofs.Firing.{feeder}
 use Rattle.ss_catalog_checks.proofs.Handing.{emitter_there}
 use Rattle.ss_catalog_checks.proofs.Levels.{level, level_grows, level_within}
@@ -41,13 +42,13 @@ module _ (catalog : Catalog) where
   abbrev hands_to : ℕ → ℕ → Bool
   hands_to p q = procedure_has (λ d. list_any (step_hands_to q) d.body) (slice_get catalog.procedures p)
 
-  -- a step that hands on emits a stream that is taken
-  step_tells : (q : ℕ) (x : Step) → step_hands_to q x ≡ true → (s : ℕ) × (emits_to s x ≡ true) × (procedure_takes catalog q s ≡ true)
-  step_tells q (Emit s query) h = (s, eq-eqb s s refl, h)
-  step_tells q (Sql st) h = absurd (cc)
-  step_tells q (AbortIf c code) h = absurd (cc)
-  step_tells q (ForEach input body) h = absurd (cc)
-  step_tells q (Return query) h = absurd (cc)
+  -- a step that hands to a procedure emits a stream that the procedure takes
+  step_gives : (q : ℕ) (x : Step) → step_hands_to q x ≡ true → (s : ℕ) × (emits_to s x ≡ true) × (procedure_takes catalog q s ≡ true)
+  step_gives q (Emit s query) h = (s, eq-eqb s s refl, h)
+  step_gives q (Sql st) h = absurd (cc)
+  step_gives q (AbortIf c code) h = absurd (cc)
+  step_gives q (ForEach input body) h = absurd (cc)
+  step_gives q (Return query) h = absurd (cc)
 
   step_hands : (q s : ℕ) (x : Step) → emits_to s x ≡ true → procedure_takes catalog q s ≡ true → step_hands_to q x ≡ true
   step_hands q s (Emit t query) e h = subst (λ t. procedure_takes catalog q t ≡ true) (eqb-true s t e) h
@@ -56,10 +57,10 @@ module _ (catalog : Catalog) where
   step_hands q s (ForEach input body) e h = absurd (cc)
   step_hands q s (Return query) e h = absurd (cc)
 
-  body_tells : (q : ℕ) (body : List Step) → list_any (step_hands_to q) body ≡ true → (s : ℕ) × (list_any (emits_to s) body ≡ true) × (procedure_takes catalog q s ≡ true)
-  body_tells q body h =
+  body_gives : (q : ℕ) (body : List Step) → list_any (step_hands_to q) body ≡ true → (s : ℕ) × (list_any (emits_to s) body ≡ true) × (procedure_takes catalog q s ≡ true)
+  body_gives q body h =
       let a = Any-from_list_any (step_hands_to q) body h in
-      let y = step_tells q a.1 a.4 in
+      let y = step_gives q a.1 a.4 in
       (y.0, list_any-from_Any (emits_to y.0) body (a.0, a.1, a.2, a.3, y.1), y.2)
 
   body_hands : (q s : ℕ) (body : List Step) → list_any (emits_to s) body ≡ true → procedure_takes catalog q s ≡ true → list_any (step_hands_to q) body ≡ true
@@ -67,25 +68,25 @@ module _ (catalog : Catalog) where
       let a = Any-from_list_any (emits_to s) body h in
       list_any-from_Any (step_hands_to q) body (a.0, a.1, a.2, a.3, step_hands q s a.1 a.4 t)
 
-  some_tells : (q : ℕ) (o : Option Procedure) → procedure_has (λ d. list_any (step_hands_to q) d.body) o ≡ true →
+  some_gives : (q : ℕ) (o : Option Procedure) → procedure_has (λ d. list_any (step_hands_to q) d.body) o ≡ true →
       (s : ℕ) × (procedure_has (λ d. list_any (emits_to s) d.body) o ≡ true) × (procedure_takes catalog q s ≡ true)
-  some_tells q (Some d) h = body_tells q d.body h
-  some_tells q None h = absurd (cc)
+  some_gives q (Some d) h = body_gives q d.body h
+  some_gives q None h = absurd (cc)
 
   some_hands : (q s : ℕ) (o : Option Procedure) → procedure_has (λ d. list_any (emits_to s) d.body) o ≡ true → procedure_takes catalog q s ≡ true →
       procedure_has (λ d. list_any (step_hands_to q) d.body) o ≡ true
   some_hands q s (Some d) h t = body_hands q s d.body h t
   some_hands q s None h t = absurd (cc)
 
-  -- who hands on emits what is taken
-  hands_tells : (p q : ℕ) → hands_to p q ≡ true → (s : ℕ) × (procedure_emits catalog p s ≡ true) × (procedure_takes catalog q s ≡ true)
-  hands_tells p q h = some_tells q (slice_get catalog.procedures p) h
+  -- a procedure that hands to another emits what the other takes
+  hands_gives : (p q : ℕ) → hands_to p q ≡ true → (s : ℕ) × (procedure_emits catalog p s ≡ true) × (procedure_takes catalog q s ≡ true)
+  hands_gives p q h = some_gives q (slice_get catalog.procedures p) h
 
   emits_hands : (p q s : ℕ) → procedure_emits catalog p s ≡ true → procedure_takes catalog q s ≡ true → hands_to p q ≡ true
   emits_hands p q s e t = some_hands q s (slice_get catalog.procedures p) e t
 
   hands_on : (p q : ℕ) → hands_to p q ≡ true → LeadsTo catalog p q
-  hands_on p q h = let y = hands_tells p q h in at_once q y.0 y.1 y.2
+  hands_on p q h = let y = hands_gives p q h in at_once q y.0 y.1 y.2
 
   led_on : (p q r : ℕ) → LeadsTo catalog p q → LeadsTo catalog q r → LeadsTo catalog p r
   led_on p q r l (at_once x s e t) = onward q _ s l e t
@@ -166,7 +167,7 @@ module _ (catalog : Catalog) where
       fed_is_there : (n m : ℕ) → feeds catalog n m ≡ true → m < length catalog.windows
       fed_is_there n m h =
           let f = feeder catalog.triggers n m h in
-          some_of_all (m < length catalog.windows) (stages_into m) (statement_in_scope catalog 0 (is_on_a_stream f.trigger.on)) (λ s. target_there (is_on_a_stream f.trigger.on) m s) f.trigger.statements
+          any_of_both (m < length catalog.windows) (stages_into m) (statement_in_scope catalog 0 (is_on_a_stream f.trigger.on)) (λ s. target_there (is_on_a_stream f.trigger.on) m s) f.trigger.statements
           (all_at (trigger_in_scope catalog) catalog.triggers f.number f.trigger ((and_parts _ _ scope).1) f.stands) f.inserts
 
       -- the ranks count what a window reaches

@@ -5,7 +5,7 @@ use Rattle.std.proofs.lemmas.Bool.{cases_eq, cases_lt, eqb-true, eq-eqb, or_case
 use Rattle.std.proofs.lemmas.List.{get_or-set_same, get_or_past, length-append, length-set, length-replicate}
 use Rattle.std.proofs.lemmas.List.Folds.{list_any-append}
 use Rattle.std.proofs.lemmas.List.Sums.{sum_by-cons}
-use Rattle.ss_catalog_checks.specs.Graphs.{Reached, at_once, onward, is_among, has_edge, IsClosed, StartsWithin, marked, newly, fresh, TellsReached}
+use Rattle.ss_catalog_checks.specs.Graphs.{Reached, at_once, onward, is_among, has_edge, IsClosed, StartsWithin, with_flag, newly, fresh, FlagsReached}
 use Rattle.ss_catalog_checks.proofs.Graphs.{or_none}
 
 -- ---- flags
@@ -34,15 +34,15 @@ none_set (suc count) (suc n) h = none_set count n h
 
 -- ---- flags of nodes
 
-pub marked_length : (ns : List ℕ) (fs : List Bool) → length (marked fs ns) ≡ length fs
+pub marked_length : (ns : List ℕ) (fs : List Bool) → length (with_flag fs ns) ≡ length fs
 marked_length [] fs = refl
 marked_length (n ∷ ns) fs = marked_length ns (set fs n true) ∙ length-set fs n true
 
-kept_by_mark : (ns : List ℕ) (fs : List Bool) (n : ℕ) → get_or fs n false ≡ true → get_or (marked fs ns) n false ≡ true
+kept_by_mark : (ns : List ℕ) (fs : List Bool) (n : ℕ) → get_or fs n false ≡ true → get_or (with_flag fs ns) n false ≡ true
 kept_by_mark [] fs n h = h
 kept_by_mark (m ∷ ns) fs n h = kept_by_mark ns (set fs m true) n (kept_by_set fs n m h)
 
-mark_sets : (ns : List ℕ) (fs : List Bool) (n : ℕ) → is_among ns n ≡ true → n < length fs → get_or (marked fs ns) n false ≡ true
+mark_sets : (ns : List ℕ) (fs : List Bool) (n : ℕ) → is_among ns n ≡ true → n < length fs → get_or (with_flag fs ns) n false ≡ true
 mark_sets [] fs n e h = absurd (cc)
 mark_sets (m ∷ ns) fs n e h =
     elim (or_cases (n == m) (is_among ns n) e) [
@@ -56,7 +56,7 @@ among_later n m ns h = elim (n == m) as (λ b. (b || is_among ns n) ≡ true) [ 
 among_first : (n m : ℕ) (ns : List ℕ) → n ≡ m → is_among (m ∷ ns) n ≡ true
 among_first n m ns e = ap (λ b. b || is_among ns n) (eq-eqb n m e)
 
-mark_only : (ns : List ℕ) (fs : List Bool) (n : ℕ) → get_or (marked fs ns) n false ≡ true → (get_or fs n false ≡ true) ⊎ (is_among ns n ≡ true)
+mark_only : (ns : List ℕ) (fs : List Bool) (n : ℕ) → get_or (with_flag fs ns) n false ≡ true → (get_or fs n false ≡ true) ⊎ (is_among ns n ≡ true)
 mark_only [] fs n h = inl h
 mark_only (m ∷ ns) fs n h =
     elim (mark_only ns (set fs m true) n h) [
@@ -85,7 +85,7 @@ newly_counted (f ∷ fs) (suc n) =
     shifted true = refl
     shifted false = refl
 
-pub fresh_counted : (ns : List ℕ) (fs : List Bool) → sum_by unset (marked fs ns) + length (fresh fs ns) ≡ sum_by unset fs
+pub fresh_counted : (ns : List ℕ) (fs : List Bool) → sum_by unset (with_flag fs ns) + length (fresh fs ns) ≡ sum_by unset fs
 fresh_counted [] fs = omega arith
 fresh_counted (n ∷ ns) fs =
     let r = fresh_counted ns (set fs n true) in let s = newly_counted fs n in
@@ -126,7 +126,7 @@ set_or_new (f ∷ fs) (suc n) (suc k) h = elim (set_or_new fs n k h) [ inl y ↦
     shifted true y = absurd (cc)
     shifted false y = or_left (suc k == suc n) false (eq-eqb (suc k) (suc n) (ap suc (eqb-true k n (sym (or_none (k == n)) ∙ y))))
 
-fresh_is_seen : (ns : List ℕ) (fs : List Bool) (k : ℕ) → is_among (fresh fs ns) k ≡ true → get_or (marked fs ns) k false ≡ true
+fresh_is_seen : (ns : List ℕ) (fs : List Bool) (k : ℕ) → is_among (fresh fs ns) k ≡ true → get_or (with_flag fs ns) k false ≡ true
 fresh_is_seen [] fs k h = absurd (cc)
 fresh_is_seen (n ∷ ns) fs k h =
     elim (among_either (newly fs n) (fresh (set fs n true) ns) k h) [
@@ -134,7 +134,7 @@ fresh_is_seen (n ∷ ns) fs k h =
       | inr y ↦ fresh_is_seen ns (set fs n true) k y
     ]
 
-seen_or_fresh : (ns : List ℕ) (fs : List Bool) (k : ℕ) → get_or (marked fs ns) k false ≡ true → (get_or fs k false ≡ true) ⊎ (is_among (fresh fs ns) k ≡ true)
+seen_or_fresh : (ns : List ℕ) (fs : List Bool) (k : ℕ) → get_or (with_flag fs ns) k false ≡ true → (get_or fs k false ≡ true) ⊎ (is_among (fresh fs ns) k ≡ true)
 seen_or_fresh [] fs k h = inl h
 seen_or_fresh (n ∷ ns) fs k h =
     elim (seen_or_fresh ns (set fs n true) k h) [
@@ -154,7 +154,7 @@ pub record Search (graph : List (List ℕ)) (starts : List ℕ) (seen : List Boo
 
 module _ (graph : List (List ℕ)) (starts : List ℕ) (closed : IsClosed graph (length graph)) (within : StartsWithin starts (length graph)) where
   -- at first, where the starts are seen and noted
-  pub search_begins : Search graph starts (marked (replicate (length graph) false) starts) (fresh (replicate (length graph) false) starts)
+  pub search_begins : Search graph starts (with_flag (replicate (length graph) false) starts) (fresh (replicate (length graph) false) starts)
   search_begins =
       let none = replicate (length graph) false in
       record {
@@ -166,7 +166,7 @@ module _ (graph : List (List ℕ)) (starts : List ℕ) (closed : IsClosed graph 
       }
 
   -- where the edges of the last node that was noted are followed
-  pub search_goes_on : (seen : List Bool) (todo : List ℕ) (n : ℕ) → Search graph starts seen (todo ++ n ∷ []) → Search graph starts (marked seen (get_or graph n [])) (todo ++ fresh seen (get_or graph n []))
+  pub search_goes_on : (seen : List Bool) (todo : List ℕ) (n : ℕ) → Search graph starts seen (todo ++ n ∷ []) → Search graph starts (with_flag seen (get_or graph n [])) (todo ++ fresh seen (get_or graph n []))
   search_goes_on seen todo n s =
       let row = get_or graph n [] in
       let here : get_or seen n false ≡ true = s.noted n (among_behind todo (n ∷ []) n (or_left (n == n) false (eq-eqb n n refl))) in
@@ -178,13 +178,13 @@ module _ (graph : List (List ℕ)) (starts : List ℕ) (closed : IsClosed graph 
         followed = λ k m h e. elim (seen_or_fresh row seen k h) [ inl y ↦ followed_on k m e (s.followed k m y e) | inr y ↦ inl (among_behind todo (fresh seen row) k y) ];
       }
     where
-      last : (k m : ℕ) → has_edge graph k m ≡ true → k ≡ n → get_or (marked seen (get_or graph n [])) m false ≡ true
+      last : (k m : ℕ) → has_edge graph k m ≡ true → k ≡ n → get_or (with_flag seen (get_or graph n [])) m false ≡ true
       last k m e same =
           let f : has_edge graph n m ≡ true = subst (λ k. has_edge graph k m ≡ true) same e in
           mark_sets (get_or graph n []) seen m f (subst (λ l. m < l) (sym s.seen_length) (closed n m f))
 
       followed_on : (k m : ℕ) → has_edge graph k m ≡ true → (is_among (todo ++ n ∷ []) k ≡ true) ⊎ (get_or seen m false ≡ true) →
-          (is_among (todo ++ fresh seen (get_or graph n [])) k ≡ true) ⊎ (get_or (marked seen (get_or graph n [])) m false ≡ true)
+          (is_among (todo ++ fresh seen (get_or graph n [])) k ≡ true) ⊎ (get_or (with_flag seen (get_or graph n [])) m false ≡ true)
       followed_on k m e (inr y) = inr (kept_by_mark (get_or graph n []) seen m y)
       followed_on k m e (inl y) =
           elim (among_either todo (n ∷ []) k y) [
@@ -197,12 +197,12 @@ module _ (graph : List (List ℕ)) (starts : List ℕ) (closed : IsClosed graph 
   all_seen seen s n (at_once e) = s.started _ e
   all_seen seen s n (onward r e) = elim (s.followed _ _ (all_seen seen s _ r) e) [ inl y ↦ absurd (cc) | inr y ↦ y ]
 
-  pub search_ends : (seen : List Bool) → Search graph starts seen [] → TellsReached (has_edge graph) (is_among starts) seen
+  pub search_ends : (seen : List Bool) → Search graph starts seen [] → FlagsReached (has_edge graph) (is_among starts) seen
   search_ends seen s n = (s.sound n, all_seen seen s n)
 
   -- a node is done with, and the nodes that it makes noted are no longer unset
   pub search_shrinks : (seen : List Bool) (todo : List ℕ) (n : ℕ) →
-      sum_by unset (marked seen (get_or graph n [])) + length (todo ++ fresh seen (get_or graph n [])) < sum_by unset seen + length (todo ++ n ∷ [])
+      sum_by unset (with_flag seen (get_or graph n [])) + length (todo ++ fresh seen (get_or graph n [])) < sum_by unset seen + length (todo ++ n ∷ [])
   search_shrinks seen todo n =
       let row = get_or graph n [] in
       let c = fresh_counted row seen in

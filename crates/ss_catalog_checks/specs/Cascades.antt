@@ -19,7 +19,7 @@ use Rattle.ss_catalog_checks.specs.Graphs.{edge}
 abbrev pub inserts_into : TriggerDef → ℕ → Bool
 inserts_into t m = list_any (stages_into m) t.statements
 
--- at once, or through the triggers of further windows
+-- the INSERTs of a trigger lead into a window, at once or through the triggers of further windows
 pub data LeadsInto (catalog : Catalog) (t : TriggerDef) : ℕ → Type 0 where
   at_once : (m : ℕ) → inserts_into t m ≡ true → LeadsInto catalog t m
   onward : (m k : ℕ) → LeadsInto catalog t m → feeds catalog m k ≡ true → LeadsInto catalog t k
@@ -28,7 +28,7 @@ pub data LeadsInto (catalog : Catalog) (t : TriggerDef) : ℕ → Type 0 where
 abbrev pub counts_batches : Catalog → ℕ → Bool
 counts_batches catalog n = is_batches_unit ((window_def catalog n).unit)
 
--- back from the window that a trigger waits for: to it, and from a `batches` window to one that isn't later
+-- back from the window that a trigger waits for: to the same one, or from a `batches` window to one that is not later
 abbrev pub goes_back : Catalog → On → ℕ → Bool
 goes_back catalog (OnStream s) k = false
 goes_back catalog (OnWindow n) k = n == k || (counts_batches catalog n && counts_batches catalog k && nat_le k n)
@@ -37,7 +37,7 @@ goes_back catalog (OnWindow n) k = n == k || (counts_batches catalog n && counts
 abbrev pub LeadsBack : Catalog → TriggerDef → Type 0
 LeadsBack catalog t = (k : ℕ) × LeadsInto catalog t k × (goes_back catalog t.on k ≡ true)
 
--- of a trigger, if there is one
+-- the same of a trigger, if there is one
 abbrev pub SomeLeadsBack : Catalog → Option TriggerDef → Type 0
 SomeLeadsBack catalog None = ⊥
 SomeLeadsBack catalog (Some t) = LeadsBack catalog t
@@ -46,7 +46,7 @@ SomeLeadsBack catalog (Some t) = LeadsBack catalog t
 abbrev pub IsOnTriggerCycle : Catalog → ℕ → Type 0
 IsOnTriggerCycle catalog t = SomeLeadsBack catalog (slice_get catalog.triggers t)
 
--- the window that rows for a target go into
+-- the target, if it is a window
 abbrev pub target_windows : Target → List ℕ
 target_windows (IntoTable t) = []
 target_windows (IntoWindow k) = k ∷ []
@@ -61,15 +61,15 @@ statement_windows _ = []
 abbrev pub inserted_windows : TriggerDef → List ℕ
 inserted_windows t = flat_map statement_windows t.statements
 
--- the edges to them from what the trigger waits for
+-- the edges to these windows from what a trigger waits for
 abbrev pub edges_from : On → List ℕ → List Edge
 edges_from (OnStream s) ks = []
 edges_from (OnWindow n) ks = map (edge n) ks
 
--- those of a trigger
+-- the edges of a trigger
 abbrev pub trigger_edges : TriggerDef → List Edge
 trigger_edges t = edges_from t.on (inserted_windows t)
 
--- those of all triggers
+-- the edges of all triggers
 abbrev pub window_edges : Catalog → List Edge
 window_edges catalog = flat_map trigger_edges catalog.triggers

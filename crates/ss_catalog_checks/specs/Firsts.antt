@@ -1,4 +1,4 @@
--- Which number is told: the least of those that are refused.
+-- Which number is reported: the least of those that are refused.
 use Rattle.std.specs.Prelude.{◌≡◌, ◌<◌, ℕ, Option, Some, None}
 
 -- the least number of which this holds, and none where it holds of no number

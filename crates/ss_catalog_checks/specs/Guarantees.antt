@@ -26,7 +26,7 @@ use Rattle.ss_catalog_checks.specs.Workflows.{IsOnCycle}
 -- levels of procedures, by which workflows have no cycle
 pub record HasLevels (catalog : Catalog) : Type 0 where
   pub level : ℕ → ℕ
-  -- a consumer stands above its emitters
+  -- a consumer has a higher level than its emitters
   pub level_rises : (p q s : ℕ) → procedure_emits catalog p s ≡ true → procedure_takes catalog q s ≡ true → level p < level q
 
 -- law: where no procedure is on a cycle, procedures have levels
@@ -36,9 +36,9 @@ AcyclicWorkflowsHaveLevels = (catalog : Catalog) → IsFirst (IsOnCycle catalog)
 -- ranks of windows, by which triggers have no cycle
 pub record HasRanks (catalog : Catalog) : Type 0 where
   pub rank : ℕ → ℕ
-  -- a window stands above those that its triggers insert into
+  -- a window has a higher rank than those that its triggers insert into
   pub ranked : Ranked catalog rank
-  -- below the number of windows
+  -- ranks are below the number of windows
   pub rank_within : (n : ℕ) → n < length catalog.windows → rank n < length catalog.windows
 
 -- law: where no trigger leads back, windows have ranks
@@ -46,20 +46,20 @@ abbrev pub UnreturningTriggersHaveRanks : Type 0
 UnreturningTriggersHaveRanks =
     (catalog : Catalog) → numbers_in_range catalog ≡ true → catalog_in_scope catalog ≡ true → IsFirst (IsOnTriggerCycle catalog) None → HasRanks catalog
 
--- law: and a `batches` window feeds only later ones
+-- law: where no trigger leads back, a `batches` window feeds only later `batches` windows
 abbrev pub UnreturningBatchesGoForward : Type 0
 UnreturningBatchesGoForward = (catalog : Catalog) → IsFirst (IsOnTriggerCycle catalog) None → BatchesGoForward catalog
 
--- streams end as those of an accepted catalogue
+-- the ends of streams are those of an accepted catalogue
 pub record StreamsEndWell (catalog : Catalog) : Type 0 where
   pub wired : IsWired catalog
-  -- every stream is a border stream or emitted
+  -- every stream is a border stream, or a procedure emits to it
   pub fed : (s : ℕ) → s < length catalog.streams → (is_border_stream catalog s ≡ true) ⊎ ((p : ℕ) × (procedure_emits catalog p s ≡ true))
-  -- what is emitted is taken
+  -- a stream that a procedure emits to has a consumer
   pub taken : (p s : ℕ) → procedure_emits catalog p s ≡ true → (q : ℕ) × (procedure_takes catalog q s ≡ true)
   -- a border stream has one consumer
   pub one_consumer : (p q s : ℕ) → is_border_stream catalog s ≡ true → procedure_takes catalog p s ≡ true → procedure_takes catalog q s ≡ true → p ≡ q
-  -- and no trigger
+  -- a border stream has no trigger
   pub no_trigger : (s : ℕ) → is_border_stream catalog s ≡ true → filter (λ t. is_on_stream s t.on) catalog.triggers ≡ []
   -- the inputs of a procedure are of one workflow
   pub one_workflow : (p q s : ℕ) → procedure_takes catalog q s ≡ true → procedure_emits catalog p s ≡ true → border_stream catalog p ≡ border_stream catalog q

@@ -1,4 +1,4 @@
--- SQL that a touch set does not allow: it names a table that it may not, or under `arg` a split table with no limit.
+-- SQL that a touch set does not allow: it names a table that it may not, or under `arg` a split table without the limit.
 use Rattle.std.specs.Prelude.{◌==◌, ◌&&◌, not, ℕ, Bool, true, false, List, [], ◌∷◌, map, Option, Some, None, slice_get}
 use Rattle.std.specs.List.{list_any, position, flat_map}
 use Rattle.ss_sql_lex.specs.declared.typed.Expr.{Expr, fold-Expr}
@@ -14,8 +14,8 @@ use Rattle.ss_sql_lex.specs.declared.typed.Target.TheVariants.{Table as IntoTabl
 use Rattle.ss_sql_lex.specs.declared.typed.Statement.{Statement}
 use Rattle.ss_sql_lex.specs.declared.typed.Statement.TheVariants.{InsertValues, InsertQuery, Update, Delete}
 use Rattle.ss_model.specs.declared.catalog.Catalog.{Catalog}
-use Rattle.ss_model.specs.declared.catalog.Place.{Place}
-use Rattle.ss_model.specs.declared.catalog.Place.TheVariants.{By}
+use Rattle.ss_model.specs.declared.catalog.Placement.{Placement}
+use Rattle.ss_model.specs.declared.catalog.Placement.TheVariants.{By}
 use Rattle.ss_model.specs.declared.catalog.Touch.{Touch}
 use Rattle.ss_model.specs.declared.catalog.Touch.TheVariants.{Arg}
 use Rattle.ss_model.specs.declared.catalog.On.{On}
@@ -25,7 +25,7 @@ use Rattle.ss_model.specs.declared.catalog.Step.{Step}
 use Rattle.ss_model.specs.declared.catalog.Step.TheVariants.{Sql, AbortIf, ForEach, Emit, Return}
 use Rattle.ss_model.specs.declared.catalog.Procedure.{Procedure}
 use Rattle.ss_model.specs.declared.catalog.TriggerDef.{TriggerDef}
-use Rattle.ss_model.specs.Contents.{table_place}
+use Rattle.ss_model.specs.Contents.{table_placement}
 use Rattle.ss_model.specs.Conjuncts.{Conjunct, level_conjunct, has_conjunct}
 use Rattle.ss_model.specs.Orders.{procedure_has}
 use Rattle.ss_model.specs.Partitions.{may_use}
@@ -35,23 +35,23 @@ use Rattle.ss_catalog_checks.specs.declared.locality.Site.TheVariants.{Step as S
 use Rattle.ss_catalog_checks.specs.Firsts.{IsFirstWith}
 use Rattle.ss_catalog_checks.specs.Runs.{runs_in}
 
--- what is known of an expression of the conjunct of this source, column and argument
+-- of an expression: whether it is this column, whether it is this argument, and whether it has the conjunct of both
 abbrev pub known_of : ℕ → ℕ → ℕ → Expr → Conjunct
 known_of source column argument = fold-Expr Conjunct (level_conjunct source column argument)
 
--- the argument and the split column, of a touch set by argument and a split table
-abbrev pub split_by : Touch → Option Place → Option (ℕ × ℕ)
+-- the argument and the split column, where the touch set is by argument and the table is split
+abbrev pub split_by : Touch → Option Placement → Option (ℕ × ℕ)
 split_by (Arg a) (Some (By c)) = Some (a, c)
-split_by _ place = None
+split_by _ placement = None
 
--- a split table is read or changed under `arg` with the conjunct alone
+-- under `arg` a split table is read or changed only with the conjunct
 abbrev pub is_limited_to : Option (ℕ × ℕ) → ℕ → Option Expr → Bool
 is_limited_to None source test = true
 is_limited_to (Some x) source test = has_conjunct source x.1 x.0 test
 
--- the same by the touch set and the table's place
-abbrev pub is_limited : Touch → Option Place → ℕ → Option Expr → Bool
-is_limited touch place = is_limited_to (split_by touch place)
+-- the same by the touch set and the table's placement
+abbrev pub is_limited : Touch → Option Placement → ℕ → Option Expr → Bool
+is_limited touch placement = is_limited_to (split_by touch placement)
 
 -- an expression is this argument
 abbrev pub is_argument : ℕ → Option Expr → Bool
@@ -63,51 +63,51 @@ abbrev pub is_argument_item : ℕ → Option Item → Bool
 is_argument_item a (Some (Plain x)) = is_argument a (Some x)
 is_argument_item a _ = false
 
--- under `arg` an INSERT gives just the argument for the split column
+-- under `arg` the values of an INSERT give just the argument for the split column
 abbrev pub gives : Option (ℕ × ℕ) → List Expr → Bool
 gives None vs = true
 gives (Some x) vs = is_argument x.0 (slice_get vs x.1)
 
--- the same by the touch set and the table's place
-abbrev pub gives_argument : Touch → Option Place → List Expr → Bool
-gives_argument touch place = gives (split_by touch place)
+-- the same by the touch set and the table's placement
+abbrev pub gives_argument : Touch → Option Placement → List Expr → Bool
+gives_argument touch placement = gives (split_by touch placement)
 
--- and so does a query
+-- and so do the items of its query
 abbrev pub selects : Option (ℕ × ℕ) → List Item → Bool
 selects None items = true
 selects (Some x) items = is_argument_item x.0 (slice_get items x.1)
 
--- the same by the touch set and the table's place
-abbrev pub selects_argument : Touch → Option Place → List Item → Bool
-selects_argument touch place = selects (split_by touch place)
+-- the same by the touch set and the table's placement
+abbrev pub selects_argument : Touch → Option Placement → List Item → Bool
+selects_argument touch placement = selects (split_by touch placement)
 
 module _ (catalog : Catalog) (touch : Touch) where
-  -- a table is named, and read or changed where this test holds
+  -- a table may be named, and read or changed under this WHERE
   abbrev pub is_local_table : ℕ → ℕ → Option Expr → Bool
-  is_local_table t source test = may_use touch (table_place (slice_get catalog.tables t)) && is_limited touch (table_place (slice_get catalog.tables t)) source test
+  is_local_table t source test = may_use touch (table_placement (slice_get catalog.tables t)) && is_limited touch (table_placement (slice_get catalog.tables t)) source test
 
-  -- a source is allowed
+  -- a source may be read under this WHERE
   abbrev pub is_local_source : SourceId → ℕ → Option Expr → Bool
   is_local_source (FromTable t) source test = is_local_table t source test
   is_local_source _ source test = true
 
-  -- so is that of a JOIN
+  -- so may the source of a JOIN
   abbrev pub is_local_join : Option Joined → Option Expr → Bool
   is_local_join None test = true
   is_local_join (Some j) test = is_local_source j.source 1 test
 
-  -- both sources of a query are
+  -- both sources of a query may be read under its WHERE
   abbrev pub is_local_query : Query → Bool
   is_local_query q = is_local_source q.from 0 q.test && is_local_join q.joined q.test
 
-  -- values may be inserted
+  -- these values may be inserted into a target
   abbrev pub takes_values : Target → List Expr → Bool
-  takes_values (IntoTable t) vs = may_use touch (table_place (slice_get catalog.tables t)) && gives_argument touch (table_place (slice_get catalog.tables t)) vs
+  takes_values (IntoTable t) vs = may_use touch (table_placement (slice_get catalog.tables t)) && gives_argument touch (table_placement (slice_get catalog.tables t)) vs
   takes_values (IntoWindow w) vs = true
 
-  -- the rows of a query may be inserted
+  -- the rows of a query with these items may be inserted into a target
   abbrev pub takes_items : Target → List Item → Bool
-  takes_items (IntoTable t) items = may_use touch (table_place (slice_get catalog.tables t)) && selects_argument touch (table_place (slice_get catalog.tables t)) items
+  takes_items (IntoTable t) items = may_use touch (table_placement (slice_get catalog.tables t)) && selects_argument touch (table_placement (slice_get catalog.tables t)) items
   takes_items (IntoWindow w) items = true
 
   -- a statement is allowed
@@ -143,11 +143,11 @@ refused_of catalog (Some p) = first_refused catalog p.touch p.body
 abbrev pub refused_step : Catalog → ℕ → Option ℕ
 refused_step catalog q = refused_of catalog (slice_get catalog.procedures q)
 
--- a statement runs in a procedure whose touch set does not allow it
+-- a statement of a trigger on this runs in a procedure whose touch set does not allow it
 abbrev pub breaks_in : Catalog → On → Statement → ℕ → Bool
 breaks_in catalog on s q = runs_in catalog on q && not (procedure_has (λ p. is_local_statement catalog p.touch s) (slice_get catalog.procedures q))
 
--- the first statement of a trigger that some procedure in which it runs may not have
+-- the first statement of a trigger that the touch set of some procedure in which it runs does not allow
 abbrev pub refused_in : Catalog → Option TriggerDef → Option ℕ
 refused_in catalog None = None
 refused_in catalog (Some t) = position (λ s. list_any (breaks_in catalog t.on s) (procedure_numbers catalog)) t.statements
@@ -156,7 +156,7 @@ refused_in catalog (Some t) = position (λ s. list_any (breaks_in catalog t.on s
 abbrev pub refused_statement : Catalog → ℕ → Option ℕ
 refused_statement catalog t = refused_in catalog (slice_get catalog.triggers t)
 
--- the first procedure with such a step, else the first trigger with such a statement
+-- the first procedure with a step that is not allowed, or else the first trigger with a statement that is not
 abbrev pub IsFirstSite : Catalog → Option Site → Type 0
 IsFirstSite catalog (Some (StepSite q n)) = IsFirstWith (refused_step catalog) (Some (q, n))
 IsFirstSite catalog (Some (StatementSite t n)) = IsFirstWith (refused_step catalog) None × IsFirstWith (refused_statement catalog) (Some (t, n))

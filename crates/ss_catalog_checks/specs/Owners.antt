@@ -1,4 +1,4 @@
--- Windows of a call procedure, and windows that SQL names which runs in another procedure than the owner.
+-- Windows of a call procedure, and windows that are named by SQL which runs in another procedure than the owner.
 use Rattle.std.specs.Prelude.{◌==◌, ◌&&◌, ◌||◌, not, ℕ, Bool, false, Option, Some, None, slice_get, length}
 use Rattle.std.specs.List.{list_any, find, range_with_len}
 use Rattle.ss_sql_lex.specs.declared.typed.SourceId.{SourceId}
@@ -27,7 +27,7 @@ module _ (w : ℕ) where
   reads_from (FromWindow v) = v == w
   reads_from _ = false
 
-  -- so is that of a JOIN
+  -- the source of a JOIN is this window
   abbrev pub joins_with : Option Joined → Bool
   joins_with None = false
   joins_with (Some j) = reads_from j.source
@@ -60,15 +60,15 @@ module _ (w : ℕ) where
   trigger_names t = list_any statement_names t.statements
 
 module _ (catalog : Catalog) (owner : ℕ) where
-  -- the steps of another procedure name a window
+  -- this procedure is another than the owner, and a step of it names a window
   abbrev pub steps_name : ℕ → ℕ → Bool
   steps_name w q = not (q == owner) && procedure_has (λ p. list_any (step_names w) p.body) (slice_get catalog.procedures q)
 
-  -- a trigger runs in another procedure
+  -- a trigger that waits for this runs in another procedure than the owner
   abbrev pub runs_outside : On → Bool
   runs_outside on = list_any (λ q. not (q == owner) && runs_in catalog on q) (procedure_numbers catalog)
 
-  -- SQL that names a window runs in another procedure than its owner
+  -- SQL that names a window runs in another procedure than the owner
   abbrev pub is_named_outside : ℕ → Bool
   is_named_outside w = list_any (steps_name w) (procedure_numbers catalog) || list_any (λ t. trigger_names w t && runs_outside t.on) catalog.triggers
 
@@ -76,12 +76,12 @@ module _ (catalog : Catalog) (owner : ℕ) where
 abbrev pub is_call_procedure : Catalog → ℕ → Bool
 is_call_procedure catalog q = procedure_has (λ p. is_call p.kind) (slice_get catalog.procedures q)
 
--- the same of the window of a number, if there is one
+-- a window has a call procedure as its owner, or is named outside its owner; if there is such a window
 abbrev pub is_misowned : Catalog → ℕ → Option WindowDef → Bool
 is_misowned catalog w None = false
 is_misowned catalog w (Some d) = is_call_procedure catalog d.owner || is_named_outside catalog d.owner w
 
--- a window that is refused
+-- the same by the window's number
 abbrev pub is_refused_window : Catalog → ℕ → Bool
 is_refused_window catalog w = is_misowned catalog w (slice_get catalog.windows w)
 

@@ -11,7 +11,7 @@ abbrev pub is_owner : ℕ → Option ℕ → Bool
 is_owner q None = false
 is_owner q (Some owner) = owner == q
 
--- in each procedure that emits to its stream, or in the owner of its window
+-- a trigger that waits for this runs in each procedure that emits to the stream, or in the owner of the window
 abbrev pub runs_in : Catalog → On → ℕ → Bool
 runs_in catalog (OnStream s) q = procedure_emits catalog q s
 runs_in catalog (OnWindow w) q = is_owner q (window_owner catalog w)

@@ -1,4 +1,4 @@
--- Streams that do not end as they should, and streams that triggers or inputs may not name.
+-- Streams that do not have the ends that they should, and streams that triggers or inputs may not name.
 use Rattle.std.specs.Prelude.{◌≡◌, ◌==◌, ◌&&◌, ◌||◌, ◌++◌, nat_le, not, cond, ℕ, Bool, true, false, List, [], Option, Some, None, get_or, slice_get, length, count_by}
 use Rattle.std.specs.List.{filter, find, filter_map, flat_map, range_with_len}
 use Rattle.ss_model.specs.declared.catalog.Catalog.{Catalog}
@@ -41,11 +41,11 @@ module _ (catalog : Catalog) (s : ℕ) where
   abbrev pub ends_inside : Bool
   ends_inside = emitters == 1 && nat_le 1 consumers && interior_consumers == consumers
 
-  -- a stream is the one or the other
+  -- a stream's ends are neither
   unfoldable pub ends_badly : Bool
   ends_badly = not (ends_at_border || ends_inside)
 
-  -- triggers wait for streams that are emitted, and for no border stream
+  -- no trigger may wait for a stream: it is a border stream, or nothing emits to it
   abbrev pub refuses_triggers : Bool
   refuses_triggers = is_border_stream catalog s || emitters == 0
 
@@ -53,11 +53,11 @@ module _ (catalog : Catalog) (s : ℕ) where
   abbrev pub workflow_of : ℕ
   workflow_of = cond (is_border_stream catalog s) s (border_stream catalog (emitting_procedure catalog s))
 
--- a list tells for each stream the first procedure that emits to it
+-- a list has for each stream the first procedure that emits to it
 abbrev pub ListsEmitters : Catalog → List (Option ℕ) → Type 0
 ListsEmitters catalog emitters = (s : ℕ) → get_or emitters s None ≡ find (λ p. procedure_emits catalog p s) (procedure_numbers catalog)
 
--- a procedure is noted at the streams that pass a test, in the place of what was noted there
+-- a list afterwards has this procedure at the streams that pass a test, and elsewhere what it had before
 abbrev pub NotesAt : (ℕ → Bool) → ℕ → List (Option ℕ) → List (Option ℕ) → Type 0
 NotesAt passes q before after = (s : ℕ) → get_or after s None ≡ cond (passes s) (Some q) (get_or before s None)
 
@@ -70,7 +70,7 @@ awaited_stream (OnWindow w) = None
 abbrev pub is_foreign : Catalog → ℕ → ℕ → Bool
 is_foreign catalog q s = not (workflow_of catalog s == border_stream catalog q)
 
--- those of a procedure's inputs
+-- the foreign ones among a procedure's inputs
 abbrev pub foreign_among : Catalog → ℕ → Option Procedure → List ℕ
 foreign_among catalog q None = []
 foreign_among catalog q (Some p) = filter (is_foreign catalog q) p.inputs
@@ -79,7 +79,7 @@ foreign_among catalog q (Some p) = filter (is_foreign catalog q) p.inputs
 abbrev pub foreign_inputs : Catalog → ℕ → List ℕ
 foreign_inputs catalog q = foreign_among catalog q (slice_get catalog.procedures q)
 
--- the streams that are refused, as they stand: by their ends, by triggers, and by inputs
+-- the streams that are refused, in order: by their ends, by triggers, and by inputs
 abbrev pub refused_streams : Catalog → List ℕ
 refused_streams catalog =
     filter (ends_badly catalog) (range_with_len 0 (length catalog.streams))

@@ -15,27 +15,27 @@ use Rattle.ss_catalog_checks.specs.StreamEnds.{is_interior, emitters, consumers,
 abbrev pub no_count : Count
 no_count = record { count = 0; below = 0 }
 
--- one more is, unless this mark stands already
+-- one more procedure is counted, unless this mark is counted already
 abbrev pub count_with : ℕ → Count → Count
 count_with mark t = cond (nat_lt t.below mark) (record { count = suc t.count; below = mark }) t
 
--- one more is where a test passes
-abbrev pub noted : Bool → ℕ → Count → Count
-noted passes mark t = cond passes (count_with mark t) t
+-- one more is counted where a test passes
+abbrev pub tally : Bool → ℕ → Count → Count
+tally passes mark t = cond passes (count_with mark t) t
 
--- what stands at a stream
+-- what is counted at a stream
 abbrev pub count_at : List Count → ℕ → Count
 count_at tallies s = get_or tallies s no_count
 
--- no more are counted than there are numbers below the mark
+-- at each stream no more procedures are counted than there are numbers below its mark
 abbrev pub StayBelow : List Count → Type 0
 StayBelow tallies = (s : ℕ) → (count_at tallies s).count ≤ (count_at tallies s).below
 
--- as many are counted at each stream
-abbrev pub Tells : (ℕ → ℕ) → List Count → Type 0
-Tells wanted tallies = (s : ℕ) → (count_at tallies s).count ≡ wanted s
+-- at each stream as many procedures are counted as wanted
+abbrev pub CountsAre : (ℕ → ℕ) → List Count → Type 0
+CountsAre wanted tallies = (s : ℕ) → (count_at tallies s).count ≡ wanted s
 
--- the kinds of procedures that are counted
+-- procedures of this kind are counted
 abbrev pub is_counted : Takers → Kind → Bool
 is_counted All kind = true
 is_counted Border kind = is_border kind
@@ -49,9 +49,9 @@ procedure_takes kinds catalog q s = procedure_has (λ p. is_counted kinds p.kind
 abbrev pub takers : Takers → Catalog → ℕ → ℕ
 takers kinds catalog s = count_by (λ p. is_counted kinds p.kind && takes_stream s p) catalog.procedures
 
--- the ends of all streams
+-- the counts are those of the ends of all streams
 pub record CountsEnds (catalog : Catalog) (ends : StreamEnds) : Type 0 where
-  pub emitters_told : Tells (emitters catalog) ends.emitters
-  pub consumers_told : Tells (consumers catalog) ends.consumers
-  pub border_told : Tells (border_consumers catalog) ends.border_consumers
-  pub interior_told : Tells (interior_consumers catalog) ends.interior_consumers
+  pub emitters_counted : CountsAre (emitters catalog) ends.emitters
+  pub consumers_counted : CountsAre (consumers catalog) ends.consumers
+  pub border_counted : CountsAre (border_consumers catalog) ends.border_consumers
+  pub interior_counted : CountsAre (interior_consumers catalog) ends.interior_consumers

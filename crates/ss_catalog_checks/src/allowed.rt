@@ -2,22 +2,22 @@
 
 ghost use Rattle.std.specs.Prelude.{◌≡◌, ◌==◌, Some, slice_get};
 ghost use Rattle.std.specs.List.{list_any};
-ghost use Rattle.ss_model.specs.declared.catalog.Place.TheVariants.{Part, By};
-ghost use Rattle.ss_model.specs.Contents.{table_place};
+ghost use Rattle.ss_model.specs.declared.catalog.Placement.TheVariants.{Part, By};
+ghost use Rattle.ss_model.specs.Contents.{table_placement};
 ghost use Rattle.ss_model.specs.Partitions.{may_use};
 ghost use Rattle.ss_catalog_checks.specs.Localities.{split_by, is_limited, is_argument, is_argument_item, gives_argument, selects_argument, is_local_table, is_local_source, is_local_join, is_local_query, takes_values, takes_items, is_local_statement};
 
-use crate::conjuncts::{Wanted, has_conjunct};
-use ss_model::catalog::{Catalog, Place, Touch};
-use ss_sql_lex::typed::{Expr, Item, Joined, Query, SourceId, Statement, Target};
-use ss_value::seq::Seq;
+use crate::conjuncts::{WantedConjunct, has_conjunct};
+use ss_model::{Catalog, Placement, Touch};
+use ss_sql_lex::{Expr, Item, Joined, Query, SourceId, Statement, Target};
+use ss_value::Seq;
 
-/// Where the rows of a table stand, and None where the number is past the last table. Constant.
-fn place_of(catalog: &Catalog, table: u16) -> Option<Place>
-    ensures { result ≡ table_place (slice_get catalog.now.tables table) }
+/// The placement of a table, and None where there is no table of this number.
+fn placement_of(catalog: &Catalog, table: u16) -> Option<Placement>
+    ensures { result ≡ table_placement (slice_get catalog.now.tables table) }
 {
     match catalog.tables.get(usize::from(table)) {
-        Some(table) => Some(table.place),
+        Some(table) => Some(table.placement),
         None => None,
     }
 }
@@ -30,7 +30,7 @@ fn is_listed(parts: &[u8], part: u8) -> bool
 }
 
 /// Whether a table on this part may be named under a touch set.
-fn may_use_placed(touch: &Touch, part: u8) -> bool
+fn may_use_whole(touch: &Touch, part: u8) -> bool
     ensures { result ≡ may_use touch.now (Some (Part part)) }
 {
     match touch {
@@ -53,25 +53,25 @@ fn may_use_split(touch: &Touch, column: u8) -> bool
     }
 }
 
-/// Whether a table of this place may be named under a touch set.
-fn may_use(touch: &Touch, place: Option<Place>) -> bool
-    ensures { result ≡ may_use touch.now place }
+/// Whether a table of this placement may be named under a touch set.
+fn may_use(touch: &Touch, placement: Option<Placement>) -> bool
+    ensures { result ≡ may_use touch.now placement }
 {
-    match place {
-        Some(Place::Part(part)) => may_use_placed(touch, part),
-        Some(Place::By(column)) => may_use_split(touch, column),
+    match placement {
+        Some(Placement::Part(part)) => may_use_whole(touch, part),
+        Some(Placement::By(column)) => may_use_split(touch, column),
         None => false,
     }
 }
 
 /// The argument and the split column, where the touch set is by argument and the table is split.
-fn split_by(touch: &Touch, place: Option<Place>) -> Option<(u8, u8)>
-    ensures { result ≡ split_by touch.now place }
+fn split_by(touch: &Touch, placement: Option<Placement>) -> Option<(u8, u8)>
+    ensures { result ≡ split_by touch.now placement }
 {
     match touch {
-        Touch::Arg(argument) => match place {
-            Some(Place::By(column)) => Some((*argument, column)),
-            Some(Place::Part(_)) => None,
+        Touch::Arg(argument) => match placement {
+            Some(Placement::By(column)) => Some((*argument, column)),
+            Some(Placement::Part(_)) => None,
             None => None,
         },
         Touch::Part(_) => None,
@@ -80,13 +80,13 @@ fn split_by(touch: &Touch, place: Option<Place>) -> Option<(u8, u8)>
     }
 }
 
-/// Whether a table of this place is limited to the argument's rows, where it has to be.
-fn is_limited(touch: &Touch, place: Option<Place>, source: u8, test: &Option<Expr>) -> bool
-    ensures { result ≡ is_limited touch.now place source test.now }
+/// Whether a table of this placement is limited to the argument's rows, where it has to be.
+fn is_limited(touch: &Touch, placement: Option<Placement>, source: u8, test: &Option<Expr>) -> bool
+    ensures { result ≡ is_limited touch.now placement source test.now }
 {
-    match split_by(touch, place) {
+    match split_by(touch, placement) {
         Some((argument, column)) => {
-            let wanted = Wanted {
+            let wanted = WantedConjunct {
                 source,
                 column,
                 argument,
@@ -124,10 +124,10 @@ fn is_argument_item(argument: u8, item: &Item) -> bool
 }
 
 /// Whether values give just the argument for the split column, where they have to.
-fn gives_argument(touch: &Touch, place: Option<Place>, values: &Seq<Expr>) -> bool
-    ensures { result ≡ gives_argument touch.now place values.now }
+fn gives_argument(touch: &Touch, placement: Option<Placement>, values: &Seq<Expr>) -> bool
+    ensures { result ≡ gives_argument touch.now placement values.now }
 {
-    match split_by(touch, place) {
+    match split_by(touch, placement) {
         Some((argument, column)) => match values.get(usize::from(column)) {
             Some(value) => is_argument(argument, value),
             None => false,
@@ -137,10 +137,10 @@ fn gives_argument(touch: &Touch, place: Option<Place>, values: &Seq<Expr>) -> bo
 }
 
 /// Whether items give just the argument for the split column, where they have to.
-fn selects_argument(touch: &Touch, place: Option<Place>, items: &Seq<Item>) -> bool
-    ensures { result ≡ selects_argument touch.now place items.now }
+fn selects_argument(touch: &Touch, placement: Option<Placement>, items: &Seq<Item>) -> bool
+    ensures { result ≡ selects_argument touch.now placement items.now }
 {
-    match split_by(touch, place) {
+    match split_by(touch, placement) {
         Some((argument, column)) => match items.get(usize::from(column)) {
             Some(item) => is_argument_item(argument, item),
             None => false,
@@ -149,7 +149,7 @@ fn selects_argument(touch: &Touch, place: Option<Place>, items: &Seq<Item>) -> b
     }
 }
 
-/// Whether a table may be read or changed where this test holds.
+/// Whether a table may be read or changed under this WHERE.
 fn is_local_table(
     catalog: &Catalog,
     touch: &Touch,
@@ -159,11 +159,11 @@ fn is_local_table(
 ) -> bool
     ensures { result ≡ is_local_table catalog.now touch.now table source test.now }
 {
-    let place = place_of(catalog, table);
-    may_use(touch, place) && is_limited(touch, place, source, test)
+    let placement = placement_of(catalog, table);
+    may_use(touch, placement) && is_limited(touch, placement, source, test)
 }
 
-/// Whether a source may be read where this test holds.
+/// Whether a source may be read under this WHERE.
 fn is_local_source(
     catalog: &Catalog,
     touch: &Touch,
@@ -175,13 +175,14 @@ fn is_local_source(
 {
     match from {
         SourceId::Table(table) => is_local_table(catalog, touch, table, source, test),
+        // Only tables have a placement.
         SourceId::Window(_) => true,
         SourceId::Batch(_) => true,
         SourceId::Inserted => true,
     }
 }
 
-/// Whether the source of a JOIN may be read where this test holds.
+/// Whether the source of a JOIN may be read under this WHERE.
 fn is_local_join(
     catalog: &Catalog,
     touch: &Touch,
@@ -191,12 +192,13 @@ fn is_local_join(
     ensures { result ≡ is_local_join catalog.now touch.now joined.now test.now }
 {
     match joined {
+        // The columns of the source of FROM have source 0, those of the source of JOIN source 1.
         Some(joined) => is_local_source(catalog, touch, joined.source, 1, test),
         None => true,
     }
 }
 
-/// Whether a touch set allows a query. Linear in its WHERE's ANDs.
+/// Whether a touch set allows a query. Linear in the ANDs of its WHERE.
 pub(crate) fn is_local_query(catalog: &Catalog, touch: &Touch, query: &Query) -> bool
     ensures { result ≡ is_local_query catalog.now touch.now query.now }
 {
@@ -210,8 +212,8 @@ fn takes_values(catalog: &Catalog, touch: &Touch, target: Target, values: &Seq<E
 {
     match target {
         Target::Table(table) => {
-            let place = place_of(catalog, table);
-            may_use(touch, place) && gives_argument(touch, place, values)
+            let placement = placement_of(catalog, table);
+            may_use(touch, placement) && gives_argument(touch, placement, values)
         }
         Target::Window(_) => true,
     }
@@ -223,14 +225,14 @@ fn takes_items(catalog: &Catalog, touch: &Touch, target: Target, items: &Seq<Ite
 {
     match target {
         Target::Table(table) => {
-            let place = place_of(catalog, table);
-            may_use(touch, place) && selects_argument(touch, place, items)
+            let placement = placement_of(catalog, table);
+            may_use(touch, placement) && selects_argument(touch, placement, items)
         }
         Target::Window(_) => true,
     }
 }
 
-/// Whether a touch set allows a statement. Linear in its WHERE's ANDs.
+/// Whether a touch set allows a statement. Linear in the ANDs of its WHERE.
 pub(crate) fn is_local_statement(catalog: &Catalog, touch: &Touch, statement: &Statement) -> bool
     ensures { result ≡ is_local_statement catalog.now touch.now statement.now }
 {

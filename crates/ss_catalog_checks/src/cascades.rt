@@ -8,13 +8,12 @@ ghost use Rattle.ss_catalog_checks.specs.Firsts.{IsFirst};
 ghost use Rattle.ss_catalog_checks.specs.Graphs.{edge, IsGraphOf};
 
 use crate::graph::{Edge, add_edge, graph_from, is_set, reached_nodes};
-use ss_model::catalog::{Catalog, On, TriggerDef};
-use ss_sql_lex::typed::{Statement, Target};
-use ss_value::seq::Seq;
-use ss_value::{NoMemory, Unit};
+use ss_model::{Catalog, On, TriggerDef};
+use ss_sql_lex::{Statement, Target};
+use ss_value::{NoMemory, Seq, Unit};
 use std::alloc::Global;
 
-/// Whether a window counts batches; past the last none does. Constant.
+/// Whether the unit of a window is a batch; there is none past the last window.
 fn counts_batches(catalog: &Catalog, window: usize) -> bool
     ensures { result ≡ counts_batches catalog.now window }
 {
@@ -27,8 +26,8 @@ fn counts_batches(catalog: &Catalog, window: usize) -> bool
     }
 }
 
-/// Whether a window leads back to what a trigger waits for: it is this window, or both count batches and it isn't
-/// later. Constant.
+/// Whether a cascade that leads from what a trigger waits for into a window goes back: into the same window, or from a
+/// window of batches into one that isn't later.
 fn goes_back(catalog: &Catalog, on: On, window: usize) -> bool
     ensures { result ≡ goes_back catalog.now on window }
 {
@@ -44,7 +43,7 @@ fn goes_back(catalog: &Catalog, on: On, window: usize) -> bool
     }
 }
 
-/// Adds the window that rows for a target go into, if they do.
+/// Adds the target, if it is a window.
 fn add_target(target: Target, windows: &mut Seq<usize>) -> Result<(), NoMemory>
     ensures { OnOk result (windows.new ≡ windows.old ++ target_windows target) }
 {
@@ -57,7 +56,7 @@ fn add_target(target: Target, windows: &mut Seq<usize>) -> Result<(), NoMemory>
     }
 }
 
-/// Adds the window that a statement inserts into, if it does.
+/// Adds the window that a statement inserts into, if there is one.
 fn add_window(statement: &Statement, windows: &mut Seq<usize>) -> Result<(), NoMemory>
     ensures { OnOk result (windows.new ≡ windows.old ++ statement_windows statement.now) }
 {
@@ -95,6 +94,7 @@ fn add_trigger(alloc: Global, trigger: &TriggerDef, edges: &mut Seq<Edge>) -> Re
     ensures { OnOk result (edges.new ≡ edges.old ++ trigger_edges trigger.now) }
 {
     match trigger.on {
+        // No statement inserts into a stream, so that no cascade comes back to such a trigger.
         On::Stream(_) => Ok(()),
         On::Window(window) => {
             let windows = inserted_windows(alloc, trigger.statements.as_slice())?;
@@ -114,7 +114,7 @@ fn window_edges(alloc: Global, triggers: &[TriggerDef]) -> Result<Seq<Edge>, NoM
     Ok(edges)
 }
 
-/// Whether a window that is seen leads back.
+/// Whether a cascade into some window that is reached goes back.
 fn any_back(catalog: &Catalog, on: On, seen: &Seq<bool>) -> bool
     ensures { result ≡ list_any (λ k. get_or seen.now k false && goes_back catalog.now on k) (range_with_len 0 (length seen.now)) }
 {
@@ -145,11 +145,10 @@ fn leads_back(
 }
 
 /// The first trigger one of whose INSERTs leads, at once or through the triggers of further windows, back to its own
-/// window, or from its own window of batches to a window of batches that isn't later in the catalogue. None where
-/// no trigger does.
+/// window, or from its own window of batches to a window of batches that isn't later in the catalogue: each of these has
+/// to close after all that feed it. None where there is no such trigger.
 ///
-/// For each trigger linear in the windows and in the INSERTs of all triggers. Takes memory linear in
-/// these.
+/// For each trigger linear in the windows and in the INSERTs of all triggers. Takes memory linear in these.
 pub fn trigger_cycle(alloc: Global, catalog: &Catalog) -> Result<Option<usize>, NoMemory>
     ensures { IfOk result (λ found. IsFirst (IsOnTriggerCycle catalog.now) found) }
 {

@@ -4,18 +4,18 @@ ghost use Rattle.std.specs.Prelude.{◌≡◌};
 ghost use Rattle.ss_model.specs.Conjuncts.{has_conjunct};
 ghost use Rattle.ss_catalog_checks.specs.Localities.{known_of};
 
-use ss_sql_lex::typed::{BinaryOp, Cmp, Expr};
+use ss_sql_lex::{BinaryOp, Cmp, Expr};
 
 /// The conjunct `column = :argument`, with the column of this source.
 #[derive(Clone, Copy, Debug, PartialEq, Eq, Drop)]
-pub(crate) struct Wanted {
+pub(crate) struct WantedConjunct {
     pub source: u8,
     pub column: u8,
     pub argument: u8,
 }
 
-/// Whether an expression is the column. Constant.
-fn is_column(wanted: Wanted, tree: &Expr) -> bool
+/// Whether an expression is the column.
+fn is_column(wanted: WantedConjunct, tree: &Expr) -> bool
     ensures { result ≡ (known_of wanted.source wanted.column wanted.argument tree.now).is_column }
 {
     match tree {
@@ -27,8 +27,8 @@ fn is_column(wanted: Wanted, tree: &Expr) -> bool
     }
 }
 
-/// Whether an expression is the argument. Constant.
-fn is_argument(wanted: Wanted, tree: &Expr) -> bool
+/// Whether an expression is the argument.
+fn is_argument(wanted: WantedConjunct, tree: &Expr) -> bool
     ensures { result ≡ (known_of wanted.source wanted.column wanted.argument tree.now).is_argument }
 {
     match tree {
@@ -41,7 +41,7 @@ fn is_argument(wanted: Wanted, tree: &Expr) -> bool
 }
 
 /// Whether an expression is the conjunct, or AND joins it with others. Linear in the tree's ANDs.
-fn is_found(wanted: Wanted, tree: &Expr) -> bool
+fn has_conjunct_in(wanted: WantedConjunct, tree: &Expr) -> bool
     ensures { result ≡ (known_of wanted.source wanted.column wanted.argument tree.now).found }
 {
     match tree {
@@ -50,7 +50,9 @@ fn is_found(wanted: Wanted, tree: &Expr) -> bool
         Expr::Col { .. } => false,
         Expr::Unary { .. } => false,
         Expr::Binary { op, left, right } => match op {
-            BinaryOp::And => is_found(wanted, left.get()) || is_found(wanted, right.get()),
+            // Only under AND: under OR or NOT the conjunct limits nothing.
+            BinaryOp::And => has_conjunct_in(wanted, left.get())
+                || has_conjunct_in(wanted, right.get()),
             BinaryOp::Compare(cmp) => match cmp {
                 Cmp::Eq => is_column(wanted, left.get()) && is_argument(wanted, right.get()),
                 Cmp::Ne => false,
@@ -71,11 +73,11 @@ fn is_found(wanted: Wanted, tree: &Expr) -> bool
 }
 
 /// Whether a WHERE has the conjunct at its top level, the column on the left. Linear in its ANDs.
-pub(crate) fn has_conjunct(wanted: Wanted, test: &Option<Expr>) -> bool
+pub(crate) fn has_conjunct(wanted: WantedConjunct, test: &Option<Expr>) -> bool
     ensures { result ≡ has_conjunct wanted.source wanted.column wanted.argument test.now }
 {
     match test {
-        Some(tree) => is_found(wanted, tree),
+        Some(tree) => has_conjunct_in(wanted, tree),
         None => false,
     }
 }

@@ -8,13 +8,12 @@ ghost use Rattle.ss_catalog_checks.specs.Graphs.{IsGraphOf};
 ghost use Rattle.ss_catalog_checks.specs.Workflows.{IsOnCycle, emit_edges, take_edge, procedure_edges, workflow_edges};
 
 use crate::graph::{Edge, add_edge, graph_from, is_set, reached_nodes};
-use ss_model::catalog::{Catalog, Procedure, Step};
-use ss_value::NoMemory;
-use ss_value::seq::Seq;
+use ss_model::{Catalog, Procedure, Step};
+use ss_value::{NoMemory, Seq};
 use std::alloc::Global;
 
-/// Adds the edge from a procedure to the stream that a step emits to. The node of a procedure is its number, and
-/// the streams stand behind the procedures, of which there are `count`.
+/// Adds the edge from a procedure to the stream that a step emits to. The node of a procedure is its number, and the
+/// nodes of streams come behind those of the procedures, of which there are `count`.
 fn add_emit(
     count: usize,
     procedure: usize,
@@ -84,7 +83,7 @@ fn add_procedure(
     }
 }
 
-/// The edges from each procedure to the streams that it emits to, and to it from those that it takes.
+/// The edges of each procedure: to the streams that it emits to, and from those that it takes.
 fn workflow_edges(alloc: Global, catalog: &Catalog) -> Result<Seq<Edge>, NoMemory>
     ensures { IfOk result (λ edges. edges ≡ workflow_edges catalog.now) }
 {
@@ -109,6 +108,7 @@ fn is_on_cycle(
 {
     match graph.get(procedure) {
         Some(next) => {
+            // From where its edges lead, and not from itself, since a search always reaches its starts.
             let seen = reached_nodes(alloc, graph, next.as_slice())?;
             Ok(is_set(&seen, procedure))
         }
@@ -116,11 +116,11 @@ fn is_on_cycle(
     }
 }
 
-/// The first procedure that leads to itself: it emits a stream that it takes, or that a procedure takes which leads
+/// The first procedure that leads to itself: it emits to a stream that is taken by itself, or by a procedure that leads
 /// to it. None where no procedure does.
 ///
-/// For each procedure linear in the procedures, the streams, and the emits and inputs of all bodies. Takes
-/// memory linear in these.
+/// For each procedure linear in the procedures, the streams, and the emits and inputs of all procedures. Takes memory
+/// linear in these.
 ///
 /// Source: workflows are directed acyclic graphs, S-Store (Meehan et al., PVLDB 8, 2015), section 2.
 pub fn workflow_cycle(alloc: Global, catalog: &Catalog) -> Result<Option<usize>, NoMemory>

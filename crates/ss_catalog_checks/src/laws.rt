@@ -1,4 +1,4 @@
-//! What holds of a catalogue that the checks do not refuse, each the contract of a function that does nothing.
+//! Laws: what holds of a catalogue that the checks do not refuse. Each is the contract of a function that does nothing.
 
 ghost use Rattle.ss_catalog_checks.specs.Guarantees.{AcyclicWorkflowsHaveLevels, UnreturningTriggersHaveRanks, UnreturningBatchesGoForward, UnrefusedSqlIsLocal, UnrefusedStreamsEndWell, UnrefusedWindowsAreOwned};
 
@@ -18,7 +18,7 @@ pub fn unreturning_batches_go_forward()
     ensures { UnreturningBatchesGoForward }
 {}
 
-/// Where no stream is refused, emitters, consumers, triggers and workflows are as an accepted catalogue says.
+/// Where no stream is refused, emitters, consumers, triggers and workflows are those of an accepted catalogue.
 pub fn unrefused_streams_end_well()
     ensures { UnrefusedStreamsEndWell }
 {}

@@ -9,14 +9,13 @@ ghost use Rattle.ss_catalog_checks.specs.Localities.{is_local_statement, is_loca
 
 use crate::allowed::{is_local_query, is_local_statement};
 use crate::procedures::runs_in;
-use ss_model::catalog::{Catalog, Inner, On, Step, Touch};
-use ss_sql_lex::typed::Statement;
-use ss_value::NoMemory;
-use ss_value::seq::Seq;
+use ss_model::{Catalog, Inner, On, Step, Touch};
+use ss_sql_lex::Statement;
+use ss_value::{NoMemory, Seq};
 use std::alloc::Global;
 
-/// Where SQL stands in a catalogue: procedures, triggers, steps and statements by number from 0. Steps count in
-/// document order, a `for_each` before its inner steps.
+/// A SQL text of a catalogue, by numbers from 0: of a procedure and its step, or of a trigger and its statement. Steps
+/// count in document order, a `for_each` before its inner steps.
 #[derive(Clone, Copy, Debug, PartialEq, Eq, Drop)]
 pub enum Site {
     /// A step of a procedure's body.
@@ -35,7 +34,7 @@ fn is_local_inner(catalog: &Catalog, touch: &Touch, inner: &Inner) -> bool
     }
 }
 
-/// Adds a verdict.
+/// Adds a verdict: whether a step is allowed.
 fn add(all: &mut Seq<bool>, verdict: bool) -> Result<(), NoMemory>
     ensures { OnOk result (all.new ≡ all.old ++ verdict ∷ []) }
 {
@@ -71,6 +70,7 @@ fn add_step(
         Step::Sql(statement) => add(all, is_local_statement(catalog, touch, statement)),
         Step::AbortIf { test, .. } => add(all, is_local_query(catalog, touch, &test.query)),
         Step::ForEach { body, .. } => {
+            // Has no SQL of its own, but a number.
             add(all, true)?;
             add_inner(catalog, touch, body.as_slice(), all)
         }
@@ -79,7 +79,7 @@ fn add_step(
     }
 }
 
-/// Whether each step of a body is allowed, in document order.
+/// Whether each step of a body is allowed, in document order, so that a verdict's index is the number of its step.
 fn body_verdicts(
     alloc: Global,
     catalog: &Catalog,
@@ -95,7 +95,7 @@ fn body_verdicts(
     Ok(all)
 }
 
-/// The place of the first that is not allowed.
+/// The number of the first step that is not allowed.
 fn first_no(all: &[bool]) -> Option<usize>
     ensures { result ≡ position not all.now }
 {
@@ -142,21 +142,21 @@ fn allows(catalog: &Catalog, procedure: usize, statement: &Statement) -> bool
     }
 }
 
-/// Whether a statement of a trigger on this runs in a procedure whose touch set does not allow it.
+/// Whether a statement of a trigger that waits for this runs in this procedure, whose touch set does not allow it.
 fn breaks_in(catalog: &Catalog, on: On, statement: &Statement, procedure: usize) -> bool
     ensures { result ≡ breaks_in catalog.now on statement.now procedure }
 {
     runs_in(catalog, on, procedure) && !allows(catalog, procedure, statement)
 }
 
-/// Whether it runs in some such procedure.
+/// Whether a statement of a trigger that waits for this runs in some procedure whose touch set does not allow it.
 fn breaks(catalog: &Catalog, on: On, statement: &Statement) -> bool
     ensures { result ≡ list_any (breaks_in catalog.now on statement.now) (procedure_numbers catalog.now) }
 {
     (0..catalog.procedures.len()).any(|procedure| breaks_in(catalog, on, statement, procedure))
 }
 
-/// The first of the statements of a trigger on this that runs in such a procedure.
+/// The first of these statements that runs in a procedure whose touch set does not allow it.
 fn first_breaking(catalog: &Catalog, on: On, statements: &[Statement]) -> Option<usize>
     ensures { result ≡ position (λ s. list_any (breaks_in catalog.now on s) (procedure_numbers catalog.now)) statements.now }
 {
@@ -165,7 +165,7 @@ fn first_breaking(catalog: &Catalog, on: On, statements: &[Statement]) -> Option
         .position(|statement| breaks(catalog, on, statement))
 }
 
-/// The first statement of the trigger of this number that runs in such a procedure.
+/// The first statement of the trigger of this number that runs in a procedure whose touch set does not allow it.
 fn refused_statement(catalog: &Catalog, trigger: usize) -> Option<usize>
     ensures { result ≡ refused_statement catalog.now trigger }
 {
@@ -175,7 +175,7 @@ fn refused_statement(catalog: &Catalog, trigger: usize) -> Option<usize>
     }
 }
 
-/// The first trigger with such a statement, and the statement.
+/// The first trigger with a statement that runs in a procedure whose touch set does not allow it, and the statement.
 fn first_statement(catalog: &Catalog) -> Option<(usize, usize)>
     ensures { IsFirstWith (refused_statement catalog.now) result }
 {
@@ -188,16 +188,15 @@ fn first_statement(catalog: &Catalog) -> Option<(usize, usize)>
     None
 }
 
-/// The first step that its procedure's touch set does not allow, else the first statement of a trigger that runs in
-/// a procedure whose touch set does not allow it, and None where all are allowed.
+/// The first step that its procedure's touch set does not allow, or else the first statement of a trigger that runs in a
+/// procedure whose touch set does not allow it. None where all are allowed.
 ///
-/// SQL is allowed where each table that it names may be used under the touch set: a placed table under `part` and
-/// `multi` with its part and under `all`, a split table under `all` and under `arg`. Under `arg` each query, UPDATE
+/// SQL is allowed where each table that it names may be used under the touch set: a table on one part under `all`, and
+/// under a `part` or `multi` that has this part; a split table under `all` and under `arg`. Under `arg` each query, UPDATE
 /// and DELETE has the conjunct `splitcolumn = :thatargument` for each split table that it reads or changes, and each
 /// INSERT gives just that argument for the split column. A trigger is checked under each procedure in which it runs.
 ///
-/// Linear in all SQL, and in all bodies for each statement of a trigger. Takes one byte a step of
-/// the longest body.
+/// Linear in all SQL, and in all bodies for each statement of a trigger. Takes one byte a step of the longest body.
 pub fn refused_site(alloc: Global, catalog: &Catalog) -> Result<Option<Site>, NoMemory>
     ensures { IfOk result (λ found. IsFirstSite catalog.now found) }
 {

@@ -7,8 +7,8 @@ ghost use Rattle.ss_model.specs.Settling.{procedure_numbers};
 ghost use Rattle.ss_catalog_checks.specs.Owners.{reads_from, joins_with, query_names, statement_names, inner_names, step_names, trigger_names, steps_name, runs_outside, is_named_outside, is_call_procedure, is_misowned, is_refused_window, refused_window};
 
 use crate::procedures::runs_in;
-use ss_model::catalog::{Catalog, Inner, On, Step, TriggerDef};
-use ss_sql_lex::typed::{Joined, Query, SourceId, Statement, Target};
+use ss_model::{Catalog, Inner, On, Step, TriggerDef};
+use ss_sql_lex::{Joined, Query, SourceId, Statement, Target};
 
 /// Whether a source is this window.
 fn reads_from(window: usize, source: SourceId) -> bool
@@ -39,7 +39,7 @@ fn query_names(window: usize, query: &Query) -> bool
     reads_from(window, query.from) || joins_with(window, &query.joined)
 }
 
-/// Whether rows for a target go into this window.
+/// Whether a target is this window.
 pub(crate) fn goes_into(window: usize, target: Target) -> bool
     ensures { result ≡ goes_into window target }
 {
@@ -57,6 +57,7 @@ fn statement_names(window: usize, statement: &Statement) -> bool
         Statement::InsertValues { target, .. } => goes_into(window, *target),
         Statement::InsertQuery { target, query } => goes_into(window, *target)
             || query_names(window, query),
+        // UPDATE and DELETE name a table alone.
         Statement::Update { .. } => false,
         Statement::Delete { .. } => false,
     }
@@ -72,7 +73,7 @@ fn inner_names(window: usize, inner: &Inner) -> bool
     }
 }
 
-/// Whether a step inside a `for_each` of these names this window. A function of its own, since the check doesn't find
+/// Whether one of these steps inside a `for_each` names this window. A function of its own, since the prover doesn't find
 /// the walk inside an arm of a match.
 fn inners_name(window: usize, body: &[Inner]) -> bool
     ensures { result ≡ list_any (inner_names window) body.now }
@@ -104,14 +105,14 @@ fn trigger_names(window: usize, trigger: &TriggerDef) -> bool
         .any(|statement| statement_names(window, statement))
 }
 
-/// Whether a step of a body names this window. A function of its own, as `inners_name`.
+/// Whether a step of a body names this window. A function of its own as `inners_name` is.
 fn body_names(window: usize, body: &[Step]) -> bool
     ensures { result ≡ list_any (step_names window) body.now }
 {
     body.iter().any(|step| step_names(window, step))
 }
 
-/// Whether a step of this procedure, which is another than the owner, names this window.
+/// Whether this procedure is another than the owner, and a step of it names this window.
 fn steps_name(catalog: &Catalog, owner: usize, window: usize, procedure: usize) -> bool
     ensures { result ≡ steps_name catalog.now owner window procedure }
 {
@@ -131,7 +132,7 @@ fn any_step_names(catalog: &Catalog, owner: usize, window: usize) -> bool
     (0..catalog.procedures.len()).any(|procedure| steps_name(catalog, owner, window, procedure))
 }
 
-/// Whether a trigger on this runs in another procedure than the owner.
+/// Whether a trigger that waits for this runs in another procedure than the owner.
 fn runs_outside(catalog: &Catalog, owner: usize, on: On) -> bool
     ensures { result ≡ runs_outside catalog.now owner on }
 {
@@ -164,7 +165,7 @@ fn is_call_procedure(catalog: &Catalog, procedure: usize) -> bool
     }
 }
 
-/// Whether a window is refused: its owner is a call procedure, or SQL that names it runs in another one.
+/// Whether a window is refused: its owner is a call procedure, or SQL that names it runs in another procedure.
 fn is_refused(catalog: &Catalog, window: usize) -> bool
     ensures { result ≡ is_refused_window catalog.now window }
 {
@@ -177,9 +178,9 @@ fn is_refused(catalog: &Catalog, window: usize) -> bool
     }
 }
 
-/// The first window whose owner is a call procedure, or that SQL names which runs in another procedure than its
-/// owner: as a source, in a JOIN or as the target of an INSERT. What a trigger waits for is no such name. None
-/// where there is no such window.
+/// The first window whose owner is a call procedure, or that is named by SQL which runs in another procedure than the
+/// owner. SQL names a window as a source, in a JOIN or as the target of an INSERT; a trigger doesn't name the window that
+/// it waits for. None where there is no such window.
 ///
 /// A trigger runs in the procedures that emit to its stream, or in the owner of its window. Takes no memory. For
 /// each window linear in all SQL, and in all procedures for each trigger that names it.

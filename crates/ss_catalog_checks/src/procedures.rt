@@ -1,4 +1,4 @@
-//! What procedures are, emit and own.
+//! What procedures are, emit to and own.
 
 ghost use Rattle.std.specs.Prelude.{◌≡◌, length, slice_get};
 ghost use Rattle.std.specs.List.{list_any};
@@ -8,9 +8,9 @@ ghost use Rattle.ss_model.specs.Orders.{procedure_emits};
 ghost use Rattle.ss_catalog_checks.specs.StreamEnds.{is_interior};
 ghost use Rattle.ss_catalog_checks.specs.Runs.{is_owner, runs_in};
 
-use ss_model::catalog::{Catalog, Kind, On, Step};
+use ss_model::{Catalog, Kind, On, Step};
 
-/// Whether these are interior procedures.
+/// Whether procedures of this kind are interior.
 pub(crate) fn is_interior(kind: Kind) -> bool
     ensures { result ≡ is_interior kind }
 {
@@ -41,7 +41,7 @@ fn body_emits(stream: usize, body: &[Step]) -> bool
     body.iter().any(|step| emits_to(stream, step))
 }
 
-/// Whether a procedure emits to this stream: linear in its body.
+/// Whether a procedure emits to this stream. Linear in its body.
 pub(crate) fn procedure_emits(catalog: &Catalog, procedure: usize, stream: usize) -> bool
     ensures { result ≡ procedure_emits catalog.now procedure stream }
 {
@@ -51,7 +51,7 @@ pub(crate) fn procedure_emits(catalog: &Catalog, procedure: usize, stream: usize
     }
 }
 
-/// Whether a procedure owns a window. Constant.
+/// Whether a procedure owns a window.
 fn owns(catalog: &Catalog, window: usize, procedure: usize) -> bool
     ensures { result ≡ is_owner procedure (window_owner catalog.now window) }
 {
@@ -61,8 +61,8 @@ fn owns(catalog: &Catalog, window: usize, procedure: usize) -> bool
     }
 }
 
-/// Whether a trigger on this runs in a procedure: at a stream where the procedure emits to it, and at a window
-/// where the procedure owns it. Linear in the procedure's body.
+/// Whether a trigger that waits for this runs in a procedure: for a stream, where the procedure emits to it; for a
+/// window, where the procedure owns it. Linear in the procedure's body.
 pub(crate) fn runs_in(catalog: &Catalog, on: On, procedure: usize) -> bool
     ensures { result ≡ runs_in catalog.now on procedure }
 {

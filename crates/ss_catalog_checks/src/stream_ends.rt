@@ -1,4 +1,4 @@
-//! Where streams begin and end.
+//! The ends of streams: which procedures emit to them and which take them.
 
 ghost use Rattle.std.specs.Prelude.{◌≡◌, ◌==◌, not, slice_get, length, IfOk};
 ghost use Rattle.std.specs.List.{filter_map, flat_map, find, range_with_len};
@@ -11,12 +11,11 @@ use crate::tallies::{
     is_border_stream,
 };
 use crate::workflows::{border_stream, first_emitters, workflow_of};
-use ss_model::catalog::{Catalog, On};
-use ss_value::NoMemory;
-use ss_value::seq::Seq;
+use ss_model::{Catalog, On};
+use ss_value::{NoMemory, Seq};
 use std::alloc::Global;
 
-/// Whether a stream has other ends than a border stream's and those of a stream inside a workflow.
+/// Whether the ends of a stream are neither those of a border stream nor those of a stream inside a workflow.
 #[tactic(auto, unfolding(crate::specs::StreamEnds::ends_badly))]
 fn ends_badly(catalog: &Catalog, ends: &StreamEnds, stream: usize) -> bool
     requires { CountsEnds catalog.now ends.now }
@@ -57,7 +56,7 @@ fn awaited_stream(on: On) -> Option<usize>
     }
 }
 
-/// The first stream that a trigger waits for and may not.
+/// The first stream that a trigger waits for but may not.
 fn stream_with_bad_trigger(catalog: &Catalog, ends: &StreamEnds) -> Option<usize>
     requires { CountsEnds catalog.now ends.now }
     ensures { result ≡ find (refuses_triggers catalog.now) (filter_map (λ t. awaited_stream t.on) catalog.now.triggers) }
@@ -70,7 +69,7 @@ fn stream_with_bad_trigger(catalog: &Catalog, ends: &StreamEnds) -> Option<usize
         .find(|stream| refuses_triggers(catalog, ends, *stream))
 }
 
-/// The first of these inputs that belongs to another workflow than this one.
+/// The first of these inputs that belongs to another workflow than this one. A workflow is known by its border stream.
 fn foreign_among(
     catalog: &Catalog,
     ends: &StreamEnds,
@@ -131,9 +130,9 @@ fn input_of_other_workflow(
 
 /// The first stream that is refused, and None where there is none.
 ///
-/// First by streams: a border stream has no emitter and one consumer, a border procedure; every other one has one
-/// emitter and one or more consumers, all interior procedures. Then by triggers: none waits for a border stream or
-/// for one that nothing emits to. Then by procedures and their inputs: each input is of the procedure's workflow,
+/// Goes first by streams: a border stream has no emitter and one consumer, a border procedure; every other stream has
+/// one emitter and one or more consumers, all interior procedures. Then by triggers: none waits for a border stream or
+/// for a stream that nothing emits to. Then by procedures and their inputs: each input is of the procedure's workflow,
 /// which is that of its first input.
 ///
 /// Linear in all bodies and inputs, in the streams and in the triggers; and for each procedure and each input linear
@@ -152,6 +151,7 @@ pub fn refused_stream(alloc: Global, catalog: &Catalog) -> Result<Option<usize>,
         Some(stream) => return Ok(Some(stream)),
         None => {}
     }
+    // Only the way up to a border stream asks which procedure emits; the ends before ask how many do.
     let emitters = first_emitters(alloc, catalog)?;
     Ok(input_of_other_workflow(catalog, &ends, &emitters))
 }

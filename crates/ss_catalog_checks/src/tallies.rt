@@ -1,19 +1,22 @@
-//! How many procedures emit to each stream and take it: counted in one pass over all bodies and inputs.
+//! How many procedures emit to each stream and take it.
+//!
+//! All streams are counted together, in four passes over the procedures: counting each by itself would walk all bodies
+//! once for each stream.
 
 ghost use Rattle.std.specs.Prelude.{◌≡◌, ◌==◌, ◌<◌, ◌≤◌, ◌+◌, ◌^◌, ℕ, suc, length, IfOk, OnOk};
 ghost use Rattle.std.specs.List.{list_any};
 ghost use Rattle.ss_model.specs.Database.{emits_to, is_border_stream};
 ghost use Rattle.ss_model.specs.Orders.{procedure_emits};
 ghost use Rattle.ss_catalog_checks.specs.StreamEnds.{emitters, consumers, border_consumers, interior_consumers};
-ghost use Rattle.ss_catalog_checks.specs.Tallies.{count_with, noted, count_at, StayBelow, Tells, is_counted, procedure_takes, takers, CountsEnds};
+ghost use Rattle.ss_catalog_checks.specs.Tallies.{count_with, tally as noted, count_at, StayBelow, CountsAre, is_counted, procedure_takes, takers, CountsEnds};
 
 use crate::procedures::is_interior;
-use ss_model::catalog::{Catalog, Kind, Step};
-use ss_value::NoMemory;
-use ss_value::seq::Seq;
+use ss_model::{Catalog, Kind, Step};
+use ss_value::{NoMemory, Seq};
 use std::alloc::Global;
 
-/// How many procedures are counted at a stream. Their numbers are below the mark, so that none counts twice.
+/// How many procedures are counted at a stream. `below` is the mark of the last one, which is its number plus 1. They are
+/// counted in ascending order, so that a procedure which comes again has this mark and isn't counted twice.
 #[derive(Clone, Copy)]
 pub(crate) struct Count {
     pub count: usize,
@@ -29,7 +32,7 @@ enum Takers {
 }
 
 /// How many procedures have an end at each stream: those that emit to it, and those that take it, all of them, the
-/// border procedures and the interior ones. Past the end of a table none does.
+/// border procedures and the interior ones. Past the end of a list none does.
 #[derive(Drop)]
 pub(crate) struct StreamEnds {
     pub emitters: Seq<Count>,
@@ -49,7 +52,7 @@ fn is_counted(kinds: Takers, kind: Kind) -> bool
     }
 }
 
-/// What is counted at a stream. Constant.
+/// What is counted at a stream.
 fn count_at(tallies: &Seq<Count>, stream: usize) -> Count
     ensures { result ≡ count_at tallies.now stream }
 {
@@ -59,10 +62,10 @@ fn count_at(tallies: &Seq<Count>, stream: usize) -> Count
     }
 }
 
-/// Adds places where nothing is counted until this stream has a place.
-fn add_places(tallies: &mut Seq<Count>, stream: usize) -> Result<(), NoMemory>
-    ensures same { OnOk result ((s : ℕ) → count_at tallies.new s ≡ count_at tallies.old s) }
-    ensures there { OnOk result (stream < length tallies.new) }
+/// Extends the list by counts of 0 until it reaches this stream.
+fn make_counts(tallies: &mut Seq<Count>, stream: usize) -> Result<(), NoMemory>
+    ensures unchanged { OnOk result ((s : ℕ) → count_at tallies.new s ≡ count_at tallies.old s) }
+    ensures ok { OnOk result (stream < length tallies.new) }
 {
     'places: while tallies.len() <= stream {
         tallies.push(Count { count: 0, below: 0 })?;
@@ -70,7 +73,7 @@ fn add_places(tallies: &mut Seq<Count>, stream: usize) -> Result<(), NoMemory>
     Ok(())
 }
 
-/// Counts one more, unless it is counted already.
+/// Counts one more, unless the mark is counted already.
 fn count_with(tally: Count, mark: usize) -> Count
     requires { tally.count ≤ tally.below }
     ensures { result ≡ count_with mark tally }
@@ -86,23 +89,23 @@ fn count_with(tally: Count, mark: usize) -> Count
 }
 
 /// Counts the procedure with this mark at a stream.
-fn note(tallies: &mut Seq<Count>, stream: usize, mark: usize) -> Result<(), NoMemory>
+fn count_at_stream(tallies: &mut Seq<Count>, stream: usize, mark: usize) -> Result<(), NoMemory>
     requires { StayBelow tallies.old }
     ensures { OnOk result ((s : ℕ) → count_at tallies.new s ≡ noted (s == stream) mark (count_at tallies.old s)) }
 {
-    add_places(tallies, stream)?;
+    make_counts(tallies, stream)?;
     let before = count_at(tallies, stream);
     let _before = tallies.put(stream, count_with(before, mark));
     Ok(())
 }
 
 /// Counts the procedure with this mark at the stream that a step emits to.
-fn note_step(tallies: &mut Seq<Count>, step: &Step, mark: usize) -> Result<(), NoMemory>
+fn count_step(tallies: &mut Seq<Count>, step: &Step, mark: usize) -> Result<(), NoMemory>
     requires { StayBelow tallies.old }
     ensures { OnOk result ((s : ℕ) → count_at tallies.new s ≡ noted (emits_to s step.now) mark (count_at tallies.old s)) }
 {
     match step {
-        Step::Emit { stream, .. } => note(tallies, usize::from(*stream), mark),
+        Step::Emit { stream, .. } => count_at_stream(tallies, usize::from(*stream), mark),
         Step::Sql(_) => Ok(()),
         Step::AbortIf { .. } => Ok(()),
         Step::ForEach { .. } => Ok(()),
@@ -112,42 +115,46 @@ fn note_step(tallies: &mut Seq<Count>, step: &Step, mark: usize) -> Result<(), N
 
 /// Counts the procedure with this mark at the streams that its body emits to.
 #[tactic(auto, using(crate::proofs::Noting::noted_twice))]
-fn note_body(tallies: &mut Seq<Count>, body: &[Step], mark: usize) -> Result<(), NoMemory>
+fn count_body(tallies: &mut Seq<Count>, body: &[Step], mark: usize) -> Result<(), NoMemory>
     requires { StayBelow tallies.old }
     ensures { OnOk result ((s : ℕ) → count_at tallies.new s ≡ noted (list_any (emits_to s) body.now) mark (count_at tallies.old s)) }
 {
     for step in body {
-        note_step(tallies, step, mark)?;
+        count_step(tallies, step, mark)?;
     }
     Ok(())
 }
 
 /// Counts the procedure with this mark at its inputs.
 #[tactic(auto, using(crate::proofs::Noting::noted_twice))]
-fn note_inputs(tallies: &mut Seq<Count>, inputs: &[u16], mark: usize) -> Result<(), NoMemory>
+fn count_inputs(tallies: &mut Seq<Count>, inputs: &[u16], mark: usize) -> Result<(), NoMemory>
     requires { StayBelow tallies.old }
     ensures { OnOk result ((s : ℕ) → count_at tallies.new s ≡ noted (list_any (λ input. input == s) inputs.now) mark (count_at tallies.old s)) }
 {
     for input in inputs {
-        note(tallies, usize::from(*input), mark)?;
+        count_at_stream(tallies, usize::from(*input), mark)?;
     }
     Ok(())
 }
 
 /// Counts the procedure of this number at the streams that it emits to.
-fn note_emits(tallies: &mut Seq<Count>, catalog: &Catalog, procedure: usize) -> Result<(), NoMemory>
+fn count_emits(
+    tallies: &mut Seq<Count>,
+    catalog: &Catalog,
+    procedure: usize,
+) -> Result<(), NoMemory>
     requires below { StayBelow tallies.old }
     requires next { procedure + 1 < 2 ^ 64 }
     ensures { OnOk result ((s : ℕ) → count_at tallies.new s ≡ noted (procedure_emits catalog.now procedure s) (suc procedure) (count_at tallies.old s)) }
 {
     match catalog.procedures.get(procedure) {
-        Some(found) => note_body(tallies, found.body.as_slice(), procedure + 1),
+        Some(found) => count_body(tallies, found.body.as_slice(), procedure + 1),
         None => Ok(()),
     }
 }
 
 /// Counts the procedure of this number at its inputs, if procedures of its kind are counted.
-fn note_takes(
+fn count_takes(
     tallies: &mut Seq<Count>,
     catalog: &Catalog,
     kinds: Takers,
@@ -160,7 +167,7 @@ fn note_takes(
     match catalog.procedures.get(procedure) {
         Some(found) => {
             if is_counted(kinds, found.kind) {
-                note_inputs(tallies, found.inputs.as_slice(), procedure + 1)
+                count_inputs(tallies, found.inputs.as_slice(), procedure + 1)
             } else {
                 Ok(())
             }
@@ -171,27 +178,27 @@ fn note_takes(
 
 /// How many procedures emit to each stream.
 fn count_emitters(alloc: Global, catalog: &Catalog) -> Result<Seq<Count>, NoMemory>
-    ensures { IfOk result (λ tallies. Tells (emitters catalog.now) tallies) }
+    ensures { IfOk result (λ tallies. CountsAre (emitters catalog.now) tallies) }
 {
     let mut tallies = Seq::new(alloc);
     for procedure in 0..catalog.procedures.len() {
-        note_emits(&mut tallies, catalog, procedure)?;
+        count_emits(&mut tallies, catalog, procedure)?;
     }
     Ok(tallies)
 }
 
 /// How many procedures of these kinds take each stream.
 fn count_takers(alloc: Global, catalog: &Catalog, kinds: Takers) -> Result<Seq<Count>, NoMemory>
-    ensures { IfOk result (λ tallies. Tells (takers kinds catalog.now) tallies) }
+    ensures { IfOk result (λ tallies. CountsAre (takers kinds catalog.now) tallies) }
 {
     let mut tallies = Seq::new(alloc);
     for procedure in 0..catalog.procedures.len() {
-        note_takes(&mut tallies, catalog, kinds, procedure)?;
+        count_takes(&mut tallies, catalog, kinds, procedure)?;
     }
     Ok(tallies)
 }
 
-/// The ends of all streams, each table up to the last stream that has one.
+/// The ends of all streams, each list up to the last stream that has such an end.
 ///
 /// Linear in all bodies and inputs, and in the streams. Takes eight words a stream.
 pub(crate) fn count_stream_ends(alloc: Global, catalog: &Catalog) -> Result<StreamEnds, NoMemory>
@@ -209,7 +216,7 @@ pub(crate) fn count_stream_ends(alloc: Global, catalog: &Catalog) -> Result<Stre
     })
 }
 
-/// How many procedures emit to a stream. Constant.
+/// How many procedures emit to a stream.
 pub(crate) fn emitters(catalog: &Catalog, ends: &StreamEnds, stream: usize) -> usize
     requires { CountsEnds catalog.now ends.now }
     ensures { result ≡ emitters catalog.now stream }
@@ -217,7 +224,7 @@ pub(crate) fn emitters(catalog: &Catalog, ends: &StreamEnds, stream: usize) -> u
     count_at(&ends.emitters, stream).count
 }
 
-/// How many procedures take a stream. Constant.
+/// How many procedures take a stream.
 pub(crate) fn consumers(catalog: &Catalog, ends: &StreamEnds, stream: usize) -> usize
     requires { CountsEnds catalog.now ends.now }
     ensures { result ≡ consumers catalog.now stream }
@@ -225,7 +232,7 @@ pub(crate) fn consumers(catalog: &Catalog, ends: &StreamEnds, stream: usize) -> 
     count_at(&ends.consumers, stream).count
 }
 
-/// How many border procedures take a stream. Constant.
+/// How many border procedures take a stream.
 pub(crate) fn border_consumers(catalog: &Catalog, ends: &StreamEnds, stream: usize) -> usize
     requires { CountsEnds catalog.now ends.now }
     ensures { result ≡ border_consumers catalog.now stream }
@@ -233,7 +240,7 @@ pub(crate) fn border_consumers(catalog: &Catalog, ends: &StreamEnds, stream: usi
     count_at(&ends.border_consumers, stream).count
 }
 
-/// How many interior procedures take a stream. Constant.
+/// How many interior procedures take a stream.
 pub(crate) fn interior_consumers(catalog: &Catalog, ends: &StreamEnds, stream: usize) -> usize
     requires { CountsEnds catalog.now ends.now }
     ensures { result ≡ interior_consumers catalog.now stream }
@@ -241,7 +248,7 @@ pub(crate) fn interior_consumers(catalog: &Catalog, ends: &StreamEnds, stream: u
     count_at(&ends.interior_consumers, stream).count
 }
 
-/// Whether a border procedure takes a stream. Constant.
+/// Whether a border procedure takes a stream.
 pub(crate) fn is_border_stream(catalog: &Catalog, ends: &StreamEnds, stream: usize) -> bool
     requires { CountsEnds catalog.now ends.now }
     ensures { result ≡ is_border_stream catalog.now stream }

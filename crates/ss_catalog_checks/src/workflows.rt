@@ -9,9 +9,8 @@ ghost use Rattle.ss_catalog_checks.specs.StreamEnds.{ListsEmitters, NotesAt, wor
 ghost use Rattle.ss_catalog_checks.specs.Tallies.{CountsEnds};
 
 use crate::tallies::{StreamEnds, is_border_stream};
-use ss_model::catalog::{Catalog, Step};
-use ss_value::NoMemory;
-use ss_value::seq::Seq;
+use ss_model::{Catalog, Step};
+use ss_value::{NoMemory, Seq};
 use std::alloc::Global;
 
 /// Whether a procedure is a border procedure.
@@ -37,10 +36,10 @@ fn first_input(catalog: &Catalog, procedure: usize) -> usize
     }
 }
 
-/// Adds places with no procedure until this stream has a place.
-fn add_places(emitters: &mut Seq<Option<usize>>, stream: usize) -> Result<(), NoMemory>
-    ensures same { OnOk result ((s : ℕ) → get_or emitters.new s None ≡ get_or emitters.old s None) }
-    ensures there { OnOk result (stream < length emitters.new) }
+/// Extends the list by None until it reaches this stream.
+fn extend_to(emitters: &mut Seq<Option<usize>>, stream: usize) -> Result<(), NoMemory>
+    ensures unchanged { OnOk result ((s : ℕ) → get_or emitters.new s None ≡ get_or emitters.old s None) }
+    ensures ok { OnOk result (stream < length emitters.new) }
 {
     'places: while emitters.len() <= stream {
         emitters.push(None)?;
@@ -48,17 +47,21 @@ fn add_places(emitters: &mut Seq<Option<usize>>, stream: usize) -> Result<(), No
     Ok(())
 }
 
-/// Notes a procedure at a stream, in the place of what is noted there.
-fn note(emitters: &mut Seq<Option<usize>>, stream: usize, procedure: usize) -> Result<(), NoMemory>
+/// Puts a procedure at a stream, over the one that is there.
+fn set_emitter(
+    emitters: &mut Seq<Option<usize>>,
+    stream: usize,
+    procedure: usize,
+) -> Result<(), NoMemory>
     ensures { OnOk result ((s : ℕ) → get_or emitters.new s None ≡ cond (s == stream) (Some procedure) (get_or emitters.old s None)) }
 {
-    add_places(emitters, stream)?;
+    extend_to(emitters, stream)?;
     let _before = emitters.put(stream, Some(procedure));
     Ok(())
 }
 
-/// Notes a procedure at the stream that a step emits to.
-fn note_step(
+/// Puts a procedure at the stream that a step emits to.
+fn set_step_emitters(
     emitters: &mut Seq<Option<usize>>,
     step: &Step,
     procedure: usize,
@@ -66,7 +69,7 @@ fn note_step(
     ensures { OnOk result ((s : ℕ) → get_or emitters.new s None ≡ cond (emits_to s step.now) (Some procedure) (get_or emitters.old s None)) }
 {
     match step {
-        Step::Emit { stream, .. } => note(emitters, usize::from(*stream), procedure),
+        Step::Emit { stream, .. } => set_emitter(emitters, usize::from(*stream), procedure),
         Step::Sql(_) => Ok(()),
         Step::AbortIf { .. } => Ok(()),
         Step::ForEach { .. } => Ok(()),
@@ -74,8 +77,8 @@ fn note_step(
     }
 }
 
-/// Notes a procedure at the streams that a body emits to.
-fn note_body(
+/// Puts a procedure at the streams that a body emits to.
+fn set_body_emitters(
     emitters: &mut Seq<Option<usize>>,
     body: &[Step],
     procedure: usize,
@@ -83,13 +86,13 @@ fn note_body(
     ensures { OnOk result ((s : ℕ) → get_or emitters.new s None ≡ cond (list_any (emits_to s) body.now) (Some procedure) (get_or emitters.old s None)) }
 {
     for step in body {
-        note_step(emitters, step, procedure)?;
+        set_step_emitters(emitters, step, procedure)?;
     }
     Ok(())
 }
 
-/// Notes the procedure of this number at the streams that it emits to.
-fn note_procedure(
+/// Puts the procedure of this number at the streams that it emits to.
+fn set_procedure_emitters(
     emitters: &mut Seq<Option<usize>>,
     catalog: &Catalog,
     procedure: usize,
@@ -97,7 +100,7 @@ fn note_procedure(
     ensures { OnOk result (NotesAt (procedure_emits catalog.now procedure) procedure emitters.old emitters.new) }
 {
     match catalog.procedures.get(procedure) {
-        Some(found) => note_body(emitters, found.body.as_slice(), procedure),
+        Some(found) => set_body_emitters(emitters, found.body.as_slice(), procedure),
         None => Ok(()),
     }
 }
@@ -112,14 +115,14 @@ pub(crate) fn first_emitters(
     ensures { IfOk result (λ emitters. ListsEmitters catalog.now emitters) }
 {
     let mut emitters = Seq::new(alloc);
-    // From the last procedure to the first, so that the first stays noted.
+    // From the last procedure to the first, so that of several the first stays.
     for procedure in (0..catalog.procedures.len()).rev() {
-        note_procedure(&mut emitters, catalog, procedure)?;
+        set_procedure_emitters(&mut emitters, catalog, procedure)?;
     }
     Ok(emitters)
 }
 
-/// The procedure that is noted at a stream, and 0 where none is. Constant.
+/// The procedure at a stream in this list, and 0 where there is none.
 fn emitting_procedure(emitters: &Seq<Option<usize>>, stream: usize) -> usize
     ensures { result ≡ unwrap_or (get_or emitters.now stream None) 0 }
 {
@@ -132,7 +135,7 @@ fn emitting_procedure(emitters: &Seq<Option<usize>>, stream: usize) -> usize
     }
 }
 
-/// The border stream of a procedure's workflow: up the first inputs, at most one for each procedure.
+/// The border stream of a procedure's workflow: the way goes up the first inputs as far as a border procedure.
 ///
 /// Linear in the procedures on the way.
 pub(crate) fn border_stream(
@@ -144,6 +147,7 @@ pub(crate) fn border_stream(
     ensures { result ≡ border_stream catalog.now procedure }
 {
     let mut at = procedure;
+    // A way without a cycle passes each procedure once at most; the bound ends it in any catalogue.
     for _ in 0..catalog.procedures.len() {
         if is_border_procedure(catalog, at) {
             return first_input(catalog, at);
@@ -153,7 +157,7 @@ pub(crate) fn border_stream(
     first_input(catalog, at)
 }
 
-/// The border stream of a stream's workflow. Linear in the procedures on the way, as `border_stream`.
+/// The border stream of a stream's workflow. Linear in the procedures on the way.
 pub(crate) fn workflow_of(
     catalog: &Catalog,
     ends: &StreamEnds,

@@ -1,33 +1,29 @@
 //! Texts, numbers, arrays and objects of JSON.
 //!
-//! Each is read as what it says, or as the way from it to its first fault. A fault of the value itself has the
-//! empty way and takes no memory; the object or array round it copies the way, so that a fault costs its depth
-//! times its way at most. `NoMemory` says nothing about the value.
+//! A fault of the value itself has the empty way and takes no memory. Each object or array around it copies the way
+//! behind its own step, so a fault costs at most its depth times the length of its way.
 
 ghost use Rattle.std.specs.Prelude.{◌≡◌, ◌++◌, [], List, ℕ, map, length, Result, Ok, IfOk, IfErr, option_map, is_some};
 ghost use Rattle.serde_json.specs.Data.{Data};
 ghost use Rattle.serde_json.specs.View.{view, items_view, members_view};
-ghost use Rattle.ss_catalog_json.specs.Readings.{FaultsAs, LiesAt, key_step, item_step, inside, read_word, read_name, read_between, are_so_many, read_items_from, read_array_of, has_key, is_key, unknown_key, object_of, read_key, read_key_or, no_key};
+ghost use Rattle.ss_catalog_json.specs.Readings.{FaultsAs, LiesAt, key_step, item_step, inside, read_word, read_name, read_between, is_count_allowed, read_items_from, read_array_of, has_key, is_key, unknown_key, object_of, read_key, read_key_or, no_key};
 ghost use Rattle.ss_catalog_json.specs.declared.read_error.ReadError.TheVariants.{Fault};
 
 use crate::read_error::ReadError;
 use crate::word::Word;
 use serde_json::{Map, Value as Json};
-use ss_value::NoMemory;
-use ss_value::seq::Seq;
-use ss_value::text::{Name, ValueError, name_of};
+use ss_value::{Name, NoMemory, Seq, ValueError, name_of};
 use std::alloc::Global;
 
-/// How a value is read: a type for each thing that a value may say.
+/// How a value is read: one type for each kind of thing that a value may say.
 pub trait Reader {
     /// What the value says.
     type Read;
 
-    // What it says, or the way to the first fault.
+    // What a value is read as, or the way to its first fault.
     ghost reading: { Self → Data → Result Self.Read (List ℕ) };
 
-    /// What a value says, or the way to its first fault; `NoMemory` says nothing. Linear in the value, in time and
-    /// memory.
+    /// What a value is read as, or the way to its first fault. Linear in the value, in time and memory.
     fn read(&self, alloc: Global, value: &Json) -> Result<Self::Read, ReadError>
         ensures ok { IfOk result (λ x. reading self.now (view value.now) ≡ Ok x) }
         ensures refused { IfErr result (FaultsAs (reading self.now (view value.now))) };
@@ -35,13 +31,14 @@ pub trait Reader {
 
 // ---- faults
 
-/// A fault of the value itself: the empty way. Takes no memory.
+/// The fault of a value itself, with the empty way. Takes no memory.
 pub fn fault_here(alloc: Global) -> ReadError
     ensures { result ≡ Fault [] }
 {
     ReadError::Fault(Word::empty(alloc))
 }
 
+// On its own, since `?` needs a `Result`, and `at_key` answers an error in any case. So is `way_to_item`.
 fn way_into(alloc: Global, key: &str, way: &str) -> Result<Word, NoMemory>
     ensures { IfOk result (λ w. w ≡ key_step key.now ++ way.now) }
 {
@@ -49,7 +46,7 @@ fn way_into(alloc: Global, key: &str, way: &str) -> Result<Word, NoMemory>
     Ok(Word::from_string(whole))
 }
 
-/// A fault that lies this way in the value at a key, or `NoMemory`. Linear in both, in time and memory.
+/// The fault that lies this way in the value at a key, or `NoMemory`.
 pub fn at_key(alloc: Global, key: &str, way: &str) -> ReadError
     ensures { LiesAt (key_step key.now ++ way.now) result }
 {
@@ -66,8 +63,7 @@ fn way_to_item(alloc: Global, number: usize, way: &str) -> Result<Word, NoMemory
     Ok(Word::from_string(whole))
 }
 
-/// A fault that lies this way in the item of this number, or `NoMemory`. Linear in the way, in time and
-/// memory.
+/// The fault that lies this way in the item of this number, or `NoMemory`.
 pub fn at_item(alloc: Global, number: usize, way: &str) -> ReadError
     ensures { LiesAt (item_step number ++ way.now) result }
 {
@@ -79,7 +75,7 @@ pub fn at_item(alloc: Global, number: usize, way: &str) -> ReadError
 
 // ---- texts and numbers
 
-/// A copy of any text: linear in it, in time and memory.
+/// A copy of any text.
 pub fn word_of(alloc: Global, text: &str) -> Result<Word, ReadError>
     ensures ok { IfOk result (λ word. word ≡ text.now) }
     ensures refused { IfErr result (λ e. e ≡ ReadError.NoMemory) }
@@ -126,16 +122,16 @@ impl Reader for NameReader {
     }
 }
 
-/// A number with neither fraction nor exponent, from `low` to `high`; any other value is a fault. Constant.
+/// A number with neither fraction nor exponent, from `low` to `high`; any other value is a fault.
 #[derive(Drop)]
-pub struct Between {
+pub struct NumberBetween {
     /// The least that is read.
     pub low: u32,
     /// The greatest that is read.
     pub high: u32,
 }
 
-impl Reader for Between {
+impl Reader for NumberBetween {
     type Read = u32;
 
     ghost reading = { λ b. read_between b.low b.high };
@@ -156,7 +152,7 @@ impl Reader for Between {
 
 // ---- arrays
 
-/// What the item of this number says; a fault's way begins at the array that holds it. As the reader costs.
+/// What the item of this number is read as; the way to its fault begins at the array. Costs what the reader costs.
 pub fn read_item<R: Reader>(
     alloc: Global,
     number: usize,
@@ -194,34 +190,34 @@ where
 
 /// How many items an array may have.
 #[derive(Clone, Copy, Drop)]
-pub enum Many {
-    /// However many, also none.
+pub enum ItemCount {
+    /// Any number, none included.
     Any,
     /// One or more.
     AtLeastOne,
-    /// One and no more.
+    /// Exactly one.
     JustOne,
 }
 
-fn are_so_many(many: Many, items: &[Json]) -> bool
-    ensures { result ≡ are_so_many many (items_view items.now) }
+fn is_count_allowed(many: ItemCount, items: &[Json]) -> bool
+    ensures { result ≡ is_count_allowed many (items_view items.now) }
 {
     match many {
-        Many::Any => true,
-        Many::AtLeastOne => items.split_first().is_some(),
-        Many::JustOne => match items.split_first() {
+        ItemCount::Any => true,
+        ItemCount::AtLeastOne => items.split_first().is_some(),
+        ItemCount::JustOne => match items.split_first() {
             Some((_first, others)) => others.split_first().is_none(),
             None => false,
         },
     }
 }
 
-/// An array of so many items, each read in the same way. Another number of items, which is looked at first, is a
-/// fault of the array; then the first item's fault is reported.
+/// An array of this many items, each read by the same reader. A wrong number of items is a fault of the array, and is
+/// looked at first; then the first fault of an item is reported.
 #[derive(Drop)]
 pub struct ArrayOf<R> {
     /// How many items there may be.
-    pub many: Many,
+    pub many: ItemCount,
     /// How an item is read.
     pub of: R,
 }
@@ -238,7 +234,7 @@ where
         let Some(items) = value.as_array() else {
             return Err(fault_here(alloc));
         };
-        if !are_so_many(self.many, items.as_slice()) {
+        if !is_count_allowed(self.many, items.as_slice()) {
             return Err(fault_here(alloc));
         }
         read_items(alloc, &self.of, items.as_slice())
@@ -247,7 +243,7 @@ where
 
 // ---- objects
 
-/// Whether a value is an object with this key. As a look-up in the object costs.
+/// Whether a value is an object with this key. Costs one look-up in the object.
 pub fn has_key(value: &Json, key: &str) -> bool
     ensures { result ≡ has_key key.now (view value.now) }
 {
@@ -266,6 +262,7 @@ fn is_key(keys: &[&str], key: &str) -> bool
 fn unknown_key<'v>(members: &'v Map<String, Json>, keys: &[&str]) -> Option<&'v str>
     ensures { option_map (λ k. k.now) result ≡ unknown_key (map (λ k. k.now) keys.now) (members_view members.now.entries) }
 {
+    // Members come in the order of their keys, so the first unknown key is the least one.
     for (key, _value) in members.iter() {
         if !is_key(keys, key.as_str()) {
             return Some(key.as_str());
@@ -274,8 +271,8 @@ fn unknown_key<'v>(members: &'v Map<String, Json>, keys: &[&str]) -> Option<&'v 
     None
 }
 
-/// An object that has no other keys than these few. Another value is a fault; of keys that may not be there the
-/// least is reported. Linear in the keys that it has, times these.
+/// Checks that a value is an object with no keys but these few. Any other value is a fault; of several keys that aren't
+/// allowed the least is reported. Linear in the keys that the object has, times these.
 pub fn object_of(alloc: Global, value: &Json, keys: &[&str]) -> Result<(), ReadError>
     ensures ok { IfOk result (λ x. object_of (map (λ k. k.now) keys.now) (view value.now) ≡ Ok x) }
     ensures refused { IfErr result (FaultsAs (object_of (map (λ k. k.now) keys.now) (view value.now))) }
@@ -305,7 +302,7 @@ fn read_at<R: Reader>(
     }
 }
 
-/// What the value at a key says. One that is missing is a fault of the object. A look-up, and as the reader costs.
+/// What the value at a key is read as; a missing key is a fault of the object. Costs a look-up and what the reader costs.
 pub fn read_key<R: Reader>(
     alloc: Global,
     value: &Json,
@@ -321,7 +318,7 @@ pub fn read_key<R: Reader>(
     }
 }
 
-/// What the value at a key says, and `otherwise` where it is missing. A look-up, and as the reader costs.
+/// What the value at a key is read as, or `otherwise` where the key is missing. Costs a look-up and what the reader costs.
 pub fn read_key_or<R: Reader>(
     alloc: Global,
     value: &Json,
@@ -340,7 +337,7 @@ where
     }
 }
 
-/// No value at a key that may not be there: one there is reported by the way into it. A look-up.
+/// Checks that a key is missing; one that is there is reported by the way into its value. Costs a look-up.
 pub fn no_key(alloc: Global, value: &Json, key: &str) -> Result<(), ReadError>
     ensures ok { IfOk result (λ x. no_key key.now (view value.now) ≡ Ok x) }
     ensures refused { IfErr result (FaultsAs (no_key key.now (view value.now))) }

@@ -8,7 +8,7 @@ use ss_value::NoMemory;
 pub enum ReadError {
     /// Out of memory.
     NoMemory,
-    /// The way from the value to the first place in it that isn't as it should be: `.key` and `[n]`.
+    /// The way from the value to its first fault.
     Fault(Word),
 }
 
@@ -23,6 +23,7 @@ impl From<NoMemory> for ReadError {
     }
 }
 
+// `Seq::push` answers the item that it refused with `NoMemory`; `?` drops the item.
 impl<T: Drop> From<(NoMemory, T)> for ReadError {
     ghost use Rattle.std.specs.Prelude.{◌≡◌};
     ghost use Rattle.ss_catalog_json.specs.declared.read_error.ReadError.TheVariants.{NoMemory as OutOfMemory};

@@ -8,9 +8,9 @@ use ss_value::NoMemory;
 use std::alloc::Global;
 use std::marker::Model;
 
-/// A text of any length: a SQL text, what stands where a name is meant, or the way to a fault.
+/// A text of any length: a SQL text, what is written where a name is meant, or the way to a fault.
 ///
-/// Contracts see its UTF-8 bytes. It takes these and three words.
+/// Contracts see its UTF-8 bytes. It takes the memory of these and of three machine words.
 #[derive(Drop)]
 pub struct Word {
     text: String,
@@ -34,7 +34,7 @@ impl Word {
         }
     }
 
-    /// The same text again: linear in it.
+    /// A copy of a text.
     pub fn of(alloc: Global, text: &str) -> Result<Word, NoMemory>
         ensures { IfOk result (λ word. word ≡ text.now) }
     {

@@ -24,7 +24,7 @@ use Rattle.ss_model.specs.Typing.{target_schema, source_schema, schemas_of, trig
 use Rattle.ss_model.specs.Scopes.{source_in_scope, is_on_a_stream}
 use Rattle.ss_catalog_resolve.specs.declared.definitions.Sections.{Sections}
 use Rattle.ss_catalog_resolve.specs.Scopes.{named_table, named_window, shared_names, stream_name, named_batch, procedure_scope, named_inserted, trigger_scope}
-use Rattle.ss_catalog_laws.proofs.Places.{StandsIn, member_at, in_either, only_one, indexed_at}
+use Rattle.ss_catalog_laws.proofs.Positions.{StandsIn, member_at, in_either, only_one, indexed_at}
 
 -- what SQL may name of a catalogue
 abbrev pub sections_in : Catalog → Sections

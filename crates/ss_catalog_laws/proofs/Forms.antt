@@ -9,7 +9,7 @@ use Rattle.ss_model.specs.declared.catalog.Procedure.{Procedure}
 use Rattle.ss_model.specs.declared.catalog.TableDef.{TableDef}
 use Rattle.ss_model.specs.Accepted.{Keyed}
 use Rattle.ss_model.specs.CatalogForm.{all_distinct, is_of_kind, has_distinct_names, numbers_in_range, is_within_limits, has_window_sizes, has_distinct_numbers, has_parts, has_form}
-use Rattle.ss_model.specs.Contents.{table_place, key_columns}
+use Rattle.ss_model.specs.Contents.{table_placement, key_columns}
 use Rattle.ss_catalog_outline.specs.declared.types.TriggerOutline.{TriggerOutline}
 use Rattle.ss_catalog_outline.specs.declared.types.ProcedureOutline.{ProcedureOutline}
 use Rattle.ss_catalog_outline.specs.declared.types.Outline.{Outline}
@@ -18,7 +18,7 @@ use Rattle.ss_catalog_outline.specs.Names.{table_name, stream_name, window_name,
 use Rattle.ss_catalog_resolve.specs.Numbered.{table_of, stream_of, window_of, stream_names, window_names}
 use Rattle.ss_catalog_resolve.specs.Bodies.{ProcedureReads, TriggerReads, Resolves}
 use Rattle.ss_catalog_laws.specs.Form.{HasForm}
-use Rattle.ss_catalog_laws.proofs.Lists.{all_pass, all_map, all_three, all_four, all_at, map_map}
+use Rattle.ss_lemmas.proofs.EachOf.{all_pass, all_map, all_three, all_four, all_at, map_map}
 use Rattle.ss_catalog_laws.proofs.OutlineRead.{OutlineRead}
 use Rattle.ss_catalog_laws.proofs.SectionsRead.{TableRead, StreamRead, WindowRead, TriggerRead}
 use Rattle.ss_catalog_laws.proofs.ProceduresRead.{ProcedureRead}
@@ -175,7 +175,7 @@ module _ (o : Outline) (catalog : Catalog) (read : OutlineRead o) (once : Outlin
   of_procedure : (q : ℕ) (p : Procedure) → slice_get catalog.procedures q ≡ Some p → ProcedureForm (length o.streams) p
   of_procedure q p is = all_at (ProcedureForm (length o.streams)) catalog.procedures procedures q p is
 
-  keyed_by : (t : ℕ) (d : Option TableDef) → slice_get catalog.tables t ≡ d → Keyed (table_place d) (key_columns d)
+  keyed_by : (t : ℕ) (d : Option TableDef) → slice_get catalog.tables t ≡ d → Keyed (table_placement d) (key_columns d)
   keyed_by t None is = tt
   keyed_by t (Some d) is = (all_at TableForm catalog.tables tables t d is).keyed
 

@@ -6,6 +6,7 @@ use Rattle.std.specs.Option.{option_map}
 use Rattle.std.proofs.lemmas.Bool.{and_parts, and_from, eqb-true, le-leb}
 use Rattle.std.proofs.lemmas.List.FromFn.{length-map-range_with_len}
 use Rattle.std.proofs.lemmas.Option.{slice_get-get_or}
+use Rattle.ss_sql_type.proofs.CallerLemmas.{column_kind_value}
 use Rattle.ss_value.specs.declared.value.Value.{Value}
 use Rattle.ss_value.specs.declared.value.Value.TheVariants.{Int, Text}
 use Rattle.ss_value.specs.declared.schema.ColType.{ColType}
@@ -17,7 +18,7 @@ use Rattle.ss_sql_lex.specs.declared.typed.Expr.TheOpen.{Expr-F}
 use Rattle.ss_sql_lex.specs.declared.typed.Expr.TheVariants.{Lit, Col, rolls-Lit}
 use Rattle.ss_sql_lex.specs.declared.typed.SourceId.TheVariants.{Table as FromTable}
 use Rattle.ss_sql_lex.specs.WellTyped.{ExprType, Schemas, is_type, is_value_type, column_type, value_type, level_type, expr_type, item_type, is_aggregate, types_fit, query_typed}
-use Rattle.ss_model.proofs.Meanings.{param_type, source_type}
+use Rattle.ss_model.proofs.CallerLemmas.{param_type, source_type}
 use Rattle.ss_catalog_outline.specs.declared.types.GivenOutline.{GivenOutline}
 use Rattle.ss_catalog_outline.specs.declared.types.GivenOutline.TheVariants.{Value as GivenValue, Arg as GivenArg}
 use Rattle.ss_catalog_resolve.specs.Numbers.{column_number}
@@ -75,16 +76,12 @@ module _ (args : List Column) where
 
 -- ---- all columns of a table
 
-column_value : (kind : ColType) → is_value_type (Some (column_type kind)) ≡ true
-column_value IntColumn = refl
-column_value TextColumn = refl
-
 missing : (columns : List Column) (c : ℕ) → slice_get columns c ≡ None → c < length columns → ⊥
 missing [] c is within = omega arith
 missing (d ∷ ds) c is within = let some = slice_get-get_or (d ∷ ds) c d within in cc
 
 there : (columns : List Column) (c : ℕ) (o : Option Column) → slice_get columns c ≡ o → c < length columns → is_value_type (option_map (λ (d : Column). column_type d.kind) o) ≡ true
-there columns c (Some d) is within = column_value d.kind
+there columns c (Some d) is within = column_kind_value d.kind
 there columns c None is within = absurd (missing columns c is within)
 
 column_typed : (columns args : List Column) (c : ℕ) → c < length columns → is_value_type (expr_type (columns ∷ []) args (Col 0 c)) ≡ true

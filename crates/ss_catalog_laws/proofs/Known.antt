@@ -1,9 +1,9 @@
--- What an outline says whose names are there.
+-- What holds of an outline without unknown names.
 use Rattle.std.proofs.Common.{◌≡◌, ℕ, List, ◌++◌, map, true, false, None}
 use Rattle.std.specs.List.{AllByRecursion, find, flat_map}
 use Rattle.std.proofs.lemmas.Bool.{not-false}
-use Rattle.ss_catalog_outline.specs.declared.types.PlaceOutline.{PlaceOutline}
-use Rattle.ss_catalog_outline.specs.declared.types.PlaceOutline.TheVariants.{Part as PlacedAt, By}
+use Rattle.ss_catalog_outline.specs.declared.types.PlacementOutline.{PlacementOutline}
+use Rattle.ss_catalog_outline.specs.declared.types.PlacementOutline.TheVariants.{Part as PlacedAt, By}
 use Rattle.ss_catalog_outline.specs.declared.types.TableOutline.{TableOutline}
 use Rattle.ss_catalog_outline.specs.declared.types.WindowOutline.{WindowOutline}
 use Rattle.ss_catalog_outline.specs.declared.types.TriggerOutline.{TriggerOutline}
@@ -13,8 +13,8 @@ use Rattle.ss_catalog_outline.specs.declared.types.ProcedureOutline.{ProcedureOu
 use Rattle.ss_catalog_outline.specs.declared.types.Outline.{Outline}
 use Rattle.ss_names.specs.Names.{is_among, itself, column_name}
 use Rattle.ss_catalog_outline.specs.Names.{table_name, stream_name, window_name, procedure_name}
-use Rattle.ss_catalog_outline.specs.Unknown.{Used, used, place_uses, own_table_uses, owner, waits_on, Scope, touch_uses, step_uses, own_scope, own_procedure_uses, windows_uses, triggers_uses, procedures_uses, names_used, is_unknown, name_unknown}
-use Rattle.ss_catalog_laws.proofs.Lists.{all_parts, three_parts, all_flat, all_unmap, all_with, none_found, none_from_map}
+use Rattle.ss_catalog_outline.specs.Unknown.{Used, names_in, placement_uses, own_table_uses, owner, waits_on, Scope, touch_uses, step_uses, own_scope, own_procedure_uses, windows_uses, triggers_uses, procedures_uses, names_used, is_unknown, name_unknown}
+use Rattle.ss_lemmas.proofs.EachOf.{all_parts, three_parts, all_flat, all_unmap, all_with, none_found, none_from_map}
 
 -- one of these names
 abbrev pub IsAmong : List (List ℕ) → List ℕ → Type 0
@@ -24,33 +24,33 @@ IsAmong names name = is_among names name ≡ true
 abbrev IsKnown : Used → Type 0
 IsKnown u = IsAmong u.known u.name
 
-used_known : {X : Type 0} (name : X → List ℕ) (known : List (List ℕ)) (xs : List X) → AllByRecursion IsKnown (used name known xs) → AllByRecursion (λ x. IsAmong known (name x)) xs
+used_known : {X : Type 0} (name : X → List ℕ) (known : List (List ℕ)) (xs : List X) → AllByRecursion IsKnown (names_in name known xs) → AllByRecursion (λ x. IsAmong known (name x)) xs
 used_known name known xs all = all_unmap IsKnown (λ x. record { known = known; name = name x }) xs all
 
 -- ---- tables
 
 -- a split column is one of the key
-abbrev pub SplitsBy : List (List ℕ) → PlaceOutline → Type 0
+abbrev pub SplitsBy : List (List ℕ) → PlacementOutline → Type 0
 SplitsBy key (By name) = IsAmong key name
 SplitsBy key (PlacedAt x) = Unit {0}
 
-place_known : (key : List (List ℕ)) (p : PlaceOutline) → AllByRecursion IsKnown (place_uses key p) → SplitsBy key p
-place_known key (By name) all = all.0
-place_known key (PlacedAt x) all = tt
+placement_known : (key : List (List ℕ)) (p : PlacementOutline) → AllByRecursion IsKnown (placement_uses key p) → SplitsBy key p
+placement_known key (By name) all = all.0
+placement_known key (PlacedAt x) all = tt
 
 pub record TableKnown (t : TableOutline) : Type 0 where
   pub key : AllByRecursion (IsAmong (map column_name t.columns)) t.key
-  pub place : SplitsBy t.key t.place
+  pub placement : SplitsBy t.key t.placement
   pub indexes : AllByRecursion (AllByRecursion (IsAmong (map column_name t.columns))) t.indexes
 
 table_known : (t : TableOutline) → AllByRecursion IsKnown (own_table_uses t) → TableKnown t
 table_known t all =
     let columns : List (List ℕ) = map column_name t.columns in
-    let parts = three_parts IsKnown (used itself columns t.key) (place_uses t.key t.place) (flat_map (used itself columns) t.indexes) all in
+    let parts = three_parts IsKnown (names_in itself columns t.key) (placement_uses t.key t.placement) (flat_map (names_in itself columns) t.indexes) all in
     record {
       key = used_known itself columns t.key parts.0;
-      place = place_known t.key t.place parts.1;
-      indexes = all_with (λ ns. AllByRecursion IsKnown (used itself columns ns)) (AllByRecursion (IsAmong columns)) (used_known itself columns) t.indexes (all_flat IsKnown (used itself columns) t.indexes parts.2);
+      placement = placement_known t.key t.placement parts.1;
+      indexes = all_with (λ ns. AllByRecursion IsKnown (names_in itself columns ns)) (AllByRecursion (IsAmong columns)) (used_known itself columns) t.indexes (all_flat IsKnown (names_in itself columns) t.indexes parts.2);
     }
 
 -- ---- procedures
@@ -75,7 +75,7 @@ pub record ProcedureKnown (streams : List (List ℕ)) (p : ProcedureOutline) : T
 procedure_known : (tables streams : List (List ℕ)) (p : ProcedureOutline) → AllByRecursion IsKnown (own_procedure_uses tables streams p) → ProcedureKnown streams p
 procedure_known tables streams p all =
     let scope : Scope = own_scope tables streams p in
-    let parts = three_parts IsKnown (used itself streams p.inputs) (touch_uses scope p.touch) (flat_map (step_uses scope) p.body) all in
+    let parts = three_parts IsKnown (names_in itself streams p.inputs) (touch_uses scope p.touch) (flat_map (step_uses scope) p.body) all in
     record { inputs = used_known itself streams p.inputs parts.0; touch = touch_known scope p.touch parts.1 }
 
 -- ---- the whole

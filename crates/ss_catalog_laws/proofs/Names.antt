@@ -1,4 +1,4 @@
--- Names that stand once, and their numbers.
+-- Names without duplicates, and their numbers.
 use Rattle.std.proofs.Common.{◌≡◌, ◌∙◌, ◌<◌, ◌==◌, not, ℕ, List, [], ◌∷◌, ◌++◌, length, map, Bool, true, false, cond, refl, sym, ap, subst, inl, inr, Some, None, get_or, unwrap_or, append_assoc, append-nil, arith}
 use Rattle.std.specs.List.{AllByRecursion, list_any, position_or_len}
 use Rattle.std.specs.Str.{bytes_eq}
@@ -11,9 +11,9 @@ use Rattle.ss_model.specs.CatalogForm.{names_equal, all_distinct, numbers_distin
 use Rattle.ss_names.specs.Names.{is_among}
 use Rattle.ss_catalog_outline.specs.Twice.{Standing, standing_behind, is_twice}
 use Rattle.ss_catalog_resolve.specs.Numbers.{number_in}
-use Rattle.ss_catalog_laws.proofs.Lists.{all_parts}
+use Rattle.ss_lemmas.proofs.EachOf.{all_parts}
 
--- ---- names that stand once
+-- ---- names without duplicates
 
 -- names that differ differ the other way round
 apart : (x y : List ℕ) → bytes_eq x y ≡ false → names_equal y x ≡ false
@@ -29,7 +29,7 @@ distinct_push (x ∷ xs) n d new =
     (not_from_false _ (list_any-append (names_equal x) xs (n ∷ []) ∙ or_from _ _ (not-true _ parts.0) (or_from _ _ (apart n x others.0) refl)))
     (distinct_push xs n parts.1 others.1)
 
--- it did not stand before
+-- the name did not occur before
 abbrev pub StandsOnce : Standing → Type 0
 StandsOnce s = is_twice s ≡ false
 
@@ -68,7 +68,7 @@ module _ (names : List (List ℕ)) (n : List ℕ) (known : is_among names n ≡ 
   pub number_within : number_in names n < length names
   number_within = subst (λ k. k < length names) (sym number_is) (first_within (bytes_eq n) names known)
 
-  -- and stands there
+  -- and is there at that number
   number_there : get_or names (number_in names n) [] ≡ n
   number_there =
       ap (λ k. get_or names k []) number_is

@@ -1,4 +1,4 @@
--- Tables, streams and inputs stand at the numbers of their names.
+-- Tables, streams and inputs are found at the numbers of their names.
 use Rattle.std.proofs.Common.{◌≡◌, ◌≤◌, ℕ, true, List, [], map, length, Option, Some, None, sym, ap, ◌∙◌}
 use Rattle.std.specs.Prelude.{slice_get, unwrap_or, option_map, nat_lt}
 use Rattle.std.proofs.lemmas.Bool.{lt-ltb}
@@ -19,7 +19,7 @@ use Rattle.ss_catalog_resolve.specs.Numbers.{number_in}
 use Rattle.ss_catalog_resolve.specs.Numbered.{table_of, stream_of, sections_of, table_names, stream_names, inputs_of}
 use Rattle.ss_catalog_resolve.specs.Scopes.{stream_columns}
 use Rattle.ss_catalog_resolve.specs.Steps.{table_number, table_columns, stream_number, columns_of_stream}
-use Rattle.ss_catalog_laws.proofs.Places.{mapped_at, number_there}
+use Rattle.ss_catalog_laws.proofs.Positions.{mapped_at, number_there}
 use Rattle.ss_catalog_laws.proofs.Uses.{few_columns}
 use Rattle.ss_catalog_laws.proofs.Entries.{sections_in}
 

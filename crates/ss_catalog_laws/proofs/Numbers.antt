@@ -10,7 +10,7 @@ use Rattle.std.proofs.lemmas.Slice.Eq.{bytes_eq-Decides}
 use Rattle.ss_model.specs.CatalogForm.{numbers_distinct}
 use Rattle.ss_names.specs.Names.{is_among, itself}
 use Rattle.ss_catalog_resolve.specs.Numbers.{number_in}
-use Rattle.ss_catalog_laws.proofs.Lists.{all_map, all_pass}
+use Rattle.ss_lemmas.proofs.EachOf.{all_map, all_pass}
 use Rattle.ss_catalog_laws.proofs.Names.{number_within, number_apart, numbers_apart}
 use Rattle.ss_catalog_laws.proofs.Once.{AreDistinct}
 use Rattle.ss_catalog_laws.proofs.Known.{IsAmong}

@@ -1,4 +1,4 @@
--- What an outline says whose names stand once.
+-- What holds of an outline without duplicate names.
 use Rattle.std.proofs.Common.{◌≡◌, ℕ, List, [], ◌∷◌, ◌++◌, map, true, refl, None}
 use Rattle.std.specs.Prelude.{codes}
 use Rattle.std.specs.List.{AllByRecursion, find, flat_map}
@@ -11,10 +11,10 @@ use Rattle.ss_catalog_outline.specs.declared.types.Outline.{Outline}
 use Rattle.ss_names.specs.Names.{itself, column_name}
 use Rattle.ss_catalog_outline.specs.Names.{table_name, stream_name, window_name, trigger_name, procedure_name}
 use Rattle.ss_catalog_outline.specs.Twice.{Standing, standing, standing_behind, is_twice, name_twice, names_standing, sources_standing, touch_words, table_inside, stream_inside, window_inside, procedure_inside}
-use Rattle.ss_catalog_laws.proofs.Lists.{three_parts, all_flat, all_with, none_found, none_from_map}
+use Rattle.ss_lemmas.proofs.EachOf.{three_parts, all_flat, all_with, none_found, none_from_map}
 use Rattle.ss_catalog_laws.proofs.Names.{StandsOnce, standing_distinct, standing_inside}
 
--- names of which none stands twice
+-- names of which none is a duplicate
 abbrev pub AreDistinct : {X : Type 0} → (X → List ℕ) → List X → Type 0
 AreDistinct name xs = all_distinct (map name xs) ≡ true
 
@@ -59,7 +59,7 @@ pub record OutlineOnce (o : Outline) : Type 0 where
   pub in_procedures : AllByRecursion ProcedureOnce o.procedures
 
 module _ (o : Outline) (once : AllByRecursion StandsOnce (names_standing o)) where
-  -- those behind which tables, streams and windows stand
+  -- the names behind which those of tables, streams and windows come
   abbrev reserved : List (List ℕ)
   reserved = codes "inserted" ∷ []
 

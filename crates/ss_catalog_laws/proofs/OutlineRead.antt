@@ -9,7 +9,7 @@ use Rattle.ss_catalog_outline.specs.declared.types.WindowOutline.{WindowOutline}
 use Rattle.ss_catalog_outline.specs.declared.types.TriggerOutline.{TriggerOutline}
 use Rattle.ss_catalog_outline.specs.declared.types.ProcedureOutline.{ProcedureOutline}
 use Rattle.ss_catalog_outline.specs.declared.types.Outline.{Outline}
-use Rattle.ss_catalog_json.specs.declared.json_readers.Many.TheVariants.{Any}
+use Rattle.ss_catalog_json.specs.declared.json_readers.ItemCount.TheVariants.{Any}
 use Rattle.ss_catalog_json.specs.Readings.{Reading, read_array_of, object_of}
 use Rattle.ss_catalog_outline.specs.Tables.{read_table, read_stream, read_window, read_trigger}
 use Rattle.ss_catalog_outline.specs.Procedures.{read_procedure}

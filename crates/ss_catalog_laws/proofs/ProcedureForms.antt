@@ -32,7 +32,7 @@ use Rattle.ss_catalog_resolve.specs.InOrder.{AllRead}
 use Rattle.ss_catalog_resolve.specs.Steps.{StepReads}
 use Rattle.ss_catalog_resolve.specs.Bodies.{procedure_with, ProcedureReads, StatementReads, trigger_with, TriggerReads}
 use Rattle.ss_catalog_laws.proofs.InOrder.{length_read}
-use Rattle.ss_catalog_laws.proofs.Lists.{all_pass, all_such, all_with}
+use Rattle.ss_lemmas.proofs.EachOf.{all_pass, all_such, all_with}
 use Rattle.ss_catalog_laws.proofs.Names.{numbers_apart}
 use Rattle.ss_catalog_laws.proofs.Numbers.{number_below, numbers_below, numbers_once, some_map, in_second}
 use Rattle.ss_catalog_laws.proofs.Once.{AreDistinct, ProcedureOnce}
@@ -72,7 +72,7 @@ touch_ranges args kind (Arg name) is by = number_below column_name args name by
 touch_ranges args kind (Multi xs) is by = all_pass IsPart (λ x. nat_lt x 8) (λ x h. h) xs is.0
 touch_ranges args kind All is by = refl
 
--- parts that are printed otherwise differ
+-- parts whose decimals differ are different
 parts_distinct : (args : List Column) (t : TouchOutline) → AreDistinct itself (touch_words t) → numbers_distinct (listed_parts (touch_of args t)) ≡ true
 parts_distinct args (Multi xs) once =
     ap numbers_distinct (sym (map-id xs))
@@ -81,7 +81,7 @@ parts_distinct args (Part x) once = refl
 parts_distinct args (Arg name) once = refl
 parts_distinct args All once = refl
 
--- an argument stands in a call alone
+-- only a call touches by an argument
 no_arg_touched : (args : List Column) (kind : Kind) (t : TouchOutline) → IsTouch kind t → is_streaming kind ≡ true → IsArg (touch_of args t) → ⊥
 no_arg_touched args CallKind (Arg name) is streaming arg = cc
 no_arg_touched args Border (Arg name) is streaming arg = cc

@@ -16,7 +16,7 @@ use Rattle.ss_catalog_outline.specs.declared.types.TouchOutline.TheVariants.{Par
 use Rattle.ss_catalog_outline.specs.declared.types.StepOutline.{StepOutline}
 use Rattle.ss_catalog_outline.specs.declared.types.StepOutline.TheVariants.{Insert, ReturnAll, Sql, AbortIf, ForEach, Emit, Return}
 use Rattle.ss_catalog_outline.specs.declared.types.ProcedureOutline.{ProcedureOutline}
-use Rattle.ss_catalog_json.specs.declared.json_readers.Many.TheVariants.{Any, AtLeastOne, JustOne}
+use Rattle.ss_catalog_json.specs.declared.json_readers.ItemCount.TheVariants.{Any, AtLeastOne, JustOne}
 use Rattle.ss_catalog_outline.specs.declared.steps.StepForm.{StepForm}
 use Rattle.ss_catalog_outline.specs.declared.steps.StepForm.TheVariants.{Insert as InsertForm, ReturnAll as ReturnAllForm, Emit as EmitForm, Sql as SqlForm, AbortIf as AbortIfForm, ForEach as ForEachForm, Return as ReturnForm}
 use Rattle.ss_catalog_json.specs.Readings.{read_word, read_array_of, has_key, object_of, read_key_or, no_key, or_here, read_name}
@@ -49,7 +49,7 @@ inputs_read Interior d = key_holds IsSome (read_array_of AtLeastOne read_word) (
 
 -- ---- touch sets
 
--- parts from 0 to 7, at least one, and an argument in a call alone
+-- parts from 0 to 7, at least one, and an argument only in a call
 abbrev pub IsTouch : Kind → TouchOutline → Type 0
 IsTouch kind (Part x) = IsPart x
 IsTouch kind (Arg name) = is_call kind ≡ true
@@ -83,7 +83,7 @@ module _ (kind : Kind) (d : Data) where
 
 -- ---- steps
 
--- a step that may stand in a procedure of this kind
+-- a step that a procedure of this kind may have
 abbrev pub StandsIn : Kind → StepOutline → Type 0
 StandsIn kind (Sql text) = Unit {0}
 StandsIn kind (AbortIf test code) = Unit {0}

@@ -4,9 +4,9 @@ use Rattle.std.specs.List.{AllByRecursion}
 use Rattle.serde_json.specs.Data.{Data, Items, no_items, item}
 use Rattle.serde_json.specs.Find.{get}
 use Rattle.ss_model.specs.CatalogForm.{is_some_list}
-use Rattle.ss_catalog_json.specs.declared.json_readers.Many.{Many}
-use Rattle.ss_catalog_json.specs.declared.json_readers.Many.TheVariants.{AtLeastOne, JustOne}
-use Rattle.ss_catalog_json.specs.Readings.{OrFault, Reading, ◌>>=◌, inside, item_step, key_step, only_where, are_so_many, read_items_from, read_array_of, read_key, read_or, read_key_or}
+use Rattle.ss_catalog_json.specs.declared.json_readers.ItemCount.{ItemCount}
+use Rattle.ss_catalog_json.specs.declared.json_readers.ItemCount.TheVariants.{AtLeastOne, JustOne}
+use Rattle.ss_catalog_json.specs.Readings.{OrFault, Reading, ◌>>=◌, inside, item_step, key_step, only_where, is_count_allowed, read_items_from, read_array_of, read_key, read_or, read_key_or}
 
 -- ---- one after the other
 
@@ -21,7 +21,7 @@ module _ (A : Type 0) {B : Type 0} (Q : B → Type 0) where
   then_any (Ok a) f k = k a
   then_any (Err way) f k = tt
 
--- ---- in place, or a fault
+-- ---- the same, or a fault
 
 module _ {A : Type 0} (P : A → Type 0) where
   -- further inside
@@ -76,8 +76,8 @@ module _ {A : Type 0} (P : A → Type 0) (read : Reading A) (each : (d : Data) �
       then_with (List A) (AllByRecursion P) (AllByRecursion P) _ _ (items_hold (suc n) ds) (λ xs all. (p, all)))
 
   -- each item of an array
-  pub array_holds : (many : Many) (d : Data) → IfOk (read_array_of many read d) (AllByRecursion P)
-  array_holds many d = then_any Items (AllByRecursion P) _ _ (λ ds. where_holds (AllByRecursion P) (are_so_many many ds) _ (λ so. items_hold 0 ds))
+  pub array_holds : (many : ItemCount) (d : Data) → IfOk (read_array_of many read d) (AllByRecursion P)
+  array_holds many d = then_any Items (AllByRecursion P) _ _ (λ ds. where_holds (AllByRecursion P) (is_count_allowed many ds) _ (λ so. items_hold 0 ds))
 
 -- ---- the value at a key, and then more
 
@@ -104,7 +104,7 @@ module _ {A : Type 0} (read : Reading A) where
   abbrev rest_behind : A → Items → OrFault (List A)
   rest_behind x ds = read_items_from 1 read ds >>= λ xs. Ok (x ∷ xs)
 
-  some_items : (ds : Items) → IfOk (only_where (are_so_many AtLeastOne ds) (read_items_from 0 read ds)) IsSome
+  some_items : (ds : Items) → IfOk (only_where (is_count_allowed AtLeastOne ds) (read_items_from 0 read ds)) IsSome
   some_items no_items = tt
   some_items (item d ds) =
       then_any A (IsSome {A = A}) (inside (item_step 0) (read d)) (λ x. rest_behind x ds) (λ x.
@@ -113,7 +113,7 @@ module _ {A : Type 0} (read : Reading A) where
   pub some_holds : (d : Data) → IfOk (read_array_of AtLeastOne read d) IsSome
   some_holds d = then_any Items (IsSome {A = A}) _ _ some_items
 
-  one_item : (ds : Items) → IfOk (only_where (are_so_many JustOne ds) (read_items_from 0 read ds)) IsOne
+  one_item : (ds : Items) → IfOk (only_where (is_count_allowed JustOne ds) (read_items_from 0 read ds)) IsOne
   one_item no_items = tt
   one_item (item d no_items) = then_any A (IsOne {A = A}) (inside (item_step 0) (read d)) (λ x. rest_behind x no_items) (λ x. refl)
   one_item (item d (item e ds)) = tt

@@ -15,7 +15,7 @@ use Rattle.ss_catalog_outline.specs.declared.types.TriggerOutline.{TriggerOutlin
 use Rattle.ss_catalog_outline.specs.declared.types.ProcedureOutline.{ProcedureOutline}
 use Rattle.ss_catalog_outline.specs.declared.types.Outline.{Outline}
 use Rattle.ss_names.specs.Names.{itself}
-use Rattle.ss_catalog_outline.specs.Unknown.{used, first_unknown, touch_uses, step_uses, own_procedure_uses, name_unknown}
+use Rattle.ss_catalog_outline.specs.Unknown.{names_in, first_unknown, touch_uses, step_uses, own_procedure_uses, name_unknown}
 use Rattle.ss_catalog_outline.specs.Limits.{over_limit}
 use Rattle.ss_catalog_resolve.specs.declared.definitions.Sections.{Sections}
 use Rattle.ss_catalog_resolve.specs.Numbered.{sections_of, on_of, table_names, stream_names}
@@ -37,7 +37,7 @@ module _ (o : Outline) (catalog : Catalog) (is : sections_of o ≡ sections_in c
   procedure_sound : over_limit o ≡ None → (n : ℕ) (p : ProcedureOutline) (made : Procedure) → first_unknown (own_procedure_uses (table_names o) (stream_names o) p) ≡ None → ProcedureReads o n p (Ok made) → ProcedureSound made
   procedure_sound limits n p made known reads =
       let scope = names o catalog is limits p in
-      let steps = (known_both (used itself scope.streams p.inputs ++ touch_uses scope p.touch) (flat_map (step_uses scope) p.body) known).1 in
+      let steps = (known_both (names_in itself scope.streams p.inputs ++ touch_uses scope p.touch) (flat_map (step_uses scope) p.body) known).1 in
       subst ProcedureSound (sym reads.1) (body_sound o catalog is limits p 0 p.body reads.0 steps reads.2)
 
   -- ---- triggers

@@ -8,9 +8,7 @@ use Rattle.ss_sql_lex.specs.declared.typed.Statement.{Statement}
 use Rattle.ss_sql_lex.specs.WellTyped.{Schemas, query_typed, condition_typed, statement_typed}
 use Rattle.ss_sql_type.specs.declared.scope.Scope.{Scope}
 use Rattle.ss_sql_type.specs.Agrees.{out_fits}
-use Rattle.ss_sql_type.proofs.SoundQueries.{query_sound, query_out}
-use Rattle.ss_sql_type.proofs.SoundConditions.{condition_sound}
-use Rattle.ss_sql_type.proofs.SoundStatements.{statement_sound}
+use Rattle.ss_sql_type.proofs.CallerLemmas.{query_sound, query_out, condition_sound, statement_sound}
 use Rattle.ss_model.specs.declared.catalog.Catalog.{Catalog}
 use Rattle.ss_model.specs.Typing.{schemas_of}
 use Rattle.ss_model.specs.Scopes.{query_in_scope, statement_in_scope}

@@ -7,9 +7,9 @@ use Rattle.ss_model.specs.declared.catalog.TableDef.{TableDef}
 use Rattle.ss_model.specs.declared.catalog.StreamDef.{StreamDef}
 use Rattle.ss_model.specs.declared.catalog.WindowDef.{WindowDef}
 use Rattle.ss_model.specs.Accepted.{Keyed}
-use Rattle.ss_model.specs.CatalogForm.{columns_distinct, numbers_distinct, is_some_list, place_in_range}
-use Rattle.ss_catalog_outline.specs.declared.types.PlaceOutline.{PlaceOutline}
-use Rattle.ss_catalog_outline.specs.declared.types.PlaceOutline.TheVariants.{Part, By}
+use Rattle.ss_model.specs.CatalogForm.{columns_distinct, numbers_distinct, is_some_list, placement_in_range}
+use Rattle.ss_catalog_outline.specs.declared.types.PlacementOutline.{PlacementOutline}
+use Rattle.ss_catalog_outline.specs.declared.types.PlacementOutline.TheVariants.{Part, By}
 use Rattle.ss_catalog_outline.specs.declared.types.TableOutline.{TableOutline}
 use Rattle.ss_catalog_outline.specs.declared.types.StreamOutline.{StreamOutline}
 use Rattle.ss_catalog_outline.specs.declared.types.WindowOutline.{WindowOutline}
@@ -17,8 +17,8 @@ use Rattle.ss_catalog_outline.specs.declared.types.ProcedureOutline.{ProcedureOu
 use Rattle.ss_names.specs.Names.{itself, column_name}
 use Rattle.ss_catalog_outline.specs.Names.{procedure_name}
 use Rattle.ss_catalog_resolve.specs.Numbers.{column_number, column_numbers}
-use Rattle.ss_catalog_resolve.specs.Numbered.{place_of, table_of, stream_of, window_of}
-use Rattle.ss_catalog_laws.proofs.Lists.{all_map, all_pass, all_with, all_both}
+use Rattle.ss_catalog_resolve.specs.Numbered.{placement_of, table_of, stream_of, window_of}
+use Rattle.ss_lemmas.proofs.EachOf.{all_map, all_pass, all_with, all_both}
 use Rattle.ss_catalog_laws.proofs.Numbers.{number_below, numbers_below, numbers_once, number_among, among_these, some_map}
 use Rattle.ss_catalog_laws.proofs.Once.{AreDistinct, TableOnce}
 use Rattle.ss_catalog_laws.proofs.Known.{IsAmong, SplitsBy, TableKnown}
@@ -38,16 +38,16 @@ pub record TableForm (d : TableDef) : Type 0 where
   pub indexes_in_range : list_all (list_all (λ c. nat_lt c (length d.schema))) d.indexes ≡ true
   pub indexes_once : list_all numbers_distinct d.indexes ≡ true
   pub some_indexes : list_all is_some_list d.indexes ≡ true
-  pub in_range : place_in_range d d.place ≡ true
-  pub keyed : Keyed (Some d.place) d.key
+  pub in_range : placement_in_range d d.placement ≡ true
+  pub keyed : Keyed (Some d.placement) d.key
 
 module _ (t : TableOutline) (read : TableRead t) (once : TableOnce t) (known : TableKnown t) (within : IsUpTo 16 (length t.columns)) where
   -- a split column is one of the key, and so one of the table
-  place_range : (p : PlaceOutline) → IsPlace p → SplitsBy t.key p → place_in_range (table_of t) (place_of t.columns p) ≡ true
+  place_range : (p : PlacementOutline) → IsPlace p → SplitsBy t.key p → placement_in_range (table_of t) (placement_of t.columns p) ≡ true
   place_range (Part x) part by = part
   place_range (By name) part by = number_below column_name t.columns name (among_these (map column_name t.columns) t.key name known.key by)
 
-  place_keyed : (p : PlaceOutline) → SplitsBy t.key p → Keyed (Some (place_of t.columns p)) (column_numbers t.columns t.key)
+  place_keyed : (p : PlacementOutline) → SplitsBy t.key p → Keyed (Some (placement_of t.columns p)) (column_numbers t.columns t.key)
   place_keyed (Part x) by = tt
   place_keyed (By name) by = number_among (column_number t.columns) name t.key by
 
@@ -71,8 +71,8 @@ module _ (t : TableOutline) (read : TableRead t) (once : TableOnce t) (known : T
         (all_with (λ names. AllByRecursion (IsAmong (map column_name t.columns)) names × AreDistinct itself names) (λ names. numbers_distinct (column_numbers t.columns names) ≡ true) (λ names h. numbers_once column_name t.columns names h.0 h.1) t.indexes
         (all_both (AllByRecursion (IsAmong (map column_name t.columns))) (AreDistinct itself) t.indexes known.indexes once.indexes));
     some_indexes = indexes_pass IsSome is_some_list (λ ns h. h) (all_with IsSome (λ names. IsSome (column_numbers t.columns names)) (some_map (column_number t.columns)) t.indexes read.indexes);
-    in_range = place_range t.place read.place known.place;
-    keyed = place_keyed t.place known.place;
+    in_range = place_range t.placement read.placement known.placement;
+    keyed = place_keyed t.placement known.placement;
   }
 
 -- ---- streams

@@ -4,15 +4,15 @@ use Rattle.std.specs.Prelude.{codes, nat_le, nat_lt, ⊤}
 use Rattle.std.specs.List.{AllByRecursion}
 use Rattle.serde_json.specs.Data.{Data}
 use Rattle.std.proofs.lemmas.Bool.{and_parts, leb-true, lt-ltb, cond_both}
-use Rattle.ss_catalog_outline.specs.declared.types.PlaceOutline.{PlaceOutline}
-use Rattle.ss_catalog_outline.specs.declared.types.PlaceOutline.TheVariants.{Part, By}
+use Rattle.ss_catalog_outline.specs.declared.types.PlacementOutline.{PlacementOutline}
+use Rattle.ss_catalog_outline.specs.declared.types.PlacementOutline.TheVariants.{Part, By}
 use Rattle.ss_catalog_outline.specs.declared.types.TableOutline.{TableOutline}
 use Rattle.ss_catalog_outline.specs.declared.types.StreamOutline.{StreamOutline}
 use Rattle.ss_catalog_outline.specs.declared.types.WindowOutline.{WindowOutline}
 use Rattle.ss_catalog_outline.specs.declared.types.TriggerOutline.{TriggerOutline}
-use Rattle.ss_catalog_json.specs.declared.json_readers.Many.TheVariants.{Any}
+use Rattle.ss_catalog_json.specs.declared.json_readers.ItemCount.TheVariants.{Any}
 use Rattle.ss_catalog_json.specs.Readings.{read_between, read_array_of, read_word, has_key, object_of, read_key_or, read_name}
-use Rattle.ss_catalog_outline.specs.Tables.{read_part, read_unit, read_place, table_object, stream_keys, trigger_keys, window_keys, read_words, read_columns, read_column, read_table, read_stream, read_window, read_trigger}
+use Rattle.ss_catalog_outline.specs.Tables.{read_part, read_unit, read_placement, table_object, stream_keys, trigger_keys, window_keys, read_words, read_columns, read_column, read_table, read_stream, read_window, read_trigger}
 use Rattle.ss_catalog_laws.proofs.Readings.{then_any, then_with, then_key, then_key_with, where_holds, holds_with, key_or_holds, array_holds, some_holds, IsSome}
 
 -- a number between two
@@ -34,12 +34,12 @@ part_holds d = holds_with (IsBetween 0 7) IsPart part_within (read_part d) (betw
 
 -- ---- tables
 
-abbrev pub IsPlace : PlaceOutline → Type 0
+abbrev pub IsPlace : PlacementOutline → Type 0
 IsPlace (Part x) = IsPart x
 IsPlace (By name) = Unit {0}
 
-place_holds : (d : Data) → IfOk (read_place d) IsPlace
-place_holds d =
+placement_holds : (d : Data) → IfOk (read_placement d) IsPlace
+placement_holds d =
     cond_both (has_key (codes "part") d) _ _ (λ r. IfOk r IsPlace)
     (λ there. then_key_with IsPlace read_part (codes "part") d (λ p. Ok (Part p)) IsPart part_holds (λ x p. p))
     (λ missing. then_key IsPlace read_word (codes "by") d (λ c. Ok (By c)) (λ c. tt))
@@ -47,7 +47,7 @@ place_holds d =
 pub record TableRead (t : TableOutline) : Type 0 where
   pub columns : IsSome t.columns
   pub key : IsSome t.key
-  pub place : IsPlace t.place
+  pub placement : IsPlace t.placement
   pub indexes : AllByRecursion IsSome t.indexes
 
 pub table_read : (d : Data) → IfOk (read_table d) TableRead
@@ -56,9 +56,9 @@ table_read d =
     then_key TableRead read_name (codes "name") d _ (λ name.
     then_key_with TableRead read_columns (codes "columns") d _ IsSome (some_holds read_column) (λ columns c.
     then_key_with TableRead read_words (codes "key") d _ IsSome (some_holds read_word) (λ key k.
-    then_with PlaceOutline TableRead IsPlace (read_place d) _ (place_holds d) (λ place p.
+    then_with PlacementOutline TableRead IsPlace (read_placement d) _ (placement_holds d) (λ placement p.
     then_with (List (List (List ℕ))) TableRead (AllByRecursion IsSome) (read_key_or (codes "indexes") (read_array_of Any read_words) [] d) _ (key_or_holds (AllByRecursion IsSome) (read_array_of Any read_words) (array_holds IsSome read_words (some_holds read_word) Any) (codes "indexes") [] tt d) (λ indexes i.
-    record { columns = c; key = k; place = p; indexes = i }))))))
+    record { columns = c; key = k; placement = p; indexes = i }))))))
 
 -- ---- streams and triggers
 

@@ -4,6 +4,8 @@ use Rattle.std.specs.Prelude.{not, is_some, unwrap_or, option_map, nat_lt}
 use Rattle.std.specs.Cmp.Lexicographic.{bytes_decides}
 use Rattle.std.proofs.lemmas.Bool.{and_parts, and_from, eqb-true}
 use Rattle.std.proofs.lemmas.Option.{same_Some}
+use Rattle.ss_lemmas.proofs.Results.{some_is}
+use Rattle.ss_lemmas.proofs.Counts.{empty_left, empty_right}
 use Rattle.ss_value.specs.declared.schema.Column.{Column}
 use Rattle.ss_sql_lex.specs.declared.tree.NameTree.{NameTree}
 use Rattle.ss_sql_lex.specs.declared.tree.JoinTree.{JoinTree}
@@ -19,14 +21,13 @@ use Rattle.ss_sql_type.specs.declared.scope.Named.{Named}
 use Rattle.ss_sql_type.specs.declared.scope.Scope.{Scope}
 use Rattle.ss_sql_type.specs.declared.scope.TypeError.TheVariants.{UnknownName}
 use Rattle.ss_sql_type.specs.Refusals.{fault_unless}
-use Rattle.ss_sql_type.specs.Names.{Reach, same_name, named}
+use Rattle.ss_sql_type.specs.Names.{Reach, same_name, source_named}
 use Rattle.ss_sql_type.specs.Queries.{joined_source, query_reach, source_id, typed_join, unknown_faults, join_faults, query_faults, typed_query}
 use Rattle.ss_sql_type.specs.Statements.{target_of, table_of, insert_target, table_named, target_or_first, table_or_first, columns_in, condition_faults, statement_faults, typed_statement}
-use Rattle.ss_sql_type.proofs.Sound.{none_left, none_right, no_fault}
-use Rattle.ss_sql_type.proofs.SoundQueries.{found_there, known_source}
+use Rattle.ss_sql_type.proofs.CallerLemmas.{no_fault, found_there, known_source}
 use Rattle.ss_model.specs.declared.catalog.Catalog.{Catalog}
 use Rattle.ss_model.specs.Scopes.{is_same_source, source_in_scope, join_in_scope, query_in_scope, target_in_scope, statement_in_scope}
-use Rattle.ss_catalog_laws.proofs.Places.{found_passes}
+use Rattle.ss_catalog_laws.proofs.Positions.{found_passes}
 use Rattle.ss_catalog_laws.proofs.Entries.{source_name, Entry, Covers}
 
 -- ---- sources that are the same
@@ -43,10 +44,6 @@ not_since : (a b : Bool) → (a ≡ true → b ≡ true) → not b ≡ true → 
 not_since false b h e = refl
 not_since true true h e = e
 not_since true false h e = let wrong = h refl in absurd cc
-
-some_is : {X : Type 0} (o : Option X) → is_some o ≡ true → (x : X) × (o ≡ Some x)
-some_is None e = absurd cc
-some_is (Some x) e = (x, refl)
 
 module _ (catalog : Catalog) (inputs : List ℕ) (inserted : List Column) (has : Bool) where
   -- what a search found: something in scope of this name
@@ -83,10 +80,10 @@ module _ (catalog : Catalog) (inputs : List ℕ) (inserted : List Column) (has :
   table_within Inserted t e h = absurd cc
 
   module _ (scope : Scope) (covers : Covers catalog inputs inserted has scope) where
-    source_is : (name : List ℕ) (at : ℕ) → unknown_faults (named scope.sources name) at ≡ [] → IsFound name (named scope.sources name)
+    source_is : (name : List ℕ) (at : ℕ) → unknown_faults (source_named scope.sources name) at ≡ [] → IsFound name (source_named scope.sources name)
     source_is name at e =
         let test = λ (n : Named). same_name n.name name in
-        let k = known_source (named scope.sources name) at e in
+        let k = known_source (source_named scope.sources name) at e in
         record {
           entry = k.0;
           is = k.1;
@@ -97,31 +94,31 @@ module _ (catalog : Catalog) (inputs : List ℕ) (inserted : List Column) (has :
     -- ---- queries
 
     abbrev reach_of : NameTree → Option JoinTree → Reach
-    reach_of from j = record { first = named scope.sources from.name; second = joined_source scope.sources j; params = scope.params }
+    reach_of from j = record { first = source_named scope.sources from.name; second = joined_source scope.sources j; params = scope.params }
 
-    join_in : (from : NameTree) (j : Option JoinTree) → IsFound from.name (named scope.sources from.name) → join_faults (reach_of from j) from j ≡ []
-        → join_in_scope catalog (length inputs) has (source_id (named scope.sources from.name)) (option_map (typed_join (reach_of from j)) j) ≡ true
+    join_in : (from : NameTree) (j : Option JoinTree) → IsFound from.name (source_named scope.sources from.name) → join_faults (reach_of from j) from j ≡ []
+        → join_in_scope catalog (length inputs) has (source_id (source_named scope.sources from.name)) (option_map (typed_join (reach_of from j)) j) ≡ true
     join_in from None first e = refl
     join_in from (Some j) first e =
-        let unknown = unknown_faults (named scope.sources j.name.name) j.name.at in
+        let unknown = unknown_faults (source_named scope.sources j.name.name) j.name.at in
         let other = fault_unless (not (same_name from.name j.name.name)) (UnknownName j.name.at) in
-        let second = source_is j.name.name j.name.at (none_left unknown _ e) in
-        let differ : not (same_name from.name j.name.name) ≡ true = no_fault (not (same_name from.name j.name.name)) (UnknownName j.name.at) (none_left other _ (none_right unknown _ e)) in
+        let second = source_is j.name.name j.name.at (empty_left unknown _ e) in
+        let differ : not (same_name from.name j.name.name) ≡ true = no_fault (not (same_name from.name j.name.name)) (UnknownName j.name.at) (empty_left other _ (empty_right unknown _ e)) in
         and_from _ _
-        (source_found j.name.name (named scope.sources j.name.name) second)
-        (other_source from.name j.name.name (named scope.sources from.name) (named scope.sources j.name.name) first second differ)
+        (source_found j.name.name (source_named scope.sources j.name.name) second)
+        (other_source from.name j.name.name (source_named scope.sources from.name) (source_named scope.sources j.name.name) first second differ)
 
     pub query_in : (columns : Option (List Column)) (at : ℕ) (q : QueryTree) → query_faults scope columns at q ≡ [] → query_in_scope catalog (length inputs) has (typed_query scope q) ≡ true
     query_in columns at q e =
-        let unknown = unknown_faults (named scope.sources q.from.name) q.from.at in
+        let unknown = unknown_faults (source_named scope.sources q.from.name) q.from.at in
         let joins = join_faults (query_reach scope q) q.from q.joined in
-        let first = source_is q.from.name q.from.at (none_left unknown _ e) in
+        let first = source_is q.from.name q.from.at (empty_left unknown _ e) in
         and_from _ _
-        (source_found q.from.name (named scope.sources q.from.name) first)
-        (join_in q.from q.joined first (none_left joins _ (none_right unknown _ e)))
+        (source_found q.from.name (source_named scope.sources q.from.name) first)
+        (join_in q.from q.joined first (empty_left joins _ (empty_right unknown _ e)))
 
     pub condition_in : (c : ConditionTree) → condition_faults scope c ≡ [] → query_in_scope catalog (length inputs) has (typed_query scope c.query) ≡ true
-    condition_in c e = query_in None 0 c.query (none_left (query_faults scope None 0 c.query) _ e)
+    condition_in c e = query_in None 0 c.query (empty_left (query_faults scope None 0 c.query) _ e)
 
     -- ---- statements
 
@@ -146,11 +143,11 @@ module _ (catalog : Catalog) (inputs : List ℕ) (inserted : List Column) (has :
         ap (λ n. nat_lt n (length catalog.tables)) which ∙ table_within k.0.source t.0 t.1 stands.within
 
     pub statement_in : (st : StatementTree) → statement_faults scope st ≡ [] → statement_in_scope catalog (length inputs) has (typed_statement scope st) ≡ true
-    statement_in (tree.InsertValues at t values) e = target_in t.name t.at (none_left (unknown_faults (insert_target scope t.name) t.at) _ e)
+    statement_in (tree.InsertValues at t values) e = target_in t.name t.at (empty_left (unknown_faults (insert_target scope t.name) t.at) _ e)
     statement_in (tree.InsertQuery at t q) e =
         let given = insert_target scope t.name in
         let unknown = unknown_faults given t.at in
         let faults = query_faults scope (columns_in given) t.at q in
-        and_from _ _ (target_in t.name t.at (none_left unknown faults e)) (query_in (columns_in given) t.at q (none_right unknown faults e))
-    statement_in (tree.Update at t sets test) e = table_in t.name t.at (none_left (unknown_faults (table_named scope t.name) t.at) _ e)
-    statement_in (tree.Delete at t test) e = table_in t.name t.at (none_left (unknown_faults (table_named scope t.name) t.at) _ e)
+        and_from _ _ (target_in t.name t.at (empty_left unknown faults e)) (query_in (columns_in given) t.at q (empty_right unknown faults e))
+    statement_in (tree.Update at t sets test) e = table_in t.name t.at (empty_left (unknown_faults (table_named scope t.name) t.at) _ e)
+    statement_in (tree.Delete at t test) e = table_in t.name t.at (empty_left (unknown_faults (table_named scope t.name) t.at) _ e)

@@ -55,7 +55,7 @@ module _ (o : Outline) (p : ProcedureOutline) where
   step_is n (outline.Emit stream query) b r = (_, r.0, r.1)
   step_is n (outline.Return query) b r = (r.0, r.1)
 
--- ---- where it stands
+-- ---- which kinds may have it
 
 sql_stands : (kind : Kind) (s : Statement) → step_of_kind kind (Sql s) ≡ true
 sql_stands CallKind s = refl

@@ -20,7 +20,7 @@ use Rattle.ss_catalog_outline.specs.declared.types.StepOutline.TheVariants as ou
 use Rattle.ss_catalog_outline.specs.declared.types.ProcedureOutline.{ProcedureOutline}
 use Rattle.ss_catalog_outline.specs.declared.types.Outline.{Outline}
 use Rattle.ss_names.specs.Names.{itself}
-use Rattle.ss_catalog_outline.specs.Unknown.{Scope as Names, used, first_unknown, given_uses, step_uses, own_scope}
+use Rattle.ss_catalog_outline.specs.Unknown.{Scope as Names, names_in, first_unknown, given_uses, step_uses, own_scope}
 use Rattle.ss_catalog_outline.specs.Limits.{over_limit, step_count}
 use Rattle.ss_catalog_resolve.specs.declared.definitions.Sections.{Sections}
 use Rattle.ss_catalog_resolve.specs.Numbers.{number_in}
@@ -71,7 +71,7 @@ module _ (o : Outline) (catalog : Catalog) (is : sections_of o ≡ sections_in c
 
   insert_sound : (table : List ℕ) (values : List GivenOutline) → first_unknown (step_uses names (outline.Insert table values)) ≡ None → given_fault p.args (table_columns o table) values ≡ None → StepSound (insert_of o p table values)
   insert_sound table values known fits =
-      let there = table_there o catalog is limits table (known_one (table_names o) table ((known_both (used itself (table_names o) (table ∷ [])) (flat_map (given_uses names) values) known).0)) in (
+      let there = table_there o catalog is limits table (known_one (table_names o) table ((known_both (names_in itself (table_names o) (table ∷ [])) (flat_map (given_uses names) values) known).0)) in (
         ap (types_fit (map (expr_type [] p.args) (map (given_expr p.args) values))) there.columns ∙ values_fit p.args (table_columns o table) values fits,
         there.within,
       )

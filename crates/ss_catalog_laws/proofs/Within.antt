@@ -1,8 +1,9 @@
--- What an outline says whose counts are within their limits.
-use Rattle.std.proofs.Common.{◌≡◌, ℕ, List, [], ◌∷◌, length, Bool, true, false, cond, refl, Option, None, Some}
+-- What holds of an outline whose counts are within their limits.
+use Rattle.std.proofs.Common.{◌≡◌, ℕ, List, [], ◌∷◌, length, true, false, None}
 use Rattle.std.specs.Prelude.{nat_le, nat_lt}
 use Rattle.std.specs.List.{AllByRecursion, list_any, sum_by}
 use Rattle.std.proofs.lemmas.Bool.{or_parts, ltb-false, le-leb}
+use Rattle.ss_lemmas.proofs.Results.{neither_some}
 use Rattle.ss_catalog_outline.specs.declared.types.TableOutline.{TableOutline}
 use Rattle.ss_catalog_outline.specs.declared.types.StreamOutline.{StreamOutline}
 use Rattle.ss_catalog_outline.specs.declared.types.WindowOutline.{WindowOutline}
@@ -11,7 +12,7 @@ use Rattle.ss_catalog_outline.specs.declared.types.ProcedureOutline.{ProcedureOu
 use Rattle.ss_catalog_outline.specs.declared.types.Outline.{Outline}
 use Rattle.ss_catalog_outline.specs.declared.limits.Counted.TheVariants.{Tables, Streams, Windows, Triggers, Procedures, Columns, Inputs, Statements, Steps}
 use Rattle.ss_catalog_outline.specs.Limits.{step_count, has_columns_over, has_inputs_over, has_statements_over, has_steps_over, over_limit}
-use Rattle.ss_catalog_laws.proofs.Lists.{all_with, none_passes}
+use Rattle.ss_lemmas.proofs.EachOf.{all_with, none_passes}
 
 -- a number that is not over its limit
 abbrev pub IsUpTo : ℕ → ℕ → Type 0
@@ -50,22 +51,17 @@ pub record OutlineWithin (o : Outline) : Type 0 where
   pub statements : AllByRecursion (λ (t : TriggerOutline). IsUpTo 8 (length t.statements)) o.triggers
   pub in_procedures : AllByRecursion ProcedureWithin o.procedures
 
--- none of the limits so far is passed
-past : {A : Type 0} (b : Bool) (x : A) (o : Option A) → cond b (Some x) o ≡ None → (b ≡ false) × (o ≡ None)
-past true x o e = absurd (cc)
-past false x o e = (refl, e)
-
 pub outline_within : (o : Outline) → over_limit o ≡ None → OutlineWithin o
 outline_within o e =
-    let tables = past (nat_lt 64 (length o.tables)) Tables _ e in
-    let streams = past (nat_lt 32 (length o.streams)) Streams _ tables.1 in
-    let windows = past (nat_lt 32 (length o.windows)) Windows _ streams.1 in
-    let triggers = past (nat_lt 64 (length o.triggers)) Triggers _ windows.1 in
-    let procedures = past (nat_lt 64 (length o.procedures)) Procedures _ triggers.1 in
-    let columns = past (has_columns_over 16 o) Columns _ procedures.1 in
-    let inputs = past (has_inputs_over 8 o) Inputs _ columns.1 in
-    let statements = past (has_statements_over 8 o) Statements _ inputs.1 in
-    let steps = past (has_steps_over 32 o) Steps _ statements.1 in
+    let tables = neither_some (nat_lt 64 (length o.tables)) Tables _ e in
+    let streams = neither_some (nat_lt 32 (length o.streams)) Streams _ tables.1 in
+    let windows = neither_some (nat_lt 32 (length o.windows)) Windows _ streams.1 in
+    let triggers = neither_some (nat_lt 64 (length o.triggers)) Triggers _ windows.1 in
+    let procedures = neither_some (nat_lt 64 (length o.procedures)) Procedures _ triggers.1 in
+    let columns = neither_some (has_columns_over 16 o) Columns _ procedures.1 in
+    let inputs = neither_some (has_inputs_over 8 o) Inputs _ columns.1 in
+    let statements = neither_some (has_statements_over 8 o) Statements _ inputs.1 in
+    let steps = neither_some (has_steps_over 32 o) Steps _ statements.1 in
     let in_args = or_parts _ (list_any (λ (p : ProcedureOutline). nat_lt 16 (length p.args)) o.procedures) columns.0 in
     let in_windows = or_parts _ (list_any (λ (w : WindowOutline). nat_lt 16 (length w.columns)) o.windows) in_args.0 in
     let in_streams = or_parts (list_any (λ (t : TableOutline). nat_lt 16 (length t.columns)) o.tables) (list_any (λ (s : StreamOutline). nat_lt 16 (length s.columns)) o.streams) in_windows.0 in

@@ -13,7 +13,7 @@ pub record HasTypedSql (catalog : Catalog) : Type 0 where
   pub typed : catalog_typed catalog ≡ true
   pub in_scope : catalog_in_scope catalog ≡ true
 
--- law: a resolved outline has such SQL
+-- law: the SQL of a resolved outline is well typed and in scope
 abbrev pub ResolvedIsTyped : Type 0
 ResolvedIsTyped =
     (o : Outline) (catalog : Catalog) → name_unknown o ≡ None → over_limit o ≡ None → Resolves o catalog → HasTypedSql catalog

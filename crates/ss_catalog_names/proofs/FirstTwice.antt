@@ -1,12 +1,12 @@
 -- One turn of a loop that looks for a name that stands twice.
-use Rattle.std.proofs.Common.{◌≡◌, ℕ, ◌+◌, ◌<◌, sym, ap, ◌∙◌, refl, Bool, true, false, cond, List, [], ◌∷◌, ◌++◌, length, get_or, map, drop, Option, None, Some, Result, Ok, Err, IfOk, IfNone}
+use Rattle.std.proofs.Common.{◌≡◌, ℕ, ◌+◌, ◌<◌, sym, ap, ◌∙◌, refl, Bool, true, false, cond, List, [], ◌∷◌, ◌++◌, length, get_or, map, drop, Option, None, Some, IfNone}
 use Rattle.std.specs.Prelude.{not, option_map}
 use Rattle.std.specs.List.{find}
 use Rattle.std.specs.Option.{option_or}
 use Rattle.ss_names.specs.Names.{is_among}
 use Rattle.ss_catalog_outline.specs.Twice.{Standing, standing_behind, is_twice, first_twice}
-use Rattle.ss_names.proofs.Lists.{next}
-use Rattle.ss_names.proofs.Sets.{with_name}
+use Rattle.ss_lemmas.proofs.LoopItem.{next}
+use Rattle.ss_names.proofs.CallerLemmas.{with_name}
 
 -- the first of two lists
 pub first_twice_append : (ss ts : List Standing) → first_twice (ss ++ ts) ≡ option_or (first_twice ss) (first_twice ts)
@@ -42,9 +42,9 @@ module _ {X : Type 0} (name : X → List ℕ) (inside : X → List Standing) whe
       abbrev choice : Bool → Option (List ℕ)
       choice b = cond b (Some (name x)) (option_or (first_twice (inside x)) (first_twice (standing_behind name inside (seen ++ name x ∷ []) (drop (i + 1) xs))))
 
-      -- it stood before
-      pub twice_here : fresh ≡ false → (told : List ℕ) → told ≡ n → Some told ≡ first_twice (standing_behind name inside start xs)
-      twice_here t told is = ap Some (is ∙ n_is) ∙ sym (at_hand ∙ ap choice (stood false t))
+      -- it occurred before
+      pub twice_here : fresh ≡ false → (reported : List ℕ) → reported ≡ n → Some reported ≡ first_twice (standing_behind name inside start xs)
+      twice_here t reported is = ap Some (is ∙ n_is) ∙ sym (at_hand ∙ ap choice (stood false t))
 
       module _ (t : fresh ≡ true) (after : List (List ℕ)) (grown : after ≡ with_name seen n) where
         -- it is behind those before
@@ -71,7 +71,3 @@ seen_is name s t after l k None grown none before same = grown ∙ ap (λ ns. ns
 seen_is name s t after l k (Some n) grown none before same = cc
 
 -- ---- the same of a result
-
-pub if_ok : {A E : Type 0} (P Q : A → Type 0) → ((a : A) → P a → Q a) → (r : Result A E) → IfOk r P → IfOk r Q
-if_ok P Q f (Ok a) h = f a h
-if_ok P Q f (Err e) h = h

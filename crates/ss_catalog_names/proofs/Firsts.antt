@@ -1,8 +1,8 @@
--- The first of lists that stand one behind the other.
+-- A search for the first in several lists, one behind the other.
 use Rattle.std.proofs.Common.{◌≡◌, ℕ, ◌+◌, ◌<◌, sym, ap, ◌∙◌, List, ◌++◌, length, get_or, drop, Option, None, Some}
 use Rattle.std.specs.List.{flat_map}
 use Rattle.std.specs.Option.{option_or}
-use Rattle.ss_names.proofs.Lists.{next}
+use Rattle.ss_lemmas.proofs.LoopItem.{next}
 
 module _ {A B : Type 0} (first : List A → Option B) (append : (front back : List A) → first (front ++ back) ≡ option_or (first front) (first back)) where
   -- it is in the first list

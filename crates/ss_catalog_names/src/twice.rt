@@ -1,32 +1,31 @@
-//! Names that stand twice.
+//! Duplicate names.
 //!
-//! Tables, streams and windows share their names with one another and with the word `inserted`, by which a
-//! trigger's statements read the rows that it was started for.
+//! Tables, streams and windows share one space of names, in which `inserted` is taken: by this word a trigger's
+//! statements read the rows that it was started for.
 
 ghost use Rattle.std.specs.Prelude.{◌≡◌, [], ◌∷◌, ◌++◌, List, map, codes, decimal, IfOk, IfNone, Some, None};
 ghost use Rattle.std.specs.List.{flat_map};
 ghost use Rattle.ss_names.specs.Names.{itself};
 ghost use Rattle.ss_catalog_outline.specs.Twice.{Standing, standing, standing_behind, table_inside, stream_inside, window_inside, procedure_inside, touch_words, sources_standing, first_twice, name_twice};
 
-use ss_catalog_json::word::Word;
-use ss_catalog_outline::types::{
+use ss_catalog_json::Word;
+use ss_catalog_outline::{
     Outline, ProcedureOutline, StreamOutline, TableOutline, TouchOutline, WindowOutline,
 };
 use ss_names::{NameSet, Named};
-use ss_value::NoMemory;
-use ss_value::seq::Seq;
+use ss_value::{NoMemory, Seq};
 use std::alloc::Global;
 
-/// Something named, inside which further names stand.
-pub trait Holds: Named {
+/// Something with a name, and with further names inside it.
+pub trait HasInnerNames: Named {
     ghost inside: { Self → List Standing };
 
-    /// The first name that stands for the second time inside it.
+    /// The first duplicate name inside it.
     fn twice_inside(&self, alloc: Global) -> Result<Option<Word>, NoMemory>
         ensures { IfOk result (λ twice. twice ≡ first_twice (inside self.now)) };
 }
 
-/// The first name of a list that stands there for the second time. Linear in the list.
+/// The first duplicate name in a list.
 fn twice_in<T: Named>(alloc: Global, items: &[T]) -> Result<Option<Word>, NoMemory>
     ensures { IfOk result (λ twice. twice ≡ first_twice (standing T.name items.now)) }
 {
@@ -40,14 +39,14 @@ fn twice_in<T: Named>(alloc: Global, items: &[T]) -> Result<Option<Word>, NoMemo
     Ok(None)
 }
 
-/// The first name that stands for the second time, of those of a list and of what is inside each of it, where
-/// `seen` has the names before the list. Where there is none, `seen` has those of the list too.
-fn twice_among<'a, T: Holds>(
+/// The first duplicate among the names of a list and inside its items, where `seen` has the names before the list.
+/// Where there is none, `seen` has the names of the list too.
+fn twice_among<'a, T: HasInnerNames>(
     alloc: Global,
     seen: &mut NameSet<'a>,
     items: &'a [T],
 ) -> Result<Option<Word>, NoMemory>
-    ensures twice { IfOk result (λ twice. twice ≡ first_twice (standing_behind T.name T.inside seen.old items.now)) }
+    ensures ok { IfOk result (λ twice. twice ≡ first_twice (standing_behind T.name T.inside seen.old items.now)) }
     ensures seen { IfOk result (λ twice. IfNone twice (seen.new ≡ seen.old ++ map T.name items.now)) }
 {
     for item in items {
@@ -62,7 +61,7 @@ fn twice_among<'a, T: Holds>(
     Ok(None)
 }
 
-/// The first name that stands twice in one of these lists of names.
+/// The first name that is a duplicate within one of these lists.
 fn twice_in_one(alloc: Global, lists: &[Seq<Word>]) -> Result<Option<Word>, NoMemory>
     ensures { IfOk result (λ twice. twice ≡ first_twice (flat_map (standing itself) lists.now)) }
 {
@@ -74,7 +73,7 @@ fn twice_in_one(alloc: Global, lists: &[Seq<Word>]) -> Result<Option<Word>, NoMe
     Ok(None)
 }
 
-impl Holds for TableOutline {
+impl HasInnerNames for TableOutline {
     ghost inside = { table_inside };
 
     fn twice_inside(&self, alloc: Global) -> Result<Option<Word>, NoMemory> {
@@ -88,7 +87,7 @@ impl Holds for TableOutline {
     }
 }
 
-impl Holds for StreamOutline {
+impl HasInnerNames for StreamOutline {
     ghost inside = { stream_inside };
 
     fn twice_inside(&self, alloc: Global) -> Result<Option<Word>, NoMemory> {
@@ -96,7 +95,7 @@ impl Holds for StreamOutline {
     }
 }
 
-impl Holds for WindowOutline {
+impl HasInnerNames for WindowOutline {
     ghost inside = { window_inside };
 
     fn twice_inside(&self, alloc: Global) -> Result<Option<Word>, NoMemory> {
@@ -104,7 +103,7 @@ impl Holds for WindowOutline {
     }
 }
 
-/// A number as it is printed.
+/// A number in decimal.
 fn decimal_word(alloc: Global, number: u8) -> Result<Word, NoMemory>
     ensures { IfOk result (λ word. word ≡ decimal number) }
 {
@@ -112,7 +111,7 @@ fn decimal_word(alloc: Global, number: u8) -> Result<Word, NoMemory>
     Ok(Word::from_string(digits))
 }
 
-/// The parts of a `multi`, each as it is printed, in time and memory linear in them.
+/// The parts of a `multi` in decimal: as words they are checked, and reported, as names are.
 fn touch_words(alloc: Global, touch: &TouchOutline) -> Result<Seq<Word>, NoMemory>
     ensures { IfOk result (λ words. words ≡ touch_words touch.now) }
 {
@@ -122,7 +121,7 @@ fn touch_words(alloc: Global, touch: &TouchOutline) -> Result<Seq<Word>, NoMemor
     }
 }
 
-/// Numbers as they are printed.
+/// Numbers in decimal.
 fn decimal_words(alloc: Global, numbers: &[u8]) -> Result<Seq<Word>, NoMemory>
     ensures { IfOk result (λ words. words ≡ map decimal numbers.now) }
 {
@@ -134,7 +133,7 @@ fn decimal_words(alloc: Global, numbers: &[u8]) -> Result<Seq<Word>, NoMemory>
     Ok(words)
 }
 
-impl Holds for ProcedureOutline {
+impl HasInnerNames for ProcedureOutline {
     ghost inside = { procedure_inside };
 
     fn twice_inside(&self, alloc: Global) -> Result<Option<Word>, NoMemory> {
@@ -149,7 +148,7 @@ impl Holds for ProcedureOutline {
     }
 }
 
-/// The word that tables, streams and windows share their names with.
+/// The set of the word `inserted`, which no table, stream or window may have as its name.
 fn set_of_inserted<'a>(alloc: Global) -> Result<NameSet<'a>, NoMemory>
     ensures { IfOk result (λ names. names ≡ codes "inserted" ∷ []) }
 {
@@ -158,10 +157,11 @@ fn set_of_inserted<'a>(alloc: Global) -> Result<NameSet<'a>, NoMemory>
     Ok(names)
 }
 
-/// The first name that stands twice in the tables, streams and windows.
+/// The first duplicate name in the tables, streams and windows.
 fn source_twice(alloc: Global, outline: &Outline) -> Result<Option<Word>, NoMemory>
     ensures { IfOk result (λ twice. twice ≡ first_twice (sources_standing outline.now)) }
 {
+    // One set for all three kinds, which share one space of names.
     let mut seen = set_of_inserted(alloc)?;
     if let Some(name) = twice_among(alloc, &mut seen, outline.tables.as_slice())? {
         return Ok(Some(name));
@@ -172,11 +172,9 @@ fn source_twice(alloc: Global, outline: &Outline) -> Result<Option<Word>, NoMemo
     twice_among(alloc, &mut seen, outline.windows.as_slice())
 }
 
-/// The first name in written order that stands for the second time: among tables, streams, windows and the word
-/// `inserted`; among triggers; among procedures; in one list of columns, arguments, key, index, inputs or
-/// `multi`, whose parts are reported as they are printed. None exactly where no name does.
-///
-/// Linear in the outline, in time and memory.
+/// The first duplicate name in written order: among tables, streams, windows and the word `inserted`; among triggers;
+/// among procedures; in one list of columns, arguments, key, index, inputs or `multi`, whose parts are reported in
+/// decimal. None exactly where there is no duplicate.
 pub fn name_twice(alloc: Global, outline: &Outline) -> Result<Option<Word>, NoMemory>
     ensures { IfOk result (λ twice. twice ≡ name_twice outline.now) }
 {

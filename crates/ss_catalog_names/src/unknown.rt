@@ -1,23 +1,22 @@
-//! Names of nothing.
+//! Unknown names: those in fields that name nothing.
 
 ghost use Rattle.std.specs.Prelude.{◌≡◌, [], ◌∷◌, not, IfOk};
 ghost use Rattle.std.specs.Option.{option_copied};
 ghost use Rattle.std.specs.List.{find, flat_map};
 ghost use Rattle.ss_names.specs.Names.{is_among, itself};
-ghost use Rattle.ss_catalog_outline.specs.Unknown.{used, owner, waits_on, place_uses, table_uses, own_table_uses, touch_uses, given_uses, step_uses, procedure_uses, own_procedure_uses, windows_uses, triggers_uses, procedures_uses, first_unknown, name_unknown};
+ghost use Rattle.ss_catalog_outline.specs.Unknown.{names_in, owner, waits_on, placement_uses, table_uses, own_table_uses, touch_uses, given_uses, step_uses, procedure_uses, own_procedure_uses, windows_uses, triggers_uses, procedures_uses, first_unknown, name_unknown};
 
-use ss_catalog_json::word::Word;
-use ss_catalog_outline::types::{
-    GivenOutline, Outline, PlaceOutline, ProcedureOutline, StepOutline, TableOutline, TouchOutline,
-    TriggerOutline, WindowOutline,
+use ss_catalog_json::Word;
+use ss_catalog_outline::{
+    GivenOutline, Outline, PlacementOutline, ProcedureOutline, StepOutline, TableOutline,
+    TouchOutline, TriggerOutline, WindowOutline,
 };
 use ss_names::{NameSet, add_all, names_of};
-use ss_value::NoMemory;
-use ss_value::seq::Seq;
+use ss_value::{NoMemory, Seq};
 use std::alloc::Global;
 use std::marker::Model;
 
-/// The same text again, where there is one.
+/// A copy of the text, where there is one.
 fn copy_of(alloc: Global, found: Option<&Word>) -> Result<Option<Word>, NoMemory>
     ensures { IfOk result (λ copy. copy ≡ option_copied found.entry) }
 {
@@ -30,9 +29,9 @@ fn copy_of(alloc: Global, found: Option<&Word>) -> Result<Option<Word>, NoMemory
     }
 }
 
-/// The name, where it is none of these.
+/// The name, unless it is one of these.
 fn unless_known<'a>(known: &NameSet, name: &'a Word) -> Option<&'a Word>
-    ensures { option_copied result ≡ first_unknown (used itself known.now (name.now ∷ [])) }
+    ensures { option_copied result ≡ first_unknown (names_in itself known.now (name.now ∷ [])) }
 {
     if known.has(name.as_slice()) {
         None
@@ -50,14 +49,15 @@ fn name_missing<'a>(known: &NameSet, names: &'a [Word]) -> Option<&'a Word>
 
 /// The first name of a list that is none of these.
 fn unknown_in<'a>(known: &NameSet, names: &'a [Word]) -> Option<&'a Word>
-    ensures { option_copied result ≡ first_unknown (used itself known.now names.now) }
+    ensures { option_copied result ≡ first_unknown (names_in itself known.now names.now) }
 {
+    // The search of `name_missing`, which is stated as std's `find`, stated as uses of names.
     name_missing(known, names)
 }
 
 /// The first name of several lists that is none of these.
 fn unknown_in_one<'a>(known: &NameSet, lists: &'a [Seq<Word>]) -> Option<&'a Word>
-    ensures { option_copied result ≡ first_unknown (flat_map (used itself known.now) lists.now) }
+    ensures { option_copied result ≡ first_unknown (flat_map (names_in itself known.now) lists.now) }
 {
     for list in lists {
         if let Some(name) = unknown_in(known, list.as_slice()) {
@@ -69,26 +69,26 @@ fn unknown_in_one<'a>(known: &NameSet, lists: &'a [Seq<Word>]) -> Option<&'a Wor
 
 // ---- tables, windows and triggers
 
-/// The column that splits a table, where it is none of the key.
-fn unknown_place<'a>(key: &NameSet, place: &'a PlaceOutline) -> Option<&'a Word>
-    ensures { option_copied result ≡ first_unknown (place_uses key.now place.now) }
+/// The split column of a table, unless it is a column of the key.
+fn unknown_placement<'a>(key: &NameSet, placement: &'a PlacementOutline) -> Option<&'a Word>
+    ensures { option_copied result ≡ first_unknown (placement_uses key.now placement.now) }
 {
-    match place {
-        PlaceOutline::Part(_) => None,
-        PlaceOutline::By(column) => unless_known(key, column),
+    match placement {
+        PlacementOutline::Part(_) => None,
+        PlacementOutline::By(column) => unless_known(key, column),
     }
 }
 
-/// The first name in a table's fields that is none of its columns, or of its key.
+/// The first name in a table's fields that is none of its columns; of its split column, that is none of its key.
 fn unknown_column<'a>(columns: &NameSet, key: &NameSet, table: &'a TableOutline) -> Option<&'a Word>
     ensures { option_copied result ≡ first_unknown (table_uses columns.now key.now table.now) }
 {
     unknown_in(columns, table.key.as_slice())
-        .or(unknown_place(key, &table.place))
+        .or(unknown_placement(key, &table.placement))
         .or(unknown_in_one(columns, table.indexes.as_slice()))
 }
 
-/// The first name of nothing in a table. Linear in it.
+/// The first unknown name in a table.
 fn unknown_in_table(alloc: Global, table: &TableOutline) -> Result<Option<Word>, NoMemory>
     ensures { IfOk result (λ unknown. unknown ≡ first_unknown (own_table_uses table.now)) }
 {
@@ -97,7 +97,7 @@ fn unknown_in_table(alloc: Global, table: &TableOutline) -> Result<Option<Word>,
     copy_of(alloc, unknown_column(&columns, &key, table))
 }
 
-/// The first name of nothing in these tables.
+/// The first unknown name in these tables.
 fn unknown_in_tables(alloc: Global, tables: &[TableOutline]) -> Result<Option<Word>, NoMemory>
     ensures { IfOk result (λ unknown. unknown ≡ first_unknown (flat_map own_table_uses tables.now)) }
 {
@@ -123,7 +123,7 @@ fn without_owner<'a>(
 
 /// The first owner of a window that is none of these procedures.
 fn unknown_owner<'a>(procedures: &NameSet, windows: &'a [WindowOutline]) -> Option<&'a Word>
-    ensures { option_copied result ≡ first_unknown (used owner procedures.now windows.now) }
+    ensures { option_copied result ≡ first_unknown (names_in owner procedures.now windows.now) }
 {
     match without_owner(procedures, windows) {
         Some(window) => Some(&window.owner),
@@ -143,9 +143,9 @@ fn without_source<'a>(
         .find(|trigger| !sources.has(trigger.on.as_slice()))
 }
 
-/// The first of what triggers wait for that is none of these streams and windows.
+/// The first name that a trigger waits for and that is none of these streams and windows.
 fn unknown_source<'a>(sources: &NameSet, triggers: &'a [TriggerOutline]) -> Option<&'a Word>
-    ensures { option_copied result ≡ first_unknown (used waits_on sources.now triggers.now) }
+    ensures { option_copied result ≡ first_unknown (names_in waits_on sources.now triggers.now) }
 {
     match without_source(sources, triggers) {
         Some(trigger) => Some(&trigger.on),
@@ -236,7 +236,7 @@ impl<'s, 'a> Scope<'s, 'a> {
     }
 }
 
-/// The first name of nothing in a procedure's fields. Linear in the procedure.
+/// The first unknown name in a procedure's fields.
 fn unknown_in_procedure(
     alloc: Global,
     tables: &NameSet,
@@ -256,7 +256,7 @@ fn unknown_in_procedure(
     copy_of(alloc, scope.unknown_in(procedure))
 }
 
-/// The first name of nothing in the fields of these procedures.
+/// The first unknown name in the fields of these procedures.
 fn unknown_in_each(
     alloc: Global,
     tables: &NameSet,
@@ -286,7 +286,7 @@ fn unknown_in_windows(alloc: Global, outline: &Outline) -> Result<Option<Word>, 
     )
 }
 
-/// The first of what triggers wait for that is neither a stream nor a window.
+/// The first name that a trigger waits for and that is neither a stream nor a window.
 fn unknown_in_triggers(alloc: Global, outline: &Outline) -> Result<Option<Word>, NoMemory>
     ensures { IfOk result (λ unknown. unknown ≡ first_unknown (triggers_uses outline.now)) }
 {
@@ -295,20 +295,19 @@ fn unknown_in_triggers(alloc: Global, outline: &Outline) -> Result<Option<Word>,
     copy_of(alloc, unknown_source(&sources, outline.triggers.as_slice()))
 }
 
-/// The first name of nothing in the fields of the procedures.
+/// The first unknown name in the fields of the procedures.
 fn unknown_in_procedures(alloc: Global, outline: &Outline) -> Result<Option<Word>, NoMemory>
     ensures { IfOk result (λ unknown. unknown ≡ first_unknown (procedures_uses outline.now)) }
 {
+    // Made once for all procedures, so that the whole stays linear.
     let tables = names_of(alloc, outline.tables.as_slice())?;
     let streams = names_of(alloc, outline.streams.as_slice())?;
     unknown_in_each(alloc, &tables, &streams, outline.procedures.as_slice())
 }
 
-/// The first name in a field, in written order, of a table, stream, window, procedure, column or argument that is
-/// not there. A table's `by` names a column of its key, and a `for_each` one of its procedure's inputs. None
-/// exactly where each name is there. SQL texts are not looked into.
-///
-/// Linear in the outline, in time and memory.
+/// The first unknown name in a field, in written order: the name of a table, stream, window, procedure, column or
+/// argument that isn't there. A table's `by` has to name a column of its key, and a `for_each` an input of its
+/// procedure. None exactly where each name is known. SQL texts are not looked into.
 pub fn name_unknown(alloc: Global, outline: &Outline) -> Result<Option<Word>, NoMemory>
     ensures { IfOk result (λ unknown. unknown ≡ name_unknown outline.now) }
 {

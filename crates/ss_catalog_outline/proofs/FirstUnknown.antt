@@ -1,11 +1,11 @@
--- The first name of nothing.
+-- The first unknown name.
 use Rattle.std.proofs.Common.{◌≡◌, ℕ, ◌+◌, ◌<◌, sym, ap, ◌∙◌, refl, Bool, true, false, cond, List, [], ◌∷◌, ◌++◌, length, get_or, drop, Option, None, Some}
 use Rattle.std.specs.Prelude.{not, option_map}
 use Rattle.std.specs.List.{find, flat_map}
 use Rattle.std.specs.Option.{option_or}
 use Rattle.ss_names.specs.Names.{is_among, itself, AreSameNames}
-use Rattle.ss_catalog_outline.specs.Unknown.{Used, used, is_unknown, first_unknown}
-use Rattle.ss_names.proofs.Lists.{next}
+use Rattle.ss_catalog_outline.specs.Unknown.{Used, names_in, is_unknown, first_unknown}
+use Rattle.ss_lemmas.proofs.LoopItem.{next}
 
 -- the first of two lists
 pub first_unknown_append : (us vs : List Used) → first_unknown (us ++ vs) ≡ option_or (first_unknown us) (first_unknown vs)
@@ -22,25 +22,25 @@ module _ {X : Type 0} (uses : X → List Used) (xs : List X) (i : ℕ) (x : X) (
   uses_step = ap (λ ys. first_unknown (flat_map uses ys)) (next xs i x h e) ∙ first_unknown_append (uses x) (flat_map uses (drop (i + 1) xs))
 
 -- the first name of a list that is none of these
-pub used_find : {X : Type 0} (name : X → List ℕ) (known : List (List ℕ)) (xs : List X) → first_unknown (used name known xs) ≡ option_map name (find (λ x. not (is_among known (name x))) xs)
+pub used_find : {X : Type 0} (name : X → List ℕ) (known : List (List ℕ)) (xs : List X) → first_unknown (names_in name known xs) ≡ option_map name (find (λ x. not (is_among known (name x))) xs)
 used_find name known [] = refl
 used_find name known (x ∷ xs) = by (not (is_among known (name x))) (used_find name known xs)
   where
-    by : (b : Bool) → first_unknown (used name known xs) ≡ option_map name (find (λ x. not (is_among known (name x))) xs) → option_map (λ (u : Used). u.name) (cond b (Some (record { known = known; name = name x })) (find is_unknown (used name known xs))) ≡ option_map name (cond b (Some x) (find (λ x. not (is_among known (name x))) xs))
+    by : (b : Bool) → first_unknown (names_in name known xs) ≡ option_map name (find (λ x. not (is_among known (name x))) xs) → option_map (λ (u : Used). u.name) (cond b (Some (record { known = known; name = name x })) (find is_unknown (names_in name known xs))) ≡ option_map name (cond b (Some x) (find (λ x. not (is_among known (name x))) xs))
     by true h = refl
     by false h = h
 
 -- only which names are known matters
-pub used_same : {X : Type 0} (name : X → List ℕ) (these those : List (List ℕ)) → AreSameNames these those → (xs : List X) → first_unknown (used name these xs) ≡ first_unknown (used name those xs)
+pub used_same : {X : Type 0} (name : X → List ℕ) (these those : List (List ℕ)) → AreSameNames these those → (xs : List X) → first_unknown (names_in name these xs) ≡ first_unknown (names_in name those xs)
 used_same name these those same [] = refl
 used_same name these those same (x ∷ xs) =
-    first_unknown_append (record { known = these; name = name x } ∷ []) (used name these xs)
-    ∙ ap (λ b. option_or (option_map (λ (u : Used). u.name) (cond (not b) (Some (record { known = these; name = name x })) None)) (first_unknown (used name these xs))) (same (name x))
+    first_unknown_append (record { known = these; name = name x } ∷ []) (names_in name these xs)
+    ∙ ap (λ b. option_or (option_map (λ (u : Used). u.name) (cond (not b) (Some (record { known = these; name = name x })) None)) (first_unknown (names_in name these xs))) (same (name x))
     ∙ by (not (is_among those (name x)))
     ∙ ap (λ r. option_or (first_unknown (record { known = those; name = name x } ∷ [])) r) (used_same name these those same xs)
-    ∙ sym (first_unknown_append (record { known = those; name = name x } ∷ []) (used name those xs))
+    ∙ sym (first_unknown_append (record { known = those; name = name x } ∷ []) (names_in name those xs))
   where
-    by : (b : Bool) → option_or (option_map (λ (u : Used). u.name) (cond b (Some (record { known = these; name = name x })) None)) (first_unknown (used name these xs)) ≡ option_or (option_map (λ (u : Used). u.name) (cond b (Some (record { known = those; name = name x })) None)) (first_unknown (used name these xs))
+    by : (b : Bool) → option_or (option_map (λ (u : Used). u.name) (cond b (Some (record { known = these; name = name x })) None)) (first_unknown (names_in name these xs)) ≡ option_or (option_map (λ (u : Used). u.name) (cond b (Some (record { known = those; name = name x })) None)) (first_unknown (names_in name these xs))
     by true = refl
     by false = refl
 
@@ -59,8 +59,8 @@ some_itself : (o : Option (List ℕ)) → option_map itself o ≡ o
 some_itself None = refl
 some_itself (Some n) = refl
 
-pub used_itself : (known names : List (List ℕ)) (o : Option (List ℕ)) → o ≡ find (λ n. not (is_among known n)) names → o ≡ first_unknown (used itself known names)
+pub used_itself : (known names : List (List ℕ)) (o : Option (List ℕ)) → o ≡ find (λ n. not (is_among known n)) names → o ≡ first_unknown (names_in itself known names)
 used_itself known names o e = e ∙ sym (some_itself (find (λ n. not (is_among known n)) names)) ∙ sym (used_find itself known names)
 
-pub used_mapped : {X : Type 0} (name : X → List ℕ) (known : List (List ℕ)) (xs : List X) (o : Option X) → o ≡ find (λ x. not (is_among known (name x))) xs → option_map name o ≡ first_unknown (used name known xs)
+pub used_mapped : {X : Type 0} (name : X → List ℕ) (known : List (List ℕ)) (xs : List X) (o : Option X) → o ≡ find (λ x. not (is_among known (name x))) xs → option_map name o ≡ first_unknown (names_in name known xs)
 used_mapped name known xs o e = ap (option_map name) e ∙ sym (used_find name known xs)

@@ -12,7 +12,7 @@ use Rattle.ss_catalog_outline.specs.declared.types.Outline.{Outline}
 use Rattle.ss_catalog_outline.specs.declared.limits.Counted.{Counted}
 use Rattle.ss_catalog_outline.specs.declared.limits.Counted.TheVariants.{Tables, Streams, Windows, Triggers, Procedures, Columns, Inputs, Statements, Steps}
 
--- the steps inside a step
+-- how many steps are inside a step
 abbrev pub inner_count : StepOutline → ℕ
 inner_count (ForEach stream body) = length body
 inner_count (Insert table values) = 0
@@ -22,11 +22,11 @@ inner_count (AbortIf test code) = 0
 inner_count (Emit stream query) = 0
 inner_count (Return query) = 0
 
--- a `for_each` counts one, and its steps too
+-- a step counts one, and those inside it one each
 abbrev pub step_count : StepOutline → ℕ
 step_count s = 1 + inner_count s
 
--- a list of columns or arguments is longer than this
+-- some list of columns or arguments is longer than this
 abbrev pub has_columns_over : ℕ → Outline → Bool
 has_columns_over most o =
     list_any (λ (d : TableOutline). nat_lt most (length d.columns)) o.tables
@@ -43,7 +43,7 @@ has_statements_over most o = list_any (λ (t : TriggerOutline). nat_lt most (len
 abbrev pub has_steps_over : ℕ → Outline → Bool
 has_steps_over most o = list_any (λ (p : ProcedureOutline). nat_lt most (sum_by step_count p.body)) o.procedures
 
--- the first of these counts that is over its limit
+-- what the first count over its limit counts
 abbrev pub over_limit : Outline → Option Counted
 over_limit o =
     cond (nat_lt 64 (length o.tables)) (Some Tables)

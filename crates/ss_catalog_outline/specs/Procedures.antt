@@ -6,7 +6,7 @@ use Rattle.ss_value.specs.declared.schema.Column.{Column}
 use Rattle.ss_model.specs.declared.catalog.Kind.{Kind}
 use Rattle.ss_model.specs.declared.catalog.Kind.TheVariants.{Call, Border, Interior}
 use Rattle.ss_model.specs.Database.{is_call}
-use Rattle.ss_catalog_json.specs.declared.json_readers.Many.TheVariants.{Any, AtLeastOne, JustOne}
+use Rattle.ss_catalog_json.specs.declared.json_readers.ItemCount.TheVariants.{Any, AtLeastOne, JustOne}
 use Rattle.ss_catalog_outline.specs.declared.types.TouchOutline.{TouchOutline}
 use Rattle.ss_catalog_outline.specs.declared.types.TouchOutline.TheVariants.{Part, Arg, Multi, All}
 use Rattle.ss_catalog_outline.specs.declared.types.ProcedureOutline.{ProcedureOutline}
@@ -22,14 +22,14 @@ read_touch_part d = object_of (codes "part" ∷ []) d >>= λ _. read_key (codes 
 abbrev pub read_touch_multi : Reading TouchOutline
 read_touch_multi d = object_of (codes "multi" ∷ []) d >>= λ _. read_key (codes "multi") (read_array_of AtLeastOne read_part) d >>= λ ps. Ok (Multi ps)
 
--- the form is that of the first of these keys that is there; an argument stands in a call alone
+-- the form is that of the first of these keys that is there; only a call may have the form `arg`
 abbrev pub read_touch_form : Kind → Reading TouchOutline
 read_touch_form kind d =
     cond (has_key (codes "part") d) (read_touch_part d)
     (cond (has_key (codes "arg") d) (only_where (is_call kind) (read_alone (codes "arg") d >>= λ name. Ok (Arg name)))
     (cond (has_key (codes "multi") d) (read_touch_multi d) (Err [])))
 
--- of the texts all alone, and else this
+-- the only text is `all`; a value that is no text is read as this
 abbrev pub all_or : Option (List ℕ) → OrFault TouchOutline → OrFault TouchOutline
 all_or (Some word) r = only_where (bytes_eq word (codes "all")) (Ok All)
 all_or None r = r
@@ -45,11 +45,11 @@ kind_word word =
     (cond (bytes_eq word (codes "border")) (Some Border)
     (cond (bytes_eq word (codes "interior")) (Some Interior) None))
 
--- who starts a procedure
+-- a procedure's kind: who starts it
 abbrev pub read_procedure_kind : Reading Kind
 read_procedure_kind d = or_here (option_and_then kind_word (as_str d))
 
--- a call may have arguments, and no other kind
+-- a call may have arguments, and no other kind may
 abbrev pub read_args : Kind → Reading (List Column)
 read_args kind d =
     cond (is_call kind) (read_key_or (codes "args") (read_array_of Any read_column) [] d)

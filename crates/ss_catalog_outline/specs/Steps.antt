@@ -5,7 +5,7 @@ use Rattle.serde_json.specs.Find.{as_str, as_number, as_i64}
 use Rattle.ss_value.specs.declared.value.Value.TheVariants.{Int, Text}
 use Rattle.ss_model.specs.declared.catalog.Kind.{Kind}
 use Rattle.ss_model.specs.Database.{is_call}
-use Rattle.ss_catalog_json.specs.declared.json_readers.Many.TheVariants.{Any}
+use Rattle.ss_catalog_json.specs.declared.json_readers.ItemCount.TheVariants.{Any}
 use Rattle.ss_catalog_outline.specs.declared.types.GivenOutline.{GivenOutline}
 use Rattle.ss_catalog_outline.specs.declared.types.GivenOutline.TheVariants.{Value as GivenValue, Arg as GivenArg}
 use Rattle.ss_catalog_outline.specs.declared.types.InnerOutline.{InnerOutline}
@@ -26,12 +26,12 @@ read_given_arg d = object_of (codes "arg" ∷ []) d >>= λ _. read_key (codes "a
 abbrev pub given_text : List ℕ → OrFault GivenOutline
 given_text text = only_where (nat_le (length text) 255) (Ok (GivenValue (Text text)))
 
--- a text, and else this
+-- a text, or what is no text as this
 abbrev pub text_or : Option (List ℕ) → OrFault GivenOutline → OrFault GivenOutline
 text_or (Some text) r = given_text text
 text_or None r = r
 
--- an Int, and else this
+-- an Int, or what is no Int as this
 abbrev pub int_or : Option ℤ → OrFault GivenOutline → OrFault GivenOutline
 int_or (Some z) r = Ok (GivenValue (Int z))
 int_or None r = r
@@ -42,7 +42,7 @@ read_given d = int_or (option_and_then as_i64 (as_number d)) (text_or (as_str d)
 
 -- ---- forms of steps
 
--- the form of a step is the first of these whose key is there; `emit` stands before `sql`, which it has too
+-- the form of a step is the first of these whose key is there; `emit` comes before `sql`, since an `emit` step has both keys
 abbrev pub form_of : Data → Option StepForm
 form_of d =
     cond (has_key (codes "insert") d) (Some InsertForm)
@@ -54,7 +54,7 @@ form_of d =
     (cond (has_key (codes "return") d) (Some ReturnForm)
     None))))))
 
--- SQL and tests stand everywhere, the others in a call alone, or outside of calls alone
+-- each kind may have SQL and tests; of the other forms some are only for calls, and the others for all kinds but calls
 abbrev pub may_stand : Kind → StepForm → Bool
 may_stand kind SqlForm = true
 may_stand kind AbortIfForm = true
@@ -64,7 +64,7 @@ may_stand kind InsertForm = is_call kind
 may_stand kind ReturnAllForm = is_call kind
 may_stand kind ReturnForm = is_call kind
 
--- ---- steps that stand everywhere
+-- ---- steps that each kind of procedure may have
 
 -- one text, at its only key
 abbrev pub read_alone : List ℕ → Reading (List ℕ)
@@ -82,7 +82,7 @@ read_test d =
     read_key (codes "code") read_int d >>= λ code.
     Ok (test, code)
 
--- a step for each row is SQL or a test
+-- a step inside a `for_each` is SQL or a test
 abbrev pub read_inner_as : StepForm → Reading InnerOutline
 read_inner_as SqlForm d = read_alone (codes "sql") d >>= λ text. Ok (InnerSql text)
 read_inner_as AbortIfForm d = read_test d >>= λ t. Ok (InnerAbortIf t.0 t.1)
@@ -91,7 +91,7 @@ read_inner_as _ d = Err []
 abbrev pub read_inner : Reading InnerOutline
 read_inner d = or_here (form_of d) >>= λ form. read_inner_as form d
 
--- ---- steps that stand somewhere
+-- ---- steps that some kinds of procedures may have
 
 abbrev pub read_insert : Reading StepOutline
 read_insert d =
@@ -124,6 +124,6 @@ read_step_as AbortIfForm d = read_test d >>= λ t. Ok (AbortIf t.0 t.1)
 read_step_as ForEachForm d = read_for_each d
 read_step_as ReturnForm d = read_alone (codes "return") d >>= λ query. Ok (Return query)
 
--- a step of a procedure of this kind; one that may not stand there is told by its own path
+-- a step of a procedure of this kind; a form that this kind may not have is a fault of the step itself
 abbrev pub read_step : Kind → Reading StepOutline
 read_step kind d = or_here (form_of d) >>= λ form. only_where (may_stand kind form) (read_step_as form d)

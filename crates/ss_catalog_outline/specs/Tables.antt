@@ -8,9 +8,9 @@ use Rattle.ss_value.specs.declared.Unit.TheVariants.{Rows, Batches}
 use Rattle.ss_value.specs.declared.schema.ColType.{ColType}
 use Rattle.ss_value.specs.declared.schema.ColType.TheVariants.{Int, Text}
 use Rattle.ss_value.specs.declared.schema.Column.{Column}
-use Rattle.ss_catalog_json.specs.declared.json_readers.Many.TheVariants.{Any, AtLeastOne}
-use Rattle.ss_catalog_outline.specs.declared.types.PlaceOutline.{PlaceOutline}
-use Rattle.ss_catalog_outline.specs.declared.types.PlaceOutline.TheVariants.{Part, By}
+use Rattle.ss_catalog_json.specs.declared.json_readers.ItemCount.TheVariants.{Any, AtLeastOne}
+use Rattle.ss_catalog_outline.specs.declared.types.PlacementOutline.{PlacementOutline}
+use Rattle.ss_catalog_outline.specs.declared.types.PlacementOutline.TheVariants.{Part, By}
 use Rattle.ss_catalog_outline.specs.declared.types.TableOutline.{TableOutline}
 use Rattle.ss_catalog_outline.specs.declared.types.StreamOutline.{StreamOutline}
 use Rattle.ss_catalog_outline.specs.declared.types.WindowOutline.{WindowOutline}
@@ -53,9 +53,9 @@ read_words = read_array_of AtLeastOne read_word
 abbrev pub read_part : Reading ℕ
 read_part = read_between 0 7
 
--- on a part where there is that key, and else by a column
-abbrev pub read_place : Reading PlaceOutline
-read_place d =
+-- on a part where the key `part` is there, and else by a column
+abbrev pub read_placement : Reading PlacementOutline
+read_placement d =
     cond (has_key (codes "part") d)
     (read_key (codes "part") read_part d >>= λ p. Ok (Part p))
     (read_key (codes "by") read_word d >>= λ c. Ok (By c))
@@ -67,7 +67,7 @@ part_keys = codes "name" ∷ codes "columns" ∷ codes "key" ∷ codes "part" �
 abbrev pub by_keys : List (List ℕ)
 by_keys = codes "name" ∷ codes "columns" ∷ codes "key" ∷ codes "by" ∷ codes "indexes" ∷ []
 
--- an object that may be a table
+-- an object with no keys but those of a table
 abbrev pub table_object : Data → OrFault ⊤
 table_object d = cond (has_key (codes "part") d) (object_of part_keys d) (object_of by_keys d)
 
@@ -78,9 +78,9 @@ read_table d =
     read_key (codes "name") read_name d >>= λ name.
     read_key (codes "columns") read_columns d >>= λ columns.
     read_key (codes "key") read_words d >>= λ key.
-    read_place d >>= λ place.
+    read_placement d >>= λ placement.
     read_key_or (codes "indexes") (read_array_of Any read_words) [] d >>= λ indexes.
-    Ok (record { name = name; columns = columns; key = key; place = place; indexes = indexes })
+    Ok (record { name = name; columns = columns; key = key; placement = placement; indexes = indexes })
 
 -- ---- streams
 

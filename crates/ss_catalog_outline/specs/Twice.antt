@@ -1,4 +1,4 @@
--- Names that stand twice.
+-- Duplicate names.
 use Rattle.std.specs.Prelude.{ℕ, List, [], ◌∷◌, ◌++◌, map, Bool, Option, option_map, codes, decimal}
 use Rattle.std.specs.List.{find, flat_map}
 use Rattle.ss_catalog_outline.specs.declared.types.TableOutline.{TableOutline}
@@ -11,18 +11,18 @@ use Rattle.ss_catalog_outline.specs.declared.types.Outline.{Outline}
 use Rattle.ss_names.specs.Names.{is_among, itself, column_name}
 use Rattle.ss_catalog_outline.specs.Names.{table_name, stream_name, window_name, trigger_name, procedure_name}
 
--- a name where it stands, and those of its kind or list that stand before it
+-- an occurrence of a name, with the names of its kind or list that come before it
 pub record Standing : Type 0 where
   pub before : List (List ℕ)
   pub name : List ℕ
 
--- behind these names: of each of a list its name, and then the names inside it
+-- the occurrences in a list that comes behind these names: of each item its own name, and then the names inside it
 abbrev pub standing_behind : {X : Type 0} → (X → List ℕ) → (X → List Standing) → List (List ℕ) → List X → List Standing
 standing_behind name inside before [] = []
 standing_behind name inside before (x ∷ xs) =
     record { before = before; name = name x } ∷ inside x ++ standing_behind name inside (before ++ name x ∷ []) xs
 
--- the names of a list by itself, with none inside
+-- the occurrences in a list by itself, whose items have no names inside
 abbrev pub standing : {X : Type 0} → (X → List ℕ) → List X → List Standing
 standing name = standing_behind name (λ x. []) []
 
@@ -45,26 +45,26 @@ touch_words All = []
 abbrev pub procedure_inside : ProcedureOutline → List Standing
 procedure_inside p = standing column_name p.args ++ standing itself p.inputs ++ standing itself (touch_words p.touch)
 
--- tables, streams and windows share their names with one another, and with the word `inserted`
+-- tables, streams and windows share one space of names, in which `inserted` is taken
 abbrev pub sources_standing : Outline → List Standing
 sources_standing o =
     standing_behind table_name table_inside (codes "inserted" ∷ []) o.tables
     ++ standing_behind stream_name stream_inside (codes "inserted" ∷ map table_name o.tables) o.streams
     ++ standing_behind window_name window_inside (codes "inserted" ∷ map table_name o.tables ++ map stream_name o.streams) o.windows
 
--- all names in written order
+-- all occurrences of names, in written order
 abbrev pub names_standing : Outline → List Standing
 names_standing o =
     sources_standing o ++ standing trigger_name o.triggers ++ standing_behind procedure_name procedure_inside [] o.procedures
 
--- it stood before
+-- the name occurred before
 abbrev pub is_twice : Standing → Bool
 is_twice s = is_among s.before s.name
 
--- the first of these that stood before
+-- the first of these names that occurred before
 abbrev pub first_twice : List Standing → Option (List ℕ)
 first_twice ss = option_map (λ (s : Standing). s.name) (find is_twice ss)
 
--- the first name that stands twice, where it stands for the second time
+-- the first duplicate name: of all second occurrences the first counts
 abbrev pub name_twice : Outline → Option (List ℕ)
 name_twice o = first_twice (names_standing o)

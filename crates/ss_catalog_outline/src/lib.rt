@@ -1,20 +1,27 @@
 //! A catalogue as it is written in JSON, read into an outline: names aren't looked up, and SQL isn't parsed.
 //!
-//! - `types`: what a catalogue says; `named`: what of it has a name
-//! - `tables`, `steps`, `procedures`: the sections of a catalogue; `read`: the whole
-//! - `limits`: counts over their limits
+//! - `types`: `Outline` and its parts, which are what a catalogue says; `named`: the names of its elements
+//! - `tables`, `steps`, `procedures`: the readers of the sections; `read`: `read_outline`, which reads the whole
+//! - `limits`: the counts that have limits
 //!
-//! Which names stand twice, and which are names of nothing, is said here (`specs/Twice`, `specs/Unknown`) and looked
-//! up in `ss_catalog_names`.
+//! Which names are duplicates, and which are unknown, is defined here (`specs/Twice`, `specs/Unknown`) and computed in
+//! `ss_catalog_names`.
 //!
-//! Every call that takes `alloc` may answer `NoMemory`, which says nothing of the value, and takes time linear in
+//! Every call that takes `alloc` may answer `NoMemory`, which says nothing about the value, and takes time linear in
 //! what it is given, unless its page says otherwise.
 #![tactic(auto)]
 
-pub mod limits;
-pub mod named;
+mod limits;
+mod named;
 mod procedures;
-pub mod read;
+mod read;
 mod steps;
 mod tables;
-pub mod types;
+mod types;
+
+pub use limits::{Counted, is_too_many_to_number, over_limit};
+pub use read::read_outline;
+pub use types::{
+    GivenOutline, InnerOutline, Outline, PlacementOutline, ProcedureOutline, StepOutline,
+    StreamOutline, TableOutline, TouchOutline, TriggerOutline, WindowOutline,
+};

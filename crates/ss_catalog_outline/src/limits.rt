@@ -1,4 +1,4 @@
-//! Counts over their limits.
+//! The counts of a catalogue that have limits.
 
 ghost use Rattle.std.specs.Prelude.{◌≡◌, length, nat_lt};
 ghost use Rattle.std.specs.List.{list_any, sum_by};
@@ -45,10 +45,11 @@ fn inner_count(step: &StepOutline) -> usize
     }
 }
 
-/// Whether the steps, inner ones too, are more than this. Linear in the steps up to the first one over it.
+/// Whether there are more steps than this, inner ones too. Linear in the steps up to the first one over it.
 fn is_longer(body: &[StepOutline], most: usize) -> bool
     ensures { result ≡ nat_lt most (sum_by step_count body.now) }
 {
+    // Counts down from the limit, so that no sum can overflow.
     let mut left = most;
     for step in body {
         let inner = inner_count(step);
@@ -61,28 +62,28 @@ fn is_longer(body: &[StepOutline], most: usize) -> bool
     false
 }
 
-/// Whether a table has more columns than this.
+/// Whether some table has more columns than this.
 fn are_tables_over(tables: &[TableOutline], most: usize) -> bool
     ensures { result ≡ list_any (λ (d : ATable). nat_lt most (length d.columns)) tables.now }
 {
     tables.iter().any(|table| table.columns.len() > most)
 }
 
-/// Whether a stream has more columns than this.
+/// Whether some stream has more columns than this.
 fn are_streams_over(streams: &[StreamOutline], most: usize) -> bool
     ensures { result ≡ list_any (λ (d : AStream). nat_lt most (length d.columns)) streams.now }
 {
     streams.iter().any(|stream| stream.columns.len() > most)
 }
 
-/// Whether a window has more columns than this.
+/// Whether some window has more columns than this.
 fn are_windows_over(windows: &[WindowOutline], most: usize) -> bool
     ensures { result ≡ list_any (λ (d : AWindow). nat_lt most (length d.columns)) windows.now }
 {
     windows.iter().any(|window| window.columns.len() > most)
 }
 
-/// Whether a procedure has more arguments than this.
+/// Whether some procedure has more arguments than this.
 fn are_args_over(procedures: &[ProcedureOutline], most: usize) -> bool
     ensures { result ≡ list_any (λ (p : AProcedure). nat_lt most (length p.args)) procedures.now }
 {
@@ -91,7 +92,7 @@ fn are_args_over(procedures: &[ProcedureOutline], most: usize) -> bool
         .any(|procedure| procedure.args.len() > most)
 }
 
-/// Whether a list of columns or arguments is longer than this.
+/// Whether some list of columns or arguments is longer than this.
 fn has_columns_over(outline: &Outline, most: usize) -> bool
     ensures { result ≡ has_columns_over most outline.now }
 {
@@ -101,7 +102,7 @@ fn has_columns_over(outline: &Outline, most: usize) -> bool
         || are_args_over(outline.procedures.as_slice(), most)
 }
 
-/// Whether a procedure has more inputs than this.
+/// Whether some procedure has more inputs than this.
 fn has_inputs_over(outline: &Outline, most: usize) -> bool
     ensures { result ≡ has_inputs_over most outline.now }
 {
@@ -111,7 +112,7 @@ fn has_inputs_over(outline: &Outline, most: usize) -> bool
         .any(|procedure| procedure.inputs.len() > most)
 }
 
-/// Whether a trigger has more statements than this.
+/// Whether some trigger has more statements than this.
 fn has_statements_over(outline: &Outline, most: usize) -> bool
     ensures { result ≡ has_statements_over most outline.now }
 {
@@ -121,7 +122,7 @@ fn has_statements_over(outline: &Outline, most: usize) -> bool
         .any(|trigger| trigger.statements.len() > most)
 }
 
-/// Whether a procedure has more steps than this, inner ones too.
+/// Whether some procedure has more steps than this, inner ones too.
 fn has_steps_over(outline: &Outline, most: usize) -> bool
     ensures { result ≡ has_steps_over most outline.now }
 {
@@ -131,8 +132,8 @@ fn has_steps_over(outline: &Outline, most: usize) -> bool
         .any(|procedure| is_longer(procedure.body.as_slice(), most))
 }
 
-/// What the first of all counts that are over their limits counts, in the order of [`Counted`]. None exactly where
-/// none is over. Linear in the outline, and takes no memory.
+/// What the first count over its limit counts, in the order of [`Counted`]. None exactly where no count is over its
+/// limit. Linear in the outline, and takes no memory.
 pub fn over_limit(outline: &Outline) -> Option<Counted>
     ensures { result ≡ over_limit outline.now }
 {
@@ -159,8 +160,9 @@ pub fn over_limit(outline: &Outline) -> Option<Counted>
     }
 }
 
-/// Whether a section has over 65,536 elements, or a list of columns or arguments over 256, so that the numbers of a
-/// typed tree can't name them all. Then something is over its limit too. Linear in the outline, and takes no memory.
+/// Whether a section has over 65,536 elements, or a list of columns or arguments over 256, so that the numbers of typed
+/// trees, of 16 and of 8 bits, can't name them all. Then some count is over its limit too. Linear in the outline, and
+/// takes no memory.
 pub fn is_too_many_to_number(outline: &Outline) -> bool
     ensures { result ≡ is_too_many_to_number outline.now }
 {

@@ -10,15 +10,12 @@ use crate::steps::{StepReader, read_alone};
 use crate::tables::{ColumnReader, PartReader};
 use crate::types::{ProcedureOutline, TouchOutline};
 use serde_json::Value as Json;
-use ss_catalog_json::json_readers::{
-    ArrayOf, Many, NameReader, Reader, WordReader, fault_here, has_key, no_key, object_of,
-    read_key, read_key_or,
+use ss_catalog_json::{
+    ArrayOf, ItemCount, NameReader, ReadError, Reader, Word, WordReader, fault_here, has_key,
+    no_key, object_of, read_key, read_key_or,
 };
-use ss_catalog_json::read_error::ReadError;
-use ss_catalog_json::word::Word;
-use ss_model::catalog::Kind;
-use ss_value::schema::Schema;
-use ss_value::seq::Seq;
+use ss_model::Kind;
+use ss_value::{Schema, Seq};
 use std::alloc::Global;
 
 // ---- touch sets
@@ -38,7 +35,7 @@ fn read_touch_multi(alloc: Global, value: &Json) -> Result<TouchOutline, ReadErr
 {
     object_of(alloc, value, &["multi"])?;
     let parts = ArrayOf {
-        many: Many::AtLeastOne,
+        many: ItemCount::AtLeastOne,
         of: PartReader,
     };
     let parts = read_key(alloc, value, "multi", &parts)?;
@@ -49,10 +46,12 @@ fn read_touch_form(alloc: Global, kind: Kind, value: &Json) -> Result<TouchOutli
     ensures ok { IfOk result (λ t. read_touch_form kind (view value.now) ≡ Ok t) }
     ensures refused { IfErr result (FaultsAs (read_touch_form kind (view value.now))) }
 {
+    // The first of these keys that is there decides the form; beside it another one is a key that isn't allowed.
     if has_key(value, "part") {
         return read_touch_part(alloc, value);
     }
     if has_key(value, "arg") {
+        // No other kind has arguments.
         if !kind.is_call() {
             return Err(fault_here(alloc));
         }
@@ -65,7 +64,7 @@ fn read_touch_form(alloc: Global, kind: Kind, value: &Json) -> Result<TouchOutli
     Err(fault_here(alloc))
 }
 
-/// What a procedure of this kind touches.
+/// The touch set of a procedure of this kind.
 #[derive(Drop)]
 pub struct TouchReader {
     pub kind: Kind,
@@ -115,7 +114,7 @@ fn kind_from(value: &Json) -> Option<Kind>
     }
 }
 
-/// Who starts a procedure.
+/// A procedure's kind: who starts it.
 #[derive(Drop)]
 pub struct ProcedureKindReader;
 
@@ -138,7 +137,7 @@ fn read_args(alloc: Global, kind: Kind, value: &Json) -> Result<Schema, ReadErro
 {
     if kind.is_call() {
         let columns = ArrayOf {
-            many: Many::Any,
+            many: ItemCount::Any,
             of: ColumnReader,
         };
         read_key_or(alloc, value, "args", &columns, Seq::new(alloc))
@@ -148,7 +147,7 @@ fn read_args(alloc: Global, kind: Kind, value: &Json) -> Result<Schema, ReadErro
     }
 }
 
-fn read_input_list(alloc: Global, many: Many, value: &Json) -> Result<Seq<Word>, ReadError>
+fn read_input_list(alloc: Global, many: ItemCount, value: &Json) -> Result<Seq<Word>, ReadError>
     ensures ok { IfOk result (λ inputs. read_key (codes "inputs") (read_array_of many read_word) (view value.now) ≡ Ok inputs) }
     ensures refused { IfErr result (FaultsAs (read_key (codes "inputs") (read_array_of many read_word) (view value.now))) }
 {
@@ -168,8 +167,8 @@ fn read_inputs(alloc: Global, kind: Kind, value: &Json) -> Result<Seq<Word>, Rea
             no_key(alloc, value, "inputs")?;
             Ok(Seq::new(alloc))
         }
-        Kind::Border => read_input_list(alloc, Many::JustOne, value),
-        Kind::Interior => read_input_list(alloc, Many::AtLeastOne, value),
+        Kind::Border => read_input_list(alloc, ItemCount::JustOne, value),
+        Kind::Interior => read_input_list(alloc, ItemCount::AtLeastOne, value),
     }
 }
 
@@ -183,6 +182,8 @@ impl Reader for ProcedureReader {
     ghost reading = { λ _. read_procedure };
 
     fn read(&self, alloc: Global, value: &Json) -> Result<ProcedureOutline, ReadError> {
+        // Whether `args` and `inputs` may be there depends on the kind, which isn't read yet: `read_args` and `read_inputs`
+        // refuse them where they may not.
         object_of(
             alloc,
             value,
@@ -194,7 +195,7 @@ impl Reader for ProcedureReader {
         let inputs = read_inputs(alloc, kind, value)?;
         let touch = read_key(alloc, value, "touch", &TouchReader { kind })?;
         let steps = ArrayOf {
-            many: Many::Any,
+            many: ItemCount::Any,
             of: StepReader { kind },
         };
         let body = read_key(alloc, value, "body", &steps)?;

@@ -1,4 +1,4 @@
-//! A catalogue as JSON.
+//! A whole catalogue as JSON.
 
 ghost use Rattle.std.specs.Prelude.{◌≡◌, Ok, IfOk, IfErr};
 ghost use Rattle.serde_json.specs.View.{view};
@@ -9,9 +9,8 @@ use crate::procedures::ProcedureReader;
 use crate::tables::{StreamReader, TableReader, TriggerReader, WindowReader};
 use crate::types::Outline;
 use serde_json::Value as Json;
-use ss_catalog_json::json_readers::{ArrayOf, Many, Reader, object_of, read_key_or};
-use ss_catalog_json::read_error::ReadError;
-use ss_value::seq::Seq;
+use ss_catalog_json::{ArrayOf, ItemCount, ReadError, Reader, object_of, read_key_or};
+use ss_value::Seq;
 use std::alloc::Global;
 
 fn read_section<R: Reader + Drop>(
@@ -26,7 +25,7 @@ where
     ensures refused { IfErr result (FaultsAs (read_section key.now (R.reading of) (view value.now))) }
 {
     let items = ArrayOf {
-        many: Many::Any,
+        many: ItemCount::Any,
         of,
     };
     read_key_or(alloc, value, key, &items, Seq::new(alloc))
@@ -34,8 +33,8 @@ where
 
 /// What a catalogue says, as it is written: names aren't looked up, and SQL isn't parsed.
 ///
-/// Answers `Fault` exactly where a value isn't as it should be, with the way to the first one; the sections go in
-/// the order tables, streams, windows, triggers, procedures, each in written order. `NoMemory` says nothing.
+/// Answers `Fault` exactly where the value has a fault, with the way to the first one. The sections are read in the
+/// order tables, streams, windows, triggers, procedures, each in written order.
 ///
 /// Linear in the value, in time and in the memory of the outline.
 pub fn read_outline(alloc: Global, value: &Json) -> Result<Outline, ReadError>

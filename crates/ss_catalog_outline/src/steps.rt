@@ -7,14 +7,12 @@ ghost use Rattle.ss_catalog_outline.specs.Steps.{read_given_arg, given_text, rea
 
 use crate::types::{GivenOutline, InnerOutline, StepOutline};
 use serde_json::Value as Json;
-use ss_catalog_json::json_readers::{
-    ArrayOf, Many, Reader, WordReader, fault_here, has_key, object_of, read_key,
+use ss_catalog_json::{
+    ArrayOf, ItemCount, ReadError, Reader, Word, WordReader, fault_here, has_key, object_of,
+    read_key,
 };
-use ss_catalog_json::read_error::ReadError;
-use ss_catalog_json::word::Word;
-use ss_model::catalog::Kind;
-use ss_value::text::{ValueError, text_of};
-use ss_value::value::Value;
+use ss_model::Kind;
+use ss_value::{Value, ValueError, text_of};
 use std::alloc::Global;
 
 // ---- values of an `insert` step
@@ -61,7 +59,7 @@ impl Reader for GivenReader {
 
 // ---- forms of steps
 
-/// A form of step, by its first key.
+/// A form of step. A value has the form of the first of these keys that it has.
 #[derive(Clone, Copy, Drop)]
 pub enum StepForm {
     Insert,
@@ -76,6 +74,7 @@ pub enum StepForm {
 fn form_of(value: &Json) -> Option<StepForm>
     ensures { result ≡ form_of (view value.now) }
 {
+    // `emit` is tried before `sql`, since an `emit` step has both keys.
     if has_key(value, "insert") {
         Some(StepForm::Insert)
     } else if has_key(value, "return_all") {
@@ -109,7 +108,7 @@ fn may_stand(kind: Kind, form: StepForm) -> bool
     }
 }
 
-// ---- steps that stand everywhere
+// ---- steps that each kind of procedure may have
 
 /// One text, at the only key of an object.
 pub fn read_alone(alloc: Global, value: &Json, key: &str) -> Result<Word, ReadError>
@@ -164,7 +163,7 @@ fn read_inner_as(alloc: Global, form: StepForm, value: &Json) -> Result<InnerOut
     }
 }
 
-/// A step for each row.
+/// A step inside a `for_each`.
 #[derive(Drop)]
 pub struct InnerReader;
 
@@ -181,7 +180,7 @@ impl Reader for InnerReader {
     }
 }
 
-// ---- steps that stand somewhere
+// ---- steps that some kinds of procedures may have
 
 fn read_insert(alloc: Global, value: &Json) -> Result<StepOutline, ReadError>
     ensures ok { IfOk result (λ s. read_insert (view value.now) ≡ Ok s) }
@@ -190,7 +189,7 @@ fn read_insert(alloc: Global, value: &Json) -> Result<StepOutline, ReadError>
     object_of(alloc, value, &["insert", "values"])?;
     let table = read_key(alloc, value, "insert", &WordReader)?;
     let values = ArrayOf {
-        many: Many::Any,
+        many: ItemCount::Any,
         of: GivenReader,
     };
     let values = read_key(alloc, value, "values", &values)?;
@@ -204,7 +203,7 @@ fn read_for_each(alloc: Global, value: &Json) -> Result<StepOutline, ReadError>
     object_of(alloc, value, &["for_each", "body"])?;
     let stream = read_key(alloc, value, "for_each", &WordReader)?;
     let steps = ArrayOf {
-        many: Many::Any,
+        many: ItemCount::Any,
         of: InnerReader,
     };
     let body = read_key(alloc, value, "body", &steps)?;
@@ -263,6 +262,7 @@ impl Reader for StepReader {
         let Some(form) = form_of(value) else {
             return Err(fault_here(alloc));
         };
+        // First, so that a form which this kind may not have is a fault of the step itself, whatever is wrong inside it.
         if !may_stand(self.kind, form) {
             return Err(fault_here(alloc));
         }

@@ -4,18 +4,15 @@ ghost use Rattle.std.specs.Prelude.{◌≡◌, Ok, IfOk, IfErr, option_and_then}
 ghost use Rattle.serde_json.specs.View.{view, items_view};
 ghost use Rattle.serde_json.specs.Find.{as_str};
 ghost use Rattle.ss_catalog_json.specs.Readings.{FaultsAs, object_of};
-ghost use Rattle.ss_catalog_outline.specs.Tables.{kind_of, read_kind, read_pair, read_column, read_part, read_place, part_keys, by_keys, table_object, read_table, read_stream, unit_of, read_unit, read_window, read_trigger};
+ghost use Rattle.ss_catalog_outline.specs.Tables.{kind_of, read_kind, read_pair, read_column, read_part, read_placement, part_keys, by_keys, table_object, read_table, read_stream, unit_of, read_unit, read_window, read_trigger};
 
-use crate::types::{PlaceOutline, StreamOutline, TableOutline, TriggerOutline, WindowOutline};
+use crate::types::{PlacementOutline, StreamOutline, TableOutline, TriggerOutline, WindowOutline};
 use serde_json::Value as Json;
-use ss_catalog_json::json_readers::{
-    ArrayOf, Between, Many, NameReader, Reader, WordReader, fault_here, has_key, object_of,
-    read_item, read_key, read_key_or,
+use ss_catalog_json::{
+    ArrayOf, ItemCount, NameReader, NumberBetween, ReadError, Reader, WordReader, fault_here,
+    has_key, object_of, read_item, read_key, read_key_or,
 };
-use ss_catalog_json::read_error::ReadError;
-use ss_value::Unit;
-use ss_value::schema::{ColType, Column};
-use ss_value::seq::Seq;
+use ss_value::{ColType, Column, Seq, Unit};
 use std::alloc::Global;
 
 // ---- columns
@@ -94,19 +91,19 @@ impl Reader for ColumnReader {
 }
 
 const COLUMNS: ArrayOf<ColumnReader> = ArrayOf {
-    many: Many::AtLeastOne,
+    many: ItemCount::AtLeastOne,
     of: ColumnReader,
 };
 
 const WORDS: ArrayOf<WordReader> = ArrayOf {
-    many: Many::AtLeastOne,
+    many: ItemCount::AtLeastOne,
     of: WordReader,
 };
 
 const INDEXES: ArrayOf<ArrayOf<WordReader>> = ArrayOf {
-    many: Many::Any,
+    many: ItemCount::Any,
     of: ArrayOf {
-        many: Many::AtLeastOne,
+        many: ItemCount::AtLeastOne,
         of: WordReader,
     },
 };
@@ -117,6 +114,7 @@ const INDEXES: ArrayOf<ArrayOf<WordReader>> = ArrayOf {
 #[derive(Drop)]
 pub struct PartReader;
 
+// `NumberBetween` reads the same numbers, but as `u32`.
 impl Reader for PartReader {
     type Read = u8;
 
@@ -136,27 +134,27 @@ impl Reader for PartReader {
     }
 }
 
-fn read_place(alloc: Global, value: &Json) -> Result<PlaceOutline, ReadError>
-    ensures ok { IfOk result (λ p. read_place (view value.now) ≡ Ok p) }
-    ensures refused { IfErr result (FaultsAs (read_place (view value.now))) }
+fn read_placement(alloc: Global, value: &Json) -> Result<PlacementOutline, ReadError>
+    ensures ok { IfOk result (λ p. read_placement (view value.now) ≡ Ok p) }
+    ensures refused { IfErr result (FaultsAs (read_placement (view value.now))) }
 {
     if has_key(value, "part") {
         let part = read_key(alloc, value, "part", &PartReader)?;
-        Ok(PlaceOutline::Part(part))
+        Ok(PlacementOutline::Part(part))
     } else {
         let column = read_key(alloc, value, "by", &WordReader)?;
-        Ok(PlaceOutline::By(column))
+        Ok(PlacementOutline::By(column))
     }
 }
 
-fn part_object(alloc: Global, value: &Json) -> Result<(), ReadError>
+fn check_part_keys(alloc: Global, value: &Json) -> Result<(), ReadError>
     ensures ok { IfOk result (λ x. object_of part_keys (view value.now) ≡ Ok x) }
     ensures refused { IfErr result (FaultsAs (object_of part_keys (view value.now))) }
 {
     object_of(alloc, value, &["name", "columns", "key", "part", "indexes"])
 }
 
-fn by_object(alloc: Global, value: &Json) -> Result<(), ReadError>
+fn check_by_keys(alloc: Global, value: &Json) -> Result<(), ReadError>
     ensures ok { IfOk result (λ x. object_of by_keys (view value.now) ≡ Ok x) }
     ensures refused { IfErr result (FaultsAs (object_of by_keys (view value.now))) }
 {
@@ -167,10 +165,11 @@ fn table_object(alloc: Global, value: &Json) -> Result<(), ReadError>
     ensures ok { IfOk result (λ x. table_object (view value.now) ≡ Ok x) }
     ensures refused { IfErr result (FaultsAs (table_object (view value.now))) }
 {
+    // A table has one placement: where `part` is there, `by` is a key that isn't allowed.
     if has_key(value, "part") {
-        part_object(alloc, value)
+        check_part_keys(alloc, value)
     } else {
-        by_object(alloc, value)
+        check_by_keys(alloc, value)
     }
 }
 
@@ -188,13 +187,13 @@ impl Reader for TableReader {
         let name = read_key(alloc, value, "name", &NameReader)?;
         let columns = read_key(alloc, value, "columns", &COLUMNS)?;
         let key = read_key(alloc, value, "key", &WORDS)?;
-        let place = read_place(alloc, value)?;
+        let placement = read_placement(alloc, value)?;
         let indexes = read_key_or(alloc, value, "indexes", &INDEXES, Seq::new(alloc))?;
         Ok(TableOutline {
             name,
             columns,
             key,
-            place,
+            placement,
             indexes,
         })
     }
@@ -281,12 +280,13 @@ impl Reader for WindowReader {
         let columns = read_key(alloc, value, "columns", &COLUMNS)?;
         let owner = read_key(alloc, value, "owner", &WordReader)?;
         let unit = read_key(alloc, value, "unit", &UnitReader)?;
-        let sizes = Between {
+        let sizes = NumberBetween {
             low: 1,
             high: MAX_SIZE,
         };
         let size = read_key(alloc, value, "size", &sizes)?;
-        let slides = Between { low: 1, high: size };
+        // A greater slide would pass over units that the window never shows.
+        let slides = NumberBetween { low: 1, high: size };
         let slide = read_key(alloc, value, "slide", &slides)?;
         Ok(WindowOutline {
             name,

@@ -1,21 +1,17 @@
-//! A catalogue as it is written: no name is looked up yet, and no SQL read.
+//! A catalogue as it is written: no name is looked up yet, and no SQL is read.
 //!
-//! Everything here is as large as what it was read from.
+//! Each value here takes memory linear in what it was read from.
 
-use ss_catalog_json::word::Word;
-use ss_model::catalog::Kind;
-use ss_value::Unit;
-use ss_value::schema::Schema;
-use ss_value::seq::Seq;
-use ss_value::text::Name;
-use ss_value::value::Value;
+use ss_catalog_json::Word;
+use ss_model::Kind;
+use ss_value::{Name, Schema, Seq, Unit, Value};
 
-/// Where a table's rows stand.
+/// Where a table's rows are.
 #[derive(Drop)]
-pub enum PlaceOutline {
+pub enum PlacementOutline {
     /// All on this part, from 0 to 7.
     Part(u8),
-    /// Each by its value in the column that this names.
+    /// Each row by its value in the column that this names.
     By(Word),
 }
 
@@ -25,7 +21,7 @@ pub struct TableOutline {
     pub name: Name,
     pub columns: Schema,
     pub key: Seq<Word>,
-    pub place: PlaceOutline,
+    pub placement: PlacementOutline,
     pub indexes: Seq<Seq<Word>>,
 }
 
@@ -58,11 +54,11 @@ pub struct TriggerOutline {
 /// The partitions that a procedure touches.
 #[derive(Drop)]
 pub enum TouchOutline {
-    /// That of this part, from 0 to 7.
+    /// The partition of this part, from 0 to 7.
     Part(u8),
-    /// That of the value of the argument that this names.
+    /// The partition of the value of the argument that this names.
     Arg(Word),
-    /// Those of these parts, each from 0 to 7.
+    /// The partitions of these parts, each from 0 to 7.
     Multi(Seq<u8>),
     /// All of them.
     All,
@@ -71,9 +67,9 @@ pub enum TouchOutline {
 /// A value of an `insert` step.
 #[derive(Drop)]
 pub enum GivenOutline {
-    /// This one.
+    /// This value.
     Value(Value),
-    /// That of the argument that this names.
+    /// The value of the argument that this names.
     Arg(Word),
 }
 
@@ -101,7 +97,7 @@ pub enum StepOutline {
         test: Word,
         code: i64,
     },
-    /// The inner steps for each row of the batch of this stream.
+    /// Runs the inner steps for each row of the batch of this stream.
     ForEach {
         stream: Word,
         body: Seq<InnerOutline>,

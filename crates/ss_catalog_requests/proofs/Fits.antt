@@ -170,7 +170,7 @@ asked_of_fits catalog line client (Push name source seq rows) small below =
     (rows_are_few _ line all _ refl fit) (λ few both.
     push_takes catalog name client s seq few small below named both.1 both.0)))
 
--- law: a request that is read fits its catalogue, and stands on its line
+-- law: a request that is read fits its catalogue, and has its line
 pub request_of_fits : (catalog : Catalog) (line : ℕ) (d : Data) → IfOk (request_of catalog line d) (λ r. (fits_entry catalog (asked_entry r.client 0 r.what) ≡ true) × (r.line ≡ line))
 unfolding request_of
 request_of_fits catalog line d =

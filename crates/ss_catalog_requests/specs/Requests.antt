@@ -1,4 +1,4 @@
--- Requests as JSON.
+-- What a JSON value asks of a catalogue, or the first refusal.
 use Rattle.std.specs.Prelude.{◌≡◌, ℕ, length, cond, nat_le, ok_or, Result, Ok, Err}
 use Rattle.serde_json.specs.Data.{Data}
 use Rattle.ss_value.specs.Rows.{Rows}
@@ -21,12 +21,12 @@ infixr 20 ◌>>=◌
 abbrev pub OrRefused : Type 0 → Type 0
 OrRefused A = Result A RequestError
 
--- the first, and then the second on what it gave
+-- the first, and then the second on what the first gave; a refusal of the first is the refusal of both
 abbrev pub ◌>>=◌ : {A B : Type 0} → OrRefused A → (A → OrRefused B) → OrRefused B
 ◌>>=◌ (Ok a) f = f a
 ◌>>=◌ (Err e) f = Err e
 
--- wherever the fault is, it is the shape's
+-- a fault anywhere in the value is a refusal of its shape
 abbrev pub in_shape : {A : Type 0} → ℕ → OrFault A → OrRefused A
 in_shape line (Ok a) = Ok a
 in_shape line (Err way) = Err (Shape line)
@@ -35,7 +35,7 @@ in_shape line (Err way) = Err (Shape line)
 abbrev pub few_rows : ℕ → Rows → OrRefused Rows
 few_rows line rows = cond (nat_le (length rows) 1024) (Ok rows) (Err (TooManyRows line))
 
--- what is asked for: first its name is looked up, then its values are tried, and then its rows counted
+-- what is asked for: first its name is looked up, then its values are compared with columns, and then its rows are counted
 abbrev pub asked_of : Catalog → ℕ → AskedOutline → OrRefused Asked
 asked_of catalog line (CallOutline procedure args) =
     ok_or (call_named catalog procedure) (UnknownTarget line) >>= λ n.
@@ -54,7 +54,7 @@ request_of catalog line d =
     asked_of catalog line said.what >>= λ what.
     Ok (record { line = line; client = said.client; what = what })
 
--- the refusal is the one that is meant; want of memory says nothing
+-- the error is the refusal that is meant, or `NoMemory`, which may always come
 abbrev pub RefusesAs : {A : Type 0} → OrRefused A → RequestError → Type 0
 RefusesAs meaning NoMemory = Unit {0}
 RefusesAs meaning e = meaning ≡ Err e

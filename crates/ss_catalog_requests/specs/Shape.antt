@@ -1,4 +1,4 @@
--- What a JSON value says as a request; names aren't looked up.
+-- What a JSON value says as a request; names are not looked up.
 use Rattle.std.specs.Prelude.{ℕ, ℤ, ◌^◌, ◌-◌, List, [], ◌∷◌, ◌++◌, cond, nat_le, length, Option, Some, None, option_and_then, option_map, Ok, Err, codes}
 use Rattle.serde_json.specs.Data.{Items}
 use Rattle.serde_json.specs.Find.{as_number, as_i64, as_str, as_array}
@@ -22,46 +22,46 @@ read_seq = read_between 0 (2 ^ 63 - 1)
 
 -- ---- values
 
--- of a text over 255 bytes no more than that it is one
+-- a text, and None for one over 255 bytes
 abbrev pub short_text : List ℕ → Option Value
 short_text text = cond (nat_le (length text) 255) (Some (Text text)) None
 
--- an Int or a text
+-- an Int, or else a text
 abbrev pub int_or_text : Option ℤ → Option (List ℕ) → OrFault (Option Value)
 int_or_text (Some z) text = Ok (Some (Int z))
 int_or_text None (Some text) = Ok (short_text text)
 int_or_text None None = Err []
 
--- a value, and none for a text over 255 bytes
+-- a value, and None for a text over 255 bytes
 abbrev pub read_value : Reading (Option Value)
 read_value d = int_or_text (option_and_then as_i64 (as_number d)) (as_str d)
 
 -- ---- rows
 
--- each of them, where each is there
+-- all of these items, where each is there
 abbrev pub all_there : {A : Type 0} → List (Option A) → Option (List A)
 all_there [] = Some []
 all_there (None ∷ xs) = None
 all_there (Some x ∷ xs) = option_map (λ ys. x ∷ ys) (all_there xs)
 
--- these and one more, where each is there
+-- these items and one more, where all are there
 abbrev pub with_another : {A : Type 0} → Option (List A) → Option A → Option (List A)
 with_another (Some xs) (Some x) = Some (xs ++ x ∷ [])
 with_another _ _ = None
 
--- each item, the first of them of this number, and none where one of them is none
+-- each item read, where the first has this number, and None where one of them is None
 abbrev pub all_items : {A : Type 0} → Reading (Option A) → ℕ → Items → OrFault (Option (List A))
 all_items read n ds = read_items_from n read ds >>= λ xs. Ok (all_there xs)
 
--- each item of an array, and none where one of them is none
+-- each item of an array, and None where one of them is None
 abbrev pub read_all_of : {A : Type 0} → Reading (Option A) → Reading (Option (List A))
 read_all_of read d = or_here (as_array d) >>= all_items read 0
 
--- a row, and none where it has a text over 255 bytes
+-- a row, and None where it has a text over 255 bytes
 abbrev pub read_row : Reading (Option Row)
 read_row = read_all_of read_value
 
--- rows, and none where one has a text over 255 bytes
+-- rows, and None where one of them has a text over 255 bytes
 abbrev pub read_rows : Reading (Option Rows)
 read_rows = read_all_of read_row
 

@@ -9,25 +9,25 @@ use Rattle.ss_model.specs.declared.catalog.Catalog.{Catalog}
 use Rattle.ss_model.specs.Database.{is_call, is_border_stream}
 use Rattle.ss_model.specs.Settling.{procedure_numbers}
 
--- a call procedure of this name
+-- whether there is a procedure, and it is a call procedure of this name
 abbrev pub is_call_named : List ℕ → Option Procedure → Bool
 is_call_named name None = false
 is_call_named name (Some p) = bytes_eq p.name name && is_call p.kind
 
--- the number of the call procedure of this name
+-- the number of the first call procedure of this name
 abbrev pub call_named : Catalog → List ℕ → Option ℕ
 call_named catalog name = find (λ n. is_call_named name (slice_get catalog.procedures n)) (procedure_numbers catalog)
 
--- a stream of this name
+-- whether there is a stream, and it has this name
 abbrev pub is_stream_named : List ℕ → Option StreamDef → Bool
 is_stream_named name None = false
 is_stream_named name (Some s) = bytes_eq s.name name
 
--- the border stream of this name
+-- whether a stream is a border stream of this name
 abbrev pub is_border_stream_named : Catalog → List ℕ → ℕ → Bool
 is_border_stream_named catalog name s = is_stream_named name (slice_get catalog.streams s) && is_border_stream catalog s
 
--- the number of the border stream of this name
+-- the number of the first border stream of this name
 abbrev pub border_stream_named : Catalog → List ℕ → Option ℕ
 border_stream_named catalog name = find (is_border_stream_named catalog name) (range_with_len 0 (length catalog.streams))
 

@@ -7,9 +7,8 @@ ghost use Rattle.ss_model.specs.Database.{stream_schema};
 ghost use Rattle.ss_catalog_requests.specs.Targets.{procedure_args};
 ghost use Rattle.ss_catalog_requests.specs.Fitting.{fitting_row, fitting_rows};
 
-use ss_model::catalog::Catalog;
-use ss_value::schema::{Schema, fits};
-use ss_value::value::{Row, Rows};
+use ss_model::Catalog;
+use ss_value::{Row, Rows, Schema, fits};
 
 fn fits_call(catalog: &Catalog, procedure: usize, args: &Row) -> bool
     ensures { result ≡ fits_schema (procedure_args catalog.now procedure) args.now }
@@ -20,7 +19,7 @@ fn fits_call(catalog: &Catalog, procedure: usize, args: &Row) -> bool
     }
 }
 
-/// The arguments, where they are there and fit the procedure of this number. Linear in them.
+/// The arguments, where they are there and fit the procedure of this number.
 pub(crate) fn fitting_args(catalog: &Catalog, procedure: usize, args: Option<Row>) -> Option<Row>
     ensures { result ≡ fitting_row (procedure_args catalog.now procedure) args }
 {
@@ -57,7 +56,7 @@ fn fit_stream(catalog: &Catalog, stream: usize, rows: &[Row]) -> bool
     }
 }
 
-/// The rows, where they are there and each fits the stream of this number. Linear in their values.
+/// The rows, where they are there and each fits the stream of this number.
 pub(crate) fn fitting_rows(catalog: &Catalog, stream: usize, rows: Option<Rows>) -> Option<Rows>
     ensures { result ≡ fitting_rows (stream_schema catalog.now stream) rows }
 {

@@ -1,12 +1,11 @@
-//! A request as it is written: no name is looked up yet, and no row compared with columns.
+//! A request as it is written: no name is looked up yet, and no row is compared with columns.
 //!
-//! Everything here is as large as what it was read from.
+//! Each value here takes memory linear in what it was read from.
 
-use ss_catalog_json::word::Word;
-use ss_value::text::Name;
-use ss_value::value::{Row, Rows};
+use ss_catalog_json::Word;
+use ss_value::{Name, Row, Rows};
 
-/// What is asked for. Of values among which a text is over 255 bytes no more is kept than that.
+/// What is asked for. `args` and `rows` are None where a text in them is over 255 bytes.
 #[derive(Drop)]
 pub enum AskedOutline {
     /// A call of the procedure that this names.

@@ -1,4 +1,4 @@
-//! A request as JSON.
+//! The request that a JSON value is, or the first reason to refuse it.
 
 ghost use Rattle.std.specs.Prelude.{◌≡◌, Ok, true, IfOk, IfErr};
 ghost use Rattle.serde_json.specs.View.{view};
@@ -12,14 +12,12 @@ use crate::outline::AskedOutline;
 use crate::shape::read_request;
 use crate::targets::{border_stream_named, call_named};
 use serde_json::Value as Json;
-use ss_catalog_json::read_error::ReadError;
-use ss_model::catalog::Catalog;
-use ss_model::entry::{Asked, Request};
-use ss_value::text::Name;
-use ss_value::value::{Row, Rows};
+use ss_catalog_json::ReadError;
+use ss_model::{Asked, Catalog, Request};
+use ss_value::{Name, Row, Rows};
 use std::alloc::Global;
 
-/// Why a request is refused; each with its line, counted from 1.
+/// Why a request is refused. Lines are counted from 1.
 #[derive(Clone, Copy, Debug, PartialEq, Eq, Drop)]
 pub enum RequestError {
     /// Out of memory.
@@ -34,7 +32,7 @@ pub enum RequestError {
     TooManyRows { line: u64 },
 }
 
-// A number as entries carry it. No catalogue that is accepted has one that doesn't fit; another has no room for it.
+// A number as entries carry it. In an accepted catalogue each fits; elsewhere one that doesn't is answered as out of memory.
 fn section(number: usize) -> Result<u16, RequestError>
     ensures ok { IfOk result (λ n. n ≡ number) }
     ensures refused { IfErr result (λ e. e ≡ RequestError.NoMemory) }
@@ -54,6 +52,7 @@ fn call_of(
     ensures ok { IfOk result (λ asked. asked_of catalog.now line (CallOutline name.now args) ≡ Ok asked) }
     ensures refused { IfErr result (RefusesAs (asked_of catalog.now line (CallOutline name.now args))) }
 {
+    // The name goes before the values, as C12 before C13.
     let Some(number) = call_named(catalog, name) else {
         return Err(RequestError::UnknownTarget { line });
     };
@@ -92,6 +91,7 @@ fn push_of(
     let Some(rows) = fitting_rows(catalog, number, rows) else {
         return Err(RequestError::Arguments { line });
     };
+    // Counted only when they fit, as C13 goes before C14.
     let rows = few_rows(line, rows)?;
     let stream = section(number)?;
     Ok(Asked::Push {
@@ -125,10 +125,10 @@ fn asked_of(catalog: &Catalog, line: u64, said: AskedOutline) -> Result<Asked, R
 /// What a value on this line asks of a catalogue, or its first refusal.
 ///
 /// Refuses `Shape` (C11), then `UnknownTarget` (C12), then `Arguments` (C13), then `TooManyRows` (C14), each for the
-/// whole value before the next; the crate's page says when. `NoMemory` says nothing.
+/// whole value before the next; the crate's page says when.
 ///
-/// Linear in the value, in time and memory, and one walk over the catalogue's procedures, or its streams and its
-/// procedures' inputs, for the name. A text is copied once.
+/// Takes time and memory linear in the value, and for the name one walk over the catalogue's procedures, or over its
+/// streams and its procedures' inputs. A text is copied once.
 #[tactic(auto, unfolding(crate::specs::Requests::request_of))]
 pub fn request_of(
     alloc: Global,

@@ -1,4 +1,4 @@
-//! A request as JSON.
+//! What a request says as JSON.
 
 ghost use Rattle.std.specs.Prelude.{◌≡◌, ◌<◌, ◌^◌, Ok, IfOk, IfErr};
 ghost use Rattle.serde_json.specs.View.{view};
@@ -8,13 +8,12 @@ ghost use Rattle.ss_catalog_requests.specs.Shape.{call_keys, read_call, push_key
 use crate::outline::{AskedOutline, RequestOutline};
 use crate::values::{ClientReader, ROW, ROWS, SeqReader};
 use serde_json::Value as Json;
-use ss_catalog_json::json_readers::{
-    NameReader, WordReader, has_key, object_of, read_key, read_key_or,
+use ss_catalog_json::{
+    NameReader, ReadError, WordReader, has_key, object_of, read_key, read_key_or,
 };
-use ss_catalog_json::read_error::ReadError;
 use std::alloc::Global;
 
-fn call_object(alloc: Global, value: &Json) -> Result<(), ReadError>
+fn check_call_keys(alloc: Global, value: &Json) -> Result<(), ReadError>
     ensures ok { IfOk result (λ x. object_of call_keys (view value.now) ≡ Ok x) }
     ensures refused { IfErr result (FaultsAs (object_of call_keys (view value.now))) }
 {
@@ -25,7 +24,7 @@ fn read_call(alloc: Global, value: &Json) -> Result<AskedOutline, ReadError>
     ensures ok { IfOk result (λ asked. read_call (view value.now) ≡ Ok asked) }
     ensures refused { IfErr result (FaultsAs (read_call (view value.now))) }
 {
-    call_object(alloc, value)?;
+    check_call_keys(alloc, value)?;
     let procedure = read_key(alloc, value, "call", &WordReader)?;
     let args = read_key(alloc, value, "args", &ROW)?;
     Ok(AskedOutline::Call { procedure, args })
@@ -59,6 +58,7 @@ fn read_asked(alloc: Global, value: &Json) -> Result<AskedOutline, ReadError>
     ensures ok { IfOk result (λ asked. read_asked (view value.now) ≡ Ok asked) }
     ensures refused { IfErr result (FaultsAs (read_asked (view value.now))) }
 {
+    // With both keys it is a push, in which `call` is a key that isn't allowed.
     if has_key(value, "push") {
         read_push(alloc, value)
     } else {
@@ -66,12 +66,12 @@ fn read_asked(alloc: Global, value: &Json) -> Result<AskedOutline, ReadError>
     }
 }
 
-/// What a request says, or the way to its first fault; `NoMemory` says nothing. Linear in the value, in time and in
-/// the memory of the outline.
+/// What a request says, or the way to its first fault. Linear in the value, in time and in the memory of the outline.
 pub(crate) fn read_request(alloc: Global, value: &Json) -> Result<RequestOutline, ReadError>
     ensures ok { IfOk result (λ said. read_request (view value.now) ≡ Ok said) }
     ensures refused { IfErr result (FaultsAs (read_request (view value.now))) }
 {
+    // First, since which keys may be there depends on the form.
     let what = read_asked(alloc, value)?;
     let client = read_key_or(alloc, value, "client", &ClientReader, 0)?;
     Ok(RequestOutline { client, what })

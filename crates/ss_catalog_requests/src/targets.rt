@@ -1,12 +1,12 @@
 //! What a request's name is the name of.
 //!
 //! A name is looked up by a walk over the catalogue: there are at most 64 procedures and 32 streams, and a request
-//! has one name, so that a table of them would cost more to make and carry than it saves.
+//! has one name, so that an index of them would cost more to make and carry than it saves.
 
 ghost use Rattle.std.specs.Prelude.{◌≡◌, slice_get};
 ghost use Rattle.ss_catalog_requests.specs.Targets.{is_call_named, call_named, is_stream_named, is_border_stream_named, border_stream_named};
 
-use ss_model::catalog::Catalog;
+use ss_model::Catalog;
 
 fn is_call_named(catalog: &Catalog, name: &[u8], procedure: usize) -> bool
     ensures { result ≡ is_call_named name.now (slice_get catalog.now.procedures procedure) }
@@ -17,8 +17,8 @@ fn is_call_named(catalog: &Catalog, name: &[u8], procedure: usize) -> bool
     }
 }
 
-/// The number of the call procedure of this name, the first of several: no other kind is called. Linear in the
-/// procedures and the name's bytes.
+/// The number of the first call procedure of this name; no other kind is called. Linear in the procedures and the name's
+/// bytes.
 pub(crate) fn call_named(catalog: &Catalog, name: &[u8]) -> Option<usize>
     ensures { result ≡ call_named catalog.now name.now }
 {
@@ -40,8 +40,8 @@ fn is_border_stream_named(catalog: &Catalog, name: &[u8], stream: usize) -> bool
     is_stream_named(catalog, name, stream) && catalog.is_border_stream(stream)
 }
 
-/// The number of the border stream of this name, the first of several: no other stream is pushed to. Linear in the
-/// streams, the procedures' inputs and the name's bytes.
+/// The number of the first border stream of this name; no other stream is pushed to. Linear in the streams, the
+/// procedures' inputs and the name's bytes.
 pub(crate) fn border_stream_named(catalog: &Catalog, name: &[u8]) -> Option<usize>
     ensures { result ≡ border_stream_named catalog.now name.now }
 {

@@ -1,7 +1,7 @@
 //! The values of a request as JSON.
 //!
-//! A text over 255 bytes is well formed, and refused only once the request's name is known. So a value, a row or
-//! rows with one are read as None, and what is behind is still read.
+//! A text over 255 bytes has the right shape (C11), and is refused only after the request's name was looked up (C13
+//! after C12). So a value, a row or rows with such a text are read as None, and what comes behind is still read.
 
 ghost use Rattle.std.specs.Prelude.{◌≡◌, Ok, IfOk, IfErr};
 ghost use Rattle.serde_json.specs.View.{view, items_view};
@@ -9,17 +9,13 @@ ghost use Rattle.ss_catalog_json.specs.Readings.{FaultsAs};
 ghost use Rattle.ss_catalog_requests.specs.Shape.{read_client, read_seq, short_text, read_value, with_another, all_items, read_all_of};
 
 use serde_json::Value as Json;
-use ss_catalog_json::json_readers::{Reader, fault_here, read_item};
-use ss_catalog_json::read_error::ReadError;
-use ss_value::NoMemory;
-use ss_value::seq::Seq;
-use ss_value::text::{ValueError, text_of};
-use ss_value::value::Value;
+use ss_catalog_json::{ReadError, Reader, fault_here, read_item};
+use ss_value::{NoMemory, Seq, Value, ValueError, text_of};
 use std::alloc::Global;
 
 // ---- numbers
 
-/// A client, from 0 to 7. Constant.
+/// A client, from 0 to 7.
 #[derive(Drop)]
 pub struct ClientReader;
 
@@ -43,7 +39,7 @@ impl Reader for ClientReader {
 /// The greatest Int.
 const GREATEST: u64 = (1 << 63) - 1;
 
-/// An Int of at least 0. Constant.
+/// An Int of at least 0.
 #[derive(Drop)]
 pub struct SeqReader;
 
@@ -76,7 +72,7 @@ fn short_text(alloc: Global, text: &str) -> Result<Option<Value>, NoMemory>
     }
 }
 
-/// An Int, or a text, copied once; and none for a text over 255 bytes. Linear in the text.
+/// An Int, or a text, which is copied once; and None for a text over 255 bytes.
 #[derive(Drop)]
 pub struct ValueReader;
 
@@ -122,13 +118,14 @@ fn read_all<T: Drop, R: Reader<Read = Option<T>>>(
 {
     let mut all = Some(Seq::new(alloc));
     for (number, value) in items.iter().enumerate() {
+        // Read also where `all` is None already, since a fault of any item goes before that.
         let read = read_item(alloc, number, reader, value)?;
         all = with_another(all, read)?;
     }
     Ok(all)
 }
 
-/// Each item of an array, and none where one of them is none. A fault of any item comes before that.
+/// Each item of an array, and None where one of them is None. A fault of any item goes before that.
 #[derive(Drop)]
 pub struct AllOf<R> {
     /// How an item is read.
@@ -148,8 +145,8 @@ impl<T: Drop, R: Reader<Read = Option<T>>> Reader for AllOf<R> {
     }
 }
 
-/// A row, and none where it has a text over 255 bytes.
+/// A row, and None where it has a text over 255 bytes.
 pub(crate) const ROW: AllOf<ValueReader> = AllOf { of: ValueReader };
 
-/// Rows, and none where one has a text over 255 bytes.
+/// Rows, and None where one of them has a text over 255 bytes.
 pub(crate) const ROWS: AllOf<AllOf<ValueReader>> = AllOf { of: ROW };

@@ -31,10 +31,10 @@ module _ {A B E : Type 0} (size : A → ℕ) (Reads : ℕ → A → Result B E �
         by (Ok bs) h = subst (λ (all : List B). AllRead size Reads first items all) (sym (append_assoc read (b ∷ []) bs)) (here.goes_on (Ok (b ∷ bs)) (said, h))
         by (Err e) h = here.goes_on (Err e) (inr (b, said, h))
 
-    -- an item is faulty
+    -- an item has a fault
     pub faulty : (r : SqlRefusal E) → Answers (Reads n x) (Err r) → Answers (InOrder size Reads first items) (Err r)
-    faulty NoMemory told = tt
-    faulty (Fault e) told = here.goes_on (Err e) (inl told)
+    faulty NoMemory reported = tt
+    faulty (Fault e) reported = here.goes_on (Err e) (inl reported)
 
   -- nothing is left to be read
   pub ended : (read : List B) (n i : ℕ) → length items ≤ i → IsBegun size Reads first items read n (drop i items) → AllRead size Reads first items read

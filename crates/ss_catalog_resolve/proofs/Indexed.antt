@@ -1,18 +1,7 @@
 -- What a function gives at each place, one place more.
-use Rattle.std.proofs.Common.{◌≡◌, ℕ, suc, ◌+◌, ◌<◌, List, [], ◌∷◌, ◌++◌, length, take, get_or, refl, sym, ap, ◌∙◌, arith, append_assoc}
-use Rattle.std.proofs.lemmas.List.{take_more, length-take-le}
+use Rattle.std.proofs.Common.{◌≡◌, ℕ, ◌+◌, ◌<◌, List, [], ◌∷◌, ◌++◌, length, take, get_or, sym, ap, ◌∙◌, append_assoc}
+use Rattle.ss_model.proofs.CallerLemmas.{indexed_more}
 use Rattle.ss_model.specs.Results.{map_indexed}
-
-indexed_push : {A B : Type 0} (f : ℕ → A → B) (xs : List A) (x : A) → map_indexed f (xs ++ x ∷ []) ≡ map_indexed f xs ++ f (length xs) x ∷ []
-indexed_push f [] x = refl
-indexed_push f (y ∷ xs) x = ap (λ ys. f 0 y ∷ ys) (indexed_push (λ i. f (suc i)) xs x)
-
-indexed_more : {A B : Type 0} (f : ℕ → A → B) (xs : List A) (i : ℕ) (x : A) → i < length xs → x ≡ get_or xs i x → map_indexed f (take (i + 1) xs) ≡ map_indexed f (take i xs) ++ f i x ∷ []
-indexed_more f xs i x within is =
-    ap (map_indexed f) (take_more xs i x within)
-    ∙ indexed_push f (take i xs) (get_or xs i x)
-    ∙ ap (λ n. map_indexed f (take i xs) ++ f n (get_or xs i x) ∷ []) (length-take-le i xs (omega arith))
-    ∙ ap (λ y. map_indexed f (take i xs) ++ f i y ∷ []) (sym is)
 
 -- one turn of a loop that adds them behind others
 pub indexed_step : {A B : Type 0} (f : ℕ → A → B) (before : List B) (xs : List A) (i : ℕ) (x : A) (now after : List B) (y : B) → i < length xs → x ≡ get_or xs i x → now ≡ before ++ map_indexed f (take i xs) → y ≡ f i x → after ≡ now ++ y ∷ [] → after ≡ before ++ map_indexed f (take (i + 1) xs)

@@ -1,5 +1,5 @@
 pub mod Places
 pub mod InOrder
-pub mod Told
+pub mod TextAnswers
 pub mod Narrow
 pub mod Indexed

@@ -33,22 +33,22 @@ all_short columns (x ∷ xs) none =
     let parts = or_parts (nat_lt 256 (length (columns x))) (list_any (λ y. nat_lt 256 (length (columns y))) xs) none in
     and_from _ _ (le-leb _ _ (ltb-false _ _ parts.0)) (all_short columns xs parts.1)
 
--- the test of what a function gives at each place
+-- the test of what a function gives for each item and its position
 all_indexed : {A B : Type 0} (p : B → Bool) (q : A → Bool) (f : ℕ → A → B) → ((n : ℕ) (a : A) → p (f n a) ≡ q a) → (xs : List A) → list_all p (map_indexed f xs) ≡ list_all q xs
 all_indexed p q f same [] = refl
 all_indexed p q f same (a ∷ xs) =
     ap (λ b. b && list_all p (map_indexed (λ i. f (suc i)) xs)) (same 0 a)
     ∙ ap (λ b. q a && b) (all_indexed p q (λ i. f (suc i)) (λ n. same (suc n)) xs)
 
--- the item at a place, or none, passes
+-- the item at a position, or none, passes
 short_at : {X : Type 0} (columns : X → List Column) (xs : List X) (at : ℕ) → list_all (λ x. is_short (columns x)) xs ≡ true → is_short (unwrap_or (option_map columns (slice_get xs at)) []) ≡ true
 short_at columns [] at all = refl
 short_at columns (x ∷ xs) zero all = (and_parts (is_short (columns x)) _ all).0
 short_at columns (x ∷ xs) (suc at) all = short_at columns xs at (and_parts (is_short (columns x)) (list_all (λ y. is_short (columns y)) xs) all).1
 
 -- what a list contains passes
-at_place : {X : Type 0} (p : X → Bool) (xs : List X) (x : X) → list_all p xs ≡ true → Contains xs x → p x ≡ true
-at_place p xs x all there = by (p x) refl
+at_index : {X : Type 0} (p : X → Bool) (xs : List X) (x : X) → list_all p xs ≡ true → Contains xs x → p x ≡ true
+at_index p xs x all there = by (p x) refl
   where
     by : (b : Bool) → p x ≡ b → p x ≡ true
     by true e = e
@@ -124,7 +124,7 @@ module _ (o : Outline) (few : is_too_many_to_number o ≡ false) where
   short_stream s = short_at (λ (d : StreamDef). d.schema) (map stream_of o.streams) s (list_all-map (λ (d : StreamDef). is_short d.schema) stream_of o.streams ∙ short_streams)
 
   pub short_args : (p : ProcedureOutline) → Contains o.procedures p → is_short p.args ≡ true
-  short_args p there = at_place (λ (q : ProcedureOutline). is_short q.args) o.procedures p short_procedures there
+  short_args p there = at_index (λ (q : ProcedureOutline). is_short q.args) o.procedures p short_procedures there
 
   -- ---- scopes
 

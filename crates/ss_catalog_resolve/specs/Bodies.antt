@@ -19,11 +19,11 @@ use Rattle.ss_catalog_resolve.specs.Scopes.{trigger_scope}
 use Rattle.ss_catalog_resolve.specs.InOrder.{AllRead, FirstFault, InOrder}
 use Rattle.ss_catalog_resolve.specs.Steps.{OfText, StepReads}
 
--- a fault in what has this name
+-- a fault in the body of this name, as one of the outline
 abbrev pub site_of : List ℕ → BodyFault → SqlSite
 site_of name f = record { name = name; number = f.number; fault = f.fault }
 
--- the same at want of memory, too, which may come besides since the name is copied
+-- the refusal of a body, as one of the procedure or trigger of this name; `NoMemory` may always come, since the name is copied
 abbrev pub IsSiteOf : List ℕ → SqlRefusal BodyFault → SqlRefusal SqlSite → Type 0
 IsSiteOf name r refused.NoMemory = Unit {0}
 IsSiteOf name refused.NoMemory (refused.Fault site) = ⊥
@@ -55,7 +55,7 @@ module _ (o : Outline) where
 
   -- ---- triggers
 
-  -- a statement of a trigger is the text as it stands
+  -- a statement of a trigger is what its text says
   abbrev pub StatementReads : TriggerOutline → ℕ → List ℕ → Result Statement BodyFault → Type 0
   StatementReads t n text = OfText n (λ s. s) (StatementSays (trigger_scope (sections_of o) (on_of o t.on)) text)
 
@@ -69,7 +69,7 @@ module _ (o : Outline) where
 
   -- ---- the whole
 
-  -- all of the catalogue but its text
+  -- an outline resolves to a catalogue, whatever text that has
   pub record Resolves (catalog : Catalog) : Type 0 where
     pub tables : catalog.tables ≡ (sections_of o).tables
     pub streams : catalog.streams ≡ (sections_of o).streams

@@ -1,7 +1,7 @@
--- What a list says whose items are read in order: all of it, or the first fault.
+-- What a list is read as whose items are read in order: all that they say, or the first fault.
 use Rattle.std.specs.Prelude.{◌≡◌, ◌+◌, ◌⊎◌, ℕ, List, [], ◌∷◌, Result, Ok, Err}
 
--- `Reads n a` is what an item says that stands at number n, and `size` how many numbers it takes
+-- `Reads n a r`: an item `a` at number `n` is read as `r`; `size a`: how many numbers it takes
 module _ {A B E : Type 0} (size : A → ℕ) (Reads : ℕ → A → Result B E → Type 0) where
   -- each item is read, the first of them at number n
   abbrev pub AllRead : ℕ → List A → List B → Type 0
@@ -9,7 +9,7 @@ module _ {A B E : Type 0} (size : A → ℕ) (Reads : ℕ → A → Result B E �
   AllRead n (x ∷ xs) [] = ⊥
   AllRead n (x ∷ xs) (y ∷ ys) = Reads n x (Ok y) × AllRead (n + size x) xs ys
 
-  -- the items before the first faulty one are read, and this is its fault
+  -- the items before the first one with a fault are read, and this is its fault
   abbrev pub FirstFault : ℕ → List A → E → Type 0
   FirstFault n [] e = ⊥
   FirstFault n (x ∷ xs) e = Reads n x (Err e) ⊎ ((y : B) × Reads n x (Ok y) × FirstFault (n + size x) xs e)

@@ -3,15 +3,15 @@ use Rattle.std.specs.Prelude.{ℕ, List, map, cond}
 use Rattle.ss_value.specs.declared.schema.Column.{Column}
 use Rattle.ss_model.specs.declared.catalog.On.{On}
 use Rattle.ss_model.specs.declared.catalog.On.TheVariants.{Stream as OnStream, Window as OnWindow}
-use Rattle.ss_model.specs.declared.catalog.Place.{Place}
-use Rattle.ss_model.specs.declared.catalog.Place.TheVariants.{Part as PlacedAt, By}
+use Rattle.ss_model.specs.declared.catalog.Placement.{Placement}
+use Rattle.ss_model.specs.declared.catalog.Placement.TheVariants.{Part as PlacedAt, By}
 use Rattle.ss_model.specs.declared.catalog.Touch.{Touch}
 use Rattle.ss_model.specs.declared.catalog.Touch.TheVariants.{Part, Arg, Multi, All}
 use Rattle.ss_model.specs.declared.catalog.TableDef.{TableDef}
 use Rattle.ss_model.specs.declared.catalog.StreamDef.{StreamDef}
 use Rattle.ss_model.specs.declared.catalog.WindowDef.{WindowDef}
-use Rattle.ss_catalog_outline.specs.declared.types.PlaceOutline.{PlaceOutline}
-use Rattle.ss_catalog_outline.specs.declared.types.PlaceOutline.TheVariants.{Part as PlacedAtOutline, By as ByOutline}
+use Rattle.ss_catalog_outline.specs.declared.types.PlacementOutline.{PlacementOutline}
+use Rattle.ss_catalog_outline.specs.declared.types.PlacementOutline.TheVariants.{Part as PlacedAtOutline, By as ByOutline}
 use Rattle.ss_catalog_outline.specs.declared.types.TouchOutline.{TouchOutline}
 use Rattle.ss_catalog_outline.specs.declared.types.TouchOutline.TheVariants.{Part as PartOutline, Arg as ArgOutline, Multi as MultiOutline, All as AllOutline}
 use Rattle.ss_catalog_outline.specs.declared.types.TableOutline.{TableOutline}
@@ -26,14 +26,14 @@ use Rattle.ss_catalog_resolve.specs.Numbers.{number_in, column_number, column_nu
 
 -- ---- tables, streams and windows
 
--- where rows stand, by columns of these names
-abbrev pub place_in : List (List ℕ) → PlaceOutline → Place
-place_in columns (PlacedAtOutline part) = PlacedAt part
-place_in columns (ByOutline name) = By (number_in columns name)
+-- the placement of a table with columns of these names
+abbrev pub placement_in : List (List ℕ) → PlacementOutline → Placement
+placement_in columns (PlacedAtOutline part) = PlacedAt part
+placement_in columns (ByOutline name) = By (number_in columns name)
 
--- where a table's rows stand
-abbrev pub place_of : List Column → PlaceOutline → Place
-place_of columns = place_in (map column_name columns)
+-- the placement of a table with these columns
+abbrev pub placement_of : List Column → PlacementOutline → Placement
+placement_of columns = placement_in (map column_name columns)
 
 -- a table
 abbrev pub table_of : TableOutline → TableDef
@@ -41,7 +41,7 @@ table_of d = record {
   name = d.name;
   schema = d.columns;
   key = column_numbers d.columns d.key;
-  place = place_of d.columns d.place;
+  placement = placement_of d.columns d.placement;
   indexes = map (column_numbers d.columns) d.indexes;
 }
 
@@ -49,7 +49,7 @@ table_of d = record {
 abbrev pub stream_of : StreamOutline → StreamDef
 stream_of d = record { name = d.name; schema = d.columns }
 
--- a window, with procedures of these names
+-- a window, whose owner is one of the procedures of these names
 abbrev pub window_of : List (List ℕ) → WindowOutline → WindowDef
 window_of procedures d = record { name = d.name; schema = d.columns; owner = number_in procedures d.owner; unit = d.unit; size = d.size; slide = d.slide }
 
@@ -73,7 +73,7 @@ stream_names o = map stream_name o.streams
 abbrev pub window_names : Outline → List (List ℕ)
 window_names o = map window_name o.windows
 
--- what has that name: one of these streams, and else one of these windows
+-- what has this name: one of these streams, or else one of these windows
 abbrev pub on_in : List (List ℕ) → List (List ℕ) → List ℕ → On
 on_in streams windows name = cond (is_among streams name) (OnStream (number_in streams name)) (OnWindow (number_in windows name))
 
@@ -81,7 +81,7 @@ on_in streams windows name = cond (is_among streams name) (OnStream (number_in s
 abbrev pub on_of : Outline → List ℕ → On
 on_of o = on_in (stream_names o) (window_names o)
 
--- what a procedure with these arguments touches
+-- the touch set of a procedure with these arguments
 abbrev pub touch_of : List Column → TouchOutline → Touch
 touch_of args (PartOutline part) = Part part
 touch_of args (ArgOutline name) = Arg (column_number args name)

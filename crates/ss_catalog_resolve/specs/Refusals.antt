@@ -7,12 +7,12 @@ use Rattle.ss_catalog_resolve.specs.declared.fault.ResolveError.{ResolveError}
 use Rattle.ss_catalog_resolve.specs.declared.fault.ResolveError.TheVariants.{NoMemory, Fault}
 use Rattle.ss_catalog_resolve.specs.Bodies.{FaultAt}
 
--- the first fault in its SQL; want of memory says nothing
+-- the error is the first fault in the SQL of an outline, or `NoMemory`, which may always come
 abbrev pub IsUnresolved : Outline → ResolveError → Type 0
 IsUnresolved o NoMemory = Unit {0}
 IsUnresolved o (Fault site) = FaultAt o site
 
--- a refusal of a body is one of the whole
-abbrev pub unresolved_of : SqlRefusal SqlSite → ResolveError
-unresolved_of refused.NoMemory = NoMemory
-unresolved_of (refused.Fault site) = Fault site
+-- the refusal of all bodies, as one of the outline
+abbrev pub resolve_error_of : SqlRefusal SqlSite → ResolveError
+resolve_error_of refused.NoMemory = NoMemory
+resolve_error_of (refused.Fault site) = Fault site

@@ -11,7 +11,7 @@ use Rattle.ss_model.specs.declared.catalog.WindowDef.{WindowDef}
 use Rattle.ss_model.specs.Results.{map_indexed}
 use Rattle.ss_catalog_resolve.specs.declared.definitions.Sections.{Sections}
 
--- a table and a window by number
+-- a table and a window, as sources of these numbers
 abbrev pub named_table : ℕ → TableDef → Named
 named_table n d = record { name = d.name; source = FromTable n; schema = d.schema; key = d.key }
 
@@ -23,7 +23,7 @@ module _ (sections : Sections) where
   abbrev pub shared_names : List Named
   shared_names = map_indexed named_table sections.tables ++ map_indexed named_window sections.windows
 
-  -- nothing else may be named
+  -- the scope in which nothing else may be named
   abbrev pub shared_scope : Scope
   shared_scope = record { sources = shared_names; targets = shared_names; params = []; out = None }
 
@@ -34,19 +34,19 @@ module _ (sections : Sections) where
   abbrev pub stream_columns : ℕ → List Column
   stream_columns s = unwrap_or (option_map (λ d. d.schema) (slice_get sections.streams s)) []
 
-  -- the batch of a stream that is this input of a procedure
+  -- the batch of a stream, as the input of a procedure at this position
   abbrev pub named_batch : ℕ → ℕ → Named
   named_batch i s = record { name = stream_name s; source = FromBatch i; schema = stream_columns s; key = [] }
 
-  -- the SQL of a procedure that takes these streams sees their batches
+  -- the scope of a procedure that takes these streams, whose batches its SQL may read
   abbrev pub procedure_scope : List ℕ → List Column → Option (List Column) → Scope
   procedure_scope inputs params out = record { sources = shared_names ++ map_indexed named_batch inputs; targets = shared_names; params = params; out = out }
 
-  -- the rows at hand
+  -- the source `inserted`, which only a trigger that waits for a stream has
   abbrev pub named_inserted : On → List Named
   named_inserted (OnStream s) = record { name = codes "inserted"; source = Inserted; schema = stream_columns s; key = [] } ∷ []
   named_inserted (OnWindow w) = []
 
-  -- the SQL of a stream's trigger sees the rows that were emitted
+  -- the scope of a trigger, which may read the rows that were emitted to its stream
   abbrev pub trigger_scope : On → Scope
   trigger_scope on = record { sources = shared_names ++ named_inserted on; targets = shared_names; params = []; out = None }

@@ -38,43 +38,43 @@ use Rattle.ss_catalog_resolve.specs.InOrder.{InOrder}
 
 -- ---- values of an `insert` step
 
--- the same type
+-- whether two types are the same
 abbrev pub is_same_kind : ColType → ColType → Bool
 is_same_kind Int Int = true
 is_same_kind Int Text = false
 is_same_kind Text Int = false
 is_same_kind Text Text = true
 
--- a column of this type, if it is there
+-- a column is there, and of this type
 abbrev pub is_of_kind : ColType → Option Column → Bool
 is_of_kind kind None = false
 is_of_kind kind (Some c) = is_same_kind kind c.kind
 
 module _ (args : List Column) where
-  -- a value, or an argument by its number
+  -- the expression of a value, or of an argument by its number
   abbrev pub given_expr : GivenOutline → Expr
   given_expr (GivenValue v) = Lit v
   given_expr (GivenArg name) = Param (column_number args name)
 
-  -- it is of this type
+  -- a value or an argument is of this type
   abbrev pub is_given_kind : ColType → GivenOutline → Bool
   is_given_kind kind (GivenValue v) = fits_kind kind v
   is_given_kind kind (GivenArg name) = is_of_kind kind (slice_get args (column_number args name))
 
-  -- one for each column, each of the column's type: S8 and then S6, both at 0
+  -- the fault in values for these columns: S8 where their numbers differ, and else S6 where a type does, both at offset 0
   abbrev pub given_fault : List Column → List GivenOutline → Option SqlFault
   given_fault columns values =
       cond (length values == length columns)
       (cond (list_all (λ x. is_given_kind x.0.kind x.1) (zip columns values)) None (Some (fault_at 6 0)))
       (Some (fault_at 8 0))
 
--- ---- a return of all
+-- ---- `return_all`
 
--- this column of the only source
+-- the item of this column of the only source
 abbrev pub column_item : ℕ → Item
 column_item c = Plain (Col 0 c)
 
--- all columns of a table in their order, with no clause
+-- the query of all columns of a table in their order, without further clauses
 abbrev pub whole_table : ℕ → List Column → Query
 whole_table t columns = record {
   items = map column_item (range_with_len 0 (length columns));
@@ -92,10 +92,10 @@ whole_table t columns = record {
 abbrev pub body_fault : ℕ → SqlFault → BodyFault
 body_fault n fault = record { number = n; fault = fault }
 
--- the same at want of memory, too
-abbrev pub refused_at : ℕ → SqlRefusal SqlFault → SqlRefusal BodyFault
-refused_at n refused.NoMemory = refused.NoMemory
-refused_at n (refused.Fault fault) = refused.Fault (body_fault n fault)
+-- the refusal of a text, as one of the step of this number
+abbrev pub refusal_at : ℕ → SqlRefusal SqlFault → SqlRefusal BodyFault
+refusal_at n refused.NoMemory = refused.NoMemory
+refusal_at n (refused.Fault fault) = refused.Fault (body_fault n fault)
 
 -- a step at this number, made of what a text says
 module _ {A B : Type 0} (n : ℕ) (step : A → B) (Says : Result A SqlFault → Type 0) where
@@ -103,7 +103,7 @@ module _ {A B : Type 0} (n : ℕ) (step : A → B) (Says : Result A SqlFault →
   OfText (Ok b) = (a : A) × (b ≡ step a) × Says (Ok a)
   OfText (Err e) = (fault : SqlFault) × (e ≡ body_fault n fault) × Says (Err fault)
 
--- it fits, or this is its fault
+-- this result where there is no fault, and else the fault
 abbrev pub unless_fault : {B : Type 0} → ℕ → Option SqlFault → B → Result B BodyFault
 unless_fault n None b = Ok b
 unless_fault n (Some fault) b = Err (body_fault n fault)
@@ -117,14 +117,14 @@ module _ {A B E : Type 0} (step : List A → B) (Reads : Result (List A) E → T
 -- ---- tables and streams of an outline
 
 module _ (o : Outline) where
-  -- the number of a table, and its columns
+  -- the number of a table, and the columns of the table that has it
   abbrev pub table_number : List ℕ → ℕ
   table_number = number_in (table_names o)
 
   abbrev pub table_columns : List ℕ → List Column
   table_columns name = unwrap_or (option_map (λ d. d.columns) (slice_get o.tables (table_number name))) []
 
-  -- the number of a stream, and its columns
+  -- the number of a stream, and the columns of the stream that has it
   abbrev pub stream_number : List ℕ → ℕ
   stream_number = number_in (stream_names o)
 
@@ -138,11 +138,11 @@ module _ (o : Outline) (p : ProcedureOutline) where
   abbrev pub step_scope : List Column → Option (List Column) → Scope
   step_scope = procedure_scope (sections_of o) (inputs_of o p)
 
-  -- values into a table
+  -- the INSERT of values into a table
   abbrev pub insert_of : List ℕ → List GivenOutline → Step
   insert_of table values = Sql (InsertValues (IntoTable (table_number o table)) (map (given_expr p.args) values))
 
-  -- the values that fit, or their fault
+  -- an `insert` step, or the fault in its values
   abbrev pub InsertReads : ℕ → List ℕ → List GivenOutline → Result Step BodyFault → Type 0
   InsertReads n table values r = r ≡ unless_fault n (given_fault p.args (table_columns o table) values) (insert_of table values)
 
@@ -151,7 +151,7 @@ module _ (o : Outline) (p : ProcedureOutline) where
   InnerReads params n (SqlInside text) = OfText n InnerSql (StatementSays (step_scope params None) text)
   InnerReads params n (AbortIfInside test code) = OfText n (λ c. InnerAbortIf c code) (ConditionSays (step_scope params None) test)
 
-  -- a step; a `for_each` stands before its inner steps
+  -- a step; a `for_each` comes before its inner steps
   abbrev pub StepReads : ℕ → StepOutline → Result Step BodyFault → Type 0
   StepReads n (outline.Insert table values) = InsertReads n table values
   StepReads n (outline.ReturnAll table) = λ r. r ≡ Ok (Return (whole_table (table_number o table) (table_columns o table)))

@@ -13,12 +13,12 @@ use Rattle.ss_sql_parse.specs.Texts.{IsTextOf, IsParseError}
 use Rattle.ss_sql_type.specs.declared.scope.Scope.{Scope}
 use Rattle.ss_sql_type.specs.declared.scope.TypeError.{TypeError}
 use Rattle.ss_sql_type.specs.declared.scope.TypeError.TheVariants as typing
-use Rattle.ss_sql_type.specs.Refusals.{IsLeast, number, place}
+use Rattle.ss_sql_type.specs.Refusals.{IsLeast, fault_number, fault_offset}
 use Rattle.ss_sql_type.specs.Queries.{query_faults, typed_query}
 use Rattle.ss_sql_type.specs.Statements.{statement_faults, typed_statement, condition_faults, typed_condition}
 use Rattle.ss_catalog_resolve.specs.declared.fault.SqlFault.{SqlFault}
 
--- a fault of this number at this place
+-- the fault of this code at this offset
 abbrev pub fault_at : ℕ → ℕ → SqlFault
 fault_at code at = record { code = code; at = at }
 
@@ -37,9 +37,9 @@ parse_fault (parse.Unexpected at) = Some (fault_at 4 at)
 
 -- S5 to S9
 abbrev pub type_fault : TypeError → SqlFault
-type_fault e = fault_at (number e) (place e)
+type_fault e = fault_at (fault_number e) (fault_offset e)
 
--- the same, but that want of memory is no fault
+-- the same, but `NoMemory` is no fault
 abbrev pub type_refusal : TypeError → Option SqlFault
 type_refusal typing.NoMemory = None
 type_refusal e = Some (type_fault e)
@@ -52,11 +52,11 @@ module _ {A T : Type 0} (g : Sql A) (faults : A → List TypeError) (typed : A �
     pub faultless : faults tree ≡ []
     pub is : t ≡ typed tree
 
-  -- the text has no tree, for this reason
+  -- the text has no tree, and this is the fault that the parser reports
   pub record IsUnparsed (fault : SqlFault) : Type 0 where
     pub error : ParseError
     pub is : IsParseError g text error
-    pub told : parse_fault error ≡ Some fault
+    pub reported : parse_fault error ≡ Some fault
 
   -- the text has a tree, and this is the first rule that it breaks
   pub record IsUntyped (fault : SqlFault) : Type 0 where
@@ -64,14 +64,14 @@ module _ {A T : Type 0} (g : Sql A) (faults : A → List TypeError) (typed : A �
     pub parsed : IsTextOf g text tree
     pub error : TypeError
     pub is : IsLeast (faults tree) error
-    pub told : type_fault error ≡ fault
+    pub reported : type_fault error ≡ fault
 
   -- the typed tree of the text, or its first fault
   abbrev pub Says : Result T SqlFault → Type 0
   Says (Ok t) = IsTyped t
   Says (Err fault) = IsUnparsed fault ⊎ IsUntyped fault
 
--- of a statement, a condition and a query in a scope
+-- what a text says as a statement, as a condition and as a query, in a scope
 abbrev pub StatementSays : Scope → List ℕ → Result Statement SqlFault → Type 0
 StatementSays scope = Says statement (statement_faults scope) (typed_statement scope)
 

@@ -1,4 +1,4 @@
-//! Tables, streams and windows.
+//! Tables, streams and windows, with numbers for the names in them.
 
 ghost use Rattle.std.specs.Prelude.{◌≡◌, ◌≤◌, length, map, nat_lt, false, IfOk};
 ghost use Rattle.std.specs.List.{list_any};
@@ -6,18 +6,14 @@ ghost use Rattle.ss_catalog_outline.specs.declared.types.TableOutline.{TableOutl
 ghost use Rattle.ss_names.specs.Names.{column_name};
 ghost use Rattle.ss_catalog_outline.specs.Limits.{is_too_many_to_number};
 ghost use Rattle.ss_catalog_resolve.specs.Numbers.{number_in};
-ghost use Rattle.ss_catalog_resolve.specs.Numbered.{place_in, table_of, stream_of, window_of, sections_of};
+ghost use Rattle.ss_catalog_resolve.specs.Numbered.{placement_in, table_of, stream_of, window_of, sections_of};
 
 use crate::references::{column_number, section_number};
-use ss_catalog_json::word::Word;
-use ss_catalog_outline::types::{
-    Outline, PlaceOutline, StreamOutline, TableOutline, WindowOutline,
-};
-use ss_model::catalog::{Place, StreamDef, TableDef, WindowDef};
+use ss_catalog_json::Word;
+use ss_catalog_outline::{Outline, PlacementOutline, StreamOutline, TableOutline, WindowOutline};
+use ss_model::{Placement, StreamDef, TableDef, WindowDef};
 use ss_names::NameIndex;
-use ss_value::NoMemory;
-use ss_value::copies::Copies;
-use ss_value::seq::Seq;
+use ss_value::{Copies, NoMemory, Seq};
 use std::alloc::Global;
 
 /// All that SQL may name as a source or a target, each kind in written order.
@@ -30,7 +26,7 @@ pub struct Sections {
 
 // ---- tables
 
-/// The numbers of columns. Linear in their names.
+/// The numbers of the columns of these names.
 fn column_numbers(alloc: Global, columns: &NameIndex, names: &[Word]) -> Result<Seq<u8>, NoMemory>
     requires { length columns.now ≤ 256 }
     ensures { IfOk result (λ numbers. numbers ≡ map (number_in columns.now) names.now) }
@@ -43,7 +39,7 @@ fn column_numbers(alloc: Global, columns: &NameIndex, names: &[Word]) -> Result<
     Ok(numbers)
 }
 
-/// The numbers of the columns of several indexes. Linear in their names.
+/// The numbers of the columns of several indexes.
 fn index_numbers(
     alloc: Global,
     columns: &NameIndex,
@@ -60,18 +56,18 @@ fn index_numbers(
     Ok(numbers)
 }
 
-/// Where rows with these columns stand.
-fn place_of(columns: &NameIndex, place: &PlaceOutline) -> Place
+/// The placement of a table with these columns.
+fn placement_of(columns: &NameIndex, placement: &PlacementOutline) -> Placement
     requires { length columns.now ≤ 256 }
-    ensures { result ≡ place_in columns.now place.now }
+    ensures { result ≡ placement_in columns.now placement.now }
 {
-    match place {
-        PlaceOutline::Part(part) => Place::Part(*part),
-        PlaceOutline::By(name) => Place::By(column_number(columns, name.as_slice())),
+    match placement {
+        PlacementOutline::Part(part) => Placement::Part(*part),
+        PlacementOutline::By(name) => Placement::By(column_number(columns, name.as_slice())),
     }
 }
 
-/// A table with these columns. Linear in it.
+/// A table, by an index of its columns.
 fn table_by(alloc: Global, columns: &NameIndex, table: &TableOutline) -> Result<TableDef, NoMemory>
     requires few { length columns.now ≤ 256 }
     requires own { columns.now ≡ map column_name table.now.columns }
@@ -80,18 +76,18 @@ fn table_by(alloc: Global, columns: &NameIndex, table: &TableOutline) -> Result<
     let name = table.name.copy(alloc)?;
     let schema = table.columns.duplicate(alloc)?;
     let key = column_numbers(alloc, columns, table.key.as_slice())?;
-    let place = place_of(columns, &table.place);
+    let placement = placement_of(columns, &table.placement);
     let indexes = index_numbers(alloc, columns, table.indexes.as_slice())?;
     Ok(TableDef {
         name,
         schema,
         key,
-        place,
+        placement,
         indexes,
     })
 }
 
-/// A table. Linear in it, since its columns are sought by their hashes.
+/// A table. Its columns are indexed, so that the names in its key, placement and indexes are looked up by hash.
 fn table_of(alloc: Global, table: &TableOutline) -> Result<TableDef, NoMemory>
     requires { length table.now.columns ≤ 256 }
     ensures { IfOk result (λ def. def ≡ table_of table.now) }
@@ -100,7 +96,7 @@ fn table_of(alloc: Global, table: &TableOutline) -> Result<TableDef, NoMemory>
     table_by(alloc, &columns, table)
 }
 
-/// The tables, in time linear in them.
+/// The tables.
 fn tables_of(alloc: Global, tables: &[TableOutline]) -> Result<Seq<TableDef>, NoMemory>
     requires { list_any (λ (d : ATable). nat_lt 256 (length d.columns)) tables.now ≡ false }
     ensures { IfOk result (λ defs. defs ≡ map table_of tables.now) }
@@ -115,7 +111,7 @@ fn tables_of(alloc: Global, tables: &[TableOutline]) -> Result<Seq<TableDef>, No
 
 // ---- streams and windows
 
-/// A stream. Linear in it.
+/// A stream.
 fn stream_of(alloc: Global, stream: &StreamOutline) -> Result<StreamDef, NoMemory>
     ensures { IfOk result (λ def. def ≡ stream_of stream.now) }
 {
@@ -124,7 +120,7 @@ fn stream_of(alloc: Global, stream: &StreamOutline) -> Result<StreamDef, NoMemor
     Ok(StreamDef { name, schema })
 }
 
-/// The streams, in time linear in them.
+/// The streams.
 fn streams_of(alloc: Global, streams: &[StreamOutline]) -> Result<Seq<StreamDef>, NoMemory>
     ensures { IfOk result (λ defs. defs ≡ map stream_of streams.now) }
 {
@@ -136,7 +132,7 @@ fn streams_of(alloc: Global, streams: &[StreamOutline]) -> Result<Seq<StreamDef>
     Ok(defs)
 }
 
-/// A window, with these procedures. Linear in it.
+/// A window, whose owner is one of these procedures.
 fn window_of(
     alloc: Global,
     procedures: &NameIndex,
@@ -157,7 +153,7 @@ fn window_of(
     })
 }
 
-/// The windows, in time linear in them.
+/// The windows.
 fn windows_of(
     alloc: Global,
     procedures: &NameIndex,
@@ -177,8 +173,6 @@ fn windows_of(
 // ---- the whole
 
 /// The tables, streams and windows of an outline, with numbers for the names in them.
-///
-/// Linear in the outline.
 pub fn sections_of(alloc: Global, outline: &Outline) -> Result<Sections, NoMemory>
     requires { is_too_many_to_number outline.now ≡ false }
     ensures { IfOk result (λ sections. sections ≡ sections_of outline.now) }

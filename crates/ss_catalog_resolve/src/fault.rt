@@ -1,22 +1,21 @@
 //! Where SQL is refused, and why.
 
-use ss_value::NoMemory;
-use ss_value::text::Name;
+use ss_value::{Name, NoMemory};
 
-/// A fault of a SQL text: S1 to S9, and the byte at which it stands. Values of an `insert` step that don't fit are S8
-/// and S6 at 0.
+/// A fault of a SQL text: its code, S1 to S9, and its offset. The values of an `insert` step, which has no text, are
+/// refused as S8 or S6 at offset 0.
 #[derive(Clone, Copy, Debug, PartialEq, Eq, Drop)]
 pub struct SqlFault {
-    /// 1 to 9.
+    /// From 1 to 9, for S1 to S9.
     pub code: u8,
-    /// The place, in bytes from the text's first.
+    /// The offset, in bytes from the start of the text.
     pub at: usize,
 }
 
 /// A fault in a body or in the statements of a trigger.
 #[derive(Clone, Copy, Debug, PartialEq, Eq, Drop)]
 pub struct BodyFault {
-    /// The number of the step or statement, from 0 in document order; a `for_each` stands before its inner steps.
+    /// The number of the step or statement, from 0 in document order; a `for_each` comes before its inner steps.
     pub number: usize,
     pub fault: SqlFault,
 }
@@ -51,7 +50,7 @@ impl From<NoMemory> for ResolveError {
     }
 }
 
-/// Why a part of an outline isn't resolved.
+/// Why a piece of an outline isn't resolved: a text, a body, or all bodies, whose fault is an `F`.
 #[derive(Drop)]
 pub enum SqlRefusal<F> {
     /// Out of memory.
@@ -71,6 +70,7 @@ impl<F> From<NoMemory> for SqlRefusal<F> {
     }
 }
 
+// `Seq::push` answers the item that it refused with `NoMemory`; `?` drops the item.
 impl<T: Drop, F> From<(NoMemory, T)> for SqlRefusal<F> {
     ghost use Rattle.std.specs.Prelude.{◌≡◌};
     ghost use Rattle.ss_catalog_resolve.specs.declared.fault.SqlRefusal.TheVariants.{NoMemory as OutOfMemory};
@@ -84,9 +84,9 @@ impl<T: Drop, F> From<(NoMemory, T)> for SqlRefusal<F> {
 
 impl From<SqlRefusal<SqlSite>> for ResolveError {
     ghost use Rattle.std.specs.Prelude.{◌≡◌};
-    ghost use Rattle.ss_catalog_resolve.specs.Refusals.{unresolved_of};
+    ghost use Rattle.ss_catalog_resolve.specs.Refusals.{resolve_error_of};
 
-    ghost from_gives = { λ refused e. e ≡ unresolved_of refused };
+    ghost from_gives = { λ refused e. e ≡ resolve_error_of refused };
 
     fn from(refused: SqlRefusal<SqlSite>) -> ResolveError {
         match refused {

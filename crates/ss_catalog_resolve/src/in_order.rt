@@ -7,11 +7,11 @@ ghost use Rattle.ss_catalog_resolve.specs.Answers.{Answers};
 ghost use Rattle.ss_catalog_resolve.specs.InOrder.{InOrder};
 
 use crate::fault::SqlRefusal;
-use ss_sql_type::scope::Scope;
-use ss_value::seq::Seq;
+use ss_sql_type::Scope;
+use ss_value::Seq;
 use std::alloc::Global;
 
-/// A way to read the items of a list, each of which has a number.
+/// How the items of a list are read, each of which has a number.
 pub trait ItemReader {
     type Item;
 
@@ -35,7 +35,7 @@ pub trait ItemReader {
     fn size(&self, item: &Self::Item) -> usize
         ensures { result ≡ size item.now };
 
-    /// What an item at a number is read as. The scope may serve as a place for more names, but stays in the end.
+    /// What an item at a number is read as. Names that are put into the scope on the way are taken off again.
     fn read(
         &self,
         alloc: Global,
@@ -46,13 +46,13 @@ pub trait ItemReader {
         requires taken { takes self.now item.now }
         requires sees { scope.old ≡ sees self.now }
         requires narrow { IsTrue (scope_narrow scope.old) }
-        ensures stays { OnOk result (scope.new ≡ scope.old) }
+        ensures unchanged { OnOk result (scope.new ≡ scope.old) }
         ensures read { Answers (reads self.now number item.now) result };
 }
 
 /// What the items of a list are read as, the first of them at this number, or the first fault.
 ///
-/// Reads each item up to the first faulty one, once.
+/// Reads each item up to the first with a fault, once.
 pub fn read_in_order<R: ItemReader>(
     alloc: Global,
     reads: &R,
@@ -63,7 +63,7 @@ pub fn read_in_order<R: ItemReader>(
     requires taken { (item : R.Item) → Contains items.now item → R.takes reads.now item }
     requires sees { scope.old ≡ R.sees reads.now }
     requires narrow { IsTrue (scope_narrow scope.old) }
-    ensures stays { OnOk result (scope.new ≡ scope.old) }
+    ensures unchanged { OnOk result (scope.new ≡ scope.old) }
     ensures read { Answers (InOrder R.size (R.reads reads.now) first items.now) result }
 {
     let mut all = Seq::new(alloc);
@@ -71,6 +71,7 @@ pub fn read_in_order<R: ItemReader>(
     for item in items {
         let read = reads.read(alloc, scope, number, item)?;
         all.push(read)?;
+        // No list in memory brings this about, so that an overflow may be answered as out of memory.
         let Some(next) = number.checked_add(reads.size(item)) else {
             return Err(SqlRefusal::NoMemory);
         };

@@ -1,4 +1,4 @@
-//! A procedure whose steps are read, and the values of its `insert` steps.
+//! A procedure whose steps are read, with its own names indexed, and its `insert` steps.
 
 ghost use Rattle.std.specs.Prelude.{◌≡◌, map, true, IsTrue, IfOk};
 ghost use Rattle.std.specs.List.{list_all, zip};
@@ -11,14 +11,12 @@ ghost use Rattle.ss_catalog_resolve.specs.Steps.{given_expr, is_given_kind, give
 use crate::fault::{BodyFault, SqlFault, SqlRefusal};
 use crate::outline_index::OutlineIndex;
 use crate::references::{column_number, number_of};
-use ss_catalog_json::word::Word;
-use ss_catalog_outline::types::{GivenOutline, ProcedureOutline};
-use ss_model::catalog::Step;
+use ss_catalog_json::Word;
+use ss_catalog_outline::{GivenOutline, ProcedureOutline};
+use ss_model::Step;
 use ss_names::NameIndex;
-use ss_sql_lex::typed::{Expr, Statement, Target};
-use ss_value::NoMemory;
-use ss_value::schema::{ColType, Column, is_of};
-use ss_value::seq::Seq;
+use ss_sql_lex::{Expr, Statement, Target};
+use ss_value::{ColType, Column, NoMemory, Seq, is_of};
 use std::alloc::Global;
 
 /// A procedure with indexes of its arguments and inputs. It borrows their names, and takes a reference and a hash for
@@ -35,14 +33,14 @@ pub struct Body<'a> {
 }
 
 impl<'a> Body<'a> {
-    /// Linear in the arguments and inputs.
+    /// Indexes the arguments and inputs of a procedure.
     pub fn new(
         alloc: Global,
         names: &'a OutlineIndex<'a>,
         procedure: &'a ProcedureOutline,
     ) -> Result<Body<'a>, NoMemory>
         requires { IsTrue (is_short procedure.now.args) }
-        ensures names { IfOk result (λ body. body.names.now ≡ names.now) }
+        ensures ok { IfOk result (λ body. body.names.now ≡ names.now) }
         ensures procedure { IfOk result (λ body. body.procedure.now ≡ procedure.now) }
     {
         let args = NameIndex::new(alloc, procedure.args.as_slice())?;
@@ -121,6 +119,7 @@ impl<'a> Body<'a> {
     fn given_fault(&self, columns: &[Column], values: &[GivenOutline]) -> Option<SqlFault>
         ensures { result ≡ given_fault self.now.procedure.now.args columns.now values.now }
     {
+        // Their number is compared before their types, as S8 goes before S6.
         if values.len() != columns.len() {
             Some(SqlFault { code: 8, at: 0 })
         } else if self.are_given_kinds(columns, values) {
@@ -130,7 +129,7 @@ impl<'a> Body<'a> {
         }
     }
 
-    /// An `insert` step. Linear in its values and the columns of its table.
+    /// An `insert` step, or the fault in its values.
     pub fn insert_step(
         &self,
         alloc: Global,

@@ -1,22 +1,24 @@
-//! An outline becomes a catalogue: names become numbers, and SQL texts typed trees.
+//! Resolves an outline to a catalogue: names become numbers, and SQL texts become typed trees.
 //!
-//! - `references`: numbers of names, what triggers wait for, and what procedures take and touch
-//! - `definitions`: tables, streams and windows
-//! - `outline_index`: an outline with the numbers of what stands in it by name
-//! - `scopes`, `texts`: the names in scope of a SQL text, and the tree that it stands for there
-//! - `in_order`: lists whose items are read in order, up to the first fault
-//! - `insert_steps`, `steps`: the steps of a body; `procedures`, `triggers`: what has a body
-//! - `fault`: where SQL is refused, and why; `refusals`: a refusal with the place where it stands
-//! - `resolve`: the catalogue of an outline, or the first fault in its SQL
+//! - `resolve`: the call `resolve`, which gives the catalogue of an outline, or the first fault in its SQL
+//! - `references`: numbers for names, in what triggers wait for and in what procedures take and touch
+//! - `definitions`: tables, streams and windows with numbers for the names in them
+//! - `outline_index`: `OutlineIndex`, an outline whose names are indexed
+//! - `scopes`, `texts`: the names in scope of a SQL text, and the typed tree of the text in that scope
+//! - `in_order`: `ItemReader`, how the items of a list are read in order, up to the first fault
+//! - `insert_steps`: `Body`, a procedure whose own names are indexed; `steps`: the steps of a body
+//! - `procedures`, `triggers`: procedures and triggers with their SQL
+//! - `fault`: where SQL is refused, and why; `refusals`: the refusal of a text as one of the step and of the procedure
+//!   or trigger that has it
 //!
-//! A name that isn't there has the number 0: the calls are meant for outlines in which each name is there.
+//! A name that isn't there gets the number 0: the calls are for outlines without unknown names (`ss_catalog_names`).
 //!
-//! Every call that takes `alloc` may answer `NoMemory`, which says nothing of the outline, and takes time linear in
+//! Every call that takes `alloc` may answer `NoMemory`, which says nothing about the outline, and takes time linear in
 //! what it is given, as far as hashes spread the names, unless its page says otherwise.
 #![tactic(auto)]
 
 mod definitions;
-pub mod fault;
+mod fault;
 mod in_order;
 mod insert_steps;
 mod outline_index;
@@ -28,3 +30,5 @@ mod scopes;
 mod steps;
 mod texts;
 mod triggers;
+
+pub use fault::{BodyFault, ResolveError, SqlFault, SqlRefusal, SqlSite};

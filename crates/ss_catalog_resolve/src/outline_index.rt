@@ -1,4 +1,4 @@
-//! An outline, and the numbers of what stands in it by name.
+//! An outline whose names are indexed, and the numbers that it has for them.
 
 ghost use Rattle.std.specs.Prelude.{◌≡◌, false, IfOk};
 ghost use Rattle.ss_catalog_outline.specs.Limits.{is_too_many_to_number};
@@ -7,16 +7,14 @@ ghost use Rattle.ss_catalog_resolve.specs.Steps.{table_number, table_columns, st
 
 use crate::references::{numbers_of, on_of, section_number};
 use crate::scopes::stream_columns;
-use ss_catalog_json::word::Word;
-use ss_catalog_outline::types::{Outline, ProcedureOutline};
-use ss_model::catalog::On;
+use ss_catalog_json::Word;
+use ss_catalog_outline::{Outline, ProcedureOutline};
+use ss_model::On;
 use ss_names::NameIndex;
-use ss_value::NoMemory;
-use ss_value::schema::{Column, Schema};
-use ss_value::seq::Seq;
+use ss_value::{Column, NoMemory, Schema, Seq};
 use std::alloc::Global;
 
-/// An outline with indexes of its names. It borrows them, and takes a reference and a hash for each.
+/// An outline with indexes of its names. It borrows the names, and takes a reference and a hash for each.
 #[derive(Drop)]
 pub struct OutlineIndex<'a> {
     pub outline: &'a Outline,
@@ -30,7 +28,7 @@ pub struct OutlineIndex<'a> {
 }
 
 impl<'a> OutlineIndex<'a> {
-    /// Linear in the names.
+    /// Indexes the tables, streams and windows of an outline.
     pub fn new(alloc: Global, outline: &'a Outline) -> Result<OutlineIndex<'a>, NoMemory>
         requires { is_too_many_to_number outline.now ≡ false }
         ensures { IfOk result (λ names. names.outline.now ≡ outline.now) }
@@ -53,7 +51,7 @@ impl<'a> OutlineIndex<'a> {
         section_number(&self.tables, table.as_slice())
     }
 
-    /// The columns of a table.
+    /// The columns of the table that has this name's number.
     pub fn table_columns(&self, table: &Word) -> &[Column]
         ensures { result.now ≡ table_columns self.now.outline.now table.now }
     {
@@ -70,7 +68,7 @@ impl<'a> OutlineIndex<'a> {
         section_number(&self.streams, stream.as_slice())
     }
 
-    /// A copy of the columns of a stream.
+    /// A copy of the columns of the stream that has this name's number.
     pub fn columns_of_stream(&self, alloc: Global, stream: &Word) -> Result<Schema, NoMemory>
         ensures { IfOk result (λ columns. columns ≡ columns_of_stream self.now.outline.now stream.now) }
     {

@@ -15,14 +15,12 @@ use crate::in_order::{ItemReader, read_in_order};
 use crate::insert_steps::Body;
 use crate::outline_index::OutlineIndex;
 use crate::references::touch_of;
-use crate::refusals::in_body;
+use crate::refusals::body_refusal;
 use crate::scopes::{enter_procedure, leave};
-use ss_catalog_outline::types::ProcedureOutline;
-use ss_model::catalog::{Procedure, Step};
-use ss_sql_type::scope::Scope;
-use ss_value::NoMemory;
-use ss_value::copies::Copies;
-use ss_value::seq::Seq;
+use ss_catalog_outline::ProcedureOutline;
+use ss_model::{Procedure, Step};
+use ss_sql_type::Scope;
+use ss_value::{Copies, NoMemory, Seq};
 use std::alloc::Global;
 
 /// The procedures of an outline.
@@ -41,9 +39,10 @@ impl<'a> Body<'a> {
     ) -> Result<Seq<Step>, SqlRefusal<BodyFault>>
         requires inputs { inputs.now ≡ inputs_of self.now.names.now.outline.now self.now.procedure.now }
         requires sees { scope.old ≡ shared_scope (sections_of self.now.names.now.outline.now) }
-        ensures stays { OnOk result (scope.new ≡ scope.old) }
+        ensures unchanged { OnOk result (scope.new ≡ scope.old) }
         ensures read { Answers (InOrder step_count (StepReads self.now.names.now.outline.now self.now.procedure.now) 0 self.now.procedure.now.body) result }
     {
+        // An error ends the whole reading, so the scope is restored only where all steps were read.
         let shared = scope.sources.len();
         let procedure = self.procedure;
         enter_procedure(alloc, scope, self.names.outline, inputs, &procedure.args)?;
@@ -65,14 +64,15 @@ impl<'a> OutlineIndex<'a> {
         requires inputs { inputs.now ≡ inputs_of self.now.outline.now procedure.now }
         requires short { IsTrue (is_short procedure.now.args) }
         requires sees { scope.old ≡ shared_scope (sections_of self.now.outline.now) }
-        ensures stays { OnOk result (scope.new ≡ scope.old) }
+        ensures unchanged { OnOk result (scope.new ≡ scope.old) }
         ensures read { Answers (InOrder step_count (StepReads self.now.outline.now procedure.now) 0 procedure.now.body) result }
     {
+        // Indexed once for all steps of the body.
         let body = Body::new(alloc, self, procedure)?;
         body.steps(alloc, scope, inputs)
     }
 
-    /// A procedure with these inputs and steps. Linear in the rest of it.
+    /// A procedure with these inputs and steps.
     fn procedure_with(
         &self,
         alloc: Global,
@@ -130,7 +130,7 @@ impl<'a> ItemReader for Procedures<'a> {
                 let procedure = self.names.procedure_with(alloc, item, inputs, steps)?;
                 Ok(procedure)
             }
-            Err(refused) => Err(in_body(alloc, &item.name, refused)),
+            Err(refused) => Err(body_refusal(alloc, &item.name, refused)),
         }
     }
 }
@@ -143,7 +143,7 @@ impl<'a> OutlineIndex<'a> {
         scope: &mut Scope,
     ) -> Result<Seq<Procedure>, SqlRefusal<SqlSite>>
         requires { scope.old ≡ shared_scope (sections_of self.now.outline.now) }
-        ensures stays { OnOk result (scope.new ≡ scope.old) }
+        ensures unchanged { OnOk result (scope.new ≡ scope.old) }
         ensures read { Answers (InOrder (λ p. 1) (ProcedureReads self.now.outline.now) 0 self.now.outline.now.procedures) result }
     {
         let reads = Procedures { names: &*self };

@@ -1,29 +1,26 @@
-//! Numbers of names, what triggers wait for, and what procedures take and touch.
+//! Numbers for names, in what triggers wait for and in what procedures take and touch.
 
 ghost use Rattle.std.specs.Prelude.{◌≡◌, ◌≤◌, length, map, IfOk};
 ghost use Rattle.ss_catalog_resolve.specs.Numbers.{number_in};
 ghost use Rattle.ss_catalog_resolve.specs.Numbered.{on_in, touch_of};
 
-use ss_catalog_json::word::Word;
-use ss_catalog_outline::types::TouchOutline;
-use ss_model::catalog::{On, Touch};
+use ss_catalog_json::Word;
+use ss_catalog_outline::TouchOutline;
+use ss_model::{On, Touch};
 use ss_names::NameIndex;
-use ss_value::NoMemory;
-use ss_value::copies::Copies;
-use ss_value::schema::Column;
-use ss_value::seq::Seq;
+use ss_value::{Column, Copies, NoMemory, Seq};
 use std::alloc::Global;
 
 // ---- numbers
 
-/// The number of a name: its first place, and 0 for one that isn't there. Takes the time of a hash.
+/// The number of a name: its first position, and 0 for one that isn't there. Takes one look-up.
 pub fn number_of(index: &NameIndex, name: &[u8]) -> usize
     ensures { result ≡ number_in index.now name.now }
 {
     index.position(name).unwrap_or(0)
 }
 
-/// The number of a column or an argument, 0 for one that isn't there. Takes the time of a hash.
+/// The number of a column or an argument, 0 for one that isn't there. Takes one look-up.
 pub fn column_number(columns: &NameIndex, name: &[u8]) -> u8
     requires { length columns.now ≤ 256 }
     ensures { result ≡ number_in columns.now name.now }
@@ -31,7 +28,7 @@ pub fn column_number(columns: &NameIndex, name: &[u8]) -> u8
     number_of(columns, name) as u8
 }
 
-/// The number of an element of a section, 0 for one that isn't there. Takes the time of a hash.
+/// The number of an element of a section, 0 for one that isn't there. Takes one look-up.
 pub fn section_number(section: &NameIndex, name: &[u8]) -> u16
     requires { length section.now ≤ 65536 }
     ensures { result ≡ number_in section.now name.now }
@@ -39,7 +36,7 @@ pub fn section_number(section: &NameIndex, name: &[u8]) -> u16
     number_of(section, name) as u16
 }
 
-/// The numbers of names, 0 for one that isn't there. Linear in the names.
+/// The numbers of names, 0 for one that isn't there.
 pub fn numbers_of(alloc: Global, index: &NameIndex, names: &[Word]) -> Result<Seq<u16>, NoMemory>
     requires { length index.now ≤ 65536 }
     ensures { IfOk result (λ numbers. numbers ≡ map (number_in index.now) names.now) }
@@ -52,10 +49,10 @@ pub fn numbers_of(alloc: Global, index: &NameIndex, names: &[Word]) -> Result<Se
     Ok(numbers)
 }
 
-// ---- heads
+// ---- what triggers wait for, and what procedures touch
 
-/// What a trigger waits for: the stream of that name, else the window, and window 0 for a name that is neither.
-/// Takes the time of two hashes.
+/// What a trigger waits for: the stream of this name, or else the window, and window 0 for a name that is neither.
+/// Takes two look-ups.
 pub fn on_of(streams: &NameIndex, windows: &NameIndex, name: &Word) -> On
     requires streams { length streams.now ≤ 65536 }
     requires windows { length windows.now ≤ 65536 }
@@ -69,8 +66,7 @@ pub fn on_of(streams: &NameIndex, windows: &NameIndex, name: &Word) -> On
     }
 }
 
-/// What a procedure with these arguments touches; by the argument 0, where it is to be by one that isn't there.
-/// Linear in the arguments and parts.
+/// The touch set of a procedure with these arguments. An argument that isn't there becomes argument 0.
 pub fn touch_of(alloc: Global, args: &[Column], touch: &TouchOutline) -> Result<Touch, NoMemory>
     requires { length args.now ≤ 256 }
     ensures { IfOk result (λ touched. touched ≡ touch_of args.now touch.now) }
@@ -78,6 +74,7 @@ pub fn touch_of(alloc: Global, args: &[Column], touch: &TouchOutline) -> Result<
     match touch {
         TouchOutline::Part(part) => Ok(Touch::Part(*part)),
         TouchOutline::Arg(name) => {
+            // Made here, since only this form of a touch set names an argument.
             let args = NameIndex::new(alloc, args)?;
             Ok(Touch::Arg(column_number(&args, name.as_slice())))
         }

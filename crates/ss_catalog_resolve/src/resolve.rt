@@ -12,14 +12,14 @@ use crate::definitions::{Sections, sections_of};
 use crate::fault::{ResolveError, SqlRefusal, SqlSite};
 use crate::outline_index::OutlineIndex;
 use crate::scopes::shared_scope;
-use ss_catalog_outline::types::Outline;
-use ss_model::catalog::{Catalog, Procedure, TriggerDef};
-use ss_sql_type::scope::Scope;
-use ss_value::seq::Seq;
+use ss_catalog_outline::Outline;
+use ss_model::{Catalog, Procedure, TriggerDef};
+use ss_sql_type::Scope;
+use ss_value::Seq;
 use std::alloc::Global;
 
 impl<'a> OutlineIndex<'a> {
-    /// The procedures of the outline, and then its triggers. The scope is to be that of tables and windows alone.
+    /// The procedures of the outline, and then its triggers. The scope has to be that of tables and windows alone.
     fn bodies(
         &self,
         alloc: Global,
@@ -55,15 +55,14 @@ fn bodies_of(
 /// The catalogue of an outline, with this text, or the first fault in its SQL: procedures go before triggers, each in
 /// written order, and of one text the first fault is reported.
 ///
-/// It is for an outline in which each name of a field is there: where an input is the name of no stream, it may answer
-/// `NoMemory`.
+/// It is for outlines without unknown names: where an input is the name of no stream, it may answer `NoMemory`.
 ///
-/// Each text is parsed and typed once. That takes time and memory linear in the outline and its texts, as far as
-/// hashes spread the names, but that each text walks the names of tables, windows and inputs at most twice, and that an
-/// input, an `emit` and a `for_each` copy the columns of their stream, at most 256.
+/// Parses and types each text once, in time and memory linear in the outline and its texts, as far as hashes spread the
+/// names, with two exceptions: each text walks the names of tables, windows and inputs up to twice, and each input, `emit`
+/// and `for_each` copies the columns of its stream, of which there are at most 256.
 pub fn resolve(alloc: Global, outline: &Outline, text: Seq<u8>) -> Result<Catalog, ResolveError>
     requires { is_too_many_to_number outline.now ≡ false }
-    ensures resolves { IfOk result (Resolves outline.now) }
+    ensures ok { IfOk result (Resolves outline.now) }
     ensures text { IfOk result (λ catalog. catalog.text ≡ text) }
     ensures refused { IfErr result (IsUnresolved outline.now) }
 {

@@ -1,7 +1,7 @@
 //! The names in scope of the SQL of a catalogue.
 //!
-//! One scope serves all texts. It begins with the tables and windows, once to read and once to write. What a procedure
-//! or a trigger sees besides is put behind the sources, and taken off again.
+//! One scope serves all texts, so that tables and windows are copied into it only once: as sources, and as targets. What
+//! a procedure or a trigger sees besides them is put behind the sources, and taken off again.
 
 ghost use Rattle.std.specs.Prelude.{◌≡◌, ◌≤◌, [], ◌++◌, length, take, IfOk, OnOk};
 ghost use Rattle.ss_model.specs.Results.{map_indexed};
@@ -9,15 +9,11 @@ ghost use Rattle.ss_catalog_resolve.specs.Numbered.{sections_of};
 ghost use Rattle.ss_catalog_resolve.specs.Scopes.{named_table, named_window, shared_names, shared_scope, stream_columns, named_batch, procedure_scope, named_inserted, trigger_scope};
 
 use crate::definitions::Sections;
-use ss_catalog_outline::types::{Outline, StreamOutline};
-use ss_model::catalog::{On, TableDef, WindowDef};
-use ss_sql_lex::typed::SourceId;
-use ss_sql_type::scope::{Named, Scope};
-use ss_value::NoMemory;
-use ss_value::copies::Copies;
-use ss_value::schema::Schema;
-use ss_value::seq::Seq;
-use ss_value::text::name_of;
+use ss_catalog_outline::{Outline, StreamOutline};
+use ss_model::{On, TableDef, WindowDef};
+use ss_sql_lex::SourceId;
+use ss_sql_type::{Named, Scope};
+use ss_value::{Copies, NoMemory, Schema, Seq, name_of};
 use std::alloc::Global;
 
 // ---- tables and windows
@@ -82,7 +78,7 @@ fn shared_names(alloc: Global, sections: &Sections) -> Result<Seq<Named>, NoMemo
     Ok(names)
 }
 
-/// The scope with tables and windows alone. Linear in them.
+/// The scope with tables and windows alone.
 pub fn shared_scope(alloc: Global, sections: &Sections) -> Result<Scope, NoMemory>
     requires tables { length sections.now.tables ≤ 65536 }
     requires windows { length sections.now.windows ≤ 65536 }
@@ -100,7 +96,7 @@ pub fn shared_scope(alloc: Global, sections: &Sections) -> Result<Scope, NoMemor
 
 // ---- procedures and triggers
 
-/// A copy of the columns of the stream of this number.
+/// A copy of the columns of the stream of this number, and none where there is no such stream.
 pub fn stream_columns(alloc: Global, outline: &Outline, stream: u16) -> Result<Schema, NoMemory>
     ensures { IfOk result (λ columns. columns ≡ stream_columns (sections_of outline.now) stream) }
 {
@@ -119,6 +115,7 @@ fn named_batch(
 ) -> Result<Named, NoMemory>
     ensures { IfOk result (λ named. named ≡ named_batch (sections_of outline.now) position stream) }
 {
+    // Comes only for the number 0 of an unknown name, where there are no streams at all.
     let Some(found) = outline.streams.get(stream as usize) else {
         return Err(NoMemory);
     };
@@ -141,6 +138,7 @@ fn add_batches(
     ensures { OnOk result (names.new ≡ names.old ++ map_indexed (named_batch (sections_of outline.now)) inputs.now) }
 {
     for (position, stream) in inputs.iter().enumerate() {
+        // Inputs that are known and no duplicates are at most as many as streams, of which there are 65,536 at most.
         if position > 65_535 {
             return Err(NoMemory);
         }
@@ -179,6 +177,7 @@ pub fn enter_trigger(
     let On::Stream(stream) = on else {
         return Ok(());
     };
+    // The word has the form of a name, so that this fails only when out of memory.
     let Ok(name) = name_of(alloc, b"inserted") else {
         return Err(NoMemory);
     };
@@ -193,10 +192,11 @@ pub fn enter_trigger(
     Ok(())
 }
 
-/// Takes off what was added behind so many sources, and the parameters.
+/// Takes off what was added behind the shared sources, of which there are this many, and the parameters.
 pub fn leave(alloc: Global, scope: &mut Scope, shared: usize)
     ensures { scope.new ≡ record scope.old { sources = take shared scope.old.sources; params = [] } }
 {
+    // By way of a `Vec`, since `Seq` has no `truncate`.
     let sources = std::mem::replace(&mut scope.sources, Seq::new(alloc));
     let mut sources = sources.into_vec();
     sources.truncate(shared);

@@ -14,16 +14,14 @@ ghost use Rattle.ss_catalog_resolve.specs.Steps.{column_item, whole_table, OfTex
 use crate::fault::{BodyFault, SqlRefusal};
 use crate::in_order::{ItemReader, read_in_order};
 use crate::insert_steps::Body;
-use crate::refusals::refused_at;
+use crate::refusals::refusal_at;
 use crate::texts::{condition_of, query_of, statement_of};
-use ss_catalog_json::word::Word;
-use ss_catalog_outline::types::{InnerOutline, StepOutline};
-use ss_model::catalog::{Inner, Step};
-use ss_sql_lex::typed::{Expr, Item, Query, SourceId, Statement};
-use ss_sql_type::scope::Scope;
-use ss_value::NoMemory;
-use ss_value::schema::Column;
-use ss_value::seq::Seq;
+use ss_catalog_json::Word;
+use ss_catalog_outline::{InnerOutline, StepOutline};
+use ss_model::{Inner, Step};
+use ss_sql_lex::{Expr, Item, Query, SourceId, Statement};
+use ss_sql_type::Scope;
+use ss_value::{Column, NoMemory, Seq};
 use std::alloc::Global;
 
 // ---- steps of one text
@@ -39,7 +37,7 @@ fn sql_step(
 {
     match statement_of(alloc, scope, text) {
         Ok(statement) => Ok(Step::Sql(statement)),
-        Err(refused) => Err(refused_at(number, refused)),
+        Err(refused) => Err(refusal_at(number, refused)),
     }
 }
 
@@ -55,7 +53,7 @@ fn abort_step(
 {
     match condition_of(alloc, scope, test) {
         Ok(test) => Ok(Step::AbortIf { test, code }),
-        Err(refused) => Err(refused_at(number, refused)),
+        Err(refused) => Err(refusal_at(number, refused)),
     }
 }
 
@@ -70,7 +68,7 @@ fn return_step(
 {
     match query_of(alloc, scope, query) {
         Ok(query) => Ok(Step::Return(query)),
-        Err(refused) => Err(refused_at(number, refused)),
+        Err(refused) => Err(refusal_at(number, refused)),
     }
 }
 
@@ -94,7 +92,7 @@ fn inner_sql(
 {
     match statement_of(alloc, scope, text) {
         Ok(statement) => Ok(Inner::Sql(statement)),
-        Err(refused) => Err(refused_at(number, refused)),
+        Err(refused) => Err(refusal_at(number, refused)),
     }
 }
 
@@ -110,7 +108,7 @@ fn inner_abort(
 {
     match condition_of(alloc, scope, test) {
         Ok(test) => Ok(Inner::AbortIf { test, code }),
-        Err(refused) => Err(refused_at(number, refused)),
+        Err(refused) => Err(refusal_at(number, refused)),
     }
 }
 
@@ -145,7 +143,7 @@ impl<'a> ItemReader for InnerSteps<'a> {
     }
 }
 
-// ---- a return of all
+// ---- `return_all`
 
 fn column_items(alloc: Global, count: usize) -> Result<Seq<Item>, NoMemory>
     requires { count ≤ 256 }
@@ -181,7 +179,7 @@ fn whole_table(alloc: Global, table: u16, columns: &[Column]) -> Result<Query, N
 // ---- steps
 
 impl<'a> Body<'a> {
-    /// Linear in the columns of the table.
+    /// A `return_all` step: the query of all columns of a table.
     fn return_all_step(&self, alloc: Global, table: &Word) -> Result<Step, SqlRefusal<BodyFault>>
         ensures { Answers (StepReads self.now.names.now.outline.now self.now.procedure.now 0 (outline.ReturnAll table.now)) result }
     {
@@ -201,14 +199,17 @@ impl<'a> Body<'a> {
     ) -> Result<Step, SqlRefusal<BodyFault>>
         requires sees { scope.old ≡ step_scope self.now.names.now.outline.now self.now.procedure.now self.now.procedure.now.args None }
         requires narrow { IsTrue (scope_narrow scope.old) }
-        ensures stays { OnOk result (scope.new ≡ scope.old) }
+        ensures unchanged { OnOk result (scope.new ≡ scope.old) }
         ensures read { Answers (StepReads self.now.names.now.outline.now self.now.procedure.now number (outline.ForEach stream.now body.now)) result }
     {
         let input = self.input(stream);
+        // Neither comes about: inputs that are known and no duplicates are at most as many as streams, and no memory holds so
+        // many steps.
         if input > 65_535 || number == usize::MAX {
             return Err(SqlRefusal::NoMemory);
         }
         let columns = self.names.columns_of_stream(alloc, stream)?;
+        // Inside, the parameters are the columns of the stream in place of the arguments.
         let args = std::mem::replace(&mut scope.params, columns);
         let inner = InnerSteps { body: self, stream };
         let body = read_in_order(alloc, &inner, scope, number + 1, body)?;
@@ -229,10 +230,11 @@ impl<'a> Body<'a> {
     ) -> Result<Step, SqlRefusal<BodyFault>>
         requires sees { scope.old ≡ step_scope self.now.names.now.outline.now self.now.procedure.now self.now.procedure.now.args None }
         requires narrow { IsTrue (scope_narrow scope.old) }
-        ensures stays { OnOk result (scope.new ≡ scope.old) }
+        ensures unchanged { OnOk result (scope.new ≡ scope.old) }
         ensures read { Answers (StepReads self.now.names.now.outline.now self.now.procedure.now number (outline.Emit stream.now query.now)) result }
     {
         let columns = self.names.columns_of_stream(alloc, stream)?;
+        // For this query alone: no other text of a body has rows that go to a stream.
         scope.out = Some(columns);
         let query = query_of(alloc, scope, query);
         scope.out = None;
@@ -241,7 +243,7 @@ impl<'a> Body<'a> {
                 stream: self.names.stream_number(stream),
                 query,
             }),
-            Err(refused) => Err(refused_at(number, refused)),
+            Err(refused) => Err(refusal_at(number, refused)),
         }
     }
 }

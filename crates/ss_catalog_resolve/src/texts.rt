@@ -2,28 +2,26 @@
 
 ghost use Rattle.std.specs.Prelude.{◌≡◌, IsTrue};
 ghost use Rattle.ss_sql_type.specs.Queries.{scope_narrow};
-ghost use Rattle.ss_catalog_resolve.specs.Answers.{Answers, fault_told};
+ghost use Rattle.ss_catalog_resolve.specs.Answers.{Answers, fault_of};
 ghost use Rattle.ss_catalog_resolve.specs.Texts.{fault_at, parse_fault, type_refusal, StatementSays, ConditionSays, QuerySays};
 
 use crate::fault::{SqlFault, SqlRefusal};
-use ss_catalog_json::word::Word;
-use ss_sql_lex::token::LexError;
-use ss_sql_lex::typed::{Condition, Query, Statement};
-use ss_sql_parse::parse::{ParseError, parse_condition, parse_query, parse_statement};
-use ss_sql_type::scope::{Scope, TypeError};
-use ss_sql_type::typing::{type_condition, type_query, type_statement};
+use ss_catalog_json::Word;
+use ss_sql_lex::{Condition, LexError, Query, Statement};
+use ss_sql_parse::{ParseError, parse_condition, parse_query, parse_statement};
+use ss_sql_type::{Scope, TypeError, type_condition, type_query, type_statement};
 use std::alloc::Global;
 
-/// The fault of this number at this place.
+/// The fault of this code at this offset.
 fn fault_at(code: u8, at: usize) -> SqlRefusal<SqlFault>
-    ensures { fault_told result ≡ Some (fault_at code at) }
+    ensures { fault_of result ≡ Some (fault_at code at) }
 {
     SqlRefusal::Fault(SqlFault { code, at })
 }
 
-/// The refusal of a text that isn't parsed.
+/// The refusal of a text that the parser refuses.
 fn parse_fault(error: ParseError) -> SqlRefusal<SqlFault>
-    ensures { fault_told result ≡ parse_fault error }
+    ensures { fault_of result ≡ parse_fault error }
 {
     match error {
         ParseError::NoMemory => SqlRefusal::NoMemory,
@@ -35,9 +33,9 @@ fn parse_fault(error: ParseError) -> SqlRefusal<SqlFault>
     }
 }
 
-/// The refusal of a tree that isn't typed.
+/// The refusal of a tree that breaks a rule of types.
 fn type_refusal(error: TypeError) -> SqlRefusal<SqlFault>
-    ensures { fault_told result ≡ type_refusal error }
+    ensures { fault_of result ≡ type_refusal error }
 {
     match error {
         TypeError::NoMemory => SqlRefusal::NoMemory,
@@ -51,8 +49,8 @@ fn type_refusal(error: TypeError) -> SqlRefusal<SqlFault>
 
 /// The statement of a text, or its first fault.
 ///
-/// In time and memory linear in the text and the columns of what it names, but that it walks the names in scope at
-/// most twice.
+/// Takes time and memory linear in the text and the columns of what it names, and walks the names in scope up to
+/// twice.
 pub fn statement_of(
     alloc: Global,
     scope: &Scope,

@@ -11,15 +11,15 @@ ghost use Rattle.ss_catalog_resolve.specs.Bodies.{StatementReads, TriggerReads};
 use crate::fault::{BodyFault, SqlRefusal, SqlSite};
 use crate::in_order::{ItemReader, read_in_order};
 use crate::outline_index::OutlineIndex;
-use crate::refusals::{in_body, refused_at};
+use crate::refusals::{body_refusal, refusal_at};
 use crate::scopes::{enter_trigger, leave};
 use crate::texts::statement_of;
-use ss_catalog_json::word::Word;
-use ss_catalog_outline::types::TriggerOutline;
-use ss_model::catalog::{On, TriggerDef};
-use ss_sql_lex::typed::Statement;
-use ss_sql_type::scope::Scope;
-use ss_value::seq::Seq;
+use ss_catalog_json::Word;
+use ss_catalog_outline::TriggerOutline;
+use ss_model::{On, TriggerDef};
+use ss_sql_lex::Statement;
+use ss_sql_type::Scope;
+use ss_value::Seq;
 use std::alloc::Global;
 
 /// The statements of a trigger.
@@ -55,7 +55,7 @@ impl<'a> ItemReader for Statements<'a> {
     ) -> Result<Statement, SqlRefusal<BodyFault>> {
         match statement_of(alloc, scope, item) {
             Ok(statement) => Ok(statement),
-            Err(refused) => Err(refused_at(number, refused)),
+            Err(refused) => Err(refusal_at(number, refused)),
         }
     }
 }
@@ -71,9 +71,10 @@ impl<'a> OutlineIndex<'a> {
     ) -> Result<Seq<Statement>, SqlRefusal<BodyFault>>
         requires on { on ≡ on_of self.now.outline.now trigger.now.on }
         requires sees { scope.old ≡ shared_scope (sections_of self.now.outline.now) }
-        ensures stays { OnOk result (scope.new ≡ scope.old) }
+        ensures unchanged { OnOk result (scope.new ≡ scope.old) }
         ensures read { Answers (InOrder (λ s. 1) (StatementReads self.now.outline.now trigger.now) 0 trigger.now.statements) result }
     {
+        // An error ends the whole reading, so the scope is restored only where all statements were read.
         let shared = scope.sources.len();
         enter_trigger(alloc, scope, self.outline, on)?;
         let reads = Statements {
@@ -126,7 +127,7 @@ impl<'a> ItemReader for Triggers<'a> {
                     statements,
                 })
             }
-            Err(refused) => Err(in_body(alloc, &item.name, refused)),
+            Err(refused) => Err(body_refusal(alloc, &item.name, refused)),
         }
     }
 }
@@ -139,7 +140,7 @@ impl<'a> OutlineIndex<'a> {
         scope: &mut Scope,
     ) -> Result<Seq<TriggerDef>, SqlRefusal<SqlSite>>
         requires { scope.old ≡ shared_scope (sections_of self.now.outline.now) }
-        ensures stays { OnOk result (scope.new ≡ scope.old) }
+        ensures unchanged { OnOk result (scope.new ≡ scope.old) }
         ensures read { Answers (InOrder (λ t. 1) (TriggerReads self.now.outline.now) 0 self.now.outline.now.triggers) result }
     {
         let reads = Triggers { names: &*self };

@@ -1,13 +1,13 @@
-//! What one searches for.
+//! What a search looks for.
 
 ghost use Rattle.std.specs.Prelude.{◌≡◌, Bool};
 
-/// A place that is sought in a list: it tells which items stand before it.
+/// A position that is sought in a list: it is given by which items stand before it.
 pub trait Aim<T> {
-    /// Which items stand before the place.
+    /// Which items stand before the position.
     ghost before: { Self → T → Bool };
 
-    /// Whether an item stands before the place. A search asks so many times as the list can be halved.
+    /// Whether an item stands before the position. A search asks this once for each halving of the list.
     fn is_before(&self, item: &T) -> bool
         ensures { result ≡ before self.now item.now };
 }

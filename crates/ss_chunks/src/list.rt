@@ -14,16 +14,16 @@ use std::marker::Model;
 mod chunks;
 
 use chunks::{
-    all_of, back_from, chunk_with_room, place_in, push_first, put_in, rest_from, take_at,
+    all_of, back_from, chunk_with_room, position_in, push_first, put_in, rest_from, take_at,
 };
 
 /// A list of items, in chunks of at most 256, none empty.
 ///
 /// A search halves the chunks and then one chunk, so it is logarithmic. A change moves at most one chunk, 256 items.
-/// Once in at least 128 inserts a chunk is split and the list of the chunks moved, 24 bytes for each: so that rare move
-/// grows with the items, to 200 kilobytes or so at a million, and so does the one when a chunk gets empty. No item is
-/// ever copied. Memory is that of the items and at most as much again, but for chunks that removals made small, which
-/// are not joined.
+/// At most once in 128 inserts a chunk is split and the list of the chunks is moved, 24 bytes for each: so that rare
+/// move grows with the items, to 200 kilobytes or so at a million, and so does the one when a chunk becomes empty. No
+/// item is ever copied. Memory is that of the items and at most as much again, except that chunks which removals made
+/// small are not joined.
 #[derive(Drop)]
 pub struct Chunked<T> {
     chunks: Vec<Vec<T>>,
@@ -42,7 +42,7 @@ impl<T> Model for Chunked<T> {
 }
 
 impl<T> Chunked<T> {
-    /// The list of nothing. Takes no memory.
+    /// The empty list. Takes no memory.
     pub fn new(alloc: Global) -> Chunked<T>
         ensures { result ≡ [] }
     {
@@ -58,7 +58,7 @@ impl<T> Chunked<T> {
         all_of(self.chunks.as_slice())
     }
 
-    /// The items that don't stand before an aim. A search, logarithmic.
+    /// The items that don't stand before an aim. Logarithmic.
     pub fn rest<A: Aim<T>>(&self, aim: &A) -> Rest<'_, T>
         requires { IsPartitionedBy (A.before aim.now) self.now }
         ensures { rest_items result ≡ drop (prefix_len (A.before aim.now) self.now) self.now }
@@ -69,7 +69,7 @@ impl<T> Chunked<T> {
         }
     }
 
-    /// The items from the one on that is thought to stand at a hint, and None where there is no such place. Constant.
+    /// The items from a hint's position on, and None where there is no such position. Constant.
     pub fn rest_at(&self, hint: Hint) -> Option<Rest<'_, T>>
         ensures { IfSome result (λ rest. (front : List T) × (self.now ≡ front ++ rest_items rest)) }
     {
@@ -78,8 +78,8 @@ impl<T> Chunked<T> {
 }
 
 impl<T: Drop> Chunked<T> {
-    /// Puts an item in front of the first that doesn't stand before an aim. A search and a move of one chunk. Want of
-    /// memory changes nothing.
+    /// Puts an item in front of the first that doesn't stand before an aim. A search and a move of one chunk. Out of
+    /// memory drops the item and changes nothing else.
     pub fn insert<A: Aim<T>>(&mut self, aim: &A, item: T) -> Result<(), NoMemory>
         requires { IsPartitionedBy (A.before aim.now) self.old }
         ensures ok { OnOk result (self.new ≡ insert self.old (prefix_len (A.before aim.now) self.old) item) }
@@ -89,8 +89,8 @@ impl<T: Drop> Chunked<T> {
             return push_first(&mut self.chunks, item);
         }
         let at = chunk_with_room(&mut self.chunks, aim)?;
-        let place = place_in(self.chunks.as_slice(), at, aim);
-        put_in(&mut self.chunks, at, place, item)
+        let position = position_in(self.chunks.as_slice(), at, aim);
+        put_in(&mut self.chunks, at, position, item)
     }
 
     /// Takes out the first item that doesn't stand before an aim, if there is one. A search and a move of one chunk.

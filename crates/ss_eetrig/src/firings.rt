@@ -5,8 +5,8 @@ ghost use Rattle.std.specs.Int.{IsBitSet};
 ghost use Rattle.ss_model.specs.declared.catalog.TriggerDef.{TriggerDef};
 ghost use Rattle.ss_eetrig.specs.Waiting.{waits_for};
 
-use ss_model::catalog::{Catalog, On};
-use ss_value::sets::ProcSet;
+use ss_model::{Catalog, On};
+use ss_value::ProcSet;
 
 /// What sets triggers off.
 #[derive(Clone, Copy, Debug, PartialEq, Eq, Drop)]
@@ -17,7 +17,7 @@ pub enum TriggerEvent {
     Moved(u16),
 }
 
-/// Whether a trigger on this runs at an event. Constant.
+/// Whether a trigger on this stream or window runs at an event.
 pub fn waits_for(event: TriggerEvent, on: On) -> bool
     ensures { result ≡ waits_for event on }
 {
@@ -28,7 +28,8 @@ pub fn waits_for(event: TriggerEvent, on: On) -> bool
     }
 }
 
-/// The numbers of the triggers that an event sets off. They run in rising order. Linear in the triggers; takes no memory.
+/// The numbers of the triggers that an event sets off, which run in rising order. Linear in the triggers of the catalogue;
+/// takes no memory.
 pub fn firings(catalog: &Catalog, event: TriggerEvent) -> ProcSet
     requires { length catalog.now.triggers ≤ 64 }
     ensures those { (n : ℕ) (trigger : TriggerDef) → slice_get catalog.now.triggers n ≡ Some trigger → IsBitSet result n ↔ (waits_for event trigger.on ≡ true) }
@@ -37,6 +38,7 @@ pub fn firings(catalog: &Catalog, event: TriggerEvent) -> ProcSet
     let mut fired = ProcSet::empty();
     for (n, trigger) in catalog.triggers.as_slice().iter().enumerate() {
         if waits_for(event, trigger.on) {
+            // A catalogue has at most 64 triggers, so that their numbers fit in a set of procedures.
             fired.insert(n as u8);
         }
     }

@@ -9,16 +9,16 @@ use Rattle.ss_model.specs.declared.entry.Entry.{Entry}
 use Rattle.ss_model.specs.Accepted.{Accepted}
 use Rattle.ss_model.specs.Batches.{batches_of}
 use Rattle.ss_model.specs.Database.{Database, Applied, stream_batches}
-use Rattle.ss_model_laws.proofs.Batches.{batches_join}
+use Rattle.ss_model_laws.proofs.CallerLemmas.{batches_join}
 use Rattle.ss_stream.specs.Pending.{Pending, emitted_count}
 use Rattle.ss_stream.specs.Streams.{ReservedStreams, no_stream, spare_at, stream_at}
 use Rattle.ss_stream.specs.OfDatabase.{AreStreamsOf, kept_stream}
-use Rattle.ss_stream.proofs.Least.{count-from}
-use Rattle.ss_flow.specs.Advances.{Advances, HasRoom, KeepsRoom}
+use Rattle.ss_stream.proofs.CallerLemmas.{count-from}
+use Rattle.ss_flow.specs.Advances.{Advances, HasRoom, LeavesRoom}
 use Rattle.ss_flow.specs.Follows.{AreOfStreams, MayPass, passed_at, with_batches}
 use Rattle.ss_flow.proofs.Following.{batches_have_streams, cursors_after, passed_kept, stream_follows}
 
-pub more_room : (old new : ReservedStreams) → KeepsRoom old new → (batches : List Emitted) → HasRoom old batches → HasRoom new batches
+pub more_room : (old new : ReservedStreams) → LeavesRoom old new → (batches : List Emitted) → HasRoom old batches → HasRoom new batches
 more_room old new keeps [] room = tt
 more_room old new keeps (b ∷ bs) room = let h : 0 < spare_at old b.stream = room.0 in let k = keeps b.stream in (omega arith, more_room old new keeps bs room.1)
 

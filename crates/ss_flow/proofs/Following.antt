@@ -16,15 +16,13 @@ use Rattle.ss_model.specs.Batches.{batches_of, emitted_batches, output_batches, 
 use Rattle.ss_model.specs.Database.{Database, Applied, apply, batch_count, emits_to, fits_entry, stream_batches}
 use Rattle.ss_model.specs.Orders.{HasShape, procedure_takes}
 use Rattle.ss_model.specs.Settling.{procedure_numbers}
-use Rattle.ss_model.proofs.Fitting.{applied_fits}
-use Rattle.ss_model.proofs.Truths.{first_of_two, second_of_two}
-use Rattle.ss_model_laws.proofs.Advanced.{steps_move}
-use Rattle.ss_model_laws.proofs.Batches.{batches_join}
-use Rattle.ss_model_laws.proofs.Effects.{effect}
+use Rattle.ss_model.proofs.CallerLemmas.{applied_fits}
+use Rattle.ss_lemmas.proofs.Bools.{first_of_two, second_of_two}
+use Rattle.ss_model_laws.proofs.CallerLemmas.{steps_move, batches_join, effect}
 use Rattle.ss_stream.specs.declared.cursor.Cursor.{Cursor}
 use Rattle.ss_stream.specs.Pending.{Pending, emitted_count, moved_cursor, passed_by, pending_from}
 use Rattle.ss_stream.specs.OfDatabase.{consumer_cursors, consumers_of, kept_stream}
-use Rattle.ss_stream.proofs.Least.{count-from}
+use Rattle.ss_stream.proofs.CallerLemmas.{count-from}
 use Rattle.ss_flow.specs.Follows.{AreOfStreams, MayPass, StreamFollows, passed_at, with_batches}
 use Rattle.ss_flow.proofs.Kept.{batches_again, moved_cursors, next_cursors, passed_again, same_cursors}
 

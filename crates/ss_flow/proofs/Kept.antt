@@ -5,7 +5,7 @@ use Rattle.std.specs.List.{AllByRecursion, filter}
 use Rattle.ss_value.specs.Rows.{Rows}
 use Rattle.ss_stream.specs.declared.cursor.Cursor.{Cursor}
 use Rattle.ss_stream.specs.Pending.{Pending, cursor_at, least_passed, moved_cursor, passed_by, pending_from, with_batch}
-use Rattle.ss_stream.proofs.Least.{least-at_most, least-moved}
+use Rattle.ss_stream.proofs.CallerLemmas.{least-at_most, least-moved}
 use Rattle.ss_flow.specs.Follows.{with_batches}
 
 -- more batches make the least cursor no less
@@ -13,7 +13,7 @@ least-longer : (m n : ℕ) (cs : List Cursor) → m ≤ n → least_passed m cs 
 least-longer m n [] le = le
 least-longer m n (c ∷ cs) le = let h = least-longer m n cs le in omega arith
 
--- what was given up stays given up
+-- what was dropped stays dropped
 again : (m : ℕ) (bs : List Rows) (cs : List Cursor) → m ≤ length bs → m ≤ least_passed (0 + length bs) cs → pending_from m (drop m bs) cs ≡ pending_from 0 bs cs
 again m bs cs within le =
     let long : m + length (drop m bs) ≡ 0 + length bs = simp length-drop (omega arith) in

@@ -1,6 +1,7 @@
-pub mod Kept
-pub mod Following
-pub mod Passing
-pub mod Emitting
 pub mod Advancing
+pub mod CallerLemmas
+pub mod Emitting
+pub mod Following
+pub mod Kept
+pub mod Passing
 pub mod Premises

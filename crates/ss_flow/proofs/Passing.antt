@@ -1,9 +1,10 @@
 -- A procedure passes a batch of one input after the other.
-use Rattle.std.proofs.Common.{◌≡◌, ◌≢◌, ◌≤◌, ◌<◌, ◌==◌, ◌∙◌, ◌⊎◌, ◌||◌, ◌&&◌, inl, inr, ℕ, Bool, true, false, cond, not, nat_lt, List, [], ◌∷◌, length, get_or, set, slice_get, Some, None, arith, ap, sym, subst, refl, length-set}
-use Rattle.std.proofs.lemmas.Bool.{ltb-true}
+use Rattle.std.proofs.Common.{◌≡◌, ◌≢◌, ◌≤◌, ◌<◌, ◌==◌, ◌∙◌, ◌⊎◌, ◌||◌, ◌&&◌, inl, inr, ℕ, true, false, cond, not, nat_lt, List, [], ◌∷◌, length, get_or, set, slice_get, Some, None, arith, ap, sym, subst, refl, length-set}
+use Rattle.std.proofs.lemmas.Bool.{ltb-true, or_right, or_left, not-true}
 use Rattle.std.proofs.lemmas.Bool.Decides.{eqb_tells, Decides-eqb}
 use Rattle.std.proofs.lemmas.List.{get_or-set_same, get_or-set_other}
 use Rattle.std.specs.List.{AllByRecursion, list_all, list_any}
+use Rattle.ss_lemmas.proofs.Numbers.{eqb_turned}
 use Rattle.ss_model.specs.declared.catalog.Catalog.{Catalog}
 use Rattle.ss_model.specs.declared.catalog.Procedure.{Procedure}
 use Rattle.ss_model.specs.declared.entry.Entry.TheVariants.{Step as StepEntry}
@@ -11,25 +12,11 @@ use Rattle.ss_model.specs.Accepted.{Accepted}
 use Rattle.ss_model.specs.Database.{takes_stream}
 use Rattle.ss_model.specs.Orders.{procedure_has, procedure_takes}
 use Rattle.ss_model.specs.CatalogForm.{numbers_distinct, listed_parts, touch_in_range}
-use Rattle.ss_model.proofs.Truths.{at_place, first_of_two, or_first, or_second, second_of_two}
+use Rattle.ss_lemmas.proofs.Bools.{at_index, first_of_two, second_of_two}
 use Rattle.ss_stream.specs.Pending.{HasNext, Pending, passed_by}
 use Rattle.ss_stream.specs.Streams.{ReservedStreams, SparesElsewhere, no_stream, spare_at, stream_at}
-use Rattle.ss_flow.specs.Advances.{KeepsRoom, passed_among}
+use Rattle.ss_flow.specs.Advances.{LeavesRoom, passed_among}
 use Rattle.ss_flow.specs.Follows.{MayPass, passed_at}
-
-is_not : (b : Bool) → not b ≡ true → b ≡ false
-is_not true e = cc
-is_not false e = refl
-
--- equality of numbers, from either side
-eqb_turned : (m n : ℕ) → (m == n) ≡ (n == m)
-eqb_turned m n = by (eqb_tells m n) (eqb_tells n m)
-  where
-    by : ((m == n ≡ true) × (m ≡ n)) ⊎ ((m == n ≡ false) × (m ≢ n)) → ((n == m ≡ true) × (n ≡ m)) ⊎ ((n == m ≡ false) × (n ≢ m)) → (m == n) ≡ (n == m)
-    by (inl e) (inl f) = e.0 ∙ sym f.0
-    by (inl e) (inr f) = absurd (f.1 (sym e.1))
-    by (inr e) (inl f) = absurd (e.1 (sym f.1))
-    by (inr e) (inr f) = e.0 ∙ sym f.0
 
 any_turned : (n : ℕ) (xs : List ℕ) → list_any (λ m. m == n) xs ≡ list_any (λ m. n == m) xs
 any_turned n [] = refl
@@ -37,7 +24,7 @@ any_turned n (x ∷ xs) = rw (eqb_turned x n, any_turned n xs) refl
 
 -- the first of distinct numbers is none of the others
 first_alone : (n : ℕ) (xs : List ℕ) → numbers_distinct (n ∷ xs) ≡ true → list_any (λ m. m == n) xs ≡ false
-first_alone n xs e = any_turned n xs ∙ is_not (list_any (λ m. n == m) xs) (first_of_two _ _ e)
+first_alone n xs e = any_turned n xs ∙ not-true (list_any (λ m. n == m) xs) (first_of_two _ _ e)
 
 -- some inputs are still to pass: the others have passed, and their streams alone are changed
 pub record IsPassing (q : ℕ) (inputs rest : List ℕ) (old now : ReservedStreams) : Type 0 where
@@ -48,7 +35,7 @@ pub record IsPassing (q : ℕ) (inputs rest : List ℕ) (old now : ReservedStrea
   pub there : AllByRecursion (λ s. s < length old.streams) rest
   pub next : AllByRecursion (λ s. HasNext (stream_at old s) q) rest
   pub many : length now.streams ≡ length old.streams
-  pub room : KeepsRoom old now
+  pub room : LeavesRoom old now
 
 pub none_passed : (q : ℕ) (inputs : List ℕ) (old : ReservedStreams) → numbers_distinct inputs ≡ true → AllByRecursion (λ s. s < length old.streams) inputs → AllByRecursion (λ s. HasNext (stream_at old s) q) inputs
     → IsPassing q inputs inputs old old
@@ -65,7 +52,7 @@ none_passed q inputs old distinct there next = record {
 
 module _ (q i : ℕ) (inputs rest : List ℕ) (old now : ReservedStreams) (p : IsPassing q inputs (i ∷ rest) old now) where
   here : list_any (λ m. m == i) (i ∷ rest) ≡ true
-  here = or_first (i == i) (list_any (λ m. m == i) rest) ((Decides-eqb i i).1 refl)
+  here = or_left (i == i) (list_any (λ m. m == i) rest) ((Decides-eqb i i).1 refl)
 
   was : stream_at now i ≡ stream_at old i
   was = p.left i here
@@ -89,7 +76,7 @@ module _ (q i : ℕ) (inputs rest : List ℕ) (old now : ReservedStreams) (p : I
 
     done_by : (s : ℕ) → list_any (λ m. m == s) rest ≡ false → ((i == s ≡ true) × (i ≡ s)) ⊎ ((i == s ≡ false) × (i ≢ s)) → stream_at new s ≡ passed_among old q inputs s
     done_by s none (inl e) =
-        let any : list_any (λ m. m == s) inputs ≡ true = p.among s (or_first (i == s) (list_any (λ m. m == s) rest) e.0) in
+        let any : list_any (λ m. m == s) inputs ≡ true = p.among s (or_left (i == s) (list_any (λ m. m == s) rest) e.0) in
         subst (λ k. stream_at new k ≡ passed_by (stream_at old k) q) e.1 at_it ∙ sym (ap (λ b. cond b (passed_by (stream_at old s) q) (stream_at old s)) any)
     done_by s none (inr ne) = at_others s (λ e. ne.1 (sym e)) ∙ p.done s (ap (λ b. b || list_any (λ m. m == s) rest) ne.0 ∙ none)
 
@@ -99,8 +86,8 @@ module _ (q i : ℕ) (inputs rest : List ℕ) (old now : ReservedStreams) (p : I
 
     pub one_passed : IsPassing q inputs rest old new
     one_passed = record {
-      among = λ s any. p.among s (or_second (i == s) (list_any (λ m. m == s) rest) any);
-      left = λ s any. at_others s (not_it s any) ∙ p.left s (or_second (i == s) (list_any (λ m. m == s) rest) any);
+      among = λ s any. p.among s (or_right (i == s) (list_any (λ m. m == s) rest) any);
+      left = λ s any. at_others s (not_it s any) ∙ p.left s (or_right (i == s) (list_any (λ m. m == s) rest) any);
       done = λ s none. done_by s none (eqb_tells i s);
       distinct = second_of_two (not (list_any (λ m. i == m) rest)) (numbers_distinct rest) p.distinct;
       there = p.there.1;
@@ -124,8 +111,8 @@ inputs_sound catalog accepted q p is =
     let numbers = second_of_two _ _ (first_of_two _ _ (first_of_two _ _ (first_of_two _ _ (first_of_two _ _ (first_of_two _ _ accepted.form))))) in
     let distinct = second_of_two _ _ (first_of_two _ _ (first_of_two _ _ accepted.form)) in
     record {
-      distinct = first_of_two _ _ (at_place (λ p. numbers_distinct p.inputs && numbers_distinct (listed_parts p.touch)) catalog.procedures (second_of_two _ _ distinct) q p is);
-      there = all_below (length catalog.streams) p.inputs (first_of_two _ _ (at_place (λ p. list_all (λ s. nat_lt s (length catalog.streams)) p.inputs && touch_in_range p.args p.touch) catalog.procedures (second_of_two _ _ numbers) q p is));
+      distinct = first_of_two _ _ (at_index (λ p. numbers_distinct p.inputs && numbers_distinct (listed_parts p.touch)) catalog.procedures (second_of_two _ _ distinct) q p is);
+      there = all_below (length catalog.streams) p.inputs (first_of_two _ _ (at_index (λ p. list_all (λ s. nat_lt s (length catalog.streams)) p.inputs && touch_in_range p.args p.touch) catalog.procedures (second_of_two _ _ numbers) q p is));
     }
 
 -- ---- and of a step
@@ -135,8 +122,8 @@ module _ (catalog : Catalog) (q r : ℕ) (streams : ReservedStreams) where
       → AllByRecursion (λ s. s < length catalog.streams) xs → AllByRecursion (λ s. HasNext (stream_at streams s) q) xs
   each_may [] takes next there = tt
   each_may (x ∷ xs) takes next there = (
-    next x there.0 (takes x (or_first (x == x) (list_any (λ i. i == x) xs) ((Decides-eqb x x).1 refl))),
-    each_may xs (λ s any. takes s (or_second (x == s) (list_any (λ i. i == s) xs) any)) next there.1,
+    next x there.0 (takes x (or_left (x == x) (list_any (λ i. i == x) xs) ((Decides-eqb x x).1 refl))),
+    each_may xs (λ s any. takes s (or_right (x == s) (list_any (λ i. i == s) xs) any)) next there.1,
   )
 
   module _ (p : Procedure) (is : slice_get catalog.procedures q ≡ Some p) where

@@ -32,7 +32,7 @@ output_follows = stream_follows flow.workflow run.split (record { counts = refl;
 outputs_there : AreOfStreams 5 (emitted_batches flow.workflow (StepEntry 0 0) run.splitting)
 outputs_there = batches_have_streams flow.workflow flow.accepted run.pushed (StepEntry 0 0) run.splitting run.splits
 
--- the pushed batch waits for the border procedure, and is given up once that has taken it
+-- the pushed batch waits for the border procedure, and is dropped once that has taken it
 waits : kept_stream flow.workflow run.pushed 0 ≡ record { first = 0; batches = row_of_seven ∷ []; cursors = cursor_at 0 0 ∷ [] }
 waits = refl
 

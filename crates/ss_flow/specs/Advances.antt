@@ -1,4 +1,4 @@
--- What moves streams over an entry: its batches, with room for them.
+-- What it takes to move streams over an entry, its batches and room for them, and what comes of it.
 use Rattle.std.specs.Prelude.{◌≡◌, ◌<◌, ◌≤◌, ◌^◌, ◌==◌, ℕ, cond, List, length, Some}
 use Rattle.std.specs.List.{AllByRecursion, list_any}
 use Rattle.ss_model.specs.declared.catalog.Catalog.{Catalog}
@@ -15,8 +15,8 @@ use Rattle.ss_stream.specs.OfDatabase.{AreStreamsOf}
 abbrev pub HasRoom : ReservedStreams → List Emitted → Type 0
 HasRoom streams batches = AllByRecursion (λ (b : Emitted). 0 < spare_at streams b.stream) batches
 
--- an entry has a value on a database of which these are the streams, these batches travel with it, and no stream has
--- had 2^62
+-- an entry has a value on a database of which these are the streams, these batches travel with it, and each stream has had
+-- fewer than 2^62 batches
 pub record Advances (catalog : Catalog) (db : Database) (e : Entry) (a : Applied) (batches : List Emitted) (streams : List Pending) : Type 0 where
   pub shape : HasShape catalog db
   pub applies : apply catalog db e ≡ Some a
@@ -29,9 +29,9 @@ abbrev pub FollowAll : Catalog → Entry → List Emitted → List Pending → L
 FollowAll catalog e batches old new = (db : Database) (a : Applied) → Advances catalog db e a batches old → AreStreamsOf catalog a.db new
 
 -- no stream has less room
-abbrev pub KeepsRoom : ReservedStreams → ReservedStreams → Type 0
-KeepsRoom old new = (s : ℕ) → spare_at old s ≤ spare_at new s
+abbrev pub LeavesRoom : ReservedStreams → ReservedStreams → Type 0
+LeavesRoom old new = (s : ℕ) → spare_at old s ≤ spare_at new s
 
--- a stream, passed by this procedure where it is one of its inputs
+-- the stream of a number, one batch of which this procedure has passed where it is one of these inputs
 abbrev pub passed_among : ReservedStreams → ℕ → List ℕ → ℕ → Pending
 passed_among streams q inputs s = cond (list_any (λ i. i == s) inputs) (passed_by (stream_at streams s) q) (stream_at streams s)

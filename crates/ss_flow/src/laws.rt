@@ -2,8 +2,8 @@
 
 ghost use Rattle.ss_flow.specs.Follows.{BatchesHaveStreams, StreamsFollow};
 
-/// After an entry each stream is as before, passed by the step's procedure where it takes the stream, and with the batch
-/// behind it that travels with the entry.
+/// After an entry each stream is as before, but for the batch that a step's procedure has passed, where it takes the stream,
+/// and for the batch that travels with the entry, which stands behind the others.
 pub fn streams_follow()
     ensures { StreamsFollow }
 {}

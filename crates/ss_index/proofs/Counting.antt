@@ -1,15 +1,16 @@
--- How often a pair stands in a list of pairs.
+-- How often a pair occurs in a list of pairs.
 use Rattle.std.proofs.Common.{◌≡◌, ℕ, zero, suc, ◌+◌, ◌<◌, true, false, cond, List, [], ◌∷◌, map, refl, sym, ap, subst, ◌∙◌, arith, Option, Some, None, slice_get, IsSome}
 use Rattle.std.specs.List.{prefix_len, AllByRecursion, insert, remove}
 use Rattle.std.specs.Ordering.{eq_by_cmp, is_eq, is_lt, ordering_reverse}
 use Rattle.std.specs.declared.cmp.Ordering.{Ordering}
 use Rattle.std.specs.declared.cmp.Ordering.TheVariants.{Less, Equal, Greater}
 use Rattle.std.specs.FinMap as finite
-use Rattle.ss_index.specs.Pairs.{Pair, Pairs, pair_cmp, AreCounted, times, or_zero, added, dropped}
-use Rattle.ss_index.specs.declared.entry.Entry.{Entry}
+use Rattle.ss_lemmas.proofs.Orderings.{less_test}
+use Rattle.ss_index.specs.Pairs.{Pair, Pairs, pair_cmp, AreCounted, times, or_zero, add_pair, drop_pair}
+use Rattle.ss_index.specs.declared.index_entry.IndexEntry.{IndexEntry}
 use Rattle.ss_index.specs.Entries.{pair_in, pairs_in, UpTo, Rises, AreRising, is_before_pair}
 use Rattle.ss_index.proofs.Taking.{pairs_total, pairs_antisymmetric, tied, itself, stands_more, taken_back}
-use Rattle.ss_index.proofs.Rising.{less_up, less_test, rank_map, insert_map, remove_map}
+use Rattle.ss_index.proofs.Rising.{less_up, rank_map, insert_map, remove_map}
 
 -- ---- maps that have each pair as often
 
@@ -24,9 +25,9 @@ none_or_some (Some (suc m)) (Some n) a b e = ap Some e
 same_times : (m n : Pairs) → AreCounted m → AreCounted n → ((q : Pair) → times m q ≡ times n q) → m ≡ n
 same_times m n a b h = finite.same_map pairs_total pairs_antisymmetric m n (λ q. none_or_some (finite.get m q) (finite.get n q) (a q) (b q) (h q))
 
-counted_more : (m : Pairs) (p : Pair) → AreCounted m → AreCounted (added m p)
+counted_more : (m : Pairs) (p : Pair) → AreCounted m → AreCounted (add_pair m p)
 counted_more m p a q =
-    elim (eq_by_cmp pair_cmp q p) as (λ b. finite.get (added m p) q ≡ cond b (Some (suc (times m p))) (finite.get m q) → finite.get (added m p) q ≡ Some 0 → ⊥) [
+    elim (eq_by_cmp pair_cmp q p) as (λ b. finite.get (add_pair m p) q ≡ cond b (Some (suc (times m p))) (finite.get m q) → finite.get (add_pair m p) q ≡ Some 0 → ⊥) [
       | true ↦ λ is e. let bad : suc (times m p) ≡ 0 = ap or_zero (sym is ∙ e) in absurd (omega (arith, bad))
       | false ↦ λ is e. a q (sym is ∙ e)
     ] (stands_more m p (times m p) q)
@@ -48,11 +49,11 @@ abbrev pub occurs : Pair → List Pair → ℕ
 occurs q [] = 0
 occurs q (p ∷ ps) = one q p + occurs q ps
 
-plus_added : (m : Pairs) (p q : Pair) → times (added m p) q ≡ one q p + times m q
+plus_added : (m : Pairs) (p q : Pair) → times (add_pair m p) q ≡ one q p + times m q
 plus_added m p q =
-    elim (eq_by_cmp pair_cmp q p) as (λ b. eq_by_cmp pair_cmp q p ≡ b → finite.get (added m p) q ≡ cond b (Some (suc (times m p))) (finite.get m q) → times (added m p) q ≡ cond b 1 0 + times m q) [
-      | true ↦ λ t is. let same : times m q ≡ times m p = ap (times m) (tied q p t) in let now : times (added m p) q ≡ suc (times m p) = ap or_zero is in omega (arith, same, now)
-      | false ↦ λ t is. let now : times (added m p) q ≡ times m q = ap or_zero is in omega (arith, now)
+    elim (eq_by_cmp pair_cmp q p) as (λ b. eq_by_cmp pair_cmp q p ≡ b → finite.get (add_pair m p) q ≡ cond b (Some (suc (times m p))) (finite.get m q) → times (add_pair m p) q ≡ cond b 1 0 + times m q) [
+      | true ↦ λ t is. let same : times m q ≡ times m p = ap (times m) (tied q p t) in let now : times (add_pair m p) q ≡ suc (times m p) = ap or_zero is in omega (arith, same, now)
+      | false ↦ λ t is. let now : times (add_pair m p) q ≡ times m q = ap or_zero is in omega (arith, now)
     ] refl (stands_more m p (times m p) q)
 
 times_in : (ps : List Pair) (q : Pair) → times (pairs_in ps) q ≡ occurs q ps
@@ -69,12 +70,12 @@ occurs_remove q [] n p e = cc
 occurs_remove q (x ∷ xs) zero p e = let same : x ≡ p = cc in ap (λ y. one q y + occurs q xs) same
 occurs_remove q (x ∷ xs) (suc n) p e = let rest : occurs q xs ≡ one q p + occurs q (remove xs n) = occurs_remove q xs n p e in omega (arith, rest)
 
--- pairs are told by how often each stands
+-- pairs are equal where each occurs as often
 pub same_pairs : (ps qs : List Pair) → ((q : Pair) → occurs q ps ≡ occurs q qs) → pairs_in ps ≡ pairs_in qs
 same_pairs ps qs h = same_times _ _ (counted_in ps) (counted_in qs) (λ q. times_in ps q ∙ h q ∙ sym (times_in qs q))
 
--- what was added stands
-pub some_added : (m : Pairs) (p : Pair) → IsSome (finite.get (added m p) p)
+-- what was added occurs
+pub some_added : (m : Pairs) (p : Pair) → IsSome (finite.get (add_pair m p) p)
 some_added m p = subst (λ o. IsSome o) (sym (stands_more m p (times m p) p ∙ ap (λ b. cond b (Some (suc (times m p))) (finite.get m p)) (itself p))) refl
 
 -- what occurs stands
@@ -85,17 +86,17 @@ stands_where ps q often = by (finite.get (pairs_in ps) q) (times_in ps q)
     by None is = absurd (omega (arith, is, often))
     by (Some n) is = refl
 
-pub more_pairs : (ps : List Pair) (n : ℕ) (p : Pair) → pairs_in (insert ps n p) ≡ added (pairs_in ps) p
+pub more_pairs : (ps : List Pair) (n : ℕ) (p : Pair) → pairs_in (insert ps n p) ≡ add_pair (pairs_in ps) p
 more_pairs ps n p =
     same_times _ _ (counted_in (insert ps n p)) (counted_more (pairs_in ps) p (counted_in ps))
     (λ q. times_in (insert ps n p) q ∙ occurs_insert q ps n p ∙ sym (plus_added (pairs_in ps) p q ∙ ap (λ k. one q p + k) (times_in ps q)))
 
-pub less_pairs : (ps : List Pair) (n : ℕ) (p : Pair) → slice_get ps n ≡ Some p → pairs_in (remove ps n) ≡ dropped (pairs_in ps) p
+pub less_pairs : (ps : List Pair) (n : ℕ) (p : Pair) → slice_get ps n ≡ Some p → pairs_in (remove ps n) ≡ drop_pair (pairs_in ps) p
 less_pairs ps n p e =
-    let back : pairs_in ps ≡ added (pairs_in (remove ps n)) p =
+    let back : pairs_in ps ≡ add_pair (pairs_in (remove ps n)) p =
     same_times _ _ (counted_in ps) (counted_more (pairs_in (remove ps n)) p (counted_in (remove ps n)))
     (λ q. times_in ps q ∙ occurs_remove q ps n p e ∙ sym (plus_added (pairs_in (remove ps n)) p q ∙ ap (λ k. one q p + k) (times_in (remove ps n) q))) in
-    sym (ap (λ m. dropped m p) back ∙ taken_back (pairs_in (remove ps n)) p (counted_in (remove ps n)))
+    sym (ap (λ m. drop_pair m p) back ∙ taken_back (pairs_in (remove ps n)) p (counted_in (remove ps n)))
 
 -- ---- where a pair stands in a list that rises
 
@@ -143,10 +144,10 @@ stands_in p ps r s = stands_at p ps r (let there = some_times (finite.get (pairs
 
 -- ---- the same of entries
 
-pub more_entries : (es : List Entry) (n : ℕ) (e : Entry) (p : Pair) → pair_in e ≡ p → pairs_in (map pair_in (insert es n e)) ≡ added (pairs_in (map pair_in es)) p
-more_entries es n e p is = ap pairs_in (insert_map es n e) ∙ more_pairs (map pair_in es) n (pair_in e) ∙ ap (added (pairs_in (map pair_in es))) is
+pub more_entries : (es : List IndexEntry) (n : ℕ) (e : IndexEntry) (p : Pair) → pair_in e ≡ p → pairs_in (map pair_in (insert es n e)) ≡ add_pair (pairs_in (map pair_in es)) p
+more_entries es n e p is = ap pairs_in (insert_map es n e) ∙ more_pairs (map pair_in es) n (pair_in e) ∙ ap (add_pair (pairs_in (map pair_in es))) is
 
-pub less_entries : (es : List Entry) (p : Pair) → AreRising es → IsSome (finite.get (pairs_in (map pair_in es)) p) → pairs_in (map pair_in (remove es (prefix_len (λ x. is_before_pair p (pair_in x)) es))) ≡ dropped (pairs_in (map pair_in es)) p
+pub less_entries : (es : List IndexEntry) (p : Pair) → AreRising es → IsSome (finite.get (pairs_in (map pair_in es)) p) → pairs_in (map pair_in (remove es (prefix_len (λ x. is_before_pair p (pair_in x)) es))) ≡ drop_pair (pairs_in (map pair_in es)) p
 less_entries es p r s =
     ap pairs_in (remove_map es (prefix_len (λ x. is_before_pair p (pair_in x)) es) ∙ ap (remove (map pair_in es)) (rank_map (is_before_pair p) es))
     ∙ less_pairs (map pair_in es) (prefix_len (is_before_pair p) (map pair_in es)) p (stands_in p (map pair_in es) r s)

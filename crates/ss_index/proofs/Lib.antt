@@ -1,6 +1,5 @@
-pub mod Cases
-pub mod Taking
-pub mod Rising
+pub mod CallerLemmas
 pub mod Counting
 pub mod Ranging
-pub mod Holding
+pub mod Rising
+pub mod Taking

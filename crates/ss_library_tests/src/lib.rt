@@ -1,7 +1,7 @@
 //! Tests of the crates below the program: public functions that no case calls, and sizes near their limits.
 //!
-//! The libraries are proved, so these tests ask what no proof does: that a call succeeds at all, that a clause says
-//! what a person means. Expected values are decided by hand.
+//! The libraries are proved, so these tests ask what no proof does: whether a call succeeds at all, and whether a clause
+//! says what a person means. Expected values are decided by hand.
 //!
 //! The crate has tests alone, since a crate with tests is proved twice:
 //!

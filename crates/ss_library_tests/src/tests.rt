@@ -7,8 +7,7 @@ mod report;
 mod sql_texts;
 mod values;
 
-use ss_value::seq::Seq;
-use ss_value::value::{Row, Value};
+use ss_value::{Row, Seq, Value};
 use std::alloc::{AllocError, Global};
 
 /// A row of these numbers.

@@ -1,4 +1,4 @@
--- What was read so far.
+-- What has been read so far.
 use Rattle.std.proofs.Common.{◌≡◌, ◌∙◌, ℕ, ◌+◌, List, ◌++◌, length, length-append, ap, arith, append_assoc, sym}
 use Rattle.std.specs.Io.KnownBytes.{Consumes}
 use Rattle.std.proofs.KnownBytes.{Consumes-trans}
@@ -7,7 +7,7 @@ use Rattle.ss_lines.specs.Lines.{lines_of}
 use Rattle.ss_lines.specs.Splitting.{lines_with, Takes}
 use Rattle.ss_lines.specs.declared.split.Splitter.{Splitter}
 
--- the splitter has the bytes that the source gave, so many of them
+-- the splitter has taken the bytes that the source gave, this many of them
 pub record IsRead (old new : Option (List ℕ)) (splitter : Splitter) (taken : ℕ) : Type 0 where
   pub bytes : List ℕ
   pub consumed : Consumes old new bytes

@@ -2,7 +2,7 @@
 use Rattle.std.specs.Prelude.{ℕ, ◌+◌, ◌-◌, ◌^◌, ◌≤◌, min, List, length, Result, OnErr, MatchResult, Option, ◌≡◌}
 use Rattle.std.specs.Io.KnownBytes.{Consumes}
 
--- a count of faults rose, or stands at the greatest number of 64 bits
+-- a count of faults rose, or is at the greatest number of 64 bits
 abbrev pub Rose : ℕ → ℕ → Type 0
 Rose before now = min (before + 1) (2 ^ 64 - 1) ≤ now
 
@@ -11,7 +11,7 @@ pub record HasCause {T E : Type 0} (before now : ℕ) (result : Result T E) : Ty
   pub later : before ≤ now
   pub failed : OnErr result (Rose before now)
 
--- a failure is counted once, as far as 64 bits go, and nothing else is counted
+-- a failure is counted once, unless the count is at the greatest number of 64 bits, and nothing else is counted
 abbrev pub CountsFailures : {T E : Type 0} → ℕ → ℕ → Result T E → Type 0
 CountsFailures before now result = MatchResult result (λ _. now ≡ before) (λ _. now ≡ min (before + 1) (2 ^ 64 - 1))
 

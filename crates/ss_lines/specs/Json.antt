@@ -13,6 +13,6 @@ use Rattle.ss_lines.specs.declared.line.LineError.TheVariants.{LineTooLong, NotJ
 abbrev pub json_of : List ℕ → Option Data
 json_of bytes = if utf8_valid_len bytes == length bytes then read bytes else None
 
--- the value of a line, or why it has none: its length first, then its text
+-- the value of a line, or why it has none: it is too long, or else it is not JSON
 abbrev pub value_at : Line → Result Data LineError
 value_at l = if nat_lt max_line (length l.bytes) then Err (LineTooLong l.number) else ok_or (json_of l.bytes) (NotJson l.number)

@@ -4,4 +4,4 @@ pub mod Splitting
 pub mod Json
 pub mod Refusals
 pub mod Memory
-pub mod Outside
+pub mod StdIo

@@ -25,22 +25,22 @@ split_lines (c ∷ cs) = if c == 10 then [] ∷ split_lines cs else onto_first c
 abbrev pub is_blank_byte : ℕ → Bool
 is_blank_byte c = (c == 32) || (c == 9) || (c == 13)
 
--- whether a line has blank bytes alone
+-- whether a line has no bytes but blank ones
 abbrev pub is_blank : List ℕ → Bool
 is_blank = list_all is_blank_byte
 
--- the line with its number, unless it is blank
+-- a list of the line with its number, and the empty list where the line is blank
 abbrev pub line_at : ℕ → List ℕ → List Line
 line_at n l = if is_blank l then [] else record { number = n; bytes = l } ∷ []
 
 -- the lines that aren't blank, where the first line has this number; blank ones count too
-abbrev pub numbered : ℕ → List (List ℕ) → List Line
-numbered n [] = []
-numbered n (l ∷ ls) = line_at n l ++ numbered (n + 1) ls
+abbrev pub numbered_lines : ℕ → List (List ℕ) → List Line
+numbered_lines n [] = []
+numbered_lines n (l ∷ ls) = line_at n l ++ numbered_lines (n + 1) ls
 
 -- the lines of an input that aren't blank, numbered from 1
 abbrev pub lines_of : List ℕ → List Line
-lines_of input = numbered 1 (split_lines input)
+lines_of input = numbered_lines 1 (split_lines input)
 
 -- whether these bytes have no line feed
 abbrev pub is_one_line : List ℕ → Bool

@@ -11,7 +11,7 @@ IsReadRefusal (LineTooLong line) = ⊥
 IsReadRefusal InputTooLong = Unit {0}
 IsReadRefusal (NotJson line) = ⊥
 
--- the refusal is the one that is meant; want of memory says nothing
+-- the refusal is the one that the meaning gives; out of memory says nothing of it
 abbrev pub RefusesAs : {A : Type 0} → Result A LineError → LineError → Type 0
 RefusesAs meaning NoMemory = Unit {0}
 RefusesAs meaning ReadFault = meaning ≡ Err ReadFault

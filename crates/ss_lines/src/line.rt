@@ -6,7 +6,7 @@ ghost use Rattle.ss_lines.specs.Json.{value_at};
 ghost use Rattle.ss_lines.specs.Refusals.{RefusesAs};
 
 use serde_json::Value;
-use ss_value::seq::Seq;
+use ss_value::Seq;
 use std::alloc::Global;
 
 /// The longest line, in bytes, without its line feed.
@@ -27,7 +27,7 @@ pub struct Line {
 /// Why an input, or a line of it, is refused.
 #[derive(Clone, Copy, Debug, PartialEq, Eq, Drop)]
 pub enum LineError {
-    /// Memory is wanting.
+    /// Out of memory.
     NoMemory,
     /// The source failed.
     ReadFault,
@@ -38,7 +38,7 @@ pub enum LineError {
     },
     /// The input has more than `MAX_INPUT` bytes.
     InputTooLong,
-    /// The line is no JSON text.
+    /// The line is not a JSON text.
     NotJson {
         /// Its number.
         line: u64,
@@ -51,10 +51,10 @@ pub enum LineError {
 /// exactly where it is shorter and serde_json reads no value from it. `ReadFault` and
 /// `InputTooLong` never come.
 ///
-/// Time is linear in the bytes, and memory is that of the value.
+/// Time is linear in the bytes, and the memory is that of the value.
 pub fn line_value(alloc: Global, line: &Line) -> Result<Value, LineError>
     ensures ok { IfOk result (λ v. value_at line.now ≡ Ok (view v)) }
-    ensures err { IfErr result (RefusesAs (value_at line.now)) }
+    ensures refused { IfErr result (RefusesAs (value_at line.now)) }
 {
     if line.bytes.len() > MAX_LINE {
         return Err(LineError::LineTooLong { line: line.number });

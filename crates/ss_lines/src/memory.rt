@@ -2,9 +2,8 @@
 
 ghost use Rattle.std.specs.Prelude.{◌≤◌, vec_capacity, vec_len};
 
-use crate::ends::{Sink, Source};
-use ss_value::seq::Seq;
-use ss_value::{Failed, NoMemory};
+use crate::source_sink::{Sink, Source};
+use ss_value::{Failed, NoMemory, Seq};
 use std::alloc::Global;
 
 /// Bytes to be read. It never fails.
@@ -18,7 +17,7 @@ impl MemorySource {
     ghost use Rattle.std.specs.Prelude.{◌≡◌};
     ghost use Rattle.ss_lines.specs.Memory.{bytes_left};
 
-    /// A source that gives these bytes. Nothing is copied.
+    /// A source of these bytes, which are moved and not copied.
     pub fn new(bytes: Seq<u8>) -> MemorySource
         ensures { bytes_left result ≡ bytes }
     {
@@ -37,7 +36,7 @@ impl Source for MemorySource {
 
     ghost faults = { λ _. 0 };
 
-    /// Gives as many bytes as are left and fit the buffer, in a time linear in them.
+    /// Gives as many bytes as are left and fit the buffer, in time linear in them. It never fails.
     fn pull(&mut self, buf: &mut [u8]) -> Result<usize, Failed>
         requires { 0 < length buf.old }
         ensures bound { ReadsAtMost result buf.new }
@@ -59,7 +58,7 @@ impl Source for MemorySource {
     }
 }
 
-/// Bytes that were written, in a room of fixed size.
+/// Bytes that were written, up to a number that is fixed when the sink is made.
 #[derive(Drop)]
 pub struct MemorySink {
     bytes: Vec<u8>,
@@ -73,7 +72,7 @@ impl MemorySink {
     ghost use Rattle.std.specs.Prelude.{◌≡◌, [], IfOk};
     ghost use Rattle.ss_lines.specs.Memory.{bytes_taken, fault_count, room_of};
 
-    /// A sink that takes this many bytes in all. Their memory is taken at once.
+    /// A sink that takes this many bytes in all. Their memory is taken at once, so that no later call takes any.
     pub fn new(alloc: Global, room: usize) -> Result<MemorySink, NoMemory>
         ensures bytes { IfOk result (λ s. bytes_taken s ≡ []) }
         ensures room { IfOk result (λ s. room_of s ≡ room) }
@@ -90,7 +89,7 @@ impl MemorySink {
     }
 
     /// The bytes that it has taken, in constant time.
-    pub fn written(&self) -> &[u8]
+    pub fn as_bytes(&self) -> &[u8]
         ensures { result.now ≡ bytes_taken self.now }
     {
         self.bytes.as_slice()
@@ -107,7 +106,7 @@ impl Sink for MemorySink {
 
     ghost faults = { λ s. fault_count s };
 
-    /// Takes as many bytes as there is room for, in a time linear in them. It fails exactly where
+    /// Takes as many bytes as there is room for, in time linear in them. It fails exactly where
     /// its room is full, and counts that.
     fn push(&mut self, piece: &[u8]) -> Result<usize, Failed>
         requires { 0 < length piece.now }

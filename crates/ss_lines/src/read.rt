@@ -6,23 +6,23 @@ ghost use Rattle.ss_lines.specs.Causes.{Rose, TakesAtMost};
 ghost use Rattle.ss_lines.specs.Lines.{lines_of, max_input};
 ghost use Rattle.ss_lines.specs.Refusals.{IsReadRefusal};
 
-use crate::ends::Source;
 use crate::line::{Line, LineError, MAX_INPUT};
+use crate::source_sink::Source;
 use crate::split::Splitter;
-use ss_value::seq::Seq;
+use ss_value::Seq;
 use std::alloc::Global;
 
-/// How many bytes are asked for at a time.
+/// How many bytes are asked for at a time. The buffer for them is on the stack.
 const PIECE: usize = 16_384;
 
 /// The lines of the input that aren't blank, in order.
 ///
 /// A line ends at a line feed, which is not part of it, or at the end of input. Lines are numbered
-/// from 1. A line of spaces, tabs and carriage returns alone is counted and left out.
+/// from 1. A line of nothing but spaces, tabs and carriage returns is counted and left out.
 ///
 /// `ReadFault` comes only where the source counted a fault, and `InputTooLong` exactly where the
-/// input has more than `MAX_INPUT` bytes, unless memory is wanting or the source fails before that
-/// is seen. No other refusal comes but `NoMemory`. At most one byte more than `MAX_INPUT` is taken
+/// input has more than `MAX_INPUT` bytes, unless memory runs out or the source fails before that
+/// is seen. No other refusal comes but `NoMemory`. At most `MAX_INPUT` bytes and one more are taken
 /// from any source.
 ///
 /// Time is linear in the bytes. Each is copied twice: out of the source, in pieces of 16,384 bytes
@@ -30,9 +30,9 @@ const PIECE: usize = 16_384;
 /// grows by doubling, and may be moved for that. Memory is that of the lines and of one piece.
 pub fn read_lines<S: Source>(alloc: Global, source: &mut S) -> Result<Seq<Line>, LineError>
     ensures most { TakesAtMost (max_input + 1) (S.left source.old) (S.left source.new) }
-    ensures lines { IfOk result (λ lines. IfSome (S.left source.old) (λ input. (lines ≡ lines_of input) × (length input ≤ max_input))) }
+    ensures ok { IfOk result (λ lines. IfSome (S.left source.old) (λ input. (lines ≡ lines_of input) × (length input ≤ max_input))) }
     ensures end { OnOk result (IsAtEnd (S.left source.new)) }
-    ensures long { result ≡ Err LineError.InputTooLong → IfSome (S.left source.old) (λ input. max_input < length input) }
+    ensures too_long { result ≡ Err LineError.InputTooLong → IfSome (S.left source.old) (λ input. max_input < length input) }
     ensures cause { S.faults source.old ≤ S.faults source.new }
     ensures fault { result ≡ Err LineError.ReadFault → Rose (S.faults source.old) (S.faults source.new) }
     ensures others { IfErr result IsReadRefusal }
@@ -40,6 +40,7 @@ pub fn read_lines<S: Source>(alloc: Global, source: &mut S) -> Result<Seq<Line>,
     let mut splitter = Splitter::new(alloc);
     let mut buf = [0u8; PIECE];
     let mut taken = 0;
+    // One byte past the limit is asked for, since only that byte shows that the input is too long.
     while taken <= MAX_INPUT {
         let room = (MAX_INPUT + 1 - taken).min(PIECE);
         let part = &mut buf[..room];

@@ -4,8 +4,7 @@ ghost use Rattle.std.specs.Prelude.{◌≡◌, ◌<◌, ◌≤◌, ◌+◌, ◌^
 ghost use Rattle.ss_lines.specs.Lines.{is_blank, is_one_line, lines_of, IsFirstLine};
 
 use crate::line::Line;
-use ss_value::NoMemory;
-use ss_value::seq::Seq;
+use ss_value::{NoMemory, Seq};
 use std::alloc::Global;
 
 /// The lines so far, and the one that has begun.
@@ -21,7 +20,7 @@ pub(crate) struct Splitter {
     ghost one_line: { IsTrue (is_one_line current.items) },
 }
 
-/// The bytes before the first line feed, and those behind it, in the time of the former.
+/// The bytes before the first line feed, and those behind it, in time linear in the former.
 fn split_line(bytes: &[u8]) -> Option<(&[u8], &[u8])>
     ensures { MatchOption result (IsTrue (is_one_line bytes.now)) (λ p. IsFirstLine bytes.now p.0.now p.1.now) }
 {
@@ -35,7 +34,7 @@ fn split_line(bytes: &[u8]) -> Option<(&[u8], &[u8])>
     None
 }
 
-/// Whether a line has only spaces, tabs and carriage returns.
+/// Whether a line has no bytes but spaces, tabs and carriage returns.
 fn is_blank(line: &[u8]) -> bool
     ensures { result ≡ is_blank line.now }
 {
@@ -62,20 +61,21 @@ impl Splitter {
     /// Takes bytes that have no line feed.
     fn extend(&mut self, piece: &[u8]) -> Result<(), NoMemory>
         requires { IsTrue (is_one_line piece.now) }
-        ensures takes { OnOk result (Takes self.old self.new piece.now) }
-        ensures number { self.new.number ≡ self.old.number }
+        ensures ok { OnOk result (Takes self.old self.new piece.now) }
+        ensures unchanged { self.new.number ≡ self.old.number }
     {
         self.current.extend_from_slice(piece)?;
         Ok(())
     }
 
     /// Moves the line that has begun to the others, unless it is blank.
-    fn keep_line(&mut self) -> Result<(), NoMemory>
-        ensures lines { OnOk result (self.new.lines ≡ lines_with self.old []) }
+    fn push_line(&mut self) -> Result<(), NoMemory>
+        ensures ok { OnOk result (self.new.lines ≡ lines_with self.old []) }
         ensures current { OnOk result (self.new.current.items ≡ []) }
-        ensures number { self.new.number ≡ self.old.number }
+        ensures unchanged { self.new.number ≡ self.old.number }
     {
         if is_blank(self.current.as_slice()) {
+            // A blank line leaves its memory to the next one.
             self.current.clear();
             return Ok(());
         }
@@ -91,10 +91,10 @@ impl Splitter {
     /// Takes a line feed.
     fn end_line(&mut self) -> Result<(), NoMemory>
         requires { self.old.number + 1 < 2 ^ 64 }
-        ensures takes { OnOk result (Takes self.old self.new (10 ∷ [])) }
+        ensures ok { OnOk result (Takes self.old self.new (10 ∷ [])) }
         ensures number { OnOk result (self.new.number ≡ self.old.number + 1) }
     {
-        self.keep_line()?;
+        self.push_line()?;
         self.number += 1;
         Ok(())
     }
@@ -102,10 +102,10 @@ impl Splitter {
     /// Takes the next bytes of the input.
     ///
     /// Time is linear in the bytes, each of which is copied once. A line that comes in several
-    /// pieces is moved when its memory has to grow, in a time linear in its bytes.
+    /// pieces is moved when its memory has to grow, in time linear in its bytes.
     pub fn take(&mut self, bytes: &[u8]) -> Result<(), NoMemory>
         requires { self.old.number + length bytes.now < 2 ^ 64 }
-        ensures takes { OnOk result (Takes self.old self.new bytes.now) }
+        ensures ok { OnOk result (Takes self.old self.new bytes.now) }
         ensures number { OnOk result (self.new.number ≤ self.old.number + length bytes.now) }
     {
         let mut rest = bytes;
@@ -123,7 +123,7 @@ impl Splitter {
         ensures { IfOk result (λ lines. lines ≡ lines_with self []) }
     {
         let mut splitter = self;
-        splitter.keep_line()?;
+        splitter.push_line()?;
         let Splitter { lines, .. } = splitter;
         Ok(lines)
     }

@@ -4,9 +4,9 @@ ghost use Rattle.std.specs.Prelude.{◌≤◌, ℕ, length, take, OnOk};
 ghost use Rattle.std.specs.Io.KnownBytes.{Appends};
 ghost use Rattle.ss_lines.specs.Causes.{HasCause};
 
-use crate::ends::Sink;
+use crate::source_sink::Sink;
 
-/// A write that failed.
+/// Why not all bytes were written.
 #[derive(Clone, Copy, Debug, PartialEq, Eq, Drop)]
 pub enum WriteFault {
     /// The sink failed.
@@ -16,8 +16,8 @@ pub enum WriteFault {
 /// Writes all bytes, in order.
 ///
 /// `WriteFault` comes only where the sink counted a fault, and then a prefix of the bytes was
-/// written. No memory is taken, no byte is copied here, and there are at most as many calls of the
-/// sink as bytes.
+/// written. No memory is taken, no byte is copied here, and the sink is called at most once for
+/// each byte.
 pub fn write_all<K: Sink>(sink: &mut K, bytes: &[u8]) -> Result<(), WriteFault>
     ensures ok { OnOk result (Appends (K.written sink.old) (K.written sink.new) bytes.now) }
     ensures part { (n : ℕ) × (n ≤ length bytes.now) × Appends (K.written sink.old) (K.written sink.new) (take n bytes.now) }

@@ -14,9 +14,9 @@ use Rattle.ss_model.proofs.WhenOk.{when_ok_then, anything, try_map_when_ok, all_
 
 module _ (P : Row → Type 0) where
   module _ (cmp : Row → Row → Ordering) where
-    place_all : (x : Row) (ys : Rows) → P x → AllByRecursion P ys → AllByRecursion P (insert_sorted cmp x ys)
-    place_all x [] p all = (p, tt)
-    place_all x (y ∷ ys) p all = either (is_gt (cmp x y)) (all.0, place_all x ys p all.1) (p, all)
+    insert_sorted_all : (x : Row) (ys : Rows) → P x → AllByRecursion P ys → AllByRecursion P (insert_sorted cmp x ys)
+    insert_sorted_all x [] p all = (p, tt)
+    insert_sorted_all x (y ∷ ys) p all = either (is_gt (cmp x y)) (all.0, insert_sorted_all x ys p all.1) (p, all)
       where
         either : (b : Bool) → AllByRecursion P (y ∷ insert_sorted cmp x ys) → AllByRecursion P (x ∷ y ∷ ys) → AllByRecursion P (cond b (y ∷ insert_sorted cmp x ys) (x ∷ y ∷ ys))
         either true g h = g
@@ -24,7 +24,7 @@ module _ (P : Row → Type 0) where
 
     sorted_all : (xs : Rows) → AllByRecursion P xs → AllByRecursion P (sort_rows cmp xs)
     sorted_all [] all = tt
-    sorted_all (x ∷ xs) all = place_all x (sort_rows cmp xs) all.0 (sorted_all xs all.1)
+    sorted_all (x ∷ xs) all = insert_sorted_all x (sort_rows cmp xs) all.0 (sorted_all xs all.1)
 
   take_all : (n : ℕ) (xs : Rows) → AllByRecursion P xs → AllByRecursion P (take n xs)
   take_all zero xs all = tt

@@ -8,17 +8,18 @@ use Rattle.ss_model.specs.Database.{Database, Applied, apply}
 use Rattle.ss_model.specs.Orders.{HasShape, procedure_emits, procedure_takes}
 use Rattle.ss_model.specs.Settling.{is_ready_now}
 
--- a procedure takes a stream that another emits to
+-- whether procedure q takes a stream that procedure p emits to
 abbrev pub takes_output : Catalog → ℕ → ℕ → Bool
 takes_output catalog p q = list_any (λ s. procedure_emits catalog p s && procedure_takes catalog q s) (range_with_len 0 (length catalog.streams))
 
--- each consumer of a stream that the entry appends to; of a push, accepted or refused, the one of its stream
+-- whether an entry wakes a procedure: a consumer of a stream that the entry adds a batch to; of a push, accepted or not, the
+-- consumer of its stream
 abbrev pub wakes : Catalog → Entry → ℕ → Bool
 wakes catalog (Call client index p args) q = false
 wakes catalog (Push client index s source seq rows) q = procedure_takes catalog q s
 wakes catalog (StepEntry p r) q = takes_output catalog p q
 
--- a step of this procedure
+-- the entry is a step of this procedure
 abbrev pub IsStepOf : ℕ → Entry → Type 0
 IsStepOf q (StepEntry p r) = p ≡ q
 IsStepOf q _ = ⊥

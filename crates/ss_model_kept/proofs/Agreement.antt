@@ -4,14 +4,14 @@ use Rattle.std.specs.declared.option.Option.{Option}
 use Rattle.std.specs.Ordering.{eq_by_cmp}
 use Rattle.std.specs.List.{fold}
 use Rattle.std.specs.FinMap as finmap
-use Rattle.ss_model.specs.declared.catalog.Place.{Place}
-use Rattle.ss_model.specs.declared.catalog.Place.TheVariants.{Part, By}
+use Rattle.ss_model.specs.declared.catalog.Placement.{Placement}
+use Rattle.ss_model.specs.declared.catalog.Placement.TheVariants.{Part, By}
 use Rattle.ss_value.specs.Rows.{Row, Rows}
 use Rattle.ss_value.specs.Order.{row_cmp}
-use Rattle.ss_model.specs.Contents.{Table, Contents, window_def, visible_rows, table_at, window_units, append_unit, put_entries, remove_entries, visible_table, matches_split, row_key, table_place}
+use Rattle.ss_model.specs.Contents.{Table, Contents, window_def, visible_rows, table_at, window_units, append_unit, put_entries, remove_entries, visible_table, matches_split, row_key, table_placement}
 use Rattle.ss_model.specs.Statements.{Context, is_table_full, insert_row}
-use Rattle.ss_model.proofs.Tables.{get_cut, get_put, get_drop, same_table, cut_within}
-use Rattle.ss_model_kept.proofs.Slots.{set_two}
+use Rattle.ss_model.proofs.CallerLemmas.{get_cut, get_put, get_drop, same_table, cut_within}
+use Rattle.ss_model_kept.proofs.ListItems.{set_two}
 use Rattle.ss_model_kept.proofs.Related.{Related, equal_test_abort}
 use Rattle.ss_model_kept.proofs.Respects.{Respects}
 use Rattle.ss_model.specs.Locality.{Agree, IsPlaced, IsVisibleRow, inside_scope}
@@ -49,7 +49,7 @@ cut_whole p m h = same_table _ _ (λ q. get_cut m p q ∙ ap (λ b. cond b (finm
 
 module _ (inside : ℕ → Row → Bool) (inside_w : ℕ → Bool) where
   module _ (context : Context) where
-    full_same : (place : Option Place) (t : ℕ) (m n : Table) → (IsPlaced place → (key : Row) → inside t key ≡ true) → finmap.retain_keys m (inside t) ≡ finmap.retain_keys n (inside t) → is_table_full place m ≡ is_table_full place n
+    full_same : (placement : Option Placement) (t : ℕ) (m n : Table) → (IsPlaced placement → (key : Row) → inside t key ≡ true) → finmap.retain_keys m (inside t) ≡ finmap.retain_keys n (inside t) → is_table_full placement m ≡ is_table_full placement n
     full_same None t m n h e = refl
     full_same (Some (By c)) t m n h e = refl
     full_same (Some (Part p)) t m n h e =
@@ -89,7 +89,7 @@ module _ (inside : ℕ → Row → Bool) (inside_w : ℕ → Bool) where
     unfolding insert_row
     insert_agree t row s z h p r =
         equal_test_abort (Agree inside inside_w) _ _ _ _ _ (ap is_some (inside_get (inside t) _ _ _ (r.tables t) (h.0 _ p))) (λ _.
-        equal_test_abort (Agree inside inside_w) _ _ _ _ _ (full_same (table_place (slice_get (context.catalog).tables t)) t _ _ h.1 (r.tables t)) (λ _.
+        equal_test_abort (Agree inside inside_w) _ _ _ _ _ (full_same (table_placement (slice_get (context.catalog).tables t)) t _ _ h.1 (r.tables t)) (λ _.
         put_agree t ((row_key context.catalog t row, row) ∷ []) s z r))
 
     pub agree_respects : Respects context (inside_scope inside inside_w context) (IsVisibleRow context) (Agree inside inside_w)

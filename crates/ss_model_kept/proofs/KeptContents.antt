@@ -1,22 +1,22 @@
 -- Contents with equal tables, and for each window the same number of units and the same kept units.
 use Rattle.std.proofs.Common.{◌≡◌, ℕ, zero, suc, ◌+◌, ◌-◌, ◌*◌, ◌/◌, ◌≤◌, nat_lt, Bool, true, false, cond, List, [], ◌∷◌, ◌++◌, length, get_or, set, take, drop, refl, sym, ap, ◌∙◌, subst, Some, None, length-set, length-append, is_some, slice_get, arith}
-use Rattle.std.proofs.Math.Nat.{div-mul-le_self, mul-le-mul_right, le_trans}
-use Rattle.std.proofs.lemmas.Nat.{le-div}
+use Rattle.std.proofs.Math.Nat.{div-mul-le_self, le_trans}
 use Rattle.std.proofs.lemmas.List.{drop-append-le}
 use Rattle.std.proofs.lemmas.Bool.{ltb-false}
 use Rattle.std.specs.List.{fold, flat_map}
 use Rattle.std.specs.FinMap as finmap
 use Rattle.ss_model.specs.declared.catalog.WindowDef.{WindowDef}
 use Rattle.ss_value.specs.Rows.{Row, Rows}
-use Rattle.ss_model.specs.Contents.{Window, Contents, window_def, first_kept, visible_count, kept_units, table_at, window_units, append_unit, put_entries, remove_entries, visible_table, matches_split, row_key, table_place}
+use Rattle.ss_model.specs.Contents.{Window, Contents, window_def, first_kept, visible_count, kept_units, table_at, window_units, append_unit, put_entries, remove_entries, visible_table, matches_split, row_key, table_placement}
 use Rattle.ss_model.specs.Statements.{Context, is_table_full, insert_row}
 use Rattle.ss_model.specs.KeptRuns.{SameWindow, SameKept}
-use Rattle.ss_model_kept.proofs.Slots.{set_two}
+use Rattle.ss_model_kept.proofs.ListItems.{set_two}
 use Rattle.ss_model_kept.proofs.Related.{Related, equal_test_abort}
 use Rattle.ss_model_kept.proofs.Respects.{Respects, ExecutionRelated, body_related}
 use Rattle.ss_model.specs.Claims.{Claims, SourceClaim, JoinClaim, QueryClaim, StatementClaim, TriggerClaim, InnerClaim, StepClaim}
-use Rattle.ss_model.proofs.WhenOk.{when_ok_map, all_of, anything}
+use Rattle.ss_model.proofs.CallerLemmas.{when_ok_map, all_of, anything}
 use Rattle.std.specs.declared.option.Option.{Option}
+use Rattle.ss_lemmas.proofs.Numbers.{multiples}
 use Rattle.ss_sql_lex.specs.declared.typed.Query.{Query}
 use Rattle.ss_sql_lex.specs.declared.typed.Joined.{Joined}
 use Rattle.ss_sql_lex.specs.declared.typed.SourceId.{SourceId}
@@ -33,10 +33,6 @@ use Rattle.ss_model.specs.Results.{try_map}
 use Rattle.ss_model.specs.Expressions.{expr_value}
 use Rattle.ss_model.specs.Queries.{query_result}
 use Rattle.ss_model.specs.Bodies.{run_body}
-
-multiples : (s x y : ℕ) → x ≤ y → x / s * s ≤ y / s * s
-multiples zero x y h = omega arith
-multiples (suc s) x y h = mul-le-mul_right (suc s) (le-div (x / suc s) y (suc s) (omega arith) (le_trans (div-mul-le_self x (suc s)) h))
 
 later : (d : WindowDef) (k : ℕ) (a b : Bool) → nat_lt k d.size ≡ a → nat_lt (suc k) d.size ≡ b → cond a 0 ((k - d.size) / d.slide * d.slide) ≤ cond b 0 ((suc k - d.size) / d.slide * d.slide)
 later d k true b e f = omega arith
@@ -115,7 +111,7 @@ module _ (context : Context) where
   unfolding insert_row table_at
   insert_kept t row s z r =
       equal_test_abort (SameKept context.catalog) _ _ _ _ _ (ap (λ ts. is_some (finmap.get (get_or ts t finmap.empty) (row_key context.catalog t row))) r.tables) (λ _.
-      equal_test_abort (SameKept context.catalog) _ _ _ _ _ (ap (λ ts. is_table_full (table_place (slice_get (context.catalog).tables t)) (get_or ts t finmap.empty)) r.tables) (λ _.
+      equal_test_abort (SameKept context.catalog) _ _ _ _ _ (ap (λ ts. is_table_full (table_placement (slice_get (context.catalog).tables t)) (get_or ts t finmap.empty)) r.tables) (λ _.
       put_kept t ((row_key context.catalog t row, row) ∷ []) s z r))
 
   pub kept_respects : Respects context whole_scope (λ t row. Unit {0}) (SameKept context.catalog)
@@ -169,7 +165,7 @@ module _ (context : Context) where
   step_whole (Emit s q) = (query_whole q, all_of _ trigger_whole _)
   step_whole (Return q) = query_whole q
 
-  -- a body gives the same on contents with equal kept, and leaves them so
+  -- a body gives the same on contents of which the same is kept, and leaves them so
   pub body_kept : (body : List Step) (s z : Contents) → SameKept context.catalog s z → Related (ExecutionRelated (SameKept context.catalog)) (run_body context body s) (run_body context body z)
   body_kept body s z r =
       body_related context whole_scope (λ t row. Unit {0}) (SameKept context.catalog) (kept_respects context) body (λ n _. all_of _ trigger_whole _) (all_of _ step_whole body) (all_of _ (λ _. tt) _) s z r

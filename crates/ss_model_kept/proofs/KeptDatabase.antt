@@ -1,7 +1,7 @@
--- Databases with equal kept: equal outcomes, and equal kept after each entry.
+-- Databases of which the same is kept: each entry has the same outcome on both, and the same is kept after it.
 use Rattle.std.proofs.Common.{◌≡◌, ◌≤◌, ◌<◌, ◌+◌, ◌-◌, ℕ, zero, suc, Bool, true, false, cond, ◌==◌, ◌&&◌, nat_lt, min, ◌⊎◌, inl, inr, ◌≢◌, List, [], ◌∷◌, ◌++◌, map, refl, sym, ap, ◌∙◌, subst, Some, None, slice_get, get_or, set, length, drop, arith, length-set}
 use Rattle.std.proofs.lemmas.Bool.Decides.{eqb_tells, Decides-eqb}
-use Rattle.std.proofs.lemmas.Bool.{ltb-true, ltb-false}
+use Rattle.std.proofs.lemmas.Bool.{ltb-true, ltb-false, or_right, or_left}
 use Rattle.std.proofs.lemmas.Option.{slice_get_within}
 use Rattle.std.proofs.lemmas.List.{get_or-drop, get_or_past, get_or-set_same, get_or-set_other, length-append}
 use Rattle.std.proofs.Math.Nat.{min-le_left, min-le_right, le-min, le_trans}
@@ -21,11 +21,11 @@ use Rattle.ss_model.specs.Orders.{procedure_takes, procedure_has}
 use Rattle.ss_model.specs.Settling.{Kept, kept, least_count, procedure_numbers, SameKeptEffect, SameKeptApplied}
 use Rattle.ss_model.specs.Locality.{context_of, BodyResultRelated}
 use Rattle.ss_model.specs.KeptRuns.{SameKept}
-use Rattle.ss_model_kept.proofs.Slots.{set_one, set_two, get_or-map_index, length-map_index}
+use Rattle.ss_model_kept.proofs.ListItems.{set_one, set_two, get_or-map_index, length-map_index}
 use Rattle.ss_model_kept.proofs.PartLemmas.{slot, same_slots}
 use Rattle.ss_model_kept.proofs.KeptContents.{body_kept, drop_on}
 use Rattle.ss_model_kept.proofs.Locality.{body_result_related}
-use Rattle.ss_model.proofs.Truths.{first_of_two, second_of_two, or_first, or_second}
+use Rattle.ss_lemmas.proofs.Bools.{first_of_two, second_of_two}
 
 -- ---- lists with equal tails
 
@@ -94,7 +94,7 @@ module _ (catalog : Catalog) where
   pub same_least : (x y : Database) (s : ℕ) → x.counts ≡ y.counts → length (stream_batches x s) ≡ length (stream_batches y s) → least_count catalog x s ≡ least_count catalog y s
   same_least x y s c l = λ i. fold (λ least q. cond (procedure_takes catalog q s) (min least (get_or (c i) q 0)) least) (l i) (procedure_numbers catalog)
 
-  -- ---- from equal kept, and back
+  -- ---- from what is kept to the databases, and back
 
   abbrev kept_stream : (ℕ → ℕ) → ℕ → List Rows → ℕ × (ℕ × List Rows)
   kept_stream from s bs = (length bs, (from s, drop (from s) bs))
@@ -219,7 +219,7 @@ module _ (catalog : Catalog) where
     same_ready : (x y : Database) → SameKeptDatabase x y → is_ready x q r p ≡ is_ready y q r p
     same_ready x y k = λ i. is_streaming p.kind && (get_or (k.counts i) q 0 == r) && list_all (λ s. nat_lt r (k.lengths s i)) p.inputs
 
-    -- the count of a reader is at least the stream's least count
+    -- the count of a consumer is at least the stream's least count
     pub reads_kept : (x : Database) (s : ℕ) → batch_count x q ≡ r → takes_stream s p ≡ true → least_count catalog x s ≤ r
     reads_kept x s c t =
         let within : q < length catalog.procedures = slice_get_within catalog.procedures q p is in
@@ -229,8 +229,8 @@ module _ (catalog : Catalog) where
     same_inputs : (x y : Database) → SameKeptDatabase x y → batch_count x q ≡ r → (ss : List ℕ) → ((s : ℕ) → list_any (λ i. i == s) ss ≡ true → takes_stream s p ≡ true) → map (λ s. get_or (stream_batches x s) r []) ss ≡ map (λ s. get_or (stream_batches y s) r []) ss
     same_inputs x y k c [] h = refl
     same_inputs x y k c (s ∷ ss) h = λ i.
-        same_there (least_count catalog x s) r (stream_batches x s) (stream_batches y s) [] (reads_kept x s c (h s (or_first (s == s) _ ((Decides-eqb s s).1 refl)))) (k.tails s (least_count catalog x s) (omega arith)) i
-        ∷ same_inputs x y k c ss (λ z e. h z (or_second (s == z) _ e)) i
+        same_there (least_count catalog x s) r (stream_batches x s) (stream_batches y s) [] (reads_kept x s c (h s (or_left (s == s) _ ((Decides-eqb s s).1 refl)))) (k.tails s (least_count catalog x s) (omega arith)) i
+        ∷ same_inputs x y k c ss (λ z e. h z (or_right (s == z) _ e)) i
 
     -- the output batches of both
     appended_length : (b : Bool) (bs : List Rows) (new : Rows) → length bs ≤ length (cond b (bs ++ new ∷ []) bs)

@@ -1,10 +1,11 @@
-pub mod Related
-pub mod VisibleEntries
-pub mod Respects
-pub mod Slots
 pub mod Agreement
-pub mod Unchanged
+pub mod CallerLemmas
 pub mod KeptContents
+pub mod KeptDatabase
 pub mod Locality
 pub mod PartLemmas
-pub mod KeptDatabase
+pub mod Related
+pub mod Respects
+pub mod ListItems
+pub mod Unchanged
+pub mod VisibleEntries

@@ -5,6 +5,7 @@ use Rattle.std.specs.List.{AllByRecursion, filter, range_with_len}
 use Rattle.ss_model.specs.declared.catalog.Procedure.{Procedure}
 use Rattle.ss_model.specs.declared.catalog.WindowDef.{WindowDef}
 use Rattle.std.specs.declared.option.Option.{Option}
+use Rattle.ss_lemmas.proofs.EachOf.{all_with}
 use Rattle.ss_model.specs.declared.catalog.Catalog.{Catalog}
 use Rattle.ss_model.specs.declared.entry.Outcome.TheVariants.{Done, Aborted}
 use Rattle.ss_model.specs.Results.{OrAbort}
@@ -18,9 +19,8 @@ use Rattle.ss_model_kept.proofs.Related.{Related}
 use Rattle.ss_model_kept.proofs.Respects.{ExecutionRelated, body_related}
 use Rattle.ss_model_kept.proofs.Agreement.{agree_respects}
 use Rattle.ss_model_kept.proofs.Unchanged.{Held, held_respects}
-use Rattle.ss_model.proofs.WhenOk.{all_map}
 use Rattle.ss_model.specs.Locality.{Agree, Unchanged, IsVisibleRow, context_of, inside_scope, BodyResultRelated, RunIsLocal}
-use Rattle.ss_model.proofs.Truths.{first_of_two}
+use Rattle.ss_lemmas.proofs.Bools.{first_of_two}
 
 passes_on : {A : Type 0} (test : A → Bool) (x : A) (xs : List A) (b : Bool) → test x ≡ b → AllByRecursion (λ x. test x ≡ true) xs → AllByRecursion (λ x. test x ≡ true) (cond b (x ∷ xs) xs)
 passes_on test x xs true e all = (e, all)
@@ -51,7 +51,7 @@ module _ (catalog : Catalog) (q : ℕ) (p : Procedure) (args : Row) (batches : L
 
   own_windows : AllByRecursion scope.window (owned_batch_windows catalog q)
   own_windows =
-      all_map (λ w. is_closed_by q (slice_get catalog.windows w) ≡ true) scope.window
+      all_with (λ w. is_closed_by q (slice_get catalog.windows w) ≡ true) scope.window
       (λ w e. uses.owned w (closes_owner q (slice_get catalog.windows w) e))
       (owned_batch_windows catalog q) (filter_passes _ (range_with_len 0 (length catalog.windows)))
 

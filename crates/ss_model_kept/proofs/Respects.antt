@@ -3,6 +3,7 @@ use Rattle.std.proofs.Common.{◌≡◌, ℕ, ℤ, zero, suc, ◌^◌, Bool, tru
 use Rattle.std.specs.declared.option.Option.{Option}
 use Rattle.std.specs.List.{AllByRecursion, filter}
 use Rattle.std.specs.FinMap as finmap
+use Rattle.ss_lemmas.proofs.EachOf.{all_with}
 use Rattle.ss_sql_lex.specs.declared.typed.Expr.{Expr}
 use Rattle.ss_sql_lex.specs.declared.typed.Query.{Query}
 use Rattle.ss_sql_lex.specs.declared.typed.Joined.{Joined}
@@ -33,7 +34,7 @@ use Rattle.ss_model.specs.Statements.{Context, Execution, Cascade, insert_row, m
 use Rattle.ss_model.specs.Bodies.{check_condition, execute_abort_if, execute_inner, emit_rows, execute_step, owned_batch_windows, close_window, run_body, exceeds_row_limit}
 use Rattle.ss_model.specs.Claims.{Claims, SourceClaim, JoinClaim, QueryClaim, ValuesClaim, RowsClaim, StatementClaim, TriggerClaim, InnerClaim, StepClaim}
 use Rattle.ss_model_kept.proofs.Related.{Related, related_then, equal_first_then, related_try_fold, equal_test_abort, same_test_abort, same_first_then}
-use Rattle.ss_model.proofs.WhenOk.{when_ok_at, try_filter_when_ok, try_map_when_ok, when_ok_then, when_ok_map, all_map, all_of, anything}
+use Rattle.ss_model.proofs.CallerLemmas.{when_ok_at, try_filter_when_ok, try_map_when_ok, when_ok_then, when_ok_map, all_of, anything}
 use Rattle.ss_model_kept.proofs.VisibleEntries.{all_seen}
 use Rattle.ss_model.specs.Locality.{IsVisible}
 
@@ -154,7 +155,7 @@ module _ (context : Context) (u : Claims) (fit : ℕ → Row → Type 0) (R : Co
   values_put params (IntoWindow n) vs h = when_ok_map (λ _. Unit {0}) _ _ (λ row p. h) (anything (try_map (expr_value [] params) vs))
 
   query_put : (params : Row) (target : Target) (q : Query) (outer : Rows) (inner : Option (Joined × Rows)) → RowsClaim u params target q → WhenOk (AllByRecursion (TargetIn target)) (query_result outer inner params q)
-  query_put params (IntoTable t) q outer inner h = when_ok_map (AllByRecursion (fit t)) _ _ (λ rows ps. all_map (fit t) _ (λ row p. (h.0, p)) rows ps) (k.queried params t q outer inner h.1)
+  query_put params (IntoTable t) q outer inner h = when_ok_map (AllByRecursion (fit t)) _ _ (λ rows ps. all_with (fit t) _ (λ row p. (h.0, p)) rows ps) (k.queried params t q outer inner h.1)
   query_put params (IntoWindow n) q outer inner h = when_ok_map (λ _. Unit {0}) _ _ (λ rows _. all_of _ (λ row. h) rows) (anything (query_result outer inner params q))
 
   effect_related : (inserted : Rows) (params : Row) (st : Statement) → StatementClaim u params st → (s z : Contents) → R s z → Related EffectRelated (statement_effect context inserted params st s) (statement_effect context inserted params st z)

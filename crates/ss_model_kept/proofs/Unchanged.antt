@@ -9,11 +9,11 @@ use Rattle.ss_model.specs.declared.entry.Reason.TheVariants.{KeyTaken, TableFull
 use Rattle.ss_model.specs.Results.{abort_when}
 use Rattle.ss_value.specs.Rows.{Row, Rows}
 use Rattle.ss_value.specs.Order.{row_cmp}
-use Rattle.ss_model.specs.Contents.{Table, Contents, window_def, visible_rows, table_at, window_units, append_unit, put_entries, remove_entries, visible_table, row_key, table_place}
+use Rattle.ss_model.specs.Contents.{Table, Contents, window_def, visible_rows, table_at, window_units, append_unit, put_entries, remove_entries, visible_table, row_key, table_placement}
 use Rattle.ss_model.specs.Statements.{Context, is_table_full, insert_row}
 use Rattle.ss_value.specs.ValueOrder.{row_cmp-IsAntisymmetric}
-use Rattle.ss_model.proofs.Tables.{get_cut, get_put, get_drop, same_table}
-use Rattle.ss_model_kept.proofs.Slots.{set_one}
+use Rattle.ss_model.proofs.CallerLemmas.{get_cut, get_put, get_drop, same_table}
+use Rattle.ss_model_kept.proofs.ListItems.{set_one}
 use Rattle.ss_model_kept.proofs.Related.{Related, same_test_abort}
 use Rattle.ss_model_kept.proofs.Respects.{Respects}
 use Rattle.ss_model.specs.Locality.{IsVisible, IsVisibleRow, Unchanged, inside_scope}
@@ -83,7 +83,7 @@ module _ (inside : ℕ → Row → Bool) (inside_w : ℕ → Bool) (start : Cont
     unfolding insert_row
     insert_held t row s h p r =
         let new = put_entries s t ((row_key context.catalog t row, row) ∷ []) in
-        let full = is_table_full (table_place (slice_get (context.catalog).tables t)) (table_at s t) in
+        let full = is_table_full (table_placement (slice_get (context.catalog).tables t)) (table_at s t) in
         let held : Held new new = (refl, put_held t ((row_key context.catalog t row, row) ∷ []) s h (p, tt) r) in
         same_test_abort Held (finmap.contains_key (table_at s t) (row_key context.catalog t row)) (KeyTaken t) (abort_when full (TableFull t) (Ok new)) (abort_when full (TableFull t) (Ok new))
         (λ _. same_test_abort Held full (TableFull t) (Ok new) (Ok new) (λ _. held))

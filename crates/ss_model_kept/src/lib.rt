@@ -1,7 +1,12 @@
-//! Laws of what an image keeps of a database: they are all that execution takes of the laws of `ss_model`.
+//! The laws of what is kept of a database, in `kept`: each is the contract of a function that does nothing.
 //!
-//! An execution holds the units alone that a slide may still show. That a run reads no others is a law about the
-//! definitions, with which a shard stands for every database that keeps the same.
+//! A shard holds only the units of a window that a slide may still show. By these laws a run reads no others, so a
+//! shard stands for every database of which the same is kept.
+//!
+//! They are a crate of their own, apart from `ss_model_laws`, since the crates that execute rest on them and on no
+//! other law: so the other laws come and go without a proof above. The statements are in `ss_model/specs`.
 #![tactic(auto)]
 
-pub mod keeping;
+mod kept;
+
+pub use kept::{kept_is_enough, runs_need_what_is_kept};

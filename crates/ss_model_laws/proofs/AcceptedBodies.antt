@@ -1,8 +1,9 @@
 -- Accepted catalogues in parts, and with other bodies.
-use Rattle.std.proofs.Common.{◌≡◌, ◌↔◌, ℕ, ℤ, zero, suc, Bool, true, ◌&&◌, List, [], ◌∷◌, ◌++◌, get_or, set, length, slice_get, refl, sym, ap, ◌∙◌, Some, Ok}
+use Rattle.std.proofs.Common.{◌≡◌, ◌↔◌, ℕ, ℤ, zero, suc, Bool, true, ◌&&◌, List, [], ◌∷◌, ◌++◌, get_or, set, length, refl, sym, ap, ◌∙◌, Ok}
 use Rattle.std.specs.declared.option.Option.{Option}
 use Rattle.std.specs.List.{filter, list_all}
 use Rattle.std.proofs.lemmas.Bool.{and_from}
+use Rattle.ss_lemmas.proofs.EachOf.{all_from}
 use Rattle.ss_value.specs.Rows.{Row, Rows}
 use Rattle.ss_model.specs.declared.catalog.Catalog.{Catalog}
 use Rattle.ss_model.specs.declared.catalog.Procedure.{Procedure}
@@ -29,8 +30,8 @@ use Rattle.ss_model.specs.Typing.{procedure_typed}
 use Rattle.ss_model.specs.Scopes.{procedure_in_scope}
 use Rattle.ss_model.specs.Accepted.{Accepted}
 use Rattle.ss_model.specs.AcceptedBodies.{with_bodies, AcceptedFrame, OwnBodies}
-use Rattle.ss_model.proofs.Truths.{first_of_two, second_of_two, at_place}
-use Rattle.ss_model.proofs.Tested.{calls_of}
+use Rattle.ss_lemmas.proofs.Bools.{first_of_two, second_of_two, at_index}
+use Rattle.ss_model.proofs.CallerLemmas.{calls_of}
 
 -- ---- a run reads no body but its own
 
@@ -170,11 +171,6 @@ third_part : (a b c d e f k : Bool) → ((((((a && b) && c) && d) && e) && f) &&
 third_part a b c d e f k h =
     second_of_two (a && b) c (first_of_two ((a && b) && c) d (first_of_two (((a && b) && c) && d) e (first_of_two ((((a && b) && c) && d) && e) f (first_of_two (((((a && b) && c) && d) && e) && f) k h))))
 
--- all at each place
-each_place : {A : Type 0} (test : A → Bool) (xs : List A) → ((n : ℕ) (x : A) → slice_get xs n ≡ Some x → test x ≡ true) → list_all test xs ≡ true
-each_place test [] h = refl
-each_place test (x ∷ xs) h = and_from _ _ (h 0 x refl) (each_place test xs (λ n y is. h (suc n) y is))
-
 module _ (catalog : Catalog) where
   module _ (form : has_form catalog ≡ true) where
     kinds : list_all is_of_kind catalog.procedures ≡ true
@@ -187,13 +183,13 @@ module _ (catalog : Catalog) where
     frame_of =
         rebuilt (has_distinct_names catalog) (numbers_in_range catalog) (is_within_limits catalog) (has_window_sizes catalog) (has_distinct_numbers catalog) (has_parts catalog) (list_all is_of_kind catalog.procedures) (counts_within_limits catalog) (list_all head_of_kind catalog.procedures) form
         (first_of_two (counts_within_limits catalog) (list_all (λ p. body_within_limit p.body) catalog.procedures) limits)
-        (each_place head_of_kind catalog.procedures (λ q p is. first_of_two (head_of_kind p) (list_all (step_of_kind p.kind) p.body) (at_place is_of_kind catalog.procedures kinds q p is)))
+        (all_from head_of_kind catalog.procedures (λ q p is. first_of_two (head_of_kind p) (list_all (step_of_kind p.kind) p.body) (at_index is_of_kind catalog.procedures kinds q p is)))
 
   form_of : has_frame catalog ≡ true → OwnBodies catalog → has_form catalog ≡ true
   form_of frame bodies =
       rebuilt (has_distinct_names catalog) (numbers_in_range catalog) (counts_within_limits catalog) (has_window_sizes catalog) (has_distinct_numbers catalog) (has_parts catalog) (list_all head_of_kind catalog.procedures) (is_within_limits catalog) (list_all is_of_kind catalog.procedures) frame
-      (and_from (counts_within_limits catalog) (list_all (λ p. body_within_limit p.body) catalog.procedures) (third_part (has_distinct_names catalog) (numbers_in_range catalog) (counts_within_limits catalog) (has_window_sizes catalog) (has_distinct_numbers catalog) (has_parts catalog) (list_all head_of_kind catalog.procedures) frame) (each_place (λ p. body_within_limit p.body) catalog.procedures (λ q p is. (bodies q p is).size)))
-      (each_place is_of_kind catalog.procedures (λ q p is. and_from (head_of_kind p) (list_all (step_of_kind p.kind) p.body) (at_place head_of_kind catalog.procedures (second_of_two _ _ frame) q p is) (bodies q p is).kind))
+      (and_from (counts_within_limits catalog) (list_all (λ p. body_within_limit p.body) catalog.procedures) (third_part (has_distinct_names catalog) (numbers_in_range catalog) (counts_within_limits catalog) (has_window_sizes catalog) (has_distinct_numbers catalog) (has_parts catalog) (list_all head_of_kind catalog.procedures) frame) (all_from (λ p. body_within_limit p.body) catalog.procedures (λ q p is. (bodies q p is).size)))
+      (all_from is_of_kind catalog.procedures (λ q p is. and_from (head_of_kind p) (list_all (step_of_kind p.kind) p.body) (at_index head_of_kind catalog.procedures (second_of_two _ _ frame) q p is) (bodies q p is).kind))
 
   frame_in : Accepted catalog → AcceptedFrame catalog
   frame_in a = record {
@@ -220,10 +216,10 @@ module _ (catalog : Catalog) where
 
   bodies_in : Accepted catalog → OwnBodies catalog
   bodies_in a q p is = record {
-    kind = second_of_two _ _ (at_place is_of_kind catalog.procedures (kinds a.form) q p is);
-    size = at_place (λ p. body_within_limit p.body) catalog.procedures (second_of_two _ _ (limits a.form)) q p is;
-    typed = at_place (procedure_typed catalog) catalog.procedures (first_of_two _ _ a.typed) q p is;
-    in_scope = at_place (procedure_in_scope catalog) catalog.procedures (first_of_two _ _ a.in_scope) q p is;
+    kind = second_of_two _ _ (at_index is_of_kind catalog.procedures (kinds a.form) q p is);
+    size = at_index (λ p. body_within_limit p.body) catalog.procedures (second_of_two _ _ (limits a.form)) q p is;
+    typed = at_index (procedure_typed catalog) catalog.procedures (first_of_two _ _ a.typed) q p is;
+    in_scope = at_index (procedure_in_scope catalog) catalog.procedures (first_of_two _ _ a.in_scope) q p is;
     local = a.local q p is;
     limited = a.limited q p is;
     emits = λ s. refl;
@@ -232,8 +228,8 @@ module _ (catalog : Catalog) where
   pub joined : AcceptedFrame catalog → OwnBodies catalog → Accepted catalog
   joined f b = record {
     form = form_of f.form b;
-    typed = and_from _ _ (each_place (procedure_typed catalog) catalog.procedures (λ q p is. (b q p is).typed)) f.triggers_typed;
-    in_scope = and_from _ _ (each_place (procedure_in_scope catalog) catalog.procedures (λ q p is. (b q p is).in_scope)) f.triggers_in_scope;
+    typed = and_from _ _ (all_from (procedure_typed catalog) catalog.procedures (λ q p is. (b q p is).typed)) f.triggers_typed;
+    in_scope = and_from _ _ (all_from (procedure_in_scope catalog) catalog.procedures (λ q p is. (b q p is).in_scope)) f.triggers_in_scope;
     call_steps = λ q p is call. calls_of p.kind p.body call (b q p is).kind;
     local = λ q p is. (b q p is).local;
     limited = λ q p is. (b q p is).limited;

@@ -14,7 +14,7 @@ use Rattle.ss_model.specs.Results.{map_indexed}
 use Rattle.ss_model.specs.Database.{Database, Applied, only_when, apply, apply_step, append_batches, batch_count, emits_to}
 use Rattle.ss_model.specs.Orders.{HasShape, procedure_emits, procedure_has}
 use Rattle.ss_model.specs.Advances.{StepMovesOn}
-use Rattle.ss_model_kept.proofs.Slots.{get_or-map_index}
+use Rattle.ss_model_kept.proofs.CallerLemmas.{get_or-map_index}
 
 -- past the end of a list that is made of another
 past_slot : {A B : Type 0} (f : ℕ → A → B) (xs : List A) (i : ℕ) (e : B) → length xs ≤ i → get_or (map_indexed f xs) i e ≡ e

@@ -22,8 +22,8 @@ use Rattle.ss_model.specs.Database.{Database, Applied, apply, apply_call, apply_
 use Rattle.ss_model.specs.Replays.{database_after, after}
 use Rattle.ss_model.specs.Orders.{HasShape}
 use Rattle.ss_model.specs.Batches.{output_batches, batches_of, BatchesJoin, GrowsByOne, StreamGrows}
-use Rattle.ss_model.proofs.Truths.{some_same}
-use Rattle.ss_model_kept.proofs.Slots.{set_one, get_or-map_index, length-map_index}
+use Rattle.ss_lemmas.proofs.Bools.{some_same}
+use Rattle.ss_model_kept.proofs.CallerLemmas.{set_one, get_or-map_index, length-map_index}
 use Rattle.ss_model_laws.proofs.Effects.{of_when}
 
 -- ---- one batch at most

@@ -1,4 +1,4 @@
--- What reads no body is the same with other bodies.
+-- What reads no body stays the same with other bodies.
 use Rattle.std.proofs.Common.{◌≡◌, ℕ, zero, suc, Bool, true, false, cond, ◌&&◌, ◌==◌, nat_le, nat_lt, max, min, List, [], ◌∷◌, map, drop, get_or, length, replicate, slice_get, refl, sym, ap, ◌∙◌, subst, Some, None, unwrap_or}
 use Rattle.std.specs.Prelude.{◌^◌}
 use Rattle.std.specs.Option.{option_map}
@@ -16,7 +16,7 @@ use Rattle.ss_model.specs.Results.{map_indexed}
 use Rattle.ss_model.specs.Contents.{window_owner, window_def, kept_units}
 use Rattle.ss_model.specs.Database.{Database, Applied, empty_database, fits_entry, has_call, has_step, stream_schema, batch_count, stream_batches, is_border, takes_stream, is_ready, is_call}
 use Rattle.ss_model.specs.Orders.{MatchesCounts}
-use Rattle.ss_model.specs.Partitions.{home_partition, home_of, home_of_owner, window_part, row_part, border_procedure, procedure_touches, touches, part}
+use Rattle.ss_model.specs.Partitions.{home_partition, home_of, home_of_owner, window_partition, row_partition, border_procedure, procedure_touches, touches, part}
 use Rattle.ss_model.specs.Settling.{emitting_procedure, kept, least_count, rank_from, rank, is_ready_now, lower_rank, next_settled}
 use Rattle.ss_model.specs.Batches.{output_batches, emitted_batches}
 use Rattle.ss_model.specs.WholeDatabase.{batch_fits, WholeDatabase}
@@ -51,7 +51,7 @@ module _ (catalog : Catalog) (bodies : ℕ → List Step) where
   stream_home_same : (n s : ℕ) → home_partition n (border_procedure other s) ≡ home_partition n (border_procedure catalog s)
   stream_home_same n s = found_home n s bodies catalog.procedures
 
-  window_same : (n w : ℕ) → window_part other n w ≡ window_part catalog n w
+  window_same : (n w : ℕ) → window_partition other n w ≡ window_partition catalog n w
   window_same n w = by (window_owner catalog w)
     where
       by : (o : Option ℕ) → home_of_owner other n o ≡ home_of_owner catalog n o
@@ -66,7 +66,7 @@ module _ (catalog : Catalog) (bodies : ℕ → List Step) where
   part_same : (n p : ℕ) (db : Database) → part other n p db ≡ part catalog n p db
   unfolding part
   part_same n p db = λ i. record {
-    tables = map_indexed (λ t m. finmap.retain_keys m (λ key. row_part catalog n t key == p)) db.contents.tables;
+    tables = map_indexed (λ t m. finmap.retain_keys m (λ key. row_partition catalog n t key == p)) db.contents.tables;
     windows = map_indexed (λ w us. cond (window_same n w i == p) us []) db.contents.windows;
     counts = map_indexed (λ q c. cond (home_same n q i == p) c 0) db.counts;
     next_numbers = map_indexed (λ s m. cond (stream_home_same n s i == p) m finmap.empty) db.next_numbers;

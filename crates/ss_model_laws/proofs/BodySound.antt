@@ -36,13 +36,12 @@ use Rattle.ss_model.specs.Typing.{window_schema, input_schema, schemas_of, inner
 use Rattle.ss_model.specs.Scopes.{statement_in_scope, inner_in_scope, step_in_scope, is_on_a_stream, trigger_in_scope, procedure_in_scope, catalog_in_scope}
 use Rattle.ss_model.specs.WholeDatabase.{has_unit_size, unit_fits, WholeContents, batch_fits}
 use Rattle.ss_model.specs.SoundRuns.{FitAll, WholeResult}
-use Rattle.ss_model_kept.proofs.Slots.{set_one}
-use Rattle.ss_model.proofs.Truths.{first_of_two, second_of_two, some_same, at_place, each_filtered}
-use Rattle.ss_model.proofs.WhenOk.{when_ok_then, anything}
+use Rattle.ss_model_kept.proofs.CallerLemmas.{set_one, filter_passes}
+use Rattle.ss_lemmas.proofs.Bools.{first_of_two, second_of_two, some_same, at_index, each_filtered}
+use Rattle.ss_model.proofs.CallerLemmas.{when_ok_then, anything}
 use Rattle.ss_model_laws.proofs.QuerySound.{all_append}
 use Rattle.ss_model_laws.proofs.WholeChanges.{when_ok_unless, append_whole}
 use Rattle.ss_model_laws.proofs.StatementSound.{AtHand, try_fold_when_ok, each_of, all_test, query_fits, EffectWhole, effect_whole}
-use Rattle.ss_model_kept.proofs.Locality.{filter_passes}
 
 -- contents that are whole, units and batches whose rows fit
 pub record WholeExecution (catalog : Catalog) (w : Execution) : Type 0 where
@@ -276,4 +275,4 @@ pub run_whole : (catalog : Catalog) → catalog_typed catalog ≡ true → catal
 run_whole catalog typed in_scope q p args batches s is fits inputs h =
     let context : Context = record { catalog = catalog; procedure = q; args = args; batches = batches; split_value = split_value_for p.touch args } in
     result_whole catalog s (run_body context p.body s) h
-    (body_whole context typed in_scope p (at_place (procedure_typed catalog) catalog.procedures (first_of_two _ _ typed) q p is) (at_place (procedure_in_scope catalog) catalog.procedures (first_of_two _ _ in_scope) q p is) fits inputs s h)
+    (body_whole context typed in_scope p (at_index (procedure_typed catalog) catalog.procedures (first_of_two _ _ typed) q p is) (at_index (procedure_in_scope catalog) catalog.procedures (first_of_two _ _ in_scope) q p is) fits inputs s h)

@@ -14,10 +14,10 @@ use Rattle.ss_model.specs.Claims.{UsesOnly}
 use Rattle.ss_model.specs.Partitions.{local_claims}
 use Rattle.ss_model.specs.Settling.{border_stream, border_stream_from, first_input, emitting_procedure, procedure_numbers}
 use Rattle.ss_model.specs.Feeds.{Reaches, at_once, through, BatchesGoForward}
-use Rattle.ss_model.specs.CatalogForm.{has_frame, head_of_kind, has_distinct_names, numbers_in_range, counts_within_limits, has_window_sizes, has_distinct_numbers, has_parts, all_distinct, source_names, columns_distinct, numbers_distinct, listed_parts, touch_in_range, trigger_in_range, place_in_range}
+use Rattle.ss_model.specs.CatalogForm.{has_frame, head_of_kind, has_distinct_names, numbers_in_range, counts_within_limits, has_window_sizes, has_distinct_numbers, has_parts, all_distinct, source_names, columns_distinct, numbers_distinct, listed_parts, touch_in_range, trigger_in_range, placement_in_range}
 use Rattle.ss_model.specs.Accepted.{Accepted, IsArg, IsSomewhere}
 use Rattle.ss_model.specs.AcceptedBodies.{with_body, with_bodies, AcceptedBody, AcceptedBodies, AcceptedFrame, OwnBodies, BodiesMayChange}
-use Rattle.ss_model.proofs.Truths.{some_same}
+use Rattle.ss_lemmas.proofs.Bools.{some_same}
 use Rattle.ss_model_laws.proofs.AcceptedBodies.{in_parts, joined}
 
 -- ---- lists of procedures with other bodies
@@ -94,7 +94,7 @@ module _ (catalog : Catalog) (bodies : ℕ → List Step) where
       ranges : numbers_in_range other ≡ numbers_in_range catalog
       ranges = λ i.
           list_all (λ d. list_all (λ c. nat_lt c (length d.schema)) d.key) catalog.tables
-          && list_all (λ d. list_all (list_all (λ c. nat_lt c (length d.schema))) d.indexes && place_in_range d d.place) catalog.tables
+          && list_all (λ d. list_all (list_all (λ c. nat_lt c (length d.schema))) d.indexes && placement_in_range d d.placement) catalog.tables
           && list_all (λ d. nat_lt d.owner (length_same bodies catalog.procedures i)) catalog.windows
           && list_all (λ t. trigger_in_range catalog t.on) catalog.triggers
           && all_same (λ p. list_all (λ s. nat_lt s (length catalog.streams)) p.inputs && touch_in_range p.args p.touch) (λ body p. refl) bodies catalog.procedures i

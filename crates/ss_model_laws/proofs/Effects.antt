@@ -1,10 +1,11 @@
 -- What an entry does to the counts and to the lengths of the streams.
-use Rattle.std.proofs.Common.{◌≡◌, ℕ, zero, suc, ◌+◌, ◌<◌, ◌==◌, nat_lt, Bool, true, false, cond, ◌||◌, List, [], ◌∷◌, ◌++◌, length, get_or, set, slice_get, refl, sym, ap, ◌∙◌, subst, Some, None, length-set, length-append, arith, ◌⊎◌, inl, inr, ◌≢◌}
+use Rattle.std.proofs.Common.{◌≡◌, ℕ, suc, ◌+◌, ◌<◌, ◌==◌, nat_lt, Bool, true, false, cond, ◌||◌, List, [], ◌∷◌, ◌++◌, length, get_or, set, slice_get, refl, sym, ap, ◌∙◌, subst, Some, None, length-set, length-append, arith, ◌⊎◌, inl, inr, ◌≢◌}
 use Rattle.std.proofs.lemmas.List.{get_or-set_same, get_or-set_other}
 use Rattle.std.proofs.lemmas.Bool.{ltb-true, and_parts}
 use Rattle.std.proofs.lemmas.Bool.Decides.{eqb_tells, Decides-eqb}
 use Rattle.std.specs.declared.option.Option.{Option}
 use Rattle.std.specs.List.{list_any, list_all}
+use Rattle.std.proofs.lemmas.Option.{slice_get_within}
 use Rattle.ss_model.specs.declared.catalog.Procedure.{Procedure}
 use Rattle.ss_model.specs.declared.catalog.Catalog.{Catalog}
 use Rattle.ss_model.specs.declared.entry.Entry.{Entry}
@@ -14,8 +15,8 @@ use Rattle.ss_model.specs.declared.entry.Outcome.TheVariants.{Done, Duplicate, G
 use Rattle.ss_value.specs.Rows.{Row, Rows}
 use Rattle.ss_model.specs.Database.{Database, Applied, apply, apply_call, apply_step, accept_batch, only_when, batch_count, stream_batches, next_number, takes_stream, emits_to, is_border_stream}
 use Rattle.ss_model.specs.Orders.{HasShape, procedure_has, procedure_emits, procedure_takes, is_accepted_push}
-use Rattle.ss_model.proofs.Truths.{some_same}
-use Rattle.ss_model_kept.proofs.Slots.{get_or-map_index, length-map_index}
+use Rattle.ss_lemmas.proofs.Bools.{some_same}
+use Rattle.ss_model_kept.proofs.CallerLemmas.{get_or-map_index, length-map_index}
 
 -- by how much an entry lengthens a stream
 abbrev pub growth : Catalog → Entry → Outcome → ℕ → ℕ
@@ -53,11 +54,6 @@ found_in [] p s all any = cc
 found_in (x ∷ l) p s all any =
     let both = and_parts (p x) (list_all p l) all in
     found_by x s p (list_any (λ i. i == s) l) (eqb_tells x s) both.0 (found_in l p s both.1) any
-
-in_list : {A : Type 0} (xs : List A) (n : ℕ) (d : A) → slice_get xs n ≡ Some d → n < length xs
-in_list [] n d e = cc
-in_list (x ∷ xs) zero d e = omega arith
-in_list (x ∷ xs) (suc n) d e = omega (arith, in_list xs n d e)
 
 -- an effect that leaves counts and streams
 none : (catalog : Catalog) (db : Database) (e : Entry) (a : Applied) → HasShape catalog db → WasReady catalog db e → ((p : ℕ) → counted e p (batch_count db p) ≡ batch_count db p) → ((s : ℕ) → growth catalog e a.outcome s ≡ 0) → a.db.counts ≡ db.counts → a.db.streams ≡ db.streams → Effect catalog db e a
@@ -109,7 +105,7 @@ step_effect catalog db n r (Some d) a is h e =
     subst (Effect catalog db (StepEntry n r)) (some_same _ a f.1) (record {
       shaped = record { counts = length-set db.counts n (r + 1) ∙ h.counts; streams = length-map_index _ db.streams ∙ h.streams };
       ready = ((Decides-eqb _ _).0 k.1, λ s t. ltb-true _ _ (found_in d.inputs (λ s. nat_lt r (length (stream_batches db s))) s g.1 (sym (ap (procedure_has (takes_stream s)) is) ∙ t)));
-      counts = λ p. counted_by db.counts n p r (eqb_tells p n) (subst (λ m. n < m) (sym h.counts) (in_list catalog.procedures n d is));
+      counts = λ p. counted_by db.counts n p r (eqb_tells p n) (subst (λ m. n < m) (sym h.counts) (slice_get_within catalog.procedures n d is));
       lengths = λ s l. ap length (get_or-map_index _ db.streams s [] [] (subst (λ m. s < m) (sym h.streams) l))
           ∙ appended (list_any (emits_to s) d.body) _ _ ∙ ap (λ o. length (stream_batches db s) + cond (procedure_has (λ d. list_any (emits_to s) d.body) o) 1 0) (sym is);
     })

@@ -17,9 +17,9 @@ use Rattle.ss_model.specs.Partitions.{part, home_of, home_partition, border_proc
 use Rattle.ss_model.specs.Accepted.{Accepted}
 use Rattle.ss_model.specs.Locality.{SameInputs, SameEffect, SameApplied, LeavesParts, EntryIsLocal}
 use Rattle.ss_model_laws.proofs.PartLocality.{leaves_parts, depends_on_parts, same_part}
-use Rattle.ss_model_laws.proofs.BlankSlots.{set_apart, set_both, read_both, count_from, next_from, count_apart, count_both}
+use Rattle.ss_model_laws.proofs.BlankItems.{set_apart, set_both, read_both, count_from, next_from, count_apart, count_both}
 use Rattle.ss_model_laws.proofs.Homes.{uses_touched, touched_partition}
-use Rattle.ss_model.proofs.Truths.{first_of_two}
+use Rattle.ss_lemmas.proofs.Bools.{first_of_two}
 
 eqb_flip : (a b : ℕ) → (a == b) ≡ false → (b == a) ≡ false
 eqb_flip a b e = by (eqb_tells b a)

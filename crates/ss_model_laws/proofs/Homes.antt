@@ -1,9 +1,10 @@
 -- The touch set of an accepted catalogue's procedure holds its home, and all that it uses.
 use Rattle.std.proofs.Common.{◌≡◌, ◌≤◌, ◌<◌, ◌+◌, ◌%◌, ℕ, zero, suc, Bool, true, false, cond, ◌==◌, ◌⊎◌, inl, inr, ◌≢◌, List, [], ◌∷◌, refl, sym, ap, ◌∙◌, Some, slice_get, unwrap_or, arith}
-use Rattle.std.proofs.lemmas.Bool.{lt-ltb}
+use Rattle.std.proofs.lemmas.Bool.{lt-ltb, or_left}
 use Rattle.std.proofs.lemmas.Bool.Decides.{eqb_tells}
 use Rattle.std.proofs.Math.Nat.{mod-lt}
 use Rattle.std.specs.List.{find, range_with_len}
+use Rattle.ss_lemmas.proofs.Numbers.{eqb_self}
 use Rattle.ss_value.specs.Rows.{Row, Rows, column_value}
 use Rattle.ss_model.specs.declared.catalog.Catalog.{Catalog}
 use Rattle.ss_model.specs.declared.catalog.Kind.{Kind}
@@ -15,19 +16,17 @@ use Rattle.ss_model.specs.Contents.{window_owner}
 use Rattle.ss_model.specs.Database.{is_call, is_streaming}
 use Rattle.ss_model.specs.Orders.{procedure_has}
 use Rattle.ss_model.specs.Claims.{UsesOnly}
-use Rattle.ss_model.specs.Partitions.{in_touch_set, home_partition, home_of, value_part}
+use Rattle.ss_model.specs.Partitions.{in_touch_set, home_partition, home_of, value_partition}
 use Rattle.ss_model.specs.Accepted.{Accepted, IsArg, IsSomewhere}
 use Rattle.ss_model.specs.Locality.{UsesTouched, inside_scope, touched_keys, touched_windows, context_of}
 use Rattle.ss_model_laws.proofs.TouchedUses.{call_covered, stream_covered}
-use Rattle.ss_model.proofs.Truths.{or_first}
-use Rattle.ss_model_laws.proofs.LocalClaims.{eqb_self}
 
 -- some partition is touched
 pub touched_partition : (n : ℕ) (touch : Touch) (args : Row) → 1 ≤ n → IsSomewhere touch → (x : ℕ) × (in_touch_set n touch args x ≡ true)
 touched_partition n (Part x) args l h = (x % n, eqb_self (x % n))
-touched_partition n (Arg a) args l h = (value_part n (column_value args a), eqb_self (value_part n (column_value args a)))
+touched_partition n (Arg a) args l h = (value_partition n (column_value args a), eqb_self (value_partition n (column_value args a)))
 touched_partition n (Multi []) args l h = absurd h
-touched_partition n (Multi (x ∷ xs)) args l h = (x % n, or_first (x % n == x % n) _ (eqb_self (x % n)))
+touched_partition n (Multi (x ∷ xs)) args l h = (x % n, or_left (x % n == x % n) _ (eqb_self (x % n)))
 touched_partition n All args l h = (0, lt-ltb 0 n l)
 
 -- outside of `arg` one below the number of partitions is
@@ -35,7 +34,7 @@ touched_below : (n : ℕ) (touch : Touch) → 1 ≤ n → (IsArg touch → ⊥) 
 touched_below n (Part x) l k h = (x % n, mod-lt x (omega arith), eqb_self (x % n))
 touched_below n (Arg a) l k h = absurd (k tt)
 touched_below n (Multi []) l k h = absurd h
-touched_below n (Multi (x ∷ xs)) l k h = (x % n, mod-lt x (omega arith), or_first (x % n == x % n) _ (eqb_self (x % n)))
+touched_below n (Multi (x ∷ xs)) l k h = (x % n, mod-lt x (omega arith), or_left (x % n == x % n) _ (eqb_self (x % n)))
 touched_below n All l k h = (0, omega arith, lt-ltb 0 n l)
 
 -- the first of a range that passes does pass

@@ -1,4 +1,4 @@
--- Databases with equal kept, and a list.
+-- Lists on databases of which the same is kept.
 use Rattle.std.proofs.Common.{◌≡◌, ℕ, ◌+◌, ◌<◌, List, [], ◌∷◌, length, get_or, refl, sym, ap, ◌∙◌, subst, Some, None, unwrap_or, ◌⊎◌, inl, inr}
 use Rattle.std.specs.Option.{option_map}
 use Rattle.std.specs.declared.option.Option.{Option}
@@ -10,7 +10,7 @@ use Rattle.ss_model.specs.Database.{Database, Applied, apply, batch_count}
 use Rattle.ss_model.specs.Replays.{Replays, database_after, after}
 use Rattle.ss_model.specs.Orders.{Orders, batches_taken, accepted_pushes}
 use Rattle.ss_model.specs.Settling.{kept, SameKeptApplied, CarriedByKept}
-use Rattle.ss_model_kept.proofs.KeptDatabase.{from_kept, kept_is_enough}
+use Rattle.ss_model_kept.proofs.CallerLemmas.{from_kept, kept_is_enough}
 
 module _ (catalog : Catalog) where
   same_outcome : (a b : Option Applied) → SameKeptApplied catalog a b → option_map (λ z. z.outcome) a ≡ option_map (λ z. z.outcome) b

@@ -6,9 +6,11 @@ use Rattle.std.proofs.Math.Nat.{mod-lt}
 use Rattle.std.specs.declared.option.Option.{Option}
 use Rattle.std.specs.Cmp.{Equal-is}
 use Rattle.std.specs.List.{list_any}
+use Rattle.ss_lemmas.proofs.EachOf.{all_with}
+use Rattle.ss_lemmas.proofs.Numbers.{eqb_self}
 use Rattle.ss_value.specs.declared.value.Value.{Value}
-use Rattle.ss_model.specs.declared.catalog.Place.{Place}
-use Rattle.ss_model.specs.declared.catalog.Place.TheVariants.{Part as PlacedAt, By}
+use Rattle.ss_model.specs.declared.catalog.Placement.{Placement}
+use Rattle.ss_model.specs.declared.catalog.Placement.TheVariants.{Part as PlacedAt, By}
 use Rattle.ss_model.specs.declared.catalog.Touch.{Touch}
 use Rattle.ss_model.specs.declared.catalog.Touch.TheVariants.{Part, Arg, Multi, All}
 use Rattle.ss_model.specs.declared.catalog.Procedure.{Procedure}
@@ -28,13 +30,13 @@ use Rattle.ss_model.specs.declared.catalog.Step.{Step}
 use Rattle.ss_model.specs.declared.catalog.Step.TheVariants.{Sql, AbortIf, ForEach, Emit, Return}
 use Rattle.ss_value.specs.Rows.{Row, Rows, column_value}
 use Rattle.ss_value.specs.Order.{values_equal, value_cmp}
-use Rattle.ss_model.specs.Contents.{window_owner, table_place, key_columns, has_split_value, matches_split}
+use Rattle.ss_model.specs.Contents.{window_owner, table_placement, key_columns, has_split_value, matches_split}
 use Rattle.ss_model.specs.Statements.{Context}
 use Rattle.ss_model.specs.Database.{split_value_for}
 use Rattle.ss_model.specs.Claims.{Claims, SourceClaim, JoinClaim, QueryClaim, StatementClaim, TriggerClaim, InnerClaim, StepClaim, UsesOnly}
-use Rattle.ss_model.specs.Partitions.{value_part, key_part, in_touch_set, home_of, home_of_owner, may_use, local_claims}
+use Rattle.ss_model.specs.Partitions.{value_partition, key_partition, in_touch_set, home_of, home_of_owner, may_use, local_claims}
 use Rattle.ss_model_laws.proofs.TouchedRun.{value_part_below}
-use Rattle.ss_model.proofs.WhenOk.{when_ok_map, anything, all_of, all_map}
+use Rattle.ss_model.proofs.CallerLemmas.{when_ok_map, anything, all_of}
 use Rattle.ss_model.specs.Results.{try_map}
 use Rattle.ss_model.specs.Expressions.{expr_value}
 use Rattle.ss_model.specs.Queries.{query_result}
@@ -73,7 +75,7 @@ module _ (C : Row → Type 0) (u v : Claims) (h : Implies C u v) where
 
   module _ (every : (row : Row) → C row) where
     trigger_implied : (t : TriggerDef) → TriggerClaim u t → TriggerClaim v t
-    trigger_implied t k = all_map (StatementClaim u []) (StatementClaim v []) (statement_implied [] (every [])) t.statements k
+    trigger_implied t k = all_with (StatementClaim u []) (StatementClaim v []) (statement_implied [] (every [])) t.statements k
 
     inner_implied : (x : Inner) → InnerClaim u x → InnerClaim v x
     inner_implied (InnerSql s) k = λ row. statement_implied row (every row) s (k row)
@@ -82,22 +84,19 @@ module _ (C : Row → Type 0) (u v : Claims) (h : Implies C u v) where
     step_implied : (catalog : Catalog) (args : Row) (x : Step) → StepClaim u catalog args x → StepClaim v catalog args x
     step_implied catalog args (Sql s) k = statement_implied args (every args) s k
     step_implied catalog args (AbortIf c code) k = query_implied c.query k
-    step_implied catalog args (ForEach input body) k = all_map (InnerClaim u) (InnerClaim v) inner_implied body k
-    step_implied catalog args (Emit s q) k = (query_implied q k.0, all_map (TriggerClaim u) (TriggerClaim v) trigger_implied _ k.1)
+    step_implied catalog args (ForEach input body) k = all_with (InnerClaim u) (InnerClaim v) inner_implied body k
+    step_implied catalog args (Emit s q) k = (query_implied q k.0, all_with (TriggerClaim u) (TriggerClaim v) trigger_implied _ k.1)
     step_implied catalog args (Return q) k = query_implied q k
 
     pub uses_implied : (catalog : Catalog) (n : ℕ) (args : Row) (p : Procedure) → UsesOnly u catalog n args p → UsesOnly v catalog n args p
     uses_implied catalog n args p k = record {
-      steps = all_map (StepClaim u catalog args) (StepClaim v catalog args) (step_implied catalog args) p.body k.steps;
+      steps = all_with (StepClaim u catalog args) (StepClaim v catalog args) (step_implied catalog args) p.body k.steps;
       owned = λ w o. h.window w (k.owned w o);
-      triggers = λ w o. all_map (TriggerClaim u) (TriggerClaim v) trigger_implied _ (k.triggers w o);
+      triggers = λ w o. all_with (TriggerClaim u) (TriggerClaim v) trigger_implied _ (k.triggers w o);
     }
 
 same_is : (a b : Value) → values_equal a b ≡ true → a ≡ b
 same_is a b e = value_cmp-IsAntisymmetric a b ((Equal-is (value_cmp a b)).0 e)
-
-pub eqb_self : (x : ℕ) → (x == x) ≡ true
-eqb_self x = (Decides-eqb x x).1 refl
 
 or_so : (a b : Bool) → (a ≡ true) ⊎ (b ≡ true) → (a || b) ≡ true
 or_so true b h = refl
@@ -120,14 +119,14 @@ placed_inside n All args y some e = lt-ltb (y % n) n (mod-lt y some)
 placed_inside n (Arg a) args y some e = cc
 
 -- so do the keys of a table that the execution sees
-pub seen_inside : (n : ℕ) (touch : Touch) (args : Row) (place : Option Place) (cs : List ℕ) (key : Row) → 1 ≤ n → may_use touch place ≡ true → (split_value : Option Value) → split_value ≡ split_value_for touch args → ((v : Value) → split_value ≡ Some v → has_split_value place cs v key ≡ true) → in_touch_set n touch args (key_part n place cs key) ≡ true
+pub seen_inside : (n : ℕ) (touch : Touch) (args : Row) (placement : Option Placement) (cs : List ℕ) (key : Row) → 1 ≤ n → may_use touch placement ≡ true → (split_value : Option Value) → split_value ≡ split_value_for touch args → ((v : Value) → split_value ≡ Some v → has_split_value placement cs v key ≡ true) → in_touch_set n touch args (key_partition n placement cs key) ≡ true
 seen_inside n touch args (Some (PlacedAt y)) cs key some e split_value o s = placed_inside n touch args y some e
 seen_inside n (Part x) args (Some (By c)) cs key some e split_value o s = cc
 seen_inside n (Multi xs) args (Some (By c)) cs key some e split_value o s = cc
 seen_inside n All args (Some (By c)) cs key some e split_value o s = lt-ltb _ n (value_part_below n _ some)
 seen_inside n (Arg a) args (Some (By c)) cs key some e split_value o s =
     let same = same_is _ _ (s (column_value args a) o) in
-    ap (λ v. value_part n v == value_part n (column_value args a)) same ∙ eqb_self _
+    ap (λ v. value_partition n v == value_partition n (column_value args a)) same ∙ eqb_self _
 seen_inside n (Part x) args None cs key some e split_value o s = cc
 seen_inside n (Multi xs) args None cs key some e split_value o s = cc
 seen_inside n All args None cs key some e split_value o s = cc
@@ -139,12 +138,12 @@ module _ (catalog : Catalog) (n q : ℕ) (p : Procedure) (args : Row) (batches :
 
   pub table_inside : (t : ℕ) → (local_claims catalog q p).table t → (inside_scope (touched_keys catalog n p args) (touched_windows catalog n p args) (context_of catalog q p args batches)).table t
   table_inside t e = (
-    (λ key s. seen_inside n p.touch args (table_place (slice_get catalog.tables t)) (key_columns (slice_get catalog.tables t)) key some e (split_value_for p.touch args) refl
+    (λ key s. seen_inside n p.touch args (table_placement (slice_get catalog.tables t)) (key_columns (slice_get catalog.tables t)) key some e (split_value_for p.touch args) refl
         (λ v o. subst (λ x. matches_split catalog x t key ≡ true) o s)),
-    (λ placed key. placed_all (table_place (slice_get catalog.tables t)) placed e key),
+    (λ placed key. placed_all (table_placement (slice_get catalog.tables t)) placed e key),
   )
     where
-      placed_all : (place : Option Place) → IsPlaced place → may_use p.touch place ≡ true → (key : Row) → in_touch_set n p.touch args (key_part n place (key_columns (slice_get catalog.tables t)) key) ≡ true
+      placed_all : (placement : Option Placement) → IsPlaced placement → may_use p.touch placement ≡ true → (key : Row) → in_touch_set n p.touch args (key_partition n placement (key_columns (slice_get catalog.tables t)) key) ≡ true
       placed_all None h e key = absurd h
       placed_all (Some (PlacedAt y)) h e key = placed_inside n p.touch args y some e
       placed_all (Some (By c)) h e key = absurd h

@@ -16,7 +16,7 @@ use Rattle.ss_model.specs.Database.{Database, Applied, apply, batch_count, strea
 use Rattle.ss_model.specs.Replays.{Replays, entry_outcome, database_after, after}
 use Rattle.ss_model.specs.Orders.{HasShape, IsWired, procedure_emits, procedure_takes, step_batch, batches_taken, is_accepted_push, accepted_pushes, listed_step, Orders, StreamsMatchCounts, MatchesCounts, MatchingStays}
 use Rattle.ss_model_laws.proofs.Effects.{Effect, effect, growth, counted, WasReady}
-use Rattle.ss_model_kept.proofs.Slots.{get_or-alike}
+use Rattle.ss_model_kept.proofs.CallerLemmas.{get_or-alike}
 
 applied : (x : Option Applied) (db : Database) (o : Outcome) → option_map (λ a. a.outcome) x ≡ Some o → (a : Applied) × (x ≡ Some a) × (a.outcome ≡ o)
 applied None db o e = cc

@@ -6,8 +6,7 @@ use Rattle.ss_value.specs.Rows.{Row, Rows}
 use Rattle.ss_model.specs.Database.{Database, run_procedure}
 use Rattle.ss_model.specs.Claims.{UsesOnly}
 use Rattle.ss_model.specs.Partitions.{DatabasePart, part, in_touch_set}
-use Rattle.ss_model_kept.proofs.Locality.{run_depends, run_leaves}
-use Rattle.ss_model_kept.proofs.PartLemmas.{parts_agree, agree_tables, agree_windows, unchanged_tables, unchanged_windows, part_store}
+use Rattle.ss_model_kept.proofs.CallerLemmas.{run_depends, run_leaves, parts_agree, agree_tables, agree_windows, unchanged_tables, unchanged_windows, part_store}
 use Rattle.ss_model.specs.Locality.{context_of, inside_scope, touched_keys, touched_windows}
 
 pub same_part : (a b : DatabasePart) → a.tables ≡ b.tables → a.windows ≡ b.windows → a.counts ≡ b.counts → a.next_numbers ≡ b.next_numbers → a ≡ b

@@ -39,15 +39,11 @@ use Rattle.ss_model.specs.Aborts.{AbortLeaves}
 use Rattle.ss_model.specs.Advances.{StepMovesOn}
 use Rattle.ss_model.specs.Shows.{WindowShows}
 use Rattle.ss_model.specs.Soundness.{TypingIsSound}
-use Rattle.ss_model.proofs.Folds.{at_lit, at_param, at_col, at_binary}
-use Rattle.ss_model.proofs.Trees.{number, select}
-use Rattle.ss_model.proofs.Fitting.{applied_fits, fitting_applies}
-use Rattle.ss_model.proofs.Replays.{goes_on}
+use Rattle.ss_model.proofs.CallerLemmas.{at_lit, at_param, at_col, at_binary, number, select, applied_fits, fitting_applies, goes_on}
 use Rattle.ss_model_laws.proofs.Orders.{replays_orders, matching_stays}
-use Rattle.ss_model_kept.proofs.Locality.{run_is_local}
+use Rattle.ss_model_kept.proofs.CallerLemmas.{run_is_local, from_kept, contents_kept, kept_is_enough}
 use Rattle.ss_model_laws.proofs.Homes.{uses_touched}
 use Rattle.ss_model_laws.proofs.EntryLocality.{entry_is_local}
-use Rattle.ss_model_kept.proofs.KeptDatabase.{from_kept, contents_kept, kept_is_enough}
 use Rattle.ss_model_laws.proofs.Depth.{windows_are_enough}
 use Rattle.ss_model_laws.proofs.Aborted.{abort_leaves}
 use Rattle.ss_model_laws.proofs.Advanced.{steps_move}
@@ -59,7 +55,7 @@ use Rattle.ss_model_laws.proofs.Batches.{batches_join, grows_by_one}
 use Rattle.ss_model_laws.proofs.InStep.{empty_in_step, in_step_next}
 use Rattle.ss_model_laws.proofs.Wakes.{ready_is_woken}
 use Rattle.ss_model_laws.proofs.BodySound.{run_whole}
-use Rattle.ss_model.proofs.Truths.{some_same}
+use Rattle.ss_lemmas.proofs.Bools.{some_same}
 use Rattle.ss_model_laws.proofs.WholeDatabase.{kept_is_whole, empty_whole, stays_whole, whole_after, had_at_most}
 use Rattle.ss_model_laws.proofs.Settled.{at_rest, next_is_ready, lower_pending, loop_settles, settles_once, weak_once}
 use Rattle.ss_model_laws.proofs.AcceptedBodies.{in_parts}

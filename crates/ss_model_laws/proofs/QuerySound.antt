@@ -1,10 +1,11 @@
 -- A well typed query on rows that fit gives rows that fit.
-use Rattle.std.proofs.Common.{◌≡◌, ℕ, ℤ, zero, suc, Bool, true, false, cond, not, ◌||◌, List, [], ◌∷◌, ◌++◌, map, take, get_or, refl, Some, None, Ok, Err}
+use Rattle.std.proofs.Common.{◌≡◌, ℕ, ℤ, Bool, true, false, cond, not, ◌||◌, List, [], ◌∷◌, ◌++◌, map, get_or, refl, Some, None, Ok, Err}
 use Rattle.std.specs.declared.option.Option.{Option}
 use Rattle.std.specs.declared.cmp.Ordering.{Ordering}
 use Rattle.std.specs.Ordering.{is_gt, is_lt, eq_by_cmp}
 use Rattle.std.specs.List.{AllByRecursion, filter, flat_map, fold, list_all}
 use Rattle.std.proofs.lemmas.Bool.{and_from}
+use Rattle.ss_lemmas.proofs.EachOf.{all_take}
 use Rattle.ss_value.specs.declared.value.Value.{Value}
 use Rattle.ss_value.specs.declared.value.Value.TheVariants.{Int}
 use Rattle.ss_value.specs.declared.schema.ColType.{ColType}
@@ -27,8 +28,8 @@ use Rattle.ss_model.specs.Queries.{join_rows, join_source, where_passes, add_to_
 use Rattle.ss_model.specs.Soundness.{rows_fit}
 use Rattle.ss_sql_lex.specs.WellTyped.{IntType, TextType, is_type, typed_when, column_type, expr_type, item_type, item_grouped, types_fit, Schemas, query_sources, query_types, query_typed, query_aggregated}
 use Rattle.ss_model.specs.SoundRuns.{FitAll, JoinFits}
-use Rattle.ss_model.proofs.Truths.{first_of_two, second_of_two}
-use Rattle.ss_model.proofs.WhenOk.{when_ok_then, anything, try_map_when_ok, try_filter_when_ok}
+use Rattle.ss_lemmas.proofs.Bools.{first_of_two, second_of_two}
+use Rattle.ss_model.proofs.CallerLemmas.{when_ok_then, anything, try_map_when_ok, try_filter_when_ok}
 use Rattle.ss_model_laws.proofs.ValueSound.{GivesKind, value_sound, constant_sound, fits_cons}
 
 -- ---- lists
@@ -44,12 +45,6 @@ all_filter P test (x ∷ xs) h = by (test x) (all_filter P test xs h.1)
     by : (b : Bool) → AllByRecursion P (filter test xs) → AllByRecursion P (cond b (x ∷ filter test xs) (filter test xs))
     by true rest = (h.0, rest)
     by false rest = rest
-
-all_take : {A : Type 0} (P : A → Type 0) (n : ℕ) (xs : List A) → AllByRecursion P xs → AllByRecursion P (take n xs)
-all_take P zero [] h = tt
-all_take P (suc n) [] h = tt
-all_take P zero (x ∷ xs) h = tt
-all_take P (suc n) (x ∷ xs) h = (h.0, all_take P n xs h.1)
 
 all_inserted : (P : Row → Type 0) (cmp : Row → Row → Ordering) (x : Row) (ys : Rows) → P x → AllByRecursion P ys → AllByRecursion P (insert_sorted cmp x ys)
 all_inserted P cmp x [] p h = (p, tt)

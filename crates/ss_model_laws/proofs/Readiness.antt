@@ -1,6 +1,6 @@
--- What it says of the inputs that a procedure is ready, or is not.
+-- What follows for the inputs of a procedure from its being ready, or not ready.
 use Rattle.std.proofs.Common.{◌≡◌, ◌≤◌, ◌<◌, ℕ, nat_lt, Bool, true, false, ◌&&◌, ◌==◌, List, [], ◌∷◌, length, slice_get, refl, sym, ap, ◌∙◌, Some, None}
-use Rattle.std.proofs.lemmas.Bool.{ltb-true, ltb-false}
+use Rattle.std.proofs.lemmas.Bool.{ltb-true, ltb-false, or_right, or_left}
 use Rattle.std.proofs.lemmas.Bool.Decides.{Decides-eqb}
 use Rattle.std.specs.declared.option.Option.{Option}
 use Rattle.std.specs.List.{list_all, list_any}
@@ -9,7 +9,7 @@ use Rattle.ss_model.specs.declared.catalog.Procedure.{Procedure}
 use Rattle.ss_model.specs.Database.{Database, batch_count, stream_batches, takes_stream, is_streaming, is_ready}
 use Rattle.ss_model.specs.Orders.{procedure_has, procedure_takes}
 use Rattle.ss_model.specs.Settling.{is_ready_now}
-use Rattle.ss_model.proofs.Truths.{first_of_two, second_of_two, or_first, or_second}
+use Rattle.ss_lemmas.proofs.Bools.{first_of_two, second_of_two}
 use Rattle.ss_model_laws.proofs.Effects.{found_in}
 
 some_fails : (test : ℕ → Bool) (xs : List ℕ) → list_all test xs ≡ false → (x : ℕ) × (list_any (λ i. i == x) xs ≡ true) × (test x ≡ false)
@@ -17,8 +17,8 @@ some_fails test [] e = cc
 some_fails test (x ∷ xs) e = by (test x) refl (some_fails test xs) e
   where
     by : (b : Bool) → test x ≡ b → (list_all test xs ≡ false → (z : ℕ) × (list_any (λ i. i == z) xs ≡ true) × (test z ≡ false)) → (b && list_all test xs) ≡ false → (z : ℕ) × (list_any (λ i. i == z) (x ∷ xs) ≡ true) × (test z ≡ false)
-    by false t later f = (x, or_first (x == x) _ ((Decides-eqb x x).1 refl), t)
-    by true t later f = let (z, any, fails) = later f in (z, or_second (x == z) _ any, fails)
+    by false t later f = (x, or_left (x == x) _ ((Decides-eqb x x).1 refl), t)
+    by true t later f = let (z, any, fails) = later f in (z, or_right (x == z) _ any, fails)
 
 -- the procedure of a test that holds
 pub named : (test : Procedure → Bool) (o : Option Procedure) → procedure_has test o ≡ true → (p : Procedure) × (o ≡ Some p) × (test p ≡ true)

@@ -1,4 +1,4 @@
--- Settling ends, in one way, where each batch has been taken.
+-- Settling ends: in one way, and with each batch taken.
 use Rattle.std.proofs.Common.{◌≡◌, ◌≤◌, ◌<◌, ◌+◌, ℕ, zero, suc, nat_lt, Bool, true, false, cond, ◌==◌, List, [], ◌∷◌, ◌++◌, map, length, slice_get, refl, sym, ap, ◌∙◌, subst, Some, None, unwrap_or, ◌⊎◌, inl, inr, ◌≢◌, arith}
 use Rattle.std.proofs.lemmas.Bool.{ltb-true, ltb-false}
 use Rattle.std.proofs.lemmas.Bool.Decides.{eqb_tells, Decides-eqb}
@@ -20,12 +20,12 @@ use Rattle.ss_model.specs.Settling.{procedure_numbers, border_stream, streams_on
 use Rattle.ss_model.specs.Settled.{NoneReady, AtRest, NextIsReady, ReplaysWithOutcomes, SettlesOnce, SettlesOn, LoopSettles, IsAskable, WeakListOnce}
 use Rattle.ss_model.specs.Accepted.{Accepted}
 use Rattle.ss_model.specs.InStep.{IsInStep}
-use Rattle.ss_model.proofs.Truths.{first_of_two}
+use Rattle.ss_lemmas.proofs.Bools.{first_of_two}
 use Rattle.ss_model_laws.proofs.Effects.{Effect, effect, growth}
-use Rattle.ss_model.proofs.Fitting.{applied_fits, fitting_applies}
+use Rattle.ss_model.proofs.CallerLemmas.{applied_fits, fitting_applies}
 use Rattle.ss_model_laws.proofs.InStep.{in_step_next, in_step_behind}
 use Rattle.ss_model_laws.proofs.Workflows.{Streams, at_its_border, drained_at_rest, rest_when_drained, behind_is_due}
-use Rattle.ss_model_kept.proofs.Locality.{filter_passes}
+use Rattle.ss_model_kept.proofs.CallerLemmas.{filter_passes}
 
 -- ---- sums over numbers
 
@@ -191,7 +191,7 @@ module _ (catalog : Catalog) (accepted : Accepted catalog) where
       let lengths : length (stream_batches a.db (border_stream catalog q)) ≡ length (stream_batches db (border_stream catalog q)) + growth catalog (StepEntry n r) a.outcome (border_stream catalog q) = k.lengths (border_stream catalog q) (accepted.wired.border_there (border_stream catalog q) border) in
       omega arith
 
-  -- a step leaves one less to run
+  -- a step leaves one step less to run
   module _ (db : Database) (in_step : IsInStep catalog db) (n r : ℕ) (a : Applied) (is : apply catalog db (StepEntry n r) ≡ Some a) where
     k : Effect catalog db (StepEntry n r) a
     k = effect catalog db (StepEntry n r) a in_step.matched.shape is

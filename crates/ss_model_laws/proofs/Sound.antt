@@ -21,9 +21,9 @@ use Rattle.ss_model.specs.declared.entry.Reason.TheVariants.{Overflow, TextTooLo
 use Rattle.ss_model.specs.Results.{OrAbort, ◌>>=◌}
 use Rattle.ss_model.specs.Expressions.{Meaning, fits_i64, checked_int, checked_div, apply_binary, int_of, level_meaning, meaning}
 use Rattle.ss_sql_lex.specs.WellTyped.{ExprType, IntType, TextType, BoolType, is_type, are_comparable, typed_when, value_type, column_type, schema_type, level_type, expr_type}
-use Rattle.ss_model.proofs.Truths.{first_of_two, second_of_two, either_so, or_first, or_second, some_same}
+use Rattle.ss_lemmas.proofs.Bools.{first_of_two, second_of_two, either_so, some_same}
 use Rattle.ss_model.specs.Soundness.{gives_int, gives_text, Asking, int_side, text_side, level_asking, asking, has_type, rows_fit, TypingIsSound}
-use Rattle.std.proofs.lemmas.Bool.{and_from}
+use Rattle.std.proofs.lemmas.Bool.{and_from, or_right, or_left}
 
 -- ---- types
 
@@ -160,8 +160,8 @@ module _ (sources : List (List Column)) (columns : List Column) (here : Rows) (p
     where
       by : ((is_type IntType (expr_type sources columns l.0) && is_type IntType (expr_type sources columns r.0)) ≡ true) ⊎ ((is_type TextType (expr_type sources columns l.0) && is_type TextType (expr_type sources columns r.0)) ≡ true) →
           ((int_side (asking here params l.0) && int_side (asking here params r.0)) || (text_side (asking here params l.0) && text_side (asking here params r.0))) ≡ true
-      by (inl ints) = let sides = two_sides l r IntType IntType ints in or_first _ _ (and_from _ _ sides.0 sides.1)
-      by (inr texts) = let sides = two_sides l r TextType TextType texts in or_second _ _ (and_from _ _ sides.0 sides.1)
+      by (inl ints) = let sides = two_sides l r IntType IntType ints in or_left _ _ (and_from _ _ sides.0 sides.1)
+      by (inr texts) = let sides = two_sides l r TextType TextType texts in or_right _ _ (and_from _ _ sides.0 sides.1)
 
   -- what an operator gives, typed
   binary_typed : (op : BinaryOp) (l r : Such) (t : ExprType) → level_type sources columns (Expr-F.Binary op (expr_type sources columns l.0) (expr_type sources columns r.0)) ≡ Some t →

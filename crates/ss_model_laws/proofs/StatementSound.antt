@@ -1,5 +1,5 @@
 -- Well typed statements on whole contents leave whole contents, or stage rows that fit.
-use Rattle.std.proofs.Common.{◌≡◌, ◌<◌, ℕ, pos, zero, suc, nat_lt, Bool, true, false, not, ◌||◌, ◌==◌, List, [], ◌∷◌, ◌++◌, map, take, get_or, set, length, slice_get, refl, sym, ap, ◌∙◌, subst, Some, None, Ok, is_some, unwrap_or, arith}
+use Rattle.std.proofs.Common.{◌≡◌, ℕ, pos, nat_lt, Bool, true, false, not, ◌||◌, ◌==◌, List, [], ◌∷◌, ◌++◌, map, get_or, set, length, slice_get, refl, sym, ap, ◌∙◌, subst, Some, None, Ok, is_some, unwrap_or}
 use Rattle.std.proofs.lemmas.Bool.{ltb-true, and_from}
 use Rattle.std.proofs.lemmas.Bool.Decides.{Decides-eqb}
 use Rattle.std.proofs.lemmas.List.{get_or-set_other}
@@ -8,6 +8,8 @@ use Rattle.std.specs.Option.{option_map}
 use Rattle.std.specs.declared.option.Option.{Option}
 use Rattle.std.specs.List.{AllByRecursion, flat_map, fold, list_all, list_any}
 use Rattle.std.specs.FinMap as finmap
+use Rattle.ss_lemmas.proofs.LoopItem.{some_at}
+use Rattle.ss_lemmas.proofs.EachOf.{all_take}
 use Rattle.ss_value.specs.declared.value.Value.{Value}
 use Rattle.ss_value.specs.declared.value.Value.TheVariants.{Int}
 use Rattle.ss_value.specs.declared.schema.Column.{Column}
@@ -36,8 +38,8 @@ use Rattle.ss_model.specs.Typing.{table_schema, window_schema, target_schema, in
 use Rattle.ss_model.specs.Scopes.{source_in_scope, join_in_scope, query_in_scope, statement_in_scope}
 use Rattle.ss_model.specs.WholeDatabase.{unit_fits, WholeContents}
 use Rattle.ss_model.specs.SoundRuns.{FitAll, JoinFits}
-use Rattle.ss_model.proofs.Truths.{first_of_two, second_of_two, some_same}
-use Rattle.ss_model.proofs.WhenOk.{when_ok_then, when_ok_map, try_filter_when_ok, try_map_when_ok, anything}
+use Rattle.ss_lemmas.proofs.Bools.{first_of_two, second_of_two, some_same}
+use Rattle.ss_model.proofs.CallerLemmas.{when_ok_then, when_ok_map, try_filter_when_ok, try_map_when_ok, anything}
 use Rattle.ss_model_laws.proofs.TableRows.{of_entries, cut_there, EntryWhole}
 use Rattle.ss_model_laws.proofs.ValueSound.{value_sound, fits_cons, fits_set}
 use Rattle.ss_model_laws.proofs.QuerySound.{query_sound, all_append}
@@ -48,11 +50,6 @@ try_fold_when_ok P Q f h [] all s p = p
 try_fold_when_ok P Q f h (x ∷ xs) all s p = when_ok_then P P (f x s) _ (h x all.0 s p) (λ t q. try_fold_when_ok P Q f h xs all.1 t q)
 
 -- ---- lists
-
-pub there : {A : Type 0} (xs : List A) (n : ℕ) → n < length xs → (x : A) × (slice_get xs n ≡ Some x)
-there [] n h = absurd (omega arith)
-there (x ∷ xs) zero h = (x, refl)
-there (x ∷ xs) (suc n) h = there xs n (omega arith)
 
 pub each_of : {A : Type 0} (test : A → Bool) (xs : List A) → list_all test xs ≡ true → AllByRecursion (λ x. test x ≡ true) xs
 each_of test [] h = tt
@@ -65,12 +62,6 @@ all_test test (x ∷ xs) h = and_from _ _ h.0 (all_test test xs h.1)
 all_mapped : {A B : Type 0} (P : B → Type 0) (f : A → B) (xs : List A) → AllByRecursion (λ x. P (f x)) xs → AllByRecursion P (map f xs)
 all_mapped P f [] h = tt
 all_mapped P f (x ∷ xs) h = (h.0, all_mapped P f xs h.1)
-
-all_up_to : {A : Type 0} (P : A → Type 0) (n : ℕ) (xs : List A) → AllByRecursion P xs → AllByRecursion P (take n xs)
-all_up_to P zero [] h = tt
-all_up_to P (suc n) [] h = tt
-all_up_to P zero (x ∷ xs) h = tt
-all_up_to P (suc n) (x ∷ xs) h = (h.0, all_up_to P n xs h.1)
 
 all_flat : {A : Type 0} (P : A → Type 0) (xs : List (List A)) → AllByRecursion (AllByRecursion P) xs → AllByRecursion P (flat_map (λ u. u) xs)
 all_flat P [] h = tt
@@ -100,16 +91,16 @@ module _ (context : Context) (inputs : List ℕ) (count : ℕ) (has_inserted : B
   table_rows : (s : Contents) (t : ℕ) → WholeContents catalog s → nat_lt t (length catalog.tables) ≡ true → FitAll (table_schema catalog t) (finmap.values (visible_table catalog context.split_value s t))
   unfolding visible_table
   table_rows s t h scope =
-      let (d, is) = there catalog.tables t (ltb-true _ _ scope) in
+      let (d, is) = some_at catalog.tables t (ltb-true _ _ scope) in
       subst (λ cs. FitAll cs (finmap.values (visible_table catalog context.split_value s t))) (sym (ap (λ o. unwrap_or (option_map (λ d. d.schema) o) []) is))
       (all_mapped (λ row. fits_schema d.schema row ≡ true) (λ e. e.1) _ (of_entries (λ q v. fits_schema d.schema v ≡ true) _ (λ q v f. (h.tables t d is).fits q v (cut_there _ _ q v f))))
 
   window_rows : (s : Contents) (w : ℕ) → WholeContents catalog s → nat_lt w (length catalog.windows) ≡ true → FitAll (window_schema catalog w) (visible_rows (window_def catalog w) (window_units s w))
   window_rows s w h scope =
-      let (d, is) = there catalog.windows w (ltb-true _ _ scope) in
+      let (d, is) = some_at catalog.windows w (ltb-true _ _ scope) in
       subst (λ cs. FitAll cs (visible_rows (window_def catalog w) (window_units s w))) (sym (ap (λ o. unwrap_or (option_map (λ d. d.schema) o) []) is))
       (subst (λ z. FitAll d.schema (visible_rows z (window_units s w))) (sym (window_of catalog w d is))
-      (all_flat (λ row. fits_schema d.schema row ≡ true) (visible_units d (window_units s w)) (all_up_to (FitAll d.schema) (visible_count d (length (window_units s w))) (kept_units d (window_units s w)) (units_rows d (kept_units d (window_units s w)) (h.windows w d is).units))))
+      (all_flat (λ row. fits_schema d.schema row ≡ true) (visible_units d (window_units s w)) (all_take (FitAll d.schema) (visible_count d (length (window_units s w))) (kept_units d (window_units s w)) (units_rows d (kept_units d (window_units s w)) (h.windows w d is).units))))
 
   source_fits : (s : Contents) → WholeContents catalog s → (x : SourceId) → source_in_scope catalog count has_inserted x ≡ true → FitAll (source_schema catalog inputs columns x) (rows_in s x)
   source_fits s h (FromTable t) scope = table_rows s t h scope

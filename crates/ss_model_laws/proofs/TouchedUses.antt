@@ -2,8 +2,9 @@
 use Rattle.std.proofs.Common.{◌≡◌, ◌≤◌, ℕ, ◌==◌, true, List, [], ◌∷◌, map, refl, sym, ap, ◌∙◌, subst, Some, None, slice_get}
 use Rattle.std.specs.declared.option.Option.{Option}
 use Rattle.std.specs.List.{AllByRecursion, list_any}
-use Rattle.ss_model.specs.declared.catalog.Place.{Place}
-use Rattle.ss_model.specs.declared.catalog.Place.TheVariants.{Part as PlacedAt, By}
+use Rattle.ss_lemmas.proofs.EachOf.{all_with}
+use Rattle.ss_model.specs.declared.catalog.Placement.{Placement}
+use Rattle.ss_model.specs.declared.catalog.Placement.TheVariants.{Part as PlacedAt, By}
 use Rattle.ss_model.specs.declared.catalog.Touch.{Touch}
 use Rattle.ss_model.specs.declared.catalog.Touch.TheVariants.{Part, Arg, Multi, All}
 use Rattle.ss_model.specs.declared.catalog.Procedure.{Procedure}
@@ -18,46 +19,45 @@ use Rattle.ss_value.specs.Rows.{Row, Rows, column_value}
 use Rattle.ss_value.specs.Order.{values_equal}
 use Rattle.ss_model.specs.Expressions.{expr_value}
 use Rattle.ss_model.specs.Queries.{query_result}
-use Rattle.ss_model.specs.Contents.{window_owner, table_place, key_columns, key_position, row_key, has_split_value, matches_split}
+use Rattle.ss_model.specs.Contents.{window_owner, table_placement, key_columns, key_position, row_key, has_split_value, matches_split}
 use Rattle.ss_model.specs.Database.{split_value_for}
 use Rattle.ss_model.specs.Claims.{Claims, StepClaim, UsesOnly}
 use Rattle.ss_model.specs.Partitions.{in_touch_set, home_of, may_use, GivesArgument, SelectsArgument, local_claims}
-use Rattle.ss_model.proofs.WhenOk.{when_ok_map, anything, all_of, all_map}
-use Rattle.ss_model.proofs.SplitColumns.{values_at, context_query, key_column, same_self}
+use Rattle.ss_model.proofs.CallerLemmas.{when_ok_map, anything, all_of, values_at, context_query, key_column, same_self}
 use Rattle.ss_model_laws.proofs.LocalClaims.{Implies, table_inside, query_implied, statement_implied, uses_implied, local_implied}
 use Rattle.ss_model.specs.Accepted.{IsArg, IsCallStep, Keyed}
 use Rattle.ss_model.specs.Locality.{context_of, inside_scope, touched_keys, touched_windows}
 
 -- the row's key is one that a procedure with these arguments sees
-abbrev pub HasSplitValue : Touch → Option Place → List ℕ → Row → Row → Type 0
-HasSplitValue (Arg a) place cs args row = has_split_value place cs (column_value args a) (map (column_value row) cs) ≡ true
-HasSplitValue _ place cs args row = Unit {0}
+abbrev pub HasSplitValue : Touch → Option Placement → List ℕ → Row → Row → Type 0
+HasSplitValue (Arg a) placement cs args row = has_split_value placement cs (column_value args a) (map (column_value row) cs) ≡ true
+HasSplitValue _ placement cs args row = Unit {0}
 
 split_so : (c : ℕ) (cs : List ℕ) (args : Row) (a : ℕ) (row : Row) → list_any (λ k. c == k) cs ≡ true → column_value row c ≡ column_value args a → values_equal (column_value (map (column_value row) cs) (key_position c cs)) (column_value args a) ≡ true
 split_so c cs args a row k e = ap (λ v. values_equal v (column_value args a)) (key_column row c cs k ∙ e) ∙ same_self (column_value args a)
 
-values_limit : (touch : Touch) (place : Option Place) (cs : List ℕ) (args : Row) (vs : List Expr) → may_use touch place ≡ true → Keyed place cs → GivesArgument touch place vs → WhenOk (HasSplitValue touch place cs args) (try_map (expr_value [] args) vs)
-values_limit (Part x) place cs args vs m k g = when_ok_map (λ _. Unit {0}) _ (try_map (expr_value [] args) vs) (λ row _. tt) (anything (try_map (expr_value [] args) vs))
-values_limit (Multi xs) place cs args vs m k g = when_ok_map (λ _. Unit {0}) _ (try_map (expr_value [] args) vs) (λ row _. tt) (anything (try_map (expr_value [] args) vs))
-values_limit All place cs args vs m k g = when_ok_map (λ _. Unit {0}) _ (try_map (expr_value [] args) vs) (λ row _. tt) (anything (try_map (expr_value [] args) vs))
+values_limit : (touch : Touch) (placement : Option Placement) (cs : List ℕ) (args : Row) (vs : List Expr) → may_use touch placement ≡ true → Keyed placement cs → GivesArgument touch placement vs → WhenOk (HasSplitValue touch placement cs args) (try_map (expr_value [] args) vs)
+values_limit (Part x) placement cs args vs m k g = when_ok_map (λ _. Unit {0}) _ (try_map (expr_value [] args) vs) (λ row _. tt) (anything (try_map (expr_value [] args) vs))
+values_limit (Multi xs) placement cs args vs m k g = when_ok_map (λ _. Unit {0}) _ (try_map (expr_value [] args) vs) (λ row _. tt) (anything (try_map (expr_value [] args) vs))
+values_limit All placement cs args vs m k g = when_ok_map (λ _. Unit {0}) _ (try_map (expr_value [] args) vs) (λ row _. tt) (anything (try_map (expr_value [] args) vs))
 values_limit (Arg a) (Some (By c)) cs args vs m k g = when_ok_map (λ row. column_value row c ≡ column_value args a) _ (try_map (expr_value [] args) vs) (λ row e. split_so c cs args a row k e) (values_at args vs c a g)
 values_limit (Arg a) (Some (PlacedAt y)) cs args vs m k g = cc
 values_limit (Arg a) None cs args vs m k g = cc
 
-rows_limit : (touch : Touch) (place : Option Place) (cs : List ℕ) (args : Row) (q : Query) (outer : Rows) (inner : Option (Joined × Rows)) → may_use touch place ≡ true → Keyed place cs → SelectsArgument touch place q.items → WhenOk (AllByRecursion (HasSplitValue touch place cs args)) (query_result outer inner args q)
-rows_limit (Part x) place cs args q outer inner m k g = when_ok_map (λ _. Unit {0}) _ (query_result outer inner args q) (λ rows _. all_of _ (λ row. tt) rows) (anything (query_result outer inner args q))
-rows_limit (Multi xs) place cs args q outer inner m k g = when_ok_map (λ _. Unit {0}) _ (query_result outer inner args q) (λ rows _. all_of _ (λ row. tt) rows) (anything (query_result outer inner args q))
-rows_limit All place cs args q outer inner m k g = when_ok_map (λ _. Unit {0}) _ (query_result outer inner args q) (λ rows _. all_of _ (λ row. tt) rows) (anything (query_result outer inner args q))
+rows_limit : (touch : Touch) (placement : Option Placement) (cs : List ℕ) (args : Row) (q : Query) (outer : Rows) (inner : Option (Joined × Rows)) → may_use touch placement ≡ true → Keyed placement cs → SelectsArgument touch placement q.items → WhenOk (AllByRecursion (HasSplitValue touch placement cs args)) (query_result outer inner args q)
+rows_limit (Part x) placement cs args q outer inner m k g = when_ok_map (λ _. Unit {0}) _ (query_result outer inner args q) (λ rows _. all_of _ (λ row. tt) rows) (anything (query_result outer inner args q))
+rows_limit (Multi xs) placement cs args q outer inner m k g = when_ok_map (λ _. Unit {0}) _ (query_result outer inner args q) (λ rows _. all_of _ (λ row. tt) rows) (anything (query_result outer inner args q))
+rows_limit All placement cs args q outer inner m k g = when_ok_map (λ _. Unit {0}) _ (query_result outer inner args q) (λ rows _. all_of _ (λ row. tt) rows) (anything (query_result outer inner args q))
 rows_limit (Arg a) (Some (By c)) cs args q outer inner m k g =
-    when_ok_map (AllByRecursion (λ row. column_value row c ≡ column_value args a)) _ (query_result outer inner args q) (λ rows all. all_map _ _ (λ row e. split_so c cs args a row k e) rows all) (context_query outer inner args q c a g)
+    when_ok_map (AllByRecursion (λ row. column_value row c ≡ column_value args a)) _ (query_result outer inner args q) (λ rows all. all_with _ _ (λ row e. split_so c cs args a row k e) rows all) (context_query outer inner args q c a g)
 rows_limit (Arg a) (Some (PlacedAt y)) cs args q outer inner m k g = cc
 rows_limit (Arg a) None cs args q outer inner m k g = cc
 
-module _ (catalog : Catalog) (n q : ℕ) (p : Procedure) (args : Row) (batches : List Rows) (some : 1 ≤ n) (keyed : (t : ℕ) → Keyed (table_place (slice_get catalog.tables t)) (key_columns (slice_get catalog.tables t))) where
+module _ (catalog : Catalog) (n q : ℕ) (p : Procedure) (args : Row) (batches : List Rows) (some : 1 ≤ n) (keyed : (t : ℕ) → Keyed (table_placement (slice_get catalog.tables t)) (key_columns (slice_get catalog.tables t))) where
   abbrev scope : Claims
   scope = inside_scope (touched_keys catalog n p args) (touched_windows catalog n p args) (context_of catalog q p args batches)
 
-  limit_put : (touch : Touch) (t : ℕ) (row : Row) → HasSplitValue touch (table_place (slice_get catalog.tables t)) (key_columns (slice_get catalog.tables t)) args row → matches_split catalog (split_value_for touch args) t (row_key catalog t row) ≡ true
+  limit_put : (touch : Touch) (t : ℕ) (row : Row) → HasSplitValue touch (table_placement (slice_get catalog.tables t)) (key_columns (slice_get catalog.tables t)) args row → matches_split catalog (split_value_for touch args) t (row_key catalog t row) ≡ true
   limit_put (Part x) t row h = refl
   limit_put (Multi xs) t row h = refl
   limit_put All t row h = refl
@@ -73,7 +73,7 @@ module _ (catalog : Catalog) (n q : ℕ) (p : Procedure) (args : Row) (batches :
         (when_ok_map _ _ (try_map (expr_value [] args) vs) (λ row h. limit_put p.touch t row h) (values_limit p.touch _ _ args vs e (keyed t) g));
     rows = λ params c t query e g outer inner.
         subst (λ r. WhenOk (AllByRecursion (λ row. matches_split catalog (split_value_for p.touch args) t (row_key catalog t row) ≡ true)) (query_result outer inner r query)) (sym c)
-        (when_ok_map _ _ (query_result outer inner args query) (λ rows all. all_map _ _ (λ row h. limit_put p.touch t row h) rows all) (rows_limit p.touch _ _ args query outer inner e (keyed t) g));
+        (when_ok_map _ _ (query_result outer inner args query) (λ rows all. all_with _ _ (λ row h. limit_put p.touch t row h) rows all) (rows_limit p.touch _ _ args query outer inner e (keyed t) g));
   }
 
   call_step : (none : (w : ℕ) → window_owner catalog w ≡ Some q → ⊥) (x : Step) → IsCallStep x → StepClaim (local_claims catalog q p) catalog args x → StepClaim scope catalog args x

@@ -22,7 +22,7 @@ use Rattle.ss_model.specs.Results.{OrAbort, WhenOk}
 use Rattle.ss_model.specs.Expressions.{Meaning, expr_value}
 use Rattle.ss_model.specs.Soundness.{Asking, asking, gives_int, gives_text, has_type, rows_fit}
 use Rattle.ss_sql_lex.specs.WellTyped.{ExprType, is_type, column_type, level_type, expr_type, level_grouped}
-use Rattle.ss_model.proofs.Truths.{first_of_two, second_of_two}
+use Rattle.ss_lemmas.proofs.Bools.{first_of_two, second_of_two}
 use Rattle.ss_model_laws.proofs.Sound.{type_is, typing_is_sound}
 
 -- a value of this kind, or an abort

@@ -22,7 +22,7 @@ use Rattle.ss_model.specs.declared.catalog.WindowDef.{WindowDef}
 use Rattle.ss_model.specs.declared.catalog.TriggerDef.{TriggerDef}
 use Rattle.ss_model.specs.declared.catalog.Procedure.{Procedure}
 use Rattle.ss_model.specs.declared.catalog.Kind.TheVariants.{Call as CallKind, Border, Interior}
-use Rattle.ss_model.specs.declared.catalog.Place.TheVariants.{Part as PlacedAt}
+use Rattle.ss_model.specs.declared.catalog.Placement.TheVariants.{Part as PlacedAt}
 use Rattle.ss_model.specs.declared.catalog.Touch.TheVariants.{Part}
 use Rattle.ss_model.specs.declared.catalog.On.TheVariants.{Window as OnWindow}
 use Rattle.ss_model.specs.declared.catalog.Inner.TheVariants.{Sql as InnerSql, AbortIf as InnerAbortIf}
@@ -33,23 +33,21 @@ use Rattle.ss_model.specs.Claims.{TriggerClaim}
 use Rattle.ss_model.specs.Partitions.{local_claims}
 use Rattle.ss_model.specs.Typing.{catalog_typed}
 use Rattle.ss_model.specs.Accepted.{Accepted}
-use Rattle.ss_model.proofs.Folds.{at_lit, at_param, at_col, at_binary}
-use Rattle.ss_model.proofs.Trees.{int_column, text_column, number, text, column, compares, select, count_is, set_to}
-use Rattle.ss_model.proofs.Tested.{Tested, tested_of, IsLocal, accepted_of}
+use Rattle.ss_model.proofs.CallerLemmas.{at_lit, at_param, at_col, at_binary, int_column, text_column, number, text, column, compares, select, count_is, set_to, Tested, tested_of, IsLocal, accepted_of}
 
 -- ---- tables, streams and the window
 
 abbrev pub contestants : TableDef
-contestants = record { name = codes "contestants"; schema = int_column (codes "id") ∷ int_column (codes "show") ∷ text_column (codes "name") ∷ int_column (codes "n") ∷ []; key = 0 ∷ []; place = PlacedAt 0; indexes = [] }
+contestants = record { name = codes "contestants"; schema = int_column (codes "id") ∷ int_column (codes "show") ∷ text_column (codes "name") ∷ int_column (codes "n") ∷ []; key = 0 ∷ []; placement = PlacedAt 0; indexes = [] }
 
 abbrev votes : TableDef
-votes = record { name = codes "votes"; schema = int_column (codes "phone") ∷ int_column (codes "contestant") ∷ []; key = 0 ∷ []; place = PlacedAt 0; indexes = (1 ∷ []) ∷ [] }
+votes = record { name = codes "votes"; schema = int_column (codes "phone") ∷ int_column (codes "contestant") ∷ []; key = 0 ∷ []; placement = PlacedAt 0; indexes = (1 ∷ []) ∷ [] }
 
 abbrev shows : TableDef
-shows = record { name = codes "show"; schema = int_column (codes "id") ∷ int_column (codes "every") ∷ int_column (codes "n") ∷ int_column (codes "live") ∷ int_column (codes "due") ∷ []; key = 0 ∷ []; place = PlacedAt 0; indexes = [] }
+shows = record { name = codes "show"; schema = int_column (codes "id") ∷ int_column (codes "every") ∷ int_column (codes "n") ∷ int_column (codes "live") ∷ int_column (codes "due") ∷ []; key = 0 ∷ []; placement = PlacedAt 0; indexes = [] }
 
 abbrev pub board : TableDef
-board = record { name = codes "board"; schema = text_column (codes "kind") ∷ int_column (codes "id") ∷ int_column (codes "n") ∷ []; key = 0 ∷ 1 ∷ []; place = PlacedAt 0; indexes = [] }
+board = record { name = codes "board"; schema = text_column (codes "kind") ∷ int_column (codes "id") ∷ int_column (codes "n") ∷ []; key = 0 ∷ 1 ∷ []; placement = PlacedAt 0; indexes = [] }
 
 abbrev votes_in : StreamDef
 votes_in = record { name = codes "votes_in"; schema = int_column (codes "phone") ∷ int_column (codes "contestant") ∷ [] }

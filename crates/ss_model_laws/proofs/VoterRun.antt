@@ -1,9 +1,10 @@
 -- A voting show: it begins, a contestant is added, and a vote goes through the whole workflow. The list replays.
-use Rattle.std.proofs.Common.{◌≡◌, ◌∙◌, ◌+◌, ℕ, cond, pos, codes, List, [], ◌∷◌, length, refl, sym, arith, Some}
+use Rattle.std.proofs.Common.{◌≡◌, ◌∙◌, ◌+◌, ℕ, cond, pos, codes, List, [], ◌∷◌, refl, sym, Some}
 use Rattle.std.specs.FinMap as finmap
-use Rattle.std.specs.FinMap.{get-empty, get-insert, len-empty, len-insert, len-entries, entries-insert, put}
-use Rattle.std.specs.Ordering.{nat_cmp, eq_by_cmp}
+use Rattle.std.specs.FinMap.{get-empty, len-empty, len-insert, len-entries, entries-insert, put}
+use Rattle.std.specs.Ordering.{nat_cmp}
 use Rattle.std.specs.Cmp.Lexicographic.{slice_cmp}
+use Rattle.std.proofs.lemmas.List.{nil_from_length}
 use Rattle.ss_value.specs.declared.value.Value.TheVariants.{Int, Text}
 use Rattle.ss_value.specs.Order.{row_cmp}
 use Rattle.ss_value.specs.Rows.{Row, Rows}
@@ -19,24 +20,16 @@ use Rattle.ss_model.specs.Bodies.{run_body}
 use Rattle.ss_model.specs.Database.{Database, Applied, apply, empty_database}
 use Rattle.ss_model.specs.Replays.{Replays}
 use Rattle.ss_model.specs.Settling.{Settles}
-use Rattle.ss_model.proofs.Meanings.{literal_value, column_meaning, param_value, binary_value, binary_test}
-use Rattle.ss_model.proofs.WholeRows.{retain_all}
+use Rattle.ss_model.proofs.CallerLemmas.{literal_value, column_meaning, param_value, binary_value, binary_test, retain_all, get_put}
 use Rattle.ss_model_laws.proofs.Voter.{voter}
 
 -- ---- the entries of a table that is built up from nothing
 
-none_of_none : {A : Type 0} (es : List A) → length es ≡ 0 → es ≡ []
-none_of_none [] h = refl
-none_of_none (e ∷ es) h = absurd (omega arith)
-
 pub entries_of_none : finmap.entries {X = Row} {R = row_cmp} finmap.empty ≡ []
-entries_of_none = none_of_none _ (sym (len-entries finmap.empty) ∙ len-empty row_cmp Row)
+entries_of_none = nil_from_length _ (sym (len-entries finmap.empty) ∙ len-empty row_cmp Row)
 
 entries_put : (m : Table) (k row : Row) → finmap.entries (finmap.insert m k row) ≡ put row_cmp k row (finmap.entries m)
 entries_put m k row = entries-insert row_cmp_total m k row
-
-get_put : (m : Table) (k row q : Row) → finmap.get (finmap.insert m k row) q ≡ cond (eq_by_cmp row_cmp q k) (Some row) (finmap.get m q)
-get_put m k row q = get-insert row_cmp_total m k row q
 
 len_put : (m : Table) (k row : Row) → finmap.len (finmap.insert m k row) ≡ cond (finmap.contains_key m k) (finmap.len m) (finmap.len m + 1)
 len_put m k row = len-insert row_cmp_total m k row

@@ -1,6 +1,6 @@
 -- A procedure that an entry makes ready is one that it wakes, or its own.
 use Rattle.std.proofs.Common.{◌≡◌, ◌≤◌, ◌<◌, ◌+◌, ℕ, zero, suc, nat_lt, Bool, true, false, cond, ◌&&◌, ◌==◌, [], length, refl, sym, ap, ◌∙◌, subst, Some, ◌⊎◌, inl, inr, ◌≢◌, arith}
-use Rattle.std.proofs.lemmas.Bool.{ltb-true, ltb-false, and_from}
+use Rattle.std.proofs.lemmas.Bool.{ltb-true, ltb-false, and_from, or_right, or_left}
 use Rattle.std.proofs.lemmas.Bool.Decides.{eqb_tells}
 use Rattle.std.proofs.lemmas.List.{get_or_past}
 use Rattle.std.specs.List.{list_any, range_with_len}
@@ -13,7 +13,6 @@ use Rattle.ss_model.specs.Database.{Database, Applied, apply, batch_count, strea
 use Rattle.ss_model.specs.Orders.{HasShape, procedure_emits, procedure_takes}
 use Rattle.ss_model.specs.Settling.{is_ready_now}
 use Rattle.ss_model.specs.Wakes.{wakes, IsStepOf}
-use Rattle.ss_model.proofs.Truths.{or_first, or_second}
 use Rattle.ss_model_laws.proofs.Effects.{Effect, effect, growth, counted}
 use Rattle.ss_model_laws.proofs.Readiness.{took_all, ready_parts}
 
@@ -22,8 +21,8 @@ any_in_range test zero a x l u t = absurd (omega arith)
 any_in_range test (suc k) a x l u t = by (eqb_tells a x) (λ h. any_in_range test k (a + 1) x h (omega arith) t)
   where
     by : ((a == x ≡ true) × (a ≡ x)) ⊎ ((a == x ≡ false) × (a ≢ x)) → (a + 1 ≤ x → list_any test (range_with_len (a + 1) k) ≡ true) → list_any test (range_with_len a (suc k)) ≡ true
-    by (inl same) later = or_first _ _ (ap test same.1 ∙ t)
-    by (inr other) later = let apart : a ≢ x = other.1 in or_second _ _ (later (omega arith))
+    by (inl same) later = or_left _ _ (ap test same.1 ∙ t)
+    by (inr other) later = let apart : a ≢ x = other.1 in or_right _ _ (later (omega arith))
 
 module _ (catalog : Catalog) (db : Database) (shape : HasShape catalog db) where
   -- what makes a stream longer wakes who takes it

@@ -8,20 +8,19 @@ use Rattle.std.specs.FinMap as finmap
 use Rattle.ss_value.specs.Fit.{fits_schema}
 use Rattle.ss_value.specs.Rows.{Row, Rows, column_value, column_values}
 use Rattle.ss_model.specs.declared.catalog.Catalog.{Catalog}
-use Rattle.ss_model.specs.declared.catalog.Place.{Place}
-use Rattle.ss_model.specs.declared.catalog.Place.TheVariants.{Part, By}
+use Rattle.ss_model.specs.declared.catalog.Placement.{Placement}
+use Rattle.ss_model.specs.declared.catalog.Placement.TheVariants.{Part, By}
 use Rattle.ss_model.specs.declared.catalog.TableDef.{TableDef}
 use Rattle.ss_model.specs.declared.catalog.WindowDef.{WindowDef}
 use Rattle.ss_model.specs.declared.entry.Reason.{Reason}
 use Rattle.ss_model.specs.declared.entry.Reason.TheVariants.{KeyTaken, TableFull}
 use Rattle.ss_model.specs.Results.{OrAbort, abort_when, WhenOk}
-use Rattle.ss_model.specs.Contents.{Table, Contents, table_at, with_table, put_entries, remove_entries, window_units, kept_units, append_unit, row_key, key_columns, table_place}
+use Rattle.ss_model.specs.Contents.{Table, Contents, table_at, with_table, put_entries, remove_entries, window_units, kept_units, append_unit, row_key, key_columns, table_placement}
 use Rattle.ss_model.specs.Statements.{is_table_full, insert_row}
 use Rattle.ss_model.specs.Typing.{table_schema}
 use Rattle.ss_model.specs.WholeDatabase.{is_within_limit, WholeTable, unit_fits, WholeWindow, WholeContents}
-use Rattle.ss_model_kept.proofs.KeptContents.{kept_more}
-use Rattle.ss_model_kept.proofs.Slots.{set_one}
-use Rattle.ss_model.proofs.Truths.{first_of_two, second_of_two}
+use Rattle.ss_model_kept.proofs.CallerLemmas.{kept_more, set_one}
+use Rattle.ss_lemmas.proofs.Bools.{first_of_two, second_of_two}
 use Rattle.ss_model_laws.proofs.TableRows.{RowsWhole, EntryWhole, Stands, put_whole, puts_whole, removes_whole, length_replaced, length_inserted, length_removed}
 
 pub when_ok_unless : {A : Type 0} (P : A → Type 0) (b : Bool) (r : Reason) (x : OrAbort A) → (b ≡ false → WhenOk P x) → WhenOk P (abort_when b r x)
@@ -35,16 +34,16 @@ not_false false e = cc
 pub rows_of : (d : TableDef) (m : Table) → WholeTable d m → RowsWhole d m
 rows_of d m h key row is = (h.fits key row is, h.keyed key row is)
 
-made_whole : (d : TableDef) (m : Table) → RowsWhole d m → is_within_limit d.place m ≡ true → WholeTable d m
+made_whole : (d : TableDef) (m : Table) → RowsWhole d m → is_within_limit d.placement m ≡ true → WholeTable d m
 made_whole d m h few = record { fits = λ key row is. (h key row is).0; keyed = λ key row is. (h key row is).1; few = few }
 
 -- ---- limits
 
-fewer : (place : Place) (m n : Table) → finmap.len n ≤ finmap.len m → is_within_limit place m ≡ true → is_within_limit place n ≡ true
+fewer : (placement : Placement) (m n : Table) → finmap.len n ≤ finmap.len m → is_within_limit placement m ≡ true → is_within_limit placement n ≡ true
 fewer (Part p) m n l few = let most : finmap.len m ≤ 1000000 = leb-true _ _ few in le-leb _ _ (omega arith)
 fewer (By c) m n l few = refl
 
-one_more : (place : Place) (m n : Table) → finmap.len n ≤ finmap.len m + 1 → is_table_full (Some place) m ≡ false → is_within_limit place n ≡ true
+one_more : (placement : Placement) (m n : Table) → finmap.len n ≤ finmap.len m + 1 → is_table_full (Some placement) m ≡ false → is_within_limit placement n ≡ true
 one_more (Part p) m n l room = let most : finmap.len m < 1000000 = ltb-true _ _ (not_false _ room) in le-leb _ _ (omega arith)
 one_more (By c) m n l room = refl
 
@@ -77,12 +76,12 @@ module _ (catalog : Catalog) where
   unfolding insert_row put_entries
   insert_whole t row s h fits =
       let inserted : OrAbort Contents = Ok (put_entries s t ((row_key catalog t row, row) ∷ [])) in
-      let full = is_table_full (table_place (slice_get catalog.tables t)) (table_at s t) in
+      let full = is_table_full (table_placement (slice_get catalog.tables t)) (table_at s t) in
       when_ok_unless (WholeContents catalog) (finmap.contains_key (table_at s t) (row_key catalog t row)) (KeyTaken t) (abort_when full (TableFull t) inserted) (λ free.
       when_ok_unless (WholeContents catalog) full (TableFull t) inserted (λ room.
       table_changed s t (finmap.insert (table_at s t) (row_key catalog t row) row) h (λ d is.
       made_whole d _ (put_whole d (table_at s t) (row_key catalog t row, row) (rows_of d _ (h.tables t d is)) (subst (λ cs. fits_schema cs row ≡ true) (schema_of t d is) fits, key_of t d row is))
-      (one_more d.place (table_at s t) _ (length_inserted (table_at s t) (row_key catalog t row) row) (sym (ap (λ o. is_table_full (table_place o) (table_at s t)) is) ∙ room)))))
+      (one_more d.placement (table_at s t) _ (length_inserted (table_at s t) (row_key catalog t row) row) (sym (ap (λ o. is_table_full (table_placement o) (table_at s t)) is) ∙ room)))))
 
   -- new rows at keys that stand
   abbrev pub NewEntry : Contents → ℕ → Row × Row → Type 0
@@ -100,12 +99,12 @@ module _ (catalog : Catalog) where
   put_entries_whole s t es h new = table_changed s t _ h (λ d is.
       let parts = each_new s t d is es new in
       made_whole d _ (puts_whole d es (table_at s t) (rows_of d _ (h.tables t d is)) parts.0)
-      (fewer d.place (table_at s t) _ (let same : finmap.len (fold (λ m e. finmap.insert m e.0 e.1) (table_at s t) es) ≡ finmap.len (table_at s t) = length_replaced es (table_at s t) parts.1 in omega arith) (h.tables t d is).few))
+      (fewer d.placement (table_at s t) _ (let same : finmap.len (fold (λ m e. finmap.insert m e.0 e.1) (table_at s t) es) ≡ finmap.len (table_at s t) = length_replaced es (table_at s t) parts.1 in omega arith) (h.tables t d is).few))
 
   pub remove_entries_whole : (s : Contents) (t : ℕ) (es : List (Row × Row)) → WholeContents catalog s → WholeContents catalog (remove_entries s t es)
   unfolding remove_entries
   remove_entries_whole s t es h = table_changed s t _ h (λ d is.
-      made_whole d _ (removes_whole d es (table_at s t) (rows_of d _ (h.tables t d is))) (fewer d.place (table_at s t) _ (length_removed es (table_at s t)) (h.tables t d is).few))
+      made_whole d _ (removes_whole d es (table_at s t) (rows_of d _ (h.tables t d is))) (fewer d.placement (table_at s t) _ (length_removed es (table_at s t)) (h.tables t d is).few))
 
   -- ---- a window
 

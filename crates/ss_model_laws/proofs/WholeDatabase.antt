@@ -1,6 +1,6 @@
 -- The empty database of an accepted catalogue is whole, and a whole database stays so.
 use Rattle.std.proofs.Common.{◌≡◌, ◌≤◌, ◌<◌, ◌+◌, ◌-◌, ◌^◌, ℕ, zero, suc, nat_lt, nat_le, Bool, true, false, cond, ◌==◌, List, [], ◌∷◌, ◌++◌, map, drop, get_or, length, replicate, slice_get, refl, sym, ap, ◌∙◌, subst, Some, None, unwrap_or, ◌⊎◌, inl, inr, ◌≢◌, arith, length-set}
-use Rattle.std.proofs.lemmas.Bool.{ltb-true, ltb-false, and_from}
+use Rattle.std.proofs.lemmas.Bool.{ltb-true, ltb-false, and_from, or_right, or_left}
 use Rattle.std.proofs.lemmas.Bool.Decides.{Decides-eqb, eqb_tells}
 use Rattle.std.proofs.lemmas.List.{length-replicate, get_or_past}
 use Rattle.std.proofs.Math.Nat.{le_trans}
@@ -18,8 +18,8 @@ use Rattle.ss_value.specs.Order.{row_cmp}
 use Rattle.ss_model.specs.declared.catalog.Catalog.{Catalog}
 use Rattle.ss_model.specs.declared.catalog.Kind.{Kind}
 use Rattle.ss_model.specs.declared.catalog.Kind.TheVariants.{Call as CallKind, Border, Interior}
-use Rattle.ss_model.specs.declared.catalog.Place.{Place}
-use Rattle.ss_model.specs.declared.catalog.Place.TheVariants.{Part, By}
+use Rattle.ss_model.specs.declared.catalog.Placement.{Placement}
+use Rattle.ss_model.specs.declared.catalog.Placement.TheVariants.{Part, By}
 use Rattle.ss_model.specs.declared.catalog.Procedure.{Procedure}
 use Rattle.ss_model.specs.declared.catalog.TableDef.{TableDef}
 use Rattle.ss_model.specs.declared.entry.Entry.{Entry}
@@ -37,13 +37,11 @@ use Rattle.ss_model.specs.Settling.{least_count, procedure_numbers}
 use Rattle.ss_model.specs.InStep.{IsInStep}
 use Rattle.ss_model.specs.WholeDatabase.{is_within_limit, WholeTable, unit_fits, WholeContents, batch_fits, NextNumberFits, WholeDatabase, WholeDatabaseStays, HadAtMost}
 use Rattle.ss_model.specs.SoundRuns.{FitAll}
-use Rattle.ss_model.proofs.Truths.{first_of_two, second_of_two, some_same, at_place, or_first, or_second}
-use Rattle.ss_model_kept.proofs.KeptContents.{drop_on}
-use Rattle.ss_model_kept.proofs.KeptDatabase.{SameKeptDatabase, least_rises, same_least, reads_kept}
+use Rattle.ss_lemmas.proofs.Bools.{first_of_two, second_of_two, some_same, at_index}
+use Rattle.ss_model_kept.proofs.CallerLemmas.{drop_on, SameKeptDatabase, least_rises, same_least, reads_kept, set_one, get_or-map_index, length-map_index, get_or-alike}
 use Rattle.ss_model_laws.proofs.WholeChanges.{all_dropped}
-use Rattle.ss_model_kept.proofs.Slots.{set_one, get_or-map_index, length-map_index, get_or-alike}
 use Rattle.ss_model_laws.proofs.Effects.{Effect, effect, counted, WasReady, of_when}
-use Rattle.ss_model.proofs.Fitting.{applied_fits}
+use Rattle.ss_model.proofs.CallerLemmas.{applied_fits}
 use Rattle.ss_model_laws.proofs.InStep.{in_step_next, empty_in_step}
 use Rattle.ss_model_laws.proofs.Batches.{grows_by_one, grown_length, stream_grows}
 use Rattle.ss_model_laws.proofs.StatementSound.{each_of, window_of}
@@ -65,7 +63,7 @@ past (x ∷ xs) (suc n) e = let later : length xs ≤ n = past xs n e in omega a
 
 -- ---- the empty database
 
-empty_within : (place : Place) → is_within_limit place finmap.empty ≡ true
+empty_within : (placement : Placement) → is_within_limit placement finmap.empty ≡ true
 empty_within (Part p) = ap (λ n. nat_le n 1000000) (len-empty row_cmp Row)
 empty_within (By c) = refl
 
@@ -73,7 +71,7 @@ empty_table : (d : TableDef) → WholeTable d finmap.empty
 empty_table d = record {
   fits = λ key row is. let no : None ≡ Some row = sym (get-empty row_cmp key) ∙ is in cc;
   keyed = λ key row is. let no : None ≡ Some row = sym (get-empty row_cmp key) ∙ is in cc;
-  few = empty_within d.place;
+  few = empty_within d.placement;
 }
 
 empty_contents : (catalog : Catalog) → WholeContents catalog (empty_database catalog).contents
@@ -126,8 +124,8 @@ module _ (test : Rows → Bool) where
 
 inputs_fit : (catalog : Catalog) (f : ℕ → Rows) (ss : List ℕ) (i : ℕ) → ((s : ℕ) → list_any (λ i. i == s) ss ≡ true → FitAll (stream_schema catalog s) (f s)) → FitAll (input_schema catalog ss [] i) (get_or (map f ss) i [])
 inputs_fit catalog f [] i h = tt
-inputs_fit catalog f (s ∷ ss) zero h = h s (or_first (s == s) _ ((Decides-eqb s s).1 refl))
-inputs_fit catalog f (s ∷ ss) (suc i) h = inputs_fit catalog f ss i (λ z e. h z (or_second (s == z) _ e))
+inputs_fit catalog f (s ∷ ss) zero h = h s (or_left (s == s) _ ((Decides-eqb s s).1 refl))
+inputs_fit catalog f (s ∷ ss) (suc i) h = inputs_fit catalog f ss i (λ z e. h z (or_right (s == z) _ e))
 
 pub call_or_not : (k : Kind) → is_call k ≡ true → is_streaming k ≡ true → ⊥
 call_or_not CallKind c s = cc
@@ -143,7 +141,7 @@ no_args Interior (c ∷ args) s h = cc
 
 module _ (catalog : Catalog) (accepted : Accepted catalog) where
   pub kinds : (q : ℕ) (p : Procedure) → slice_get catalog.procedures q ≡ Some p → is_of_kind p ≡ true
-  kinds = at_place is_of_kind catalog.procedures (second_of_two _ _ accepted.form)
+  kinds = at_index is_of_kind catalog.procedures (second_of_two _ _ accepted.form)
 
   -- ---- what an entry leaves of tables, windows, batches and next numbers
 
@@ -325,9 +323,9 @@ module _ (catalog : Catalog) (accepted : Accepted catalog) where
   some_input : (k : Kind) (inputs : List ℕ) → is_streaming k ≡ true → inputs_of_kind k inputs ≡ true → (s : ℕ) × (list_any (λ i. i == s) inputs ≡ true)
   some_input CallKind inputs streams h = cc
   some_input Border [] streams h = cc
-  some_input Border (s ∷ inputs) streams h = (s, or_first (s == s) _ ((Decides-eqb s s).1 refl))
+  some_input Border (s ∷ inputs) streams h = (s, or_left (s == s) _ ((Decides-eqb s s).1 refl))
   some_input Interior [] streams h = cc
-  some_input Interior (s ∷ inputs) streams h = (s, or_first (s == s) _ ((Decides-eqb s s).1 refl))
+  some_input Interior (s ∷ inputs) streams h = (s, or_left (s == s) _ ((Decides-eqb s s).1 refl))
 
   pub has_input : (q : ℕ) (p : Procedure) → slice_get catalog.procedures q ≡ Some p → is_streaming p.kind ≡ true → (s : ℕ) × (procedure_takes catalog q s ≡ true)
   has_input q p is streams =
@@ -354,7 +352,7 @@ module _ (catalog : Catalog) (accepted : Accepted catalog) where
       let streams : (s : ℕ) → length (stream_batches (after catalog db list) s) ≤ n + length list = λ s. within _ _ _ _ (lengths s) (stream_grows catalog db list s).at_most in
       record { streams = streams; counts = count_within (after catalog db list) (whole_after db list h) (n + length list) streams }
 
--- ---- wholeness is said of what is kept
+-- ---- whether a database is whole depends only on what is kept
 
 module _ (catalog : Catalog) (x y : Database) (same : SameKeptDatabase catalog x y) (h : WholeDatabase catalog x) where
   kept_contents : WholeContents catalog y.contents

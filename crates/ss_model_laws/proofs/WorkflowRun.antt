@@ -19,7 +19,7 @@ use Rattle.ss_model.specs.Bodies.{run_body}
 use Rattle.ss_model.specs.Database.{Database, Applied, apply, empty_database}
 use Rattle.ss_model.specs.Replays.{Replays}
 use Rattle.ss_model.specs.Settling.{Settles, Drained}
-use Rattle.ss_model.proofs.Meanings.{literal_value, column_meaning, binary_value, binary_test}
+use Rattle.ss_model.proofs.CallerLemmas.{literal_value, column_meaning, binary_value, binary_test}
 use Rattle.ss_model_laws.proofs.Workflow.{workflow}
 
 -- one row of one number

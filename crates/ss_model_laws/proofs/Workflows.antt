@@ -18,24 +18,19 @@ use Rattle.ss_model.specs.Settling.{streams_on, border_stream, border_stream_fro
 use Rattle.ss_model.specs.Settled.{NoneReady}
 use Rattle.ss_model.specs.Accepted.{Accepted}
 use Rattle.ss_model.specs.InStep.{IsInStep}
-use Rattle.ss_model.proofs.Truths.{first_of_two, second_of_two, either_so, or_first, or_second, at_place}
+use Rattle.ss_lemmas.proofs.Bools.{first_of_two, second_of_two, either_so, at_index, any_at}
 use Rattle.ss_model_laws.proofs.Effects.{found_in}
 use Rattle.ss_model_laws.proofs.Readiness.{named, took_all, ready_parts}
 use Rattle.ss_model_laws.proofs.WholeDatabase.{kinds, has_input}
 
--- one that passes is at some place, and one at a place that passes is one
-pub some_place : {A : Type 0} (test : A → Bool) (xs : List A) → list_any test xs ≡ true → (n : ℕ) × (x : A) × (slice_get xs n ≡ Some x) × (test x ≡ true)
-some_place test [] e = cc
-some_place test (x ∷ xs) e = by (some_place test xs) (either_so _ _ e)
+-- one that passes has an index, and one at an index that passes is one that passes
+pub some_index : {A : Type 0} (test : A → Bool) (xs : List A) → list_any test xs ≡ true → (n : ℕ) × (x : A) × (slice_get xs n ≡ Some x) × (test x ≡ true)
+some_index test [] e = cc
+some_index test (x ∷ xs) e = by (some_index test xs) (either_so _ _ e)
   where
     by : (list_any test xs ≡ true → (n : ℕ) × (y : _) × (slice_get xs n ≡ Some y) × (test y ≡ true)) → (test x ≡ true) ⊎ (list_any test xs ≡ true) → (n : ℕ) × (y : _) × (slice_get (x ∷ xs) n ≡ Some y) × (test y ≡ true)
     by later (inl h) = (0, x, refl, h)
     by later (inr h) = let (n, y, is, k) = later h in (suc n, y, is, k)
-
-pub any_at : {A : Type 0} (test : A → Bool) (xs : List A) (n : ℕ) (x : A) → slice_get xs n ≡ Some x → test x ≡ true → list_any test xs ≡ true
-any_at test [] n x is e = cc
-any_at test (y ∷ xs) zero x is e = or_first _ _ (ap test (ap (λ o. unwrap_or o x) is) ∙ e)
-any_at test (y ∷ xs) (suc n) x is e = or_second _ _ (any_at test xs n x is e)
 
 emits_streams : (k : Kind) (s : ℕ) (body : List Step) → list_any (emits_to s) body ≡ true → list_all (step_of_kind k) body ≡ true → is_streaming k ≡ true
 emits_streams Border s body e h = refl
@@ -75,7 +70,7 @@ module _ (catalog : Catalog) (accepted : Accepted catalog) where
   within_streams q s takes =
       let (p, is, t) = named (takes_stream s) (slice_get catalog.procedures q) takes in
       let ranges = second_of_two _ _ (second_of_two _ _ (first_of_two _ _ (first_of_two _ _ (first_of_two _ _ (first_of_two _ _ (first_of_two _ _ accepted.form)))))) in
-      let inputs = first_of_two _ _ (at_place (λ p. list_all (λ s. nat_lt s (length catalog.streams)) p.inputs && touch_in_range p.args p.touch) catalog.procedures ranges q p is) in
+      let inputs = first_of_two _ _ (at_index (λ p. list_all (λ s. nat_lt s (length catalog.streams)) p.inputs && touch_in_range p.args p.touch) catalog.procedures ranges q p is) in
       ltb-true s _ (found_in p.inputs (λ s. nat_lt s (length catalog.streams)) s inputs t)
 
   -- a border procedure's stream
@@ -111,7 +106,7 @@ module _ (catalog : Catalog) (accepted : Accepted catalog) where
       inner : (p : Procedure) → slice_get catalog.procedures q ≡ Some p → p.kind ≡ Interior → (is_border_stream catalog s ≡ true) ⊎ ((p : ℕ) × (procedure_emits catalog p s ≡ true)) → Source q s
       inner p is interior (inr (from, em)) = emitted_by from em (accepted.one_workflow from q s takes em)
       inner p is interior (inl border) =
-          let (n, d, at_n, passes) = some_place (λ p. is_border p.kind && takes_stream s p) catalog.procedures border in
+          let (n, d, at_n, passes) = some_index (λ p. is_border p.kind && takes_stream s p) catalog.procedures border in
           let other : procedure_takes catalog n s ≡ true = ap (procedure_has (takes_stream s)) at_n ∙ second_of_two _ _ passes in
           let same : n ≡ q = accepted.one_consumer n q s border other takes in
           absurd (apart p.kind interior (sym (ap (procedure_has (λ p. is_border p.kind)) (ap (slice_get catalog.procedures) same ∙ is)) ∙ ap (procedure_has (λ p. is_border p.kind)) at_n ∙ first_of_two _ _ passes))

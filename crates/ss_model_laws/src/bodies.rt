@@ -1,24 +1,24 @@
-//! Bodies: an accepted catalogue with other ones.
+//! Bodies: what holds of a catalogue when its procedures have other ones.
 
-ghost use Rattle.ss_model.specs.AcceptedBodies.{AcceptedInParts, AcceptedWithBodies, RunsReadOneBody};
+ghost use Rattle.ss_model.specs.AcceptedBodies.{AcceptedInParts, AcceptedWithBodies, RunsNeedOneBody};
 ghost use Rattle.ss_model.specs.BodiesAside.{BodiesAside};
 
-/// A catalogue is accepted just where its frame and each of its bodies are.
+/// A catalogue is accepted exactly where its frame and each of its bodies are.
 pub fn accepted_in_parts()
     ensures { AcceptedInParts }
 {}
 
-/// With other bodies that its procedures may have a catalogue is accepted, and they may have the same ones as before.
+/// A catalogue stays accepted with other bodies that its procedures may have, which may then have the same as before.
 pub fn accepted_with_bodies()
     ensures { AcceptedWithBodies }
 {}
 
-/// A run reads no body but its own.
-pub fn runs_read_one_body()
-    ensures { RunsReadOneBody }
+/// The run of a procedure reads no other procedure's body.
+pub fn runs_need_one_body()
+    ensures { RunsNeedOneBody }
 {}
 
-/// With other bodies that its procedures may have all else that is said of a catalogue is the same.
+/// With other bodies that its procedures may have, what else holds of a catalogue stays the same.
 pub fn bodies_aside()
     ensures { BodiesAside }
 {}

@@ -1,4 +1,4 @@
-//! Entries: what has a value, and what an entry changes.
+//! Entries: which have a value, and what an entry changes.
 
 ghost use Rattle.ss_model.specs.Database.{AppliedFits, FittingApplies};
 ghost use Rattle.ss_model.specs.Aborts.{AbortsChangeNothing};
@@ -14,12 +14,13 @@ pub fn fitting_applies()
     ensures { FittingApplies }
 {}
 
-/// An aborted entry leaves tables, windows and next numbers as before and gives empty batches; a call leaves all.
+/// An aborted entry leaves tables, windows and next numbers as before, and emits empty batches; a call leaves the
+/// whole database as before.
 pub fn aborts_change_nothing()
     ensures { AbortsChangeNothing }
 {}
 
-/// A step, done or aborted, raises its procedure's count by one and gives each output one batch more.
+/// A step, done or aborted, raises its procedure's count by one, and adds one batch to each stream that it emits to.
 pub fn steps_move_on()
     ensures { StepsMoveOn }
 {}

@@ -3,7 +3,7 @@
 ghost use Rattle.ss_model.specs.Locality.{RunsAreLocal, UsesAreTouched, EntriesAreLocal};
 ghost use Rattle.ss_model.specs.Partitions.{TouchedRun};
 
-/// A run depends on the rows and windows that its procedure uses, and changes no others.
+/// A run depends only on the rows and windows that its procedure uses, and changes no others.
 pub fn runs_are_local()
     ensures { RunsAreLocal }
 {}
@@ -13,12 +13,12 @@ pub fn uses_are_touched()
     ensures { UsesAreTouched }
 {}
 
-/// What an entry touches is one of the partitions that run.
+/// Each partition that an entry touches is one of those that run.
 pub fn touched_run()
     ensures { TouchedRun }
 {}
 
-/// An entry depends on the parts that it touches and on its input batches, and leaves the other parts.
+/// An entry depends only on the parts that it touches and on its input batches, and leaves the other parts as before.
 pub fn entries_are_local()
     ensures { EntriesAreLocal }
 {}

@@ -5,12 +5,13 @@ ghost use Rattle.ss_model.specs.Shows.{WindowsShow};
 ghost use Rattle.ss_model.specs.Soundness.{WellTypedAreSound};
 ghost use Rattle.ss_model.specs.SoundRuns.{QueriesAreSound, RunsStayWhole};
 
-/// As many nested triggers as there are windows are all there can be.
+/// The triggers of an accepted catalogue nest no deeper than there are windows.
 pub fn depth_is_enough()
     ensures { DepthIsEnough }
 {}
 
-/// A window shows nothing before it is full, and its end moves only at the units that the slide names.
+/// A window shows nothing before it is full, and the end of what it shows moves at the unit that fills it and at each
+/// slide behind that unit, and at no other.
 pub fn windows_show()
     ensures { WindowsShow }
 {}
@@ -25,7 +26,7 @@ pub fn queries_are_sound()
     ensures { QueriesAreSound }
 {}
 
-/// A run on whole contents leaves whole contents, and batches that fit.
+/// A run of an accepted catalogue's procedure on whole contents leaves whole contents, and batches that fit.
 pub fn runs_stay_whole()
     ensures { RunsStayWhole }
 {}

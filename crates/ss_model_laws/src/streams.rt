@@ -1,9 +1,9 @@
-//! Streams: the batches that travel with an entry, and what they wake.
+//! Streams: the batches that an entry adds, and the procedures that it wakes.
 
 ghost use Rattle.ss_model.specs.Batches.{EmittedBatchesJoin, StreamsGrowByOne, BatchesStay};
 ghost use Rattle.ss_model.specs.Wakes.{ReadyIsWoken};
 
-/// Each stream gets just the batches that travel with an entry, at most one a stream.
+/// Each stream gains just the batches that an entry emits to it, which is one at most.
 pub fn emitted_batches_join()
     ensures { EmittedBatchesJoin }
 {}
@@ -13,7 +13,7 @@ pub fn streams_grow_by_one()
     ensures { StreamsGrowByOne }
 {}
 
-/// After a list each batch stands where it stood, and each stream has at most one more for each entry.
+/// After a list each batch has the number that it had, and each stream has at most one more for each entry.
 pub fn batches_stay()
     ensures { BatchesStay }
 {}

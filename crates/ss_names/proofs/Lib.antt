@@ -1,3 +1,3 @@
-pub mod Lists
-pub mod Places
+pub mod CallerLemmas
+pub mod Positions
 pub mod Sets

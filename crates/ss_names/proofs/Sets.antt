@@ -8,7 +8,7 @@ use Rattle.std.specs.List.{list_any}
 use Rattle.std.proofs.lemmas.List.{map-append}
 use Rattle.std.proofs.lemmas.List.Folds.{list_any-append}
 use Rattle.ss_names.specs.Names.{is_among, AreSameNames, bytes_behind}
-use Rattle.ss_names.proofs.Lists.{map_next_behind}
+use Rattle.ss_lemmas.proofs.LoopItem.{map_next_behind}
 
 -- references to the same bytes
 abbrev pub same_behind : Bor (List ℕ) → Bor (List ℕ) → Bool

@@ -5,11 +5,11 @@ use Rattle.std.specs.List.{list_any}
 use Rattle.std.specs.Str.{bytes_eq}
 use Rattle.ss_value.specs.declared.schema.Column.{Column}
 
--- one of these names
+-- whether a name is one of these
 abbrev pub is_among : List (List ℕ) → List ℕ → Bool
 is_among names name = list_any (bytes_eq name) names
 
--- the same names, in whatever order and however often
+-- the same names, in any order and any number of times
 abbrev pub AreSameNames : List (List ℕ) → List (List ℕ) → Type 0
 AreSameNames these those = (name : List ℕ) → is_among these name ≡ is_among those name
 

@@ -1,4 +1,4 @@
-//! Names that are sought by their hashes.
+//! A list of names, with the first position of each.
 
 ghost use Rattle.std.specs.Prelude.{◌≡◌, ℕ, List, map, position, IfOk, OnOk};
 ghost use Rattle.std.specs.Borrow.{Bor};
@@ -15,7 +15,7 @@ use std::marker::Model;
 
 /// A list of names, in which each is sought by its hash.
 ///
-/// It borrows the names' bytes, and takes a reference for each, and for each other one an entry of its table.
+/// It borrows the names' bytes. It takes a reference for each name, and an entry of a hash table for each distinct one.
 #[derive(Drop)]
 pub struct NameIndex<'a> {
     names: Vec<&'a [u8]>,
@@ -35,8 +35,8 @@ impl<'a> Model for NameIndex<'a> {
     ghost invariant = { λ i. IsIndexOf (bytes_behind i.names.items) i.positions };
 }
 
-/// References to the names of a list, in time and memory linear in it.
-fn borrowed<'a, T: Named>(alloc: Global, items: &'a [T]) -> Result<Vec<&'a [u8]>, NoMemory>
+/// References to the names of a list.
+fn names_behind<'a, T: Named>(alloc: Global, items: &'a [T]) -> Result<Vec<&'a [u8]>, NoMemory>
     ensures { IfOk result (λ names. bytes_behind names.items ≡ map T.name items.now) }
 {
     let mut names = Vec::new(alloc);
@@ -46,14 +46,15 @@ fn borrowed<'a, T: Named>(alloc: Global, items: &'a [T]) -> Result<Vec<&'a [u8]>
     Ok(names)
 }
 
-/// Puts a name into an index, unless it is there.
-fn note_name<'a>(
+/// Enters a name with its position, unless it is there.
+fn add_name<'a>(
     positions: &mut IndexMap<&'a [u8], usize>,
     name: &'a [u8],
     at: usize,
 ) -> Result<(), NoMemory>
     ensures { OnOk result (IsNotedAt at name.entry positions.old positions.new) }
 {
+    // An insert would replace the first position, which is the one that counts.
     if positions.contains_key(name) {
         return Ok(());
     }
@@ -61,7 +62,7 @@ fn note_name<'a>(
     Ok(())
 }
 
-/// The first place of each name, in time linear in the names.
+/// The first position of each name.
 fn positions_of<'a>(
     alloc: Global,
     names: &[&'a [u8]],
@@ -70,31 +71,30 @@ fn positions_of<'a>(
 {
     let mut positions = IndexMap::new(alloc);
     for (at, name) in names.iter().enumerate() {
-        note_name(&mut positions, *name, at)?;
+        add_name(&mut positions, *name, at)?;
     }
     Ok(positions)
 }
 
 impl<'a> NameIndex<'a> {
-    /// The names of a list, in time and memory linear in it.
+    /// The index of a list's names, in time and memory linear in it.
     pub fn new<T: Named>(alloc: Global, items: &'a [T]) -> Result<NameIndex<'a>, NoMemory>
         ensures { IfOk result (λ index. index ≡ map T.name items.now) }
     {
-        let names = borrowed(alloc, items)?;
+        let names = names_behind(alloc, items)?;
         let positions = positions_of(alloc, names.as_slice())?;
         Ok(NameIndex { names, positions })
     }
 
-    /// Where a name stands, the first place of several, and None exactly where it doesn't stand there. Takes the
-    /// time of a hash.
+    /// The first position of a name, and None exactly where it is not in the list. Takes the time of a hash.
     pub fn position(&self, name: &[u8]) -> Option<usize>
         ensures { result ≡ position (bytes_eq name.now) self.now }
     {
         self.positions.get(name).copied()
     }
 
-    /// Whether a name stands there. Takes the time of a hash.
-    #[tactic(auto, using(crate::proofs::Places::among_is))]
+    /// Whether a name is in the list. Takes the time of a hash.
+    #[tactic(auto, using(crate::proofs::Positions::among_is))]
     pub fn has(&self, name: &[u8]) -> bool
         ensures { result ≡ is_among self.now name.now }
     {

@@ -5,13 +5,13 @@
 //! - `index`: a list of names, in which each has its first position
 //!
 //! A set or an index borrows its names' bytes. Making one takes time and memory linear in the names, and a look-up
-//! takes the time of a hash, as far as hashes spread the names. The hasher's seed is fixed. Any call that allocates may
-//! instead return `NoMemory`.
+//! takes the time of a hash, as far as hashes spread the names; the hasher's seed is fixed. Any call that allocates may
+//! answer `NoMemory` instead.
 #![tactic(auto)]
 
-pub mod index;
-pub mod named;
-pub mod set;
+mod index;
+mod named;
+mod set;
 
 pub use index::NameIndex;
 pub use named::Named;

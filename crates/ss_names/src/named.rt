@@ -3,7 +3,7 @@
 ghost use Rattle.std.specs.Prelude.{◌≡◌, ℕ, List};
 ghost use Rattle.ss_names.specs.Names.{column_name};
 
-use ss_value::schema::Column;
+use ss_value::Column;
 
 /// What has a name, or is one.
 pub trait Named {
@@ -13,7 +13,7 @@ pub trait Named {
     fn name(&self) -> &[u8]
         ensures { result.now ≡ name self.now };
 
-    /// Its name as a text: linear in it.
+    /// Its name as a `str`. Linear in it.
     fn text(&self) -> &str
         ensures { result.now ≡ name self.now };
 }

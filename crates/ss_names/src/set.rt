@@ -9,7 +9,7 @@ use ss_value::NoMemory;
 use std::alloc::Global;
 use std::marker::Model;
 
-/// Names without repeats, in the order in which they came. Each is sought by its hash.
+/// Names without repeats, in the order in which they were added. Each is sought by its hash.
 ///
 /// It borrows the names' bytes, and takes a reference and a hash for each.
 #[derive(Drop)]
@@ -37,17 +37,17 @@ impl<'a> NameSet<'a> {
         }
     }
 
-    /// Puts a name behind the others, and answers whether it was not there yet; one that was there stays where
-    /// it is. Takes the time of a hash on average over many.
+    /// Puts a name behind the others, and answers whether it is new; one that was there stays where it is. Takes the
+    /// time of a hash on average over many.
     pub fn insert(&mut self, name: &'a [u8]) -> Result<bool, NoMemory>
-        ensures fresh { IfOk result (λ fresh. fresh ≡ not (is_among self.old name.entry.now)) }
+        ensures ok { IfOk result (λ fresh. fresh ≡ not (is_among self.old name.entry.now)) }
         ensures names { OnOk result (self.new ≡ (if is_among self.old name.entry.now then self.old else self.old ++ name.entry.now ∷ [])) }
     {
         let fresh = self.names.insert(name)?;
         Ok(fresh)
     }
 
-    /// Whether a name is one of these. Takes the time of a hash.
+    /// Whether a name is in the set. Takes the time of a hash.
     pub fn has(&self, name: &[u8]) -> bool
         ensures { result ≡ is_among self.now name.now }
     {

@@ -10,15 +10,15 @@ use Rattle.ss_sql_lex.specs.declared.typed.Query.{Query}
 use Rattle.ss_model.specs.Results.{OrAbort, ◌>>=◌, try_map, try_filter}
 use Rattle.ss_model.specs.Queries.{where_passes, join_source, query_result, query_rows, query_groups, item_value, take_limit, sort_rows, order_by_cmp}
 use Rattle.ss_sql_lex.specs.WellTyped.{query_aggregated}
-use Rattle.ss_operators.specs.declared.run_error.RunError.{RunError}
-use Rattle.ss_operators.specs.Stops.{StopsAs}
-use Rattle.ss_rows.specs.Sources.{Placed, rows_in}
+use Rattle.ss_model.specs.declared.run_error.RunError.{RunError}
+use Rattle.ss_model.specs.Stops.{StopsAs}
+use Rattle.ss_rows.specs.Sources.{Positioned, rows_in}
 use Rattle.ss_plan.specs.Fronts.{meets_run}
 use Rattle.ss_plan.specs.Keys.{Finds}
-use Rattle.ss_plan.specs.Scans.{FindsPlaces}
-use Rattle.ss_plan.specs.Found.{rows_found, at_places}
+use Rattle.ss_plan.specs.Scans.{FindsPositions}
+use Rattle.ss_plan.specs.Found.{rows_found, at_positions}
 use Rattle.ss_plan.specs.declared.found.FoundRows.{FoundRows}
-use Rattle.ss_plan.proofs.AtPlaces.{rows_there}
+use Rattle.ss_plan.proofs.AtPositions.{rows_there}
 use Rattle.ss_plan.proofs.Fronts.{run_decides}
 
 module _ {A : Type 0} (g : A → OrAbort Bool) (keep : A → Bool) where
@@ -36,11 +36,11 @@ module _ {A : Type 0} (g : A → OrAbort Bool) (keep : A → Bool) where
   left_out [] h = refl
   left_out (x ∷ xs) h = left_step x xs (keep x) refl h.0 (left_out xs h.1)
 
-module _ (params : Row) (test : Option Expr) (all some : Placed) (f : Finds params test all some) where
+module _ (params : Row) (test : Option Expr) (all some : Positioned) (f : Finds params test all some) where
   abbrev passes : ℕ × Row → OrAbort Bool
   passes p = where_passes params test (p.1 ∷ [])
 
-  none_passes : (ps : Placed) → AllByRecursion (λ p. f.keep p ≡ false → meets_run params test p.1 ≡ false) ps → AllByRecursion (λ p. f.keep p ≡ false → passes p ≡ Ok false) ps
+  none_passes : (ps : Positioned) → AllByRecursion (λ p. f.keep p ≡ false → meets_run params test p.1 ≡ false) ps → AllByRecursion (λ p. f.keep p ≡ false → passes p ≡ Ok false) ps
   none_passes [] h = tt
   none_passes (p ∷ ps) h = (λ off. run_decides params test p.1 (h.0 off), none_passes ps h.1)
 
@@ -49,21 +49,21 @@ module _ (params : Row) (test : Option Expr) (all some : Placed) (f : Finds para
   same_passes = ap (try_filter passes) f.are ∙ left_out passes f.keep all (none_passes all f.rest)
 
 -- all rows are enough
-pub all_found : (params : Row) (test : Option Expr) (all : Placed) → Finds params test all all
+pub all_found : (params : Row) (test : Option Expr) (all : Positioned) → Finds params test all all
 all_found params test all = record { keep = λ p. true; are = every_one all; rest = no_others all }
   where
-    every_one : (ps : Placed) → ps ≡ filter (λ p. true) ps
+    every_one : (ps : Positioned) → ps ≡ filter (λ p. true) ps
     every_one [] = refl
     every_one (p ∷ ps) = ap (λ rest. p ∷ rest) (every_one ps)
 
-    no_others : (ps : Placed) → AllByRecursion (λ p. true ≡ false → meets_run params test p.1 ≡ false) ps
+    no_others : (ps : Positioned) → AllByRecursion (λ p. true ≡ false → meets_run params test p.1 ≡ false) ps
     no_others [] = tt
     no_others (p ∷ ps) = (λ off. cc, no_others ps)
 
 -- ---- and so a query of one source gives the same
 
 module _ (params : Row) (test : Option Expr) where
-  abbrev each : Placed → List Rows
+  abbrev each : Positioned → List Rows
   each ps = map (λ l. l ∷ []) (rows_in ps)
 
   abbrev tuple_passes : Rows → OrAbort Bool
@@ -72,36 +72,36 @@ module _ (params : Row) (test : Option Expr) where
   abbrev row_passes : ℕ × Row → OrAbort Bool
   row_passes p = where_passes params test (p.1 ∷ [])
 
-  both_kept : (p : ℕ × Row) (b : Bool) (r : OrAbort Placed) → ((r >>= λ ps. Ok (each ps)) >>= λ ys. Ok (cond b ((p.1 ∷ []) ∷ ys) ys)) ≡ ((r >>= λ ps. Ok (cond b (p ∷ ps) ps)) >>= λ ps. Ok (each ps))
+  both_kept : (p : ℕ × Row) (b : Bool) (r : OrAbort Positioned) → ((r >>= λ ps. Ok (each ps)) >>= λ ys. Ok (cond b ((p.1 ∷ []) ∷ ys) ys)) ≡ ((r >>= λ ps. Ok (cond b (p ∷ ps) ps)) >>= λ ps. Ok (each ps))
   both_kept p true (Ok ps) = refl
   both_kept p false (Ok ps) = refl
   both_kept p b (Err e) = refl
 
-  kept_step : (p : ℕ × Row) (o : OrAbort Bool) (r : OrAbort Placed) → (o >>= λ b. (r >>= λ ps. Ok (each ps)) >>= λ ys. Ok (cond b ((p.1 ∷ []) ∷ ys) ys)) ≡ ((o >>= λ b. r >>= λ ps. Ok (cond b (p ∷ ps) ps)) >>= λ ps. Ok (each ps))
+  kept_step : (p : ℕ × Row) (o : OrAbort Bool) (r : OrAbort Positioned) → (o >>= λ b. (r >>= λ ps. Ok (each ps)) >>= λ ys. Ok (cond b ((p.1 ∷ []) ∷ ys) ys)) ≡ ((o >>= λ b. r >>= λ ps. Ok (cond b (p ∷ ps) ps)) >>= λ ps. Ok (each ps))
   kept_step p (Ok b) r = both_kept p b r
   kept_step p (Err e) r = refl
 
   -- tuples of one row are tested as their rows are
-  tuples_tested : (ps : Placed) → try_filter tuple_passes (each ps) ≡ (try_filter row_passes ps >>= λ ps. Ok (each ps))
+  tuples_tested : (ps : Positioned) → try_filter tuple_passes (each ps) ≡ (try_filter row_passes ps >>= λ ps. Ok (each ps))
   tuples_tested [] = refl
   tuples_tested (p ∷ ps) = ap (λ r. tuple_passes (p.1 ∷ []) >>= λ b. r >>= λ ys. Ok (cond b ((p.1 ∷ []) ∷ ys) ys)) (tuples_tested ps) ∙ kept_step p (row_passes p) (try_filter row_passes ps)
 
-  pub same_tuples : (all some : Placed) → Finds params test all some → try_filter tuple_passes (each some) ≡ try_filter tuple_passes (each all)
+  pub same_tuples : (all some : Positioned) → Finds params test all some → try_filter tuple_passes (each some) ≡ try_filter tuple_passes (each all)
   same_tuples all some f = tuples_tested some ∙ ap (λ r. r >>= λ ps. Ok (each ps)) (same_passes params test all some f) ∙ sym (tuples_tested all)
 
 -- a query without a JOIN gives the same on the rows that were found
-pub same_query : (all some : SourceId → Placed) (params : Row) (q : Query) → q.joined ≡ None → Finds params q.test (all q.from) (some q.from) →
+pub same_query : (all some : SourceId → Positioned) (params : Row) (q : Query) → q.joined ≡ None → Finds params q.test (all q.from) (some q.from) →
     query_rows (λ s. rows_in (some s)) params q ≡ query_rows (λ s. rows_in (all s)) params q
 unfolding query_result
 same_query all some params q alone f =
-    let on = λ (sources : SourceId → Placed). ap (λ j. query_result (rows_in (sources q.from)) j params q) (ap (join_source (λ s. rows_in (sources s))) alone) in
+    let on = λ (sources : SourceId → Positioned). ap (λ j. query_result (rows_in (sources q.from)) j params q) (ap (join_source (λ s. rows_in (sources s))) alone) in
     on some
     ∙ ap (λ r. r >>= λ found. try_map (λ group. try_map (item_value params group) q.items) (query_groups (query_aggregated q) q.groups found) >>= λ results. Ok (take_limit q.limit (sort_rows (order_by_cmp q.order) results))) (same_tuples params q.test (all q.from) (some q.from) f)
     ∙ sym (on all)
 
--- so it does on the same rows at their places in a list
-pub found_query : (all : SourceId → Placed) (found : FoundRows) (params : Row) (q : Query) → q.joined ≡ None → Finds params q.test (all q.from) (rows_found found) →
-    query_rows (λ s. rows_in (at_places found)) params q ≡ query_rows (λ s. rows_in (all s)) params q
+-- so it does on the same rows at their positions in a list
+pub found_query : (all : SourceId → Positioned) (found : FoundRows) (params : Row) (q : Query) → q.joined ≡ None → Finds params q.test (all q.from) (rows_found found) →
+    query_rows (λ s. rows_in (at_positions found)) params q ≡ query_rows (λ s. rows_in (all s)) params q
 found_query all found params q alone f =
     ap (λ (rows : Rows). query_rows (λ s. rows) params q) (rows_there 0 (rows_in (rows_found found))) ∙ same_query all (λ s. rows_found found) params q alone f
 
@@ -119,7 +119,7 @@ module _ {A : Type 0} (some all : OrAbort A) (same : some ≡ all) where
   stops_of_all r h = subst (λ (m : OrAbort A). IfErr r (StopsAs m)) same h
 
 -- and so do the positions of those that pass
-pub places_of_all : (params : Row) (test : Option Expr) (all some : Placed) → Finds params test all some → (r : Result (Vec ℕ) RunError) →
-    IfOk r (λ places. FindsPlaces params test some places.items) → IfOk r (λ places. FindsPlaces params test all places.items)
-places_of_all params test all some f r h =
-    subst (λ (m : OrAbort Placed). IfOk r (λ places. (found : Placed) × (m ≡ Ok found) × (places.items ≡ map (λ p. p.0) found))) (same_passes params test all some f) h
+pub positions_of_all : (params : Row) (test : Option Expr) (all some : Positioned) → Finds params test all some → (r : Result (Vec ℕ) RunError) →
+    IfOk r (λ positions. FindsPositions params test some positions.items) → IfOk r (λ positions. FindsPositions params test all positions.items)
+positions_of_all params test all some f r h =
+    subst (λ (m : OrAbort Positioned). IfOk r (λ positions. (found : Positioned) × (m ≡ Ok found) × (positions.items ≡ map (λ p. p.0) found))) (same_passes params test all some f) h

@@ -8,29 +8,29 @@ use Rattle.std.specs.Ordering.{eq_by_cmp}
 use Rattle.std.specs.declared.cmp.Ordering.TheVariants.{Equal}
 use Rattle.std.specs.FinMap as finite
 use Rattle.std.specs.FinMap.Entries as entries
+use Rattle.ss_lemmas.proofs.Bools.{and_left, and_right, is_false}
 use Rattle.ss_value.specs.declared.schema.Column.{Column}
 use Rattle.ss_value.specs.Rows.{Row, column_values}
 use Rattle.ss_value.specs.Order.{row_cmp}
 use Rattle.ss_sql_lex.specs.declared.typed.Expr.{Expr}
-use Rattle.ss_table.specs.Held.{LiveRows, key_of, row_at}
+use Rattle.ss_table.specs.TableValue.{LiveRows, key_of, row_at}
 use Rattle.ss_table.specs.Keyed.{StandsAtKey, SlotsDiffer}
-use Rattle.ss_table.proofs.Keys.{rows_total}
-use Rattle.ss_table.proofs.Maps.{rows_antisymmetric, and_left, and_right, and_both}
-use Rattle.ss_index.specs.Pairs.{Held as Index, Pair, pair_cmp, pair_of, in_range, slots_in}
-use Rattle.ss_index.proofs.Taking.{tied as pair_tied}
-use Rattle.ss_rows.specs.Sources.{Placed}
-use Rattle.ss_shard.proofs.Inserting.{same_key}
+use Rattle.ss_table.proofs.CallerLemmas.{rows_total, rows_antisymmetric, and_both}
+use Rattle.ss_index.specs.Pairs.{IndexValue as Index, Pair, pair_cmp, pair_of, in_range, slots_in}
+use Rattle.ss_index.proofs.CallerLemmas.{tied as pair_tied}
+use Rattle.ss_rows.specs.Sources.{Positioned}
+use Rattle.ss_shard.proofs.CallerLemmas.{same_key}
 use Rattle.ss_plan.specs.Chosen.{Chosen}
-use Rattle.ss_plan.specs.Seen.{live_places}
+use Rattle.ss_plan.specs.Seen.{live_positions}
 use Rattle.ss_plan.specs.Fronts.{meets_run}
 use Rattle.ss_plan.specs.Keys.{is_there, Finds}
 use Rattle.ss_plan.specs.Ranges.{range_end}
 use Rattle.ss_plan.specs.Found.{row_seen, rows_seen_in, with_keys, IsInKeyOrder}
 use Rattle.ss_plan.specs.Plans.{HasRows}
-use Rattle.ss_plan.specs.declared.bounds.End.TheVariants.{Low, High}
+use Rattle.ss_plan.specs.declared.bounds.RangeEnd.TheVariants.{Low, High}
 use Rattle.ss_plan.proofs.Choosing.{tied}
 use Rattle.ss_plan.proofs.Matching.{filter_through, filter_alike, find_own, live_apart}
-use Rattle.ss_plan.proofs.Keyed.{row_found, every, decided}
+use Rattle.ss_plan.proofs.Keyed.{row_found, every}
 use Rattle.ss_plan.proofs.KeyOrder.{first_in, behind_in, in_cases, in_none}
 use Rattle.ss_plan.proofs.Ranging.{range_so}
 
@@ -60,8 +60,8 @@ module _ (all found : List Chosen) (rises : T (entries.is_sorted row_cmp all)) (
     agree [] h = tt
     agree (e ∷ es) h = (ap is_found (h.0).0, agree es h.1)
 
-    places_gathered : map (λ (e : Chosen). e.1) found ≡ filter (λ p. is_found (key_of key p.1)) (map (λ (e : Chosen). e.1) all)
-    places_gathered =
+    positions_gathered : map (λ (e : Chosen). e.1) found ≡ filter (λ p. is_found (key_of key p.1)) (map (λ (e : Chosen). e.1) all)
+    positions_gathered =
         ap (map (λ (e : Chosen). e.1)) (gathered ∙ filter_alike (λ e. is_found e.0) (λ e. is_found (key_of key e.1.1)) all (agree all keyed))
         ∙ sym (filter_through (λ (e : Chosen). e.1) (λ p. is_found (key_of key p.1)) all)
 
@@ -73,14 +73,14 @@ module _ (all found : List Chosen) (rises : T (entries.is_sorted row_cmp all)) (
       others : (es : List Chosen) → AllByRecursion (StandsAtKey key) es → Complete es → AllByRecursion (λ p. is_found (key_of key p.1) ≡ false → meets_run params test p.1 ≡ false) (map (λ (e : Chosen). e.1) es)
       others [] h k = tt
       others (e ∷ es) h k = (
-        λ off. decided (meets_run params test e.1.1) (λ meets.
+        λ off. is_false (meets_run params test e.1.1) (λ meets.
             let no : true ≡ false = sym (k.0 meets) ∙ ap is_found (h.0).0 ∙ off in cc),
         others es h.1 k.1,
       )
 
       -- so they are enough
       pub found_so : Complete all → Finds params test (map (λ (e : Chosen). e.1) all) (map (λ (e : Chosen). e.1) found)
-      found_so complete = record { keep = λ p. is_found (key_of key p.1); are = places_gathered; rest = others all keyed complete }
+      found_so complete = record { keep = λ p. is_found (key_of key p.1); are = positions_gathered; rest = others all keyed complete }
 
 -- ---- live rows, those of them that are seen, and their slots
 
@@ -168,7 +168,7 @@ seen_so seen live slot v is = by (row_at live slot) refl is
     by (Some row) here is = on row here (seen row) refl is
     by None here is = cc
 
-find_in : (key : List ℕ) (q : Row) (v : ℕ × Row) (ps : Placed) → entries.find row_cmp q (with_keys key ps) ≡ Some v → Contains ps v × (q ≡ column_values key v.1)
+find_in : (key : List ℕ) (q : Row) (v : ℕ × Row) (ps : Positioned) → entries.find row_cmp q (with_keys key ps) ≡ Some v → Contains ps v × (q ≡ column_values key v.1)
 find_in key q v [] is = cc
 find_in key q v (p ∷ ps) is = by (eq_by_cmp row_cmp q (column_values key p.1)) refl is (find_in key q v ps)
   where
@@ -179,15 +179,15 @@ find_in key q v (p ∷ ps) is = by (eq_by_cmp row_cmp q (column_values key p.1))
         (subst (Contains (p ∷ ps)) here (first_in p ps), tied q (column_values key p.1) same ∙ ap (λ (p : ℕ × Row). column_values key p.1) here)
     by false same is rest = let r = rest is in (behind_in p v ps r.0, r.1)
 
--- ---- the slot of a pair in the range is told
+-- ---- the slot of a pair in the range is reported
 
 module _ (low high : Row) (p : Pair) where
   abbrev slots_among : List (Pair × ℕ) → List ℕ
   slots_among es = map (λ (e : Pair × ℕ). e.0.1) (filter (λ e. in_range low high e.0.0) es)
 
-  slot_told : (es : List (Pair × ℕ)) → in_range low high p.0 ≡ true → IsSome (entries.find pair_cmp p es) → Contains (slots_among es) p.1
-  slot_told [] within some = cc
-  slot_told (e ∷ es) within some = by (eq_by_cmp pair_cmp p e.0) refl some (in_range low high e.0.0) refl (slot_told es within)
+  slot_reported : (es : List (Pair × ℕ)) → in_range low high p.0 ≡ true → IsSome (entries.find pair_cmp p es) → Contains (slots_among es) p.1
+  slot_reported [] within some = cc
+  slot_reported (e ∷ es) within some = by (eq_by_cmp pair_cmp p e.0) refl some (in_range low high e.0.0) refl (slot_reported es within)
     where
       by : (same : Bool) → eq_by_cmp pair_cmp p e.0 ≡ same → IsSome (cond same (Some e.1) (entries.find pair_cmp p es)) → (b : Bool) → in_range low high e.0.0 ≡ b → (IsSome (entries.find pair_cmp p es) → Contains (slots_among es) p.1)
           → Contains (map (λ (e : Pair × ℕ). e.0.1) (cond b (e ∷ filter (λ e. in_range low high e.0.0) es) (filter (λ e. in_range low high e.0.0) es))) p.1
@@ -206,7 +206,7 @@ module _ (seen : Row → Bool) (live : LiveRows) (key : List ℕ) (keyed : AllBy
   abbrev all : List Chosen
   all = filter (λ (e : Chosen). seen e.1.1) (finite.entries live)
 
-  abbrev gathered_rows : Placed
+  abbrev gathered_rows : Positioned
   gathered_rows = rows_seen_in seen live (slots_in index.pairs low high)
 
   -- an entry stands at its key
@@ -223,7 +223,7 @@ module _ (seen : Row → Bool) (live : LiveRows) (key : List ℕ) (keyed : AllBy
   values_are : (e : Chosen) → StandsAtKey key e → column_values key e.1.1 ≡ e.0
   values_are e s = same_key key e.1.1 s.1 ∙ sym s.0
 
-  module _ (rows : Placed) (ordered : IsInKeyOrder key gathered_rows rows) where
+  module _ (rows : Positioned) (ordered : IsInKeyOrder key gathered_rows rows) where
     are : (q : Row) (v : ℕ × Row) → entries.find row_cmp q (with_keys key rows) ≡ Some v → entries.find row_cmp q all ≡ Some v
     are q v is =
         let f = find_in key q v rows is in
@@ -239,22 +239,22 @@ module _ (seen : Row → Bool) (live : LiveRows) (key : List ℕ) (keyed : AllBy
         let there : finite.get live e.0 ≡ Some e.1 = finite.get-entries live e.0 ∙ own.0 in
         let p = pair_of index.columns e.1.1 e.1.0 in
         let stands : IsSome (entries.find pair_cmp p (finite.entries index.pairs)) = subst (λ o. IsSome o) (finite.get-entries index.pairs p) (pairs e.0 e.1.0 e.1.1 there) in
-        let told = slot_told low high p (finite.entries index.pairs) (range_so columns e.1.1 params test index.columns meets) stands in
+        let reported = slot_reported low high p (finite.entries index.pairs) (range_so columns e.1.1 params test index.columns meets) stands in
         let is : row_seen seen live e.1.0 ≡ Some e.1 = ap (option_and_then (λ row. cond (seen row) (Some (e.1.0, row)) None)) (row_found live apart e.0 e.1 there) ∙ ap (λ b. cond b (Some e.1) None) on in
         ap (λ k. is_there (entries.find row_cmp k (with_keys key rows))) (sym (values_are e own.1))
-        ∙ ordered.each e.1 (in_kept (row_seen seen live) e.1.0 e.1 (slots_in index.pairs low high) is told)
+        ∙ ordered.each e.1 (in_kept (row_seen seen live) e.1.0 e.1 (slots_in index.pairs low high) is reported)
 
-    keys_off : (ps : Placed) → map (λ (e : Chosen). e.1) (with_keys key ps) ≡ ps
+    keys_off : (ps : Positioned) → map (λ (e : Chosen). e.1) (with_keys key ps) ≡ ps
     keys_off [] = refl
     keys_off (p ∷ ps) = ap (λ rest. p ∷ rest) (keys_off ps)
 
     -- the rows of the range, in the order of their keys, are enough
-    pub found_by_range : Finds params test (filter (λ p. seen p.1) (live_places live)) rows
+    pub found_by_range : Finds params test (filter (λ p. seen p.1) (live_positions live)) rows
     found_by_range =
         let f = found_so all (with_keys key rows) (sorted_seen seen (finite.entries live) (finite.entries_sorted live)) (subst T (sym ordered.rises) tt) are key
         (all_seen seen (StandsAtKey key) (finite.entries live) (every (StandsAtKey key) (λ e. seen e.1.1 ≡ true → StandsAtKey key e) (finite.entries live) (λ e s on. s) keyed))
         params test
         (all_seen seen (λ e. meets_run params test e.1.1 ≡ true → is_there (entries.find row_cmp e.0 (with_keys key rows)) ≡ true) (finite.entries live)
         (every Own (λ e. seen e.1.1 ≡ true → meets_run params test e.1.1 ≡ true → is_there (entries.find row_cmp e.0 (with_keys key rows)) ≡ true) (finite.entries live) found_one all_own)) in
-        subst (λ some. Finds params test (filter (λ p. seen p.1) (live_places live)) some) (keys_off rows)
+        subst (λ some. Finds params test (filter (λ p. seen p.1) (live_positions live)) some) (keys_off rows)
         (subst (λ ps. Finds params test ps (map (λ (e : Chosen). e.1) (with_keys key rows))) (sym (filter_through (λ (e : Chosen). e.1) (λ p. seen p.1) (finite.entries live))) f)

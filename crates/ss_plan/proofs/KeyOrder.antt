@@ -1,4 +1,4 @@
--- Rows that were sorted by their keys, and of those with one key one kept.
+-- Rows that were sorted by their keys, of which one for each key was kept.
 use Rattle.std.proofs.Common.{◌≡◌, ℕ, zero, suc, ◌<◌, Bool, true, false, cond, ◌&&◌, List, [], ◌∷◌, length, map, refl, sym, ap, ◌∙◌, subst, arith, ◌⊎◌, inl, inr, Some}
 use Rattle.std.specs.Prelude.{Contains, IsPermutation}
 use Rattle.std.specs.Borrow.{Bor}
@@ -14,7 +14,7 @@ use Rattle.std.proofs.lemmas.List.Sorted.{Contains-permutation, IsPermutation-sy
 use Rattle.ss_value.specs.Rows.{Row, column_values}
 use Rattle.ss_value.specs.Order.{row_cmp}
 use Rattle.ss_value.specs.ValueOrder.{row_cmp_total}
-use Rattle.ss_rows.specs.Sources.{Placed}
+use Rattle.ss_rows.specs.Sources.{Positioned}
 use Rattle.ss_plan.specs.Keys.{is_there, lent_row}
 use Rattle.ss_plan.specs.Found.{lent_rows, with_keys, IsInKeyOrder}
 
@@ -71,7 +71,7 @@ module _ (key : List ℕ) where
   rises [] h = refl
   rises (x ∷ xs) h = ap (λ b. b && entries.is_sorted row_cmp (with_keys key (lent_rows xs))) (below x xs h.0) ∙ rises xs h.1
 
-  key_there : (q : Row) (p : ℕ × Row) (ps : Placed) → eq_by_cmp row_cmp q (column_values key p.1) ≡ true → Contains ps p → is_there (entries.find row_cmp q (with_keys key ps)) ≡ true
+  key_there : (q : Row) (p : ℕ × Row) (ps : Positioned) → eq_by_cmp row_cmp q (column_values key p.1) ≡ true → Contains ps p → is_there (entries.find row_cmp q (with_keys key ps)) ≡ true
   key_there q p [] same h = absurd (in_none p h)
   key_there q p (x ∷ xs) same h = by (eq_by_cmp row_cmp q (column_values key x.1)) refl (in_cases x p xs h) (key_there q p xs same)
     where

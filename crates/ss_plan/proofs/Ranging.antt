@@ -1,4 +1,4 @@
--- A row that meets the run in front of a WHERE stands in the range that the run names.
+-- A row that meets the front of a WHERE stands in the range that the front names.
 use Rattle.std.proofs.Common.{◌≡◌, ℕ, Bool, true, false, cond, ◌&&◌, List, [], ◌∷◌, take, length, refl, ap, ◌∙◌, Option, Some, None}
 use Rattle.std.proofs.lemmas.Cmp.{tied_itself}
 use Rattle.std.specs.Ordering.{ordering_then}
@@ -14,8 +14,8 @@ use Rattle.ss_index.specs.Pairs.{in_range}
 use Rattle.ss_plan.specs.Fronts.{meets_run}
 use Rattle.ss_plan.specs.Bounds.{bound_value}
 use Rattle.ss_plan.specs.Ranges.{is_int, ends_with, range_end}
-use Rattle.ss_plan.specs.declared.bounds.End.{End}
-use Rattle.ss_plan.specs.declared.bounds.End.TheVariants.{Both, Low, High}
+use Rattle.ss_plan.specs.declared.bounds.RangeEnd.{RangeEnd}
+use Rattle.ss_plan.specs.declared.bounds.RangeEnd.TheVariants.{Both, Low, High}
 use Rattle.ss_plan.proofs.Standing.{stands, bound_so}
 use Rattle.ss_plan.proofs.Naming.{sought_is}
 
@@ -24,12 +24,12 @@ one_value Less = refl
 one_value Equal = refl
 one_value Greater = refl
 
-nothing_left : (end : End) → stands end Equal ≡ true
+nothing_left : (end : RangeEnd) → stands end Equal ≡ true
 nothing_left Both = refl
 nothing_left Low = refl
 nothing_left High = refl
 
-module _ (end : End) (columns : List Column) (row params : Row) (test : Option Expr) (meets : meets_run params test row ≡ true) where
+module _ (end : RangeEnd) (columns : List Column) (row params : Row) (test : Option Expr) (meets : meets_run params test row ≡ true) where
   -- the values in these columns stand so to an end of a range
   abbrev Stands : Row → List ℕ → Type 0
   Stands bound cs = stands end (row_cmp (take (length bound) (column_values cs row)) bound) ≡ true

@@ -3,8 +3,7 @@
 ghost use Rattle.std.specs.Prelude.{◌≡◌, [], ◌∷◌, ◌++◌, slice_get, OnOk, OnErr};
 ghost use Rattle.std.specs.Option.{option_copied};
 
-use ss_value::NoMemory;
-use ss_value::value::Rows;
+use ss_value::{NoMemory, Rows};
 use std::alloc::Global;
 use std::marker::Model;
 
@@ -35,7 +34,7 @@ impl<'a> Batches<'a> {
         }
     }
 
-    /// One batch more. Constant on average; fails only for want of memory.
+    /// One batch more, behind the others. Out of memory leaves them as they are. Constant on average.
     pub fn push(&mut self, rows: &'a Rows) -> Result<(), NoMemory>
         ensures ok { OnOk result (self.new ≡ self.old ++ rows.now ∷ []) }
         ensures err { OnErr result (self.new ≡ self.old) }

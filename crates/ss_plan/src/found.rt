@@ -1,14 +1,12 @@
 //! Rows that a search found.
 
-use ss_rows::rows_of::RowsOf;
-use ss_sql_lex::typed::SourceId;
-use ss_table::table::Slot;
-use ss_value::seq::Seq;
-use ss_value::value::Row;
+use ss_rows::RowsOf;
+use ss_sql_lex::SourceId;
+use ss_value::{Row, Seq, Slot};
 
 /// Rows that a search found, with their slots, as the source of a query of one table.
 ///
-/// A row's position is its place among them. A look-up and a step are constant.
+/// A row's position is its number among them, from 0. A look-up and a step are constant, so hints say nothing here.
 #[derive(Drop)]
 pub struct FoundRows<'a> {
     /// The rows, each once, in the order of their keys.
@@ -16,9 +14,9 @@ pub struct FoundRows<'a> {
 }
 
 impl<'a> RowsOf for FoundRows<'a> {
-    ghost use Rattle.ss_plan.specs.Found.{at_places};
+    ghost use Rattle.ss_plan.specs.Found.{at_positions};
 
-    ghost placed = { λ s source. at_places s };
+    ghost positioned = { λ s source. at_positions s };
 
     fn first(&self, _source: &SourceId) -> (Option<usize>, usize) {
         match self.rows.get(0) {

@@ -5,36 +5,37 @@ ghost use Rattle.ss_sql_lex.specs.declared.typed.SourceId.TheVariants.{Table as 
 ghost use Rattle.ss_rows.specs.Frames.{params_of};
 ghost use Rattle.ss_shard.specs.Shards.{HasTables};
 ghost use Rattle.ss_plan.specs.Found.{lent_rows};
-ghost use Rattle.ss_plan.specs.Plans.{seen_in, seen_through, AreEnough};
+ghost use Rattle.ss_plan.specs.Plans.{seen_in, seen_through, SlotsAreEnough};
 ghost use Rattle.ss_plan.specs.declared.plan.Plan.TheVariants.{Scan};
 
 use crate::batches::Batches;
 use crate::inputs::Inputs;
 use crate::plan::{Plan, rows_by_plan};
-use crate::source::{ShardRows, rows_seen};
-use ss_model::catalog::Catalog;
-use ss_rows::frame::Frame;
-use ss_rows::rows_of::RowsOf;
-use ss_shard::shard::Shard;
-use ss_sql_lex::typed::{Expr, SourceId};
-use ss_table::table::Slot;
-use ss_value::NoMemory;
-use ss_value::value::{Row, Value};
+use crate::visible_rows::{ShardRows, rows_seen};
+use ss_model::Catalog;
+use ss_rows::{Frame, RowsOf};
+use ss_shard::Shard;
+use ss_sql_lex::{Expr, SourceId};
+use ss_value::{NoMemory, Row, Slot, Value};
 use std::alloc::Global;
 
-/// The positions of all rows of a source, in their order. One walk over it.
-fn all_places<X: RowsOf>(alloc: Global, from: &X, source: &SourceId) -> Result<Vec<usize>, NoMemory>
-    ensures { IfOk result (λ places. places.items ≡ map (λ p. p.0) (X.placed from.now source.now)) }
+/// The positions of all rows of a source, in their order.
+fn all_positions<X: RowsOf>(
+    alloc: Global,
+    from: &X,
+    source: &SourceId,
+) -> Result<Vec<usize>, NoMemory>
+    ensures { IfOk result (λ positions. positions.items ≡ map (λ p. p.0) (X.positioned from.now source.now)) }
 {
-    let mut places = Vec::new(alloc);
+    let mut positions = Vec::new(alloc);
     let (mut at, mut hint) = from.first(source);
-    while let Some(place) = at {
-        places.push(place)?;
-        let (next, near) = from.after(source, place, hint);
+    while let Some(position) = at {
+        positions.push(position)?;
+        let (next, near) = from.after(source, position, hint);
         at = next;
         hint = near;
     }
-    Ok(places)
+    Ok(positions)
 }
 
 /// The slots of rows, in their order.
@@ -48,7 +49,7 @@ fn slots_in<'a>(alloc: Global, rows: &[(Slot, &'a Row)]) -> Result<Vec<Slot>, No
     Ok(slots)
 }
 
-/// The slots of the rows of a table that a plan finds, of those that are seen, by key.
+/// The slots of the rows of a table that a plan finds, of those that are seen, in the order of their keys.
 fn slots_by_plan<'a, 'b>(
     alloc: Global,
     from: ShardRows<'a, 'b>,
@@ -59,11 +60,11 @@ fn slots_by_plan<'a, 'b>(
 ) -> Result<Vec<Slot>, NoMemory>
     requires tables { HasTables from.catalog.now from.shard.now.tables }
     requires there { table < length from.catalog.now.tables }
-    ensures enough { IfOk result (λ slots. AreEnough (seen_in from.entry (FromTable table)) params.now test.now slots.items) }
+    ensures ok { IfOk result (λ slots. SlotsAreEnough (seen_in from.entry (FromTable table)) params.now test.now slots.items) }
     ensures scan { plan ≡ Scan → IfOk result (λ slots. slots.items ≡ map (λ p. p.0) (seen_in from.entry (FromTable table))) }
 {
     match rows_by_plan(alloc, from, table, plan, test, params)? {
-        None => all_places(alloc, &from, &SourceId::Table(table)),
+        None => all_positions(alloc, &from, &SourceId::Table(table)),
         Some(found) => slots_in(alloc, found.rows.as_slice()),
     }
 }
@@ -71,8 +72,8 @@ fn slots_by_plan<'a, 'b>(
 /// The slots of the rows of a table that a plan finds for a WHERE, of the live rows that an execution with this frame
 /// sees: each once, in the order of their keys, and none that may pass is missing. By a `Scan` all of them.
 ///
-/// So it is whatever plan is asked for: one that WHERE gives no key or range for finds more rows than need be, up to all.
-/// Costs what the plan costs, and takes memory for the slots.
+/// This holds of whatever plan is asked for: where WHERE names no key or no range for it, it finds more rows than needed,
+/// up to all. Costs what the plan costs, and takes memory for the slots.
 pub fn slots_of(
     alloc: Global,
     catalog: &Catalog,
@@ -84,7 +85,7 @@ pub fn slots_of(
 ) -> Result<Vec<Slot>, NoMemory>
     requires tables { HasTables catalog.now shard.now.tables }
     requires there { table < length catalog.now.tables }
-    ensures enough { IfOk result (λ slots. AreEnough (seen_through catalog.now frame.now shard.now.tables table) (params_of frame.now) test.now slots.items) }
+    ensures ok { IfOk result (λ slots. SlotsAreEnough (seen_through catalog.now frame.now shard.now.tables table) (params_of frame.now) test.now slots.items) }
     ensures scan { plan ≡ Scan → IfOk result (λ slots. slots.items ≡ map (λ p. p.0) (seen_through catalog.now frame.now shard.now.tables table)) }
 {
     let zero = Value::Int(0);

@@ -1,4 +1,4 @@
-//! The row that the comparisons in front of a WHERE name by its key.
+//! The row that the front of a WHERE names by its key.
 
 ghost use Rattle.std.specs.Prelude.{◌≡◌, ◌<◌, length, IfOk, IfSome};
 ghost use Rattle.std.specs.Option.{option_map};
@@ -6,21 +6,18 @@ ghost use Rattle.std.specs.FinMap as finite;
 ghost use Rattle.ss_sql_lex.specs.declared.typed.SourceId.TheVariants.{Table as FromTable};
 ghost use Rattle.ss_shard.specs.Shards.{HasTables};
 ghost use Rattle.ss_plan.specs.Bounds.{operand_of, known_value, bound_value};
-ghost use Rattle.ss_plan.specs.Keys.{key_sought, lent_row, one_place};
+ghost use Rattle.ss_plan.specs.Keys.{key_sought, lent_row, one_or_none};
 ghost use Rattle.ss_plan.specs.Found.{rows_found};
-ghost use Rattle.ss_plan.specs.Plans.{seen_with, IsEnough};
+ghost use Rattle.ss_plan.specs.Plans.{seen_with, RowsAreEnough};
 
-use crate::bounds::{End, Side, first_bound};
+use crate::bounds::{RangeEnd, Side, first_bound};
 use crate::found::FoundRows;
-use crate::seen::is_seen;
-use crate::source::ShardRows;
-use ss_rows::operand::lent_or_zero;
-use ss_rows::tuple::column_in;
-use ss_sql_lex::typed::Expr;
-use ss_table::table::{Slot, Table};
-use ss_value::NoMemory;
-use ss_value::seq::Seq;
-use ss_value::value::{Row, Value};
+use crate::visible::is_seen;
+use crate::visible_rows::ShardRows;
+use ss_rows::{column_in, lent_or_zero};
+use ss_sql_lex::Expr;
+use ss_table::Table;
+use ss_value::{NoMemory, Row, Seq, Slot, Value};
 use std::alloc::Global;
 
 /// A copy of the value of an operand, and None of a column. Linear in its bytes.
@@ -40,7 +37,7 @@ fn known_value<'a>(alloc: Global, side: Side<'a>, params: &Row) -> Result<Option
 /// A copy of the value that bounds a column at an end, and None where there is none. Linear in the front of WHERE.
 pub fn bound_value(
     alloc: Global,
-    end: End,
+    end: RangeEnd,
     column: u8,
     test: &Option<Expr>,
     params: &Row,
@@ -53,7 +50,8 @@ pub fn bound_value(
     }
 }
 
-/// The key that the front of a WHERE names, in copies, and None where it doesn't name each of its columns.
+/// The key that the front of a WHERE names, and None where it doesn't name each of its columns. In copies, since a table is
+/// searched for a row.
 ///
 /// Linear in the key's columns times the front of WHERE.
 fn sought_key(
@@ -66,7 +64,7 @@ fn sought_key(
 {
     let mut key = Seq::new(alloc);
     for column in columns {
-        let Some(value) = bound_value(alloc, End::Both, *column, test, params)? else {
+        let Some(value) = bound_value(alloc, RangeEnd::Both, *column, test, params)? else {
             return Ok(None);
         };
         key.push(value)?;
@@ -74,7 +72,7 @@ fn sought_key(
     Ok(Some(key))
 }
 
-/// The live row with a key, with its slot. Costs as the table's `get`.
+/// The live row with a key, with its slot. Costs what the table's `get` costs.
 fn live_row_with<'a>(rows: &'a Table, key: &Row) -> Option<(Slot, &'a Row)>
     ensures { option_map lent_row result ≡ finite.get rows.now.live key.now }
 {
@@ -88,11 +86,11 @@ fn live_row_with<'a>(rows: &'a Table, key: &Row) -> Option<(Slot, &'a Row)>
     }
 }
 
-/// The row of a table with a key, where the execution sees it. Costs as the table's `get`.
+/// The row of a table with a key, where the execution sees it. Costs what the table's `get` costs.
 fn seen_with<'a, 'b>(from: ShardRows<'a, 'b>, table: u16, key: &Row) -> Option<(Slot, &'a Row)>
     requires tables { HasTables from.catalog.now from.shard.now.tables }
     requires there { table < length from.catalog.now.tables }
-    ensures { one_place (option_map lent_row result) ≡ seen_with from.entry table key.now }
+    ensures { one_or_none (option_map lent_row result) ≡ seen_with from.entry table key.now }
 {
     let Some(rows) = from.shard.table(table) else {
         unreachable!()
@@ -110,9 +108,9 @@ fn seen_with<'a, 'b>(from: ShardRows<'a, 'b>, table: u16, key: &Row) -> Option<(
     }
 }
 
-/// One row or none, as the rows that were found. Takes memory for its place.
+/// One row or none, as the rows that were found.
 fn at_most_one<'a>(alloc: Global, row: Option<(Slot, &'a Row)>) -> Result<FoundRows<'a>, NoMemory>
-    ensures { IfOk result (λ found. rows_found found ≡ one_place (option_map lent_row row.entry)) }
+    ensures { IfOk result (λ found. rows_found found ≡ one_or_none (option_map lent_row row.entry)) }
 {
     let mut rows = Seq::new(alloc);
     if let Some(row) = row {
@@ -123,9 +121,9 @@ fn at_most_one<'a>(alloc: Global, row: Option<(Slot, &'a Row)>) -> Result<FoundR
 
 /// The one row of a table that may pass WHERE, by its key, and None where WHERE doesn't name the whole key.
 ///
-/// A row without this key doesn't pass, and no test of it aborts. Costs one search, logarithmic in the rows of the table,
-/// and one key built, linear in its columns times the front of WHERE and in its bytes. Takes memory for the key and for
-/// the place of one row alone.
+/// A row without this key doesn't pass, and WHERE doesn't abort on it. Costs one search, logarithmic in the rows of the
+/// table, and the building of the key, linear in its columns times the front of WHERE and in its bytes. Takes memory for
+/// the key and for a list of one row.
 pub fn row_by_key<'a, 'b>(
     alloc: Global,
     from: ShardRows<'a, 'b>,
@@ -135,7 +133,7 @@ pub fn row_by_key<'a, 'b>(
 ) -> Result<Option<FoundRows<'a>>, NoMemory>
     requires tables { HasTables from.catalog.now from.shard.now.tables }
     requires there { table < length from.catalog.now.tables }
-    ensures { IfOk result (λ found. IfSome found (IsEnough from.entry (FromTable table) params.now test.now)) }
+    ensures { IfOk result (λ found. IfSome found (RowsAreEnough from.entry (FromTable table) params.now test.now)) }
 {
     let Some(def) = from.catalog.tables.get(usize::from(table)) else {
         unreachable!()

@@ -2,12 +2,12 @@
 
 ghost use Rattle.ss_plan.specs.Laws.{FrontDecides, FoundAreEnough};
 
-/// A row that fails a comparison in front of a WHERE fails WHERE, and nothing aborts, whatever stands behind.
+/// A row that fails a comparison in the front of a WHERE fails WHERE, which doesn't abort on it, whatever stands behind.
 pub fn the_front_decides()
     ensures { FrontDecides }
 {}
 
-/// Rows that a search found are enough: the same pass as of all, and the same test aborts.
+/// Rows that a search found are enough: the same rows pass WHERE as of all rows, or the same test aborts.
 pub fn found_rows_are_enough()
     ensures { FoundAreEnough }
 {}

@@ -5,14 +5,11 @@ ghost use Rattle.ss_value.specs.Rows.{column_value, column_values};
 ghost use Rattle.ss_value.specs.Order.{value_cmp, row_cmp};
 ghost use Rattle.ss_plan.specs.Found.{lent_rows, IsInKeyOrder};
 
-use ss_rows::tuple::column_in;
-use ss_table::table::Slot;
-use ss_value::NoMemory;
-use ss_value::order::compare;
-use ss_value::value::{Row, Value};
+use ss_rows::column_in;
+use ss_value::{NoMemory, Row, Slot, Value, compare};
 use std::cmp::Ordering;
 
-/// How two rows stand by a column, 0 past the end of a row. Linear in the shorter text, constant for Ints.
+/// The order of two rows by a column, whose value is 0 past the end of a row. Linear in the shorter text, constant for Ints.
 fn compare_column(column: u8, a: &Row, b: &Row) -> Ordering
     ensures { result ≡ value_cmp (column_value a.now column) (column_value b.now column) }
 {
@@ -24,7 +21,7 @@ fn compare_column(column: u8, a: &Row, b: &Row) -> Ordering
     )
 }
 
-/// How two rows stand by some columns, the first of them first. Linear in the columns.
+/// The order of two rows by these columns, of which the first decides where it can.
 fn compare_columns(columns: &[u8], a: &Row, b: &Row) -> Ordering
     ensures { result ≡ row_cmp (column_values columns.now a.now) (column_values columns.now b.now) }
 {
@@ -37,9 +34,9 @@ fn compare_columns(columns: &[u8], a: &Row, b: &Row) -> Ordering
     Ordering::Equal
 }
 
-/// Rows in the order of their keys, and of those with one key one.
+/// Rows in the order of their keys, and of those with the same key one.
 ///
-/// As many comparisons as n log n for n rows, and the memory of a second list of them while it sorts.
+/// Of the order of n log n comparisons for n rows, and the memory of a second list of them while it sorts.
 pub fn in_key_order<'a>(
     key: &[u8],
     rows: Vec<(Slot, &'a Row)>,

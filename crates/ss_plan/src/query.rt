@@ -1,29 +1,26 @@
 //! Queries over the rows that an execution sees.
 
 ghost use Rattle.std.specs.Prelude.{◌≡◌, IfOk, IfErr, IfSome, None, Ok};
-ghost use Rattle.ss_operators.specs.Stops.{StopsAs};
+ghost use Rattle.ss_model.specs.Stops.{StopsAs};
 ghost use Rattle.ss_rows.specs.Frames.{params_of};
 ghost use Rattle.ss_shard.specs.Shards.{HasTables, HasWindows};
-ghost use Rattle.ss_plan.specs.Plans.{IsEnough, query_of_seen};
+ghost use Rattle.ss_plan.specs.Plans.{RowsAreEnough, query_of_seen};
 ghost use Rattle.ss_plan.specs.Statements.{SplitByKeys};
-ghost use Rattle.ss_plan.specs.Runs.{QueryGives, QueryStops};
+ghost use Rattle.ss_plan.specs.StatementMeanings.{QueryGives, QueryStops};
 
 use crate::found::FoundRows;
 use crate::inputs::Inputs;
 use crate::plan::planned_rows;
-use crate::source::{ShardRows, rows_seen};
-use ss_model::catalog::Catalog;
-use ss_operators::run_error::RunError;
-use ss_rows::frame::Frame;
-use ss_rows::query::run_query;
-use ss_shard::shard::Shard;
-use ss_sql_lex::typed::{Query, SourceId};
-use ss_value::NoMemory;
-use ss_value::value::{Row, Rows, Value};
+use crate::visible_rows::{ShardRows, rows_seen};
+use ss_model::{Catalog, RunError};
+use ss_rows::{Frame, run_query};
+use ss_shard::Shard;
+use ss_sql_lex::{Query, SourceId};
+use ss_value::{NoMemory, Row, Rows, Value};
 use std::alloc::Global;
 
 /// The rows that may pass the WHERE of a query of one table, by the plan for it, and None where its sources are to be
-/// walked. Costs as the plan does.
+/// walked: by a scan, in a JOIN, and where the source is no table. Costs what the plan costs.
 fn rows_of_query<'a, 'b>(
     alloc: Global,
     from: ShardRows<'a, 'b>,
@@ -31,8 +28,8 @@ fn rows_of_query<'a, 'b>(
     params: &Row,
 ) -> Result<Option<FoundRows<'a>>, NoMemory>
     requires tables { HasTables from.catalog.now from.shard.now.tables }
-    ensures alone { IfOk result (λ found. IfSome found (λ rows. query.now.joined ≡ None)) }
-    ensures enough { IfOk result (λ found. IfSome found (IsEnough from.entry query.now.from params.now query.now.test)) }
+    ensures ok { IfOk result (λ found. IfSome found (λ rows. query.now.joined ≡ None)) }
+    ensures enough { IfOk result (λ found. IfSome found (RowsAreEnough from.entry query.now.from params.now query.now.test)) }
 {
     if query.joined.is_some() {
         return Ok(None);
@@ -43,10 +40,10 @@ fn rows_of_query<'a, 'b>(
     planned_rows(alloc, from, table, &query.test, params)
 }
 
-/// The rows of a query over these rows, those of its one source found by the plan for its WHERE. Aborts as the query
-/// does.
+/// The rows of a query over the rows that are seen, of which those of its one table are found by the plan for its WHERE.
+/// Aborts as the query does.
 ///
-/// Costs what the query costs, with what the plan costs in place of the walk. A query with a JOIN walks.
+/// Costs what the query costs, with what the plan costs in place of the walk.
 fn planned_query<'a, 'b>(
     alloc: Global,
     from: ShardRows<'a, 'b>,
@@ -54,7 +51,7 @@ fn planned_query<'a, 'b>(
     frame: &Frame,
 ) -> Result<Rows, RunError>
     requires tables { HasTables from.catalog.now from.shard.now.tables }
-    ensures rows { IfOk result (λ rows. query_of_seen from.entry (params_of frame.now) query.now ≡ Ok rows) }
+    ensures ok { IfOk result (λ rows. query_of_seen from.entry (params_of frame.now) query.now ≡ Ok rows) }
     ensures stops { IfErr result (StopsAs (query_of_seen from.entry (params_of frame.now) query.now)) }
 {
     match rows_of_query(alloc, from, query, frame.params())? {
@@ -65,8 +62,8 @@ fn planned_query<'a, 'b>(
 
 /// The rows of a query over the rows that the execution sees. Aborts as the query does.
 ///
-/// Costs what the query costs: a walk over its sources, or, where it has no JOIN, what the plan for its WHERE costs: a
-/// search, and a sort of the rows that it finds.
+/// Costs what the query costs, with a walk over each of its sources; a query of one table, without a JOIN, costs what the plan
+/// for its WHERE costs in place of that walk.
 pub fn query_shard(
     alloc: Global,
     catalog: &Catalog,
@@ -78,7 +75,7 @@ pub fn query_shard(
     requires tables { HasTables catalog.now shard.now.tables }
     requires windows { HasWindows catalog.now shard.now.windows }
     requires keyed { SplitByKeys catalog.now }
-    ensures rows { IfOk result (QueryGives catalog.now frame.now inputs.now query.now shard.now) }
+    ensures ok { IfOk result (QueryGives catalog.now frame.now inputs.now query.now shard.now) }
     ensures stops { IfErr result (QueryStops catalog.now frame.now inputs.now query.now shard.now) }
 {
     let zero = Value::Int(0);

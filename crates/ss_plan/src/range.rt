@@ -1,4 +1,4 @@
-//! The rows in the part of an index that the front of a WHERE names.
+//! The rows in the range of an index that the front of a WHERE names.
 
 ghost use Rattle.std.specs.Prelude.{◌≡◌, IfOk, Some, slice_get};
 ghost use Rattle.std.specs.Option.{option_map};
@@ -7,24 +7,21 @@ ghost use Rattle.ss_shard.specs.Shards.{HasTables};
 ghost use Rattle.ss_plan.specs.Ranges.{is_int_kind, is_int_column, is_int, int_bound, range_end};
 ghost use Rattle.ss_plan.specs.Found.{lent_rows, row_seen, rows_seen_in};
 ghost use Rattle.ss_plan.specs.Keys.{lent_row};
-ghost use Rattle.ss_plan.specs.Plans.{is_seen_by, HasRows, IsEnough};
+ghost use Rattle.ss_plan.specs.Plans.{is_seen_by, HasRows, RowsAreEnough};
 
-use crate::bounds::End;
+use crate::bounds::RangeEnd;
 use crate::found::FoundRows;
 use crate::key::bound_value;
 use crate::ordered::in_key_order;
-use crate::seen::is_seen;
-use crate::source::ShardRows;
-use ss_index::index::Index;
-use ss_sql_lex::typed::Expr;
-use ss_table::table::{Slot, Table};
-use ss_value::NoMemory;
-use ss_value::schema::{ColType, Schema};
-use ss_value::seq::Seq;
-use ss_value::value::{Row, Value};
+use crate::visible::is_seen;
+use crate::visible_rows::ShardRows;
+use ss_index::Index;
+use ss_sql_lex::Expr;
+use ss_table::Table;
+use ss_value::{ColType, NoMemory, Row, Schema, Seq, Slot, Value};
 use std::alloc::Global;
 
-/// Whether the column of this number is an Int. Constant.
+/// Whether the column of this number is an Int.
 pub fn is_int(schema: &Schema, column: u8) -> bool
     ensures { result ≡ is_int schema.now column }
 {
@@ -40,7 +37,7 @@ pub fn is_int(schema: &Schema, column: u8) -> bool
 /// A copy of the bound of a column at an end, where the column is an Int. Linear in the front of WHERE.
 fn int_bound(
     alloc: Global,
-    end: End,
+    end: RangeEnd,
     schema: &Schema,
     column: u8,
     test: &Option<Expr>,
@@ -56,12 +53,13 @@ fn int_bound(
 }
 
 /// An end of the range of an index that the front of a WHERE names, in copies: the values that its leading columns have
-/// by `=`, and then the bound of the next column, if that is an Int and has one. An end that is missing is a shorter one.
+/// by `=`, and then the bound of the next column, if that is an Int and has one. A column without a bound ends it: an index
+/// is compared by as many leading columns as an end has.
 ///
 /// Linear in the columns times the front of WHERE.
 fn range_end(
     alloc: Global,
-    end: End,
+    end: RangeEnd,
     schema: &Schema,
     columns: &[u8],
     test: &Option<Expr>,
@@ -71,7 +69,7 @@ fn range_end(
 {
     let mut values = Seq::new(alloc);
     for column in columns {
-        let Some(value) = bound_value(alloc, End::Both, *column, test, params)? else {
+        let Some(value) = bound_value(alloc, RangeEnd::Both, *column, test, params)? else {
             if let Some(bound) = int_bound(alloc, end, schema, *column, test, params)? {
                 values.push(bound)?;
             }
@@ -125,8 +123,9 @@ fn rows_seen_in<'a, 'b>(
 /// The rows of a table in the range of an index that the front of a WHERE names, of those that the execution sees, in
 /// the order of their keys.
 ///
-/// No other row passes WHERE, and no test of one aborts. Costs the index's search, a look at each pair in the range, and
-/// a sort of the rows that are found: n log n comparisons for n of them, and the memory for them and the two ends.
+/// No other row passes WHERE, and WHERE aborts on none of them. Costs the index's search, a look at each pair in the range,
+/// and a sort of the rows that are found, of the order of n log n comparisons for n of them. Takes memory for them and for
+/// the two ends.
 pub fn rows_in_range<'a, 'b>(
     alloc: Global,
     from: ShardRows<'a, 'b>,
@@ -139,17 +138,18 @@ pub fn rows_in_range<'a, 'b>(
     requires tables { HasTables from.catalog.now from.shard.now.tables }
     requires there { slice_get from.shard.now.tables table ≡ Some rows.now }
     requires pairs { HasRows rows.now.live index.now }
-    ensures { IfOk result (IsEnough from.entry (FromTable table) params.now test.now) }
+    ensures { IfOk result (RowsAreEnough from.entry (FromTable table) params.now test.now) }
 {
     let Some(def) = from.catalog.tables.get(usize::from(table)) else {
         unreachable!()
     };
     rows.rows_are_keyed();
     let columns = index.columns();
-    let low = range_end(alloc, End::Low, &def.schema, columns, test, params)?;
-    let high = range_end(alloc, End::High, &def.schema, columns, test, params)?;
+    let low = range_end(alloc, RangeEnd::Low, &def.schema, columns, test, params)?;
+    let high = range_end(alloc, RangeEnd::High, &def.schema, columns, test, params)?;
     let slots = index.range(&low, &high)?;
     let found = rows_seen_in(alloc, from, table, rows, slots.as_slice())?;
+    // In an execution that has replaced a row, its old and its new pair both lead to it; sorted, the two stand side by side.
     let ordered = in_key_order(def.key.as_slice(), found)?;
     Ok(FoundRows {
         rows: Seq::from_vec(ordered),

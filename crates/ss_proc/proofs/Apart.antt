@@ -10,9 +10,9 @@ use Rattle.ss_model.specs.declared.entry.Reason.TheVariants.{WindowFull}
 use Rattle.ss_model.specs.Results.{OrAbort, ◌>>=◌, try_fold, abort_when}
 use Rattle.ss_model.specs.Contents.{window_units, window_def, append_unit, visible_end}
 use Rattle.ss_model.specs.Statements.{Context, Execution, Cascade, StatementEffect, Wrote, Staged, when_moved, close_unit, stage_by_unit, stage_row, statement_effect, apply_effect, execute_statement, run_triggers, cascade_to_depth, trigger_cascade, is_on_window}
-use Rattle.ss_operators.specs.declared.run_error.RunError.{RunError}
-use Rattle.ss_operators.specs.declared.run_error.RunError.TheVariants.{NoMemory, Abort}
-use Rattle.ss_operators.specs.Stops.{StopsAs}
+use Rattle.ss_model.specs.declared.run_error.RunError.{RunError}
+use Rattle.ss_model.specs.declared.run_error.RunError.TheVariants.{NoMemory, Abort}
+use Rattle.ss_model.specs.Stops.{StopsAs}
 
 -- an execution with these batches
 abbrev pub with_batches : List Rows → Execution → Execution

@@ -7,9 +7,9 @@ use Rattle.ss_model.specs.declared.entry.Reason.TheVariants.{BatchFull}
 use Rattle.ss_model.specs.Results.{OrAbort, abort_when}
 use Rattle.ss_model.specs.Statements.{Context, Execution, run_triggers, trigger_cascade, is_on_stream}
 use Rattle.ss_model.specs.Bodies.{emit_rows, exceeds_row_limit}
-use Rattle.ss_operators.specs.declared.run_error.RunError.{RunError}
-use Rattle.ss_operators.specs.Stops.{StopsAs}
-use Rattle.ss_operators.proofs.Walks.{stops_same}
+use Rattle.ss_model.specs.declared.run_error.RunError.{RunError}
+use Rattle.ss_model.specs.Stops.{StopsAs}
+use Rattle.ss_model.proofs.CallerLemmas.{stops_same}
 use Rattle.ss_proc.proofs.Apart.{with_batches, stream_apart, batches_stay, done_apart, stops_apart}
 
 module _ (context : Context) (s : ℕ) (rows : Rows) (w : Execution) (fits : exceeds_row_limit (get_or w.emitted s []) rows ≡ false) where

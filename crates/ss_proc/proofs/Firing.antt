@@ -13,16 +13,16 @@ use Rattle.ss_model.specs.declared.entry.Reason.TheVariants.{WindowFull}
 use Rattle.ss_model.specs.Results.{OrAbort, ◌>>=◌, try_fold, abort_when}
 use Rattle.ss_model.specs.Contents.{Contents, window_units, append_unit}
 use Rattle.ss_model.specs.Statements.{Context, Execution, Cascade, when_moved, close_unit, stage_row, apply_effect, execute_statement, statement_effect, run_triggers, cascade_to_depth, is_on_window}
-use Rattle.ss_operators.specs.declared.run_error.RunError.{RunError}
-use Rattle.ss_operators.specs.Stops.{StopsAs}
-use Rattle.ss_shard.specs.HeldShard.{HeldShard}
+use Rattle.ss_model.specs.declared.run_error.RunError.{RunError}
+use Rattle.ss_model.specs.Stops.{StopsAs}
+use Rattle.ss_shard.specs.ShardValue.{ShardValue}
 use Rattle.ss_shard.specs.Contents.{contents_of, contents_with}
 use Rattle.ss_shard.specs.Windows.{unit_added, unit_moves_end}
 use Rattle.ss_plan.specs.declared.statement.Wrote.TheVariants.{Tables, Stage}
 use Rattle.ss_plan.specs.Statements.{FitsTables, FitsTarget, WroteTo, WroteBy, effect_of}
 use Rattle.ss_proc.specs.declared.work.Work.{Work}
 use Rattle.ss_proc.specs.Executions.{execution_of}
-use Rattle.ss_operators.proofs.Walks.{stops_before, stops_same}
+use Rattle.ss_model.proofs.CallerLemmas.{stops_before, stops_same}
 
 -- ---- the triggers of a window at one depth less
 
@@ -59,17 +59,17 @@ module _ (catalog : Catalog) (cascade : Cascade) (n : ℕ) (unit : Rows) (w : Ex
 
 -- ---- a statement that stages
 
-target_there : (catalog : Catalog) (count w : ℕ) (rows : Rows) (target : Target) (old new : HeldShard) → FitsTarget catalog count target → WroteTo target old new (Stage w rows) → (w < length catalog.windows) × (new.tables ≡ old.tables)
+target_there : (catalog : Catalog) (count w : ℕ) (rows : Rows) (target : Target) (old new : ShardValue) → FitsTarget catalog count target → WroteTo target old new (Stage w rows) → (w < length catalog.windows) × (new.tables ≡ old.tables)
 target_there catalog count w rows (IntoTable t) old new fits wrote = absurd wrote
 target_there catalog count w rows (IntoWindow v) old new fits wrote = (subst (λ n. n < length catalog.windows) (sym wrote.0) fits, wrote.1)
 
-pub window_there : (catalog : Catalog) (w : ℕ) (rows : Rows) (st : Statement) (old new : HeldShard) → FitsTables catalog st → WroteBy st old new (Stage w rows) → (w < length catalog.windows) × (new.tables ≡ old.tables)
+pub window_there : (catalog : Catalog) (w : ℕ) (rows : Rows) (st : Statement) (old new : ShardValue) → FitsTables catalog st → WroteBy st old new (Stage w rows) → (w < length catalog.windows) × (new.tables ≡ old.tables)
 window_there catalog w rows (InsertValues target vs) old new fits wrote = target_there catalog (length vs) w rows target old new fits wrote
 window_there catalog w rows (InsertQuery target q) old new fits wrote = target_there catalog (length q.items) w rows target old new fits wrote
 window_there catalog w rows (Update t sets test) old new fits wrote = let no : Stage w rows ≡ Tables = wrote in cc
 window_there catalog w rows (Delete t test) old new fits wrote = let no : Stage w rows ≡ Tables = wrote in cc
 
-module _ (context : Context) (cascade : Cascade) (inserted : Rows) (params : Row) (st : Statement) (old new : HeldShard) (work : Work) where
+module _ (context : Context) (cascade : Cascade) (inserted : Rows) (params : Row) (st : Statement) (old new : ShardValue) (work : Work) where
   abbrev before : Execution
   before = execution_of old work
 

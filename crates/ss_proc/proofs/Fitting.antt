@@ -25,7 +25,7 @@ use Rattle.ss_model.specs.CatalogForm.{has_form, numbers_in_range, is_within_lim
 use Rattle.ss_model.specs.Contents.{key_columns}
 use Rattle.ss_model.specs.Scopes.{procedure_in_scope, trigger_in_scope, is_on_a_stream, step_in_scope, inner_in_scope, statement_in_scope, target_in_scope}
 use Rattle.ss_model.specs.Typing.{procedure_typed, trigger_typed, trigger_schema, input_schema, schemas_of, step_typed, inner_typed, target_schema}
-use Rattle.ss_model.proofs.Truths.{first_of_two, second_of_two, at_place}
+use Rattle.ss_lemmas.proofs.Bools.{first_of_two, second_of_two, at_index}
 use Rattle.ss_plan.specs.Statements.{FitsTables, FitsTarget}
 use Rattle.ss_proc.specs.Executions.{InnerRuns, StepRuns, MayRun}
 
@@ -159,6 +159,6 @@ module _ (catalog : Catalog) (accepted : Accepted catalog) where
   -- each step of each procedure may run
   pub body_fits : (q : ℕ) (p : Procedure) → slice_get catalog.procedures q ≡ Some p → AllByRecursion (StepRuns catalog) p.body
   body_fits q p is =
-      let typed : procedure_typed catalog p ≡ true = at_place (procedure_typed catalog) catalog.procedures (first_of_two _ _ accepted.typed) q p is in
-      let scope : procedure_in_scope catalog p ≡ true = at_place (procedure_in_scope catalog) catalog.procedures (first_of_two _ _ accepted.in_scope) q p is in
+      let typed : procedure_typed catalog p ≡ true = at_index (procedure_typed catalog) catalog.procedures (first_of_two _ _ accepted.typed) q p is in
+      let scope : procedure_in_scope catalog p ≡ true = at_index (procedure_in_scope catalog) catalog.procedures (first_of_two _ _ accepted.in_scope) q p is in
       steps_run catalog all_keys p.inputs p.args p.body typed scope

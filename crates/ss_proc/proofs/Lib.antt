@@ -2,7 +2,7 @@ pub mod Firing
 pub mod Apart
 pub mod Emitting
 pub mod Owned
-pub mod Whole
+pub mod RolledBack
 pub mod Batches
 pub mod Standing
 pub mod Pushing

@@ -2,9 +2,9 @@
 use Rattle.std.proofs.Common.{◌≡◌, ◌+◌, ◌-◌, ◌<◌, ℕ, suc, Bool, true, false, cond, List, [], ◌∷◌, sym, ap, ◌∙◌, Ok, arith}
 use Rattle.std.specs.List.{filter, range_with_len}
 use Rattle.ss_model.specs.Results.{OrAbort, ◌>>=◌, try_fold}
-use Rattle.ss_operators.specs.declared.run_error.RunError.{RunError}
-use Rattle.ss_operators.specs.Stops.{StopsAs}
-use Rattle.ss_operators.proofs.Walks.{stops_before, stops_same}
+use Rattle.ss_model.specs.declared.run_error.RunError.{RunError}
+use Rattle.ss_model.specs.Stops.{StopsAs}
+use Rattle.ss_model.proofs.CallerLemmas.{stops_before, stops_same}
 
 -- from n on, below a count
 abbrev pub numbers_from : (ℕ → Bool) → ℕ → ℕ → List ℕ

@@ -3,7 +3,7 @@ use Rattle.std.proofs.Common.{◌≡◌, true, refl}
 use Rattle.std.specs.List.{AllByRecursion}
 use Rattle.ss_model.specs.declared.entry.Entry.TheVariants.{Step as StepEntry}
 use Rattle.ss_model.specs.Database.{fits_entry}
-use Rattle.ss_model.proofs.SlidingSeen.{sliding_seen, fills, accepted}
+use Rattle.ss_model.proofs.CallerLemmas.{sliding_seen, fills, accepted}
 use Rattle.ss_proc.specs.Executions.{MayRun, StepRuns}
 use Rattle.ss_proc.proofs.Fitting.{may_run, body_fits}
 

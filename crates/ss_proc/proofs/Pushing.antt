@@ -19,15 +19,15 @@ use Rattle.ss_model.specs.Contents.{Contents}
 use Rattle.ss_model.specs.Accepted.{Accepted}
 use Rattle.ss_model.specs.Batches.{pushed_batch}
 use Rattle.ss_model.specs.Database.{NextNumbers, Database, Applied, apply, only_when, push_fits, numbered_push, next_number, is_border_stream, stream_schema, fits_entry, accept_batch}
-use Rattle.ss_model.proofs.Truths.{first_of_two, second_of_two}
-use Rattle.ss_shard.specs.HeldShard.{HeldShard}
+use Rattle.ss_lemmas.proofs.Bools.{first_of_two, second_of_two}
+use Rattle.ss_shard.specs.ShardValue.{ShardValue}
 use Rattle.ss_shard.specs.Sources.{number_of, numbers_at, number_in, SameNumbers, with_number, push_outcome}
 use Rattle.ss_shard.specs.Contents.{tables_of}
 use Rattle.ss_shard.specs.Shards.{Same}
 use Rattle.ss_shard.specs.Windows.{kept_part, Holds, HoldsDatabase}
-use Rattle.ss_shard.proofs.Placed.{alike_again}
+use Rattle.ss_shard.proofs.CallerLemmas.{alike_again}
 use Rattle.ss_proc.specs.declared.runner.Executed.{Executed}
-use Rattle.ss_proc.specs.Entries.{Ran, Keeps, counted, numbered, raised}
+use Rattle.ss_proc.specs.Entries.{Ran, Commits, counts_after, numbers_after, number_raised}
 
 -- ---- what it says that a push fits
 
@@ -48,20 +48,20 @@ set_number numbers source n name = ap (λ o. unwrap_or o 0) (finite.get-insert n
     by true = refl
     by false = refl
 
--- whether two places are the same, and whether a list has a place
-same_place : ℕ → ℕ → Bool
-same_place zero zero = true
-same_place zero (suc s) = false
-same_place (suc t) zero = false
-same_place (suc t) (suc s) = same_place t s
+-- whether two positions are the same, and whether a list has a position
+same_position : ℕ → ℕ → Bool
+same_position zero zero = true
+same_position zero (suc s) = false
+same_position (suc t) zero = false
+same_position (suc t) (suc s) = same_position t s
 
-has_place : List NextNumbers → ℕ → Bool
-has_place [] s = false
-has_place (x ∷ xs) zero = true
-has_place (x ∷ xs) (suc s) = has_place xs s
+has_position : List NextNumbers → ℕ → Bool
+has_position [] s = false
+has_position (x ∷ xs) zero = true
+has_position (x ∷ xs) (suc s) = has_position xs s
 
-as_long : (one two : List NextNumbers) (s : ℕ) → length two ≡ length one → has_place two s ≡ has_place one s
-unfolding has_place
+as_long : (one two : List NextNumbers) (s : ℕ) → length two ≡ length one → has_position two s ≡ has_position one s
+unfolding has_position
 as_long [] [] s e = refl
 as_long [] (y ∷ two) s e = absurd (omega (arith, e))
 as_long (x ∷ one) [] s e = absurd (omega (arith, e))
@@ -69,9 +69,9 @@ as_long (x ∷ one) (y ∷ two) zero e = refl
 as_long (x ∷ one) (y ∷ two) (suc s) e = as_long one two s (omega (arith, e))
 
 -- the numbers of a stream among all, where those of one were replaced
-here_or_there : (xs : List NextNumbers) (s t : ℕ) (x : NextNumbers) → numbers_at (set xs s x) t ≡ cond (same_place t s && has_place xs s) x (numbers_at xs t)
-unfolding same_place has_place
-here_or_there [] s t x = by (same_place t s)
+here_or_there : (xs : List NextNumbers) (s t : ℕ) (x : NextNumbers) → numbers_at (set xs s x) t ≡ cond (same_position t s && has_position xs s) x (numbers_at xs t)
+unfolding same_position has_position
+here_or_there [] s t x = by (same_position t s)
   where
     by : (b : Bool) → finite.empty ≡ cond (b && false) x finite.empty
     by true = refl
@@ -89,7 +89,7 @@ both_set one two s source n same = record {
   streams = length-set two s _ ∙ same.streams ∙ sym (length-set one s _);
   numbers = λ t name.
       at two t name
-      ∙ (λ i. picked (same_place t s && as_long one two s same.streams i) (cond (eq_by_cmp (slice_cmp nat_cmp) name source) n (same.numbers s name i)) (same.numbers t name i))
+      ∙ (λ i. picked (same_position t s && as_long one two s same.streams i) (cond (eq_by_cmp (slice_cmp nat_cmp) name source) n (same.numbers s name i)) (same.numbers t name i))
       ∙ sym (at one t name);
 }
   where
@@ -97,15 +97,15 @@ both_set one two s source n same = record {
     either true x y name = refl
     either false x y name = refl
 
-    at : (xs : List NextNumbers) (t : ℕ) (name : List ℕ) → number_in (with_number xs s source n) t name ≡ picked (same_place t s && has_place xs s) (cond (eq_by_cmp (slice_cmp nat_cmp) name source) n (number_in xs s name)) (number_in xs t name)
+    at : (xs : List NextNumbers) (t : ℕ) (name : List ℕ) → number_in (with_number xs s source n) t name ≡ picked (same_position t s && has_position xs s) (cond (eq_by_cmp (slice_cmp nat_cmp) name source) n (number_in xs s name)) (number_in xs t name)
     at xs t name =
         ap (λ (ns : NextNumbers). number_of ns name) (here_or_there xs s t (finite.insert (numbers_at xs s) source n))
-        ∙ either (same_place t s && has_place xs s) (finite.insert (numbers_at xs s) source n) (numbers_at xs t) name
-        ∙ ap (λ x. picked (same_place t s && has_place xs s) x (number_in xs t name)) (set_number (numbers_at xs s) source n name)
+        ∙ either (same_position t s && has_position xs s) (finite.insert (numbers_at xs s) source n) (numbers_at xs t) name
+        ∙ ap (λ x. picked (same_position t s && has_position xs s) x (number_in xs t name)) (set_number (numbers_at xs s) source n name)
 
 -- ---- a push
 
-module _ (catalog : Catalog) (old new : HeldShard) (db : Database) (holds : HoldsDatabase catalog old db) (client index s : ℕ) (source : List ℕ) (seq : ℕ) (rows : Rows) (fits : push_fits catalog client s seq rows ≡ true)
+module _ (catalog : Catalog) (old new : ShardValue) (db : Database) (holds : HoldsDatabase catalog old db) (client index s : ℕ) (source : List ℕ) (seq : ℕ) (rows : Rows) (fits : push_fits catalog client s seq rows ≡ true)
     (same : SameNumbers old.sources new.sources) (rest : new ≡ record old { sources = new.sources }) where
   abbrev next : ℕ
   next = next_number db s source
@@ -120,56 +120,56 @@ module _ (catalog : Catalog) (old new : HeldShard) (db : Database) (holds : Hold
   alike : SameNumbers db.next_numbers new.sources
   alike = record { streams = same.streams ∙ holds.numbers.streams; numbers = λ t name. same.numbers t name ∙ holds.numbers.numbers t name }
 
-  mid : HeldShard
+  mid : ShardValue
   mid = record old { sources = new.sources }
 
   still : HoldsDatabase catalog new db
   unfolding mid
-  still = subst (λ (h : HeldShard). HoldsDatabase catalog h db) (sym rest)
+  still = subst (λ (h : ShardValue). HoldsDatabase catalog h db) (sym rest)
       (record { contents = record { tables = holds.contents.tables; windows = holds.contents.windows }; counts = holds.counts; numbers = alike })
 
   came : (e : Executed) (a : Applied) → apply catalog db (Push client index s source seq rows) ≡ Some a → e.outcome ≡ a.outcome → e.emitted ≡ pushed_batch s rows e.outcome
-      → (a.db).contents ≡ db.contents → (a.db).counts ≡ db.counts → SameNumbers (a.db).next_numbers (raised s source seq e.outcome new.sources) → Ran catalog db (Push client index s source seq rows) e new
-  came e a value told gave contents counts numbers = record {
+      → (a.db).contents ≡ db.contents → (a.db).counts ≡ db.counts → SameNumbers (a.db).next_numbers (number_raised s source seq e.outcome new.sources) → Ran catalog db (Push client index s source seq rows) e new
+  came e a value folds gave contents counts numbers = record {
     applied = a;
     value = value;
-    outcome = told;
-    emitted = gave ∙ ap (pushed_batch s rows) told;
+    outcome = folds;
+    emitted = gave ∙ ap (pushed_batch s rows) folds;
     leaves = subst (Holds catalog new) (sym contents) still.contents;
     counts = still.counts ∙ sym counts;
     numbers = numbers;
   }
 
   pub push_ran : (e : Executed) → e.outcome ≡ push_outcome seq (number_in old.sources s source) → e.emitted ≡ pushed_batch s rows e.outcome → Ran catalog db (Push client index s source seq rows) e new
-  push_ran e told gave = by (seq == next) (nat_lt seq next) push_value (told ∙ ap (push_outcome seq) (holds.numbers.numbers s source))
+  push_ran e folds gave = by (seq == next) (nat_lt seq next) push_value (folds ∙ ap (push_outcome seq) (holds.numbers.numbers s source))
     where
       by : (b c : Bool)
           → apply catalog db (Push client index s source seq rows) ≡ Some (cond b (record { db = accept_batch db s source seq rows; outcome = Done []; emitted = [] }) (cond c (record { db = db; outcome = Duplicate next; emitted = [] }) (record { db = db; outcome = Gap next; emitted = [] })))
           → e.outcome ≡ cond b (Done []) (cond c (Duplicate next) (Gap next)) → Ran catalog db (Push client index s source seq rows) e new
       by true c value is =
           came e (record { db = accept_batch db s source seq rows; outcome = Done []; emitted = [] }) value is gave refl refl
-          (subst (λ o. SameNumbers (accept_batch db s source seq rows).next_numbers (raised s source seq o new.sources)) (sym is) (both_set db.next_numbers new.sources s source (seq + 1) alike))
+          (subst (λ o. SameNumbers (accept_batch db s source seq rows).next_numbers (number_raised s source seq o new.sources)) (sym is) (both_set db.next_numbers new.sources s source (seq + 1) alike))
       by false true value is =
           came e (record { db = db; outcome = Duplicate next; emitted = [] }) value is gave refl refl
-          (subst (λ o. SameNumbers db.next_numbers (raised s source seq o new.sources)) (sym is) alike)
+          (subst (λ o. SameNumbers db.next_numbers (number_raised s source seq o new.sources)) (sym is) alike)
       by false false value is =
           came e (record { db = db; outcome = Gap next; emitted = [] }) value is gave refl refl
-          (subst (λ o. SameNumbers db.next_numbers (raised s source seq o new.sources)) (sym is) alike)
+          (subst (λ o. SameNumbers db.next_numbers (number_raised s source seq o new.sources)) (sym is) alike)
 
 -- ---- what is the same stands for the same
 
-pub holds_same : (catalog : Catalog) (old new : HeldShard) → Same old new → (db : Database) → HoldsDatabase catalog old db → HoldsDatabase catalog new db
+pub holds_same : (catalog : Catalog) (old new : ShardValue) → Same old new → (db : Database) → HoldsDatabase catalog old db → HoldsDatabase catalog new db
 holds_same catalog old new same db holds = record {
   contents = record { tables = ap tables_of same.tables ∙ holds.contents.tables; windows = ap (map kept_part) same.windows ∙ holds.contents.windows };
   counts = same.cursors ∙ holds.counts;
   numbers = alike_again db.next_numbers old.sources new.sources holds.numbers same.sources;
 }
 
--- ---- an entry that is kept
+-- ---- an entry that is committed
 
-pub keeps_so : (catalog : Catalog) (e : Entry) (outcome : Outcome) (old new : HeldShard) → ((s : Contents) → Holds catalog old s → Holds catalog new s) → new.cursors ≡ counted e old.cursors → new.sources ≡ numbered e outcome old.sources → Keeps catalog e outcome old new
+pub keeps_so : (catalog : Catalog) (e : Entry) (outcome : Outcome) (old new : ShardValue) → ((s : Contents) → Holds catalog old s → Holds catalog new s) → new.cursors ≡ counts_after e old.cursors → new.sources ≡ numbers_after e outcome old.sources → Commits catalog e outcome old new
 keeps_so catalog e outcome old new holds cursors sources db executed ran same = record {
   contents = holds (ran.applied).db.contents ran.leaves;
   counts = cursors ∙ ran.counts;
-  numbers = subst (SameNumbers (ran.applied).db.next_numbers) (sym sources) (subst (λ o. SameNumbers (ran.applied).db.next_numbers (numbered e o old.sources)) same ran.numbers);
+  numbers = subst (SameNumbers (ran.applied).db.next_numbers) (sym sources) (subst (λ o. SameNumbers (ran.applied).db.next_numbers (numbers_after e o old.sources)) same ran.numbers);
 }

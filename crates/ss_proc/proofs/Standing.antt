@@ -10,21 +10,20 @@ use Rattle.ss_model.specs.declared.catalog.Procedure.{Procedure}
 use Rattle.ss_model.specs.declared.entry.Entry.TheVariants.{Call, Step as StepEntry}
 use Rattle.ss_model.specs.declared.entry.Outcome.{Outcome}
 use Rattle.ss_model.specs.Database.{Database, Applied, BodyResult, apply, apply_call, apply_step, call_fits, has_call, has_step, fits_entry, only_when, run_procedure, is_ready, is_streaming, append_batches, stream_batches, output_streams}
-use Rattle.ss_shard.specs.HeldShard.{HeldShard}
+use Rattle.ss_shard.specs.ShardValue.{ShardValue}
 use Rattle.ss_shard.specs.Contents.{contents_of}
 use Rattle.ss_shard.specs.Shards.{IsOf}
 use Rattle.ss_shard.specs.Windows.{HoldsDatabase, own_database}
-use Rattle.ss_shard.proofs.Standing.{carried}
+use Rattle.ss_shard.proofs.CallerLemmas.{carried, alike_again}
 use Rattle.ss_proc.specs.declared.runner.Executed.{Executed}
 use Rattle.ss_model.specs.Batches.{output_batches}
-use Rattle.ss_shard.specs.Shards.{CanGoBack}
+use Rattle.ss_shard.specs.Shards.{CanRollBack}
 use Rattle.ss_shard.specs.Sources.{SameNumbers}
-use Rattle.ss_shard.proofs.Placed.{alike_again}
 use Rattle.ss_proc.specs.Entries.{batches_at, batches_for, Ran}
 
 -- ---- a call
 
-module _ (catalog : Catalog) (old new : HeldShard) (is : IsOf catalog old) (now : IsOf catalog new) (db : Database) (holds : HoldsDatabase catalog old db) (client index n : ℕ) (args : Row) (p : Procedure) (found : slice_get catalog.procedures n ≡ Some p) (fits : fits_entry catalog (Call client index n args) ≡ true) (outcome : Outcome) (emitted : List Rows) where
+module _ (catalog : Catalog) (old new : ShardValue) (is : IsOf catalog old) (now : IsOf catalog new) (db : Database) (holds : HoldsDatabase catalog old db) (client index n : ℕ) (args : Row) (p : Procedure) (found : slice_get catalog.procedures n ≡ Some p) (fits : fits_entry catalog (Call client index n args) ≡ true) (outcome : Outcome) (emitted : List Rows) where
   abbrev left : BodyResult
   left = record { contents = contents_of new; outcome = outcome; emitted = emitted }
 
@@ -39,10 +38,10 @@ module _ (catalog : Catalog) (old new : HeldShard) (is : IsOf catalog old) (now 
       ∙ ap (λ b. only_when b (Some (called (run_procedure catalog n p args [] (contents_of old))))) call
       ∙ ap (λ r. Some (called r)) ran
 
-  pub call_ran : run_procedure catalog n p args [] (contents_of old) ≡ left → CanGoBack old new → (e : Executed) → e.outcome ≡ outcome → e.emitted ≡ [] → Ran catalog db (Call client index n args) e new
-  call_ran ran back e told none =
+  pub call_ran : run_procedure catalog n p args [] (contents_of old) ≡ left → CanRollBack old new → (e : Executed) → e.outcome ≡ outcome → e.emitted ≡ [] → Ran catalog db (Call client index n args) e new
+  call_ran ran back e folds none =
       let c = carried catalog old new is now db holds (Call client index n args) (called left) (call_value ran) refl in
-      record { applied = c.applied; value = c.value; outcome = told ∙ c.outcome; emitted = none; leaves = c.leaves; counts = back.cursors ∙ holds.counts ∙ sym c.counts; numbers = subst (λ ns. SameNumbers ns new.sources) (sym c.numbers) (alike_again db.next_numbers old.sources new.sources holds.numbers back.sources) }
+      record { applied = c.applied; value = c.value; outcome = folds ∙ c.outcome; emitted = none; leaves = c.leaves; counts = back.cursors ∙ holds.counts ∙ sym c.counts; numbers = subst (λ ns. SameNumbers ns new.sources) (sym c.numbers) (alike_again db.next_numbers old.sources new.sources holds.numbers back.sources) }
 
 -- ---- a step
 
@@ -68,7 +67,7 @@ same_batches db r (s ∷ inputs) (b ∷ batches) e =
 equal_test : (a b : ℕ) → a ≡ b → (a == b) ≡ true
 equal_test a b h = grind (arith, nat_tests)
 
-module _ (catalog : Catalog) (old new : HeldShard) (is : IsOf catalog old) (now : IsOf catalog new) (db : Database) (holds : HoldsDatabase catalog old db) (n r : ℕ) (p : Procedure) (found : slice_get catalog.procedures n ≡ Some p) (fits : fits_entry catalog (StepEntry n r) ≡ true) (next : get_or old.cursors n 0 ≡ r)
+module _ (catalog : Catalog) (old new : ShardValue) (is : IsOf catalog old) (now : IsOf catalog new) (db : Database) (holds : HoldsDatabase catalog old db) (n r : ℕ) (p : Procedure) (found : slice_get catalog.procedures n ≡ Some p) (fits : fits_entry catalog (StepEntry n r) ≡ true) (next : get_or old.cursors n 0 ≡ r)
     (batches : List Rows) (at_hand : batches_at db r p ≡ map Some batches) (outcome : Outcome) (emitted : List Rows) where
   abbrev result : BodyResult
   result = record { contents = contents_of new; outcome = outcome; emitted = emitted }
@@ -95,13 +94,13 @@ module _ (catalog : Catalog) (old new : HeldShard) (is : IsOf catalog old) (now 
       ∙ ap (λ bs. Some (stepped (run_procedure catalog n p [] bs (contents_of old)))) (same_batches db r p.inputs batches at_hand)
       ∙ ap (λ x. Some (stepped x)) ran
 
-  pub step_ran : run_procedure catalog n p [] batches (contents_of old) ≡ result → CanGoBack old new → (e : Executed) → e.outcome ≡ outcome → e.emitted ≡ batches_for (output_streams catalog p) emitted → Ran catalog db (StepEntry n r) e new
-  step_ran ran back e told gave =
+  pub step_ran : run_procedure catalog n p [] batches (contents_of old) ≡ result → CanRollBack old new → (e : Executed) → e.outcome ≡ outcome → e.emitted ≡ batches_for (output_streams catalog p) emitted → Ran catalog db (StepEntry n r) e new
+  step_ran ran back e folds gave =
       let c = carried catalog old new is now db holds (StepEntry n r) (stepped result) (step_value ran) refl in
       record {
         applied = c.applied;
         value = c.value;
-        outcome = told ∙ c.outcome;
+        outcome = folds ∙ c.outcome;
         emitted = gave ∙ ap (batches_for (output_streams catalog p)) c.emitted ∙ by (slice_get catalog.procedures n) found (c.applied).emitted;
         leaves = c.leaves;
         counts = ap (λ counts. set counts n (r + 1)) (back.cursors ∙ holds.counts) ∙ sym c.counts;

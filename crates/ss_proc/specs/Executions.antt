@@ -14,7 +14,7 @@ use Rattle.ss_model.specs.Accepted.{Accepted}
 use Rattle.ss_model.specs.Results.{OrAbort, abort_when}
 use Rattle.ss_model.specs.Statements.{Context, Execution}
 use Rattle.ss_model.specs.Bodies.{exceeds_row_limit}
-use Rattle.ss_shard.specs.HeldShard.{HeldShard}
+use Rattle.ss_shard.specs.ShardValue.{ShardValue}
 use Rattle.ss_shard.specs.Contents.{contents_of}
 use Rattle.ss_plan.specs.Statements.{FitsTables, SplitByKeys}
 use Rattle.ss_proc.specs.declared.work.Given.{Given}
@@ -30,8 +30,8 @@ context_of g = record {
   split_value = option_map (λ a. column_value g.args.now a) g.arg;
 }
 
--- how far it is: tables and windows as the shard has them, and the rest as the work has it
-abbrev pub execution_of : HeldShard → Work → Execution
+-- how far an execution is, to the model: tables and windows as the shard has them, and the rest as the work has it
+abbrev pub execution_of : ShardValue → Work → Execution
 execution_of shard work = record {
   contents = contents_of shard;
   open_units = work.open_units;
@@ -39,7 +39,7 @@ execution_of shard work = record {
   reply = work.reply;
 }
 
--- no unit, no batch and no reply yet
+-- no row yet in a unit, a batch or the reply
 abbrev pub empty_work : Catalog → Work
 empty_work catalog = record {
   open_units = replicate (length catalog.windows) [];
@@ -49,22 +49,22 @@ empty_work catalog = record {
 
 -- ---- what may run
 
--- what every trigger of a catalogue inserts has its target's key, and its target is there
+-- each statement of each trigger of a catalogue fits the tables
 abbrev pub TriggersFit : Catalog → Type 0
 TriggersFit catalog = AllByRecursion (λ t. AllByRecursion (FitsTables catalog) t.statements) catalog.triggers
 
--- executions may run: tables are split by their keys, and triggers, of which there are at most 64, fit
+-- executions may run: tables are split by columns of their keys, and there are at most 64 triggers, which fit
 pub record MayRun (catalog : Catalog) : Type 0 where
   pub keyed : SplitByKeys catalog
   pub triggers : TriggersFit catalog
   pub few : length catalog.triggers ≤ 64
 
--- a step of a `for_each` that may run: its rows have the key of their table, and its target is there
+-- a step of a `for_each` may run: its statement, if it has one, fits the tables
 abbrev pub InnerRuns : Catalog → Inner → Type 0
 InnerRuns catalog (InnerSql s) = FitsTables catalog s
 InnerRuns catalog (InnerAbortIf c code) = Unit {0}
 
--- a step that may run
+-- a step of a body may run: its statements fit the tables
 abbrev pub StepRuns : Catalog → Step → Type 0
 StepRuns catalog (Sql s) = FitsTables catalog s
 StepRuns catalog (AbortIf c code) = Unit {0}
@@ -72,7 +72,7 @@ StepRuns catalog (ForEach input body) = AllByRecursion (InnerRuns catalog) body
 StepRuns catalog (Emit s q) = Unit {0}
 StepRuns catalog (Return q) = Unit {0}
 
--- the reply with rows behind it, or the abort where that is more than it may have
+-- the reply with rows behind it, or the abort where these are more than it may have
 abbrev pub longer_reply : Rows → Rows → OrAbort Rows
 longer_reply reply rows = abort_when (exceeds_row_limit reply rows) ReplyFull (Ok (reply ++ rows))
 

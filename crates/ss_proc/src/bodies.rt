@@ -6,22 +6,18 @@ ghost use Rattle.std.specs.Option.{option_map};
 ghost use Rattle.ss_value.specs.Rows.{Row, column_value};
 ghost use Rattle.ss_model.specs.Bodies.{run_body};
 ghost use Rattle.ss_model.specs.Database.{split_value_for};
-ghost use Rattle.ss_operators.specs.Stops.{StopsAs};
+ghost use Rattle.ss_model.specs.Stops.{StopsAs};
 ghost use Rattle.ss_shard.specs.Contents.{contents_of};
-ghost use Rattle.ss_shard.specs.Shards.{IsOf, Changed, CanGoBack, Same, IsSettled};
+ghost use Rattle.ss_shard.specs.Shards.{IsOf, Changed, CanRollBack, Same, IsCommitted};
 ghost use Rattle.ss_proc.specs.Executions.{context_of, MayRun, StepRuns};
 ghost use Rattle.ss_proc.specs.Meanings.{BodyDone, BodyLeaves};
 
 use crate::steps::execute_steps;
 use crate::windows::close_owned;
 use crate::work::{Given, Work, empty_lists, empty_work};
-use ss_model::catalog::{Step, Touch};
-use ss_model::entry::Outcome;
-use ss_operators::run_error::RunError;
-use ss_shard::shard::Shard;
-use ss_value::NoMemory;
-use ss_value::seq::Seq;
-use ss_value::value::Rows;
+use ss_model::{Outcome, RunError, Step, Touch};
+use ss_shard::Shard;
+use ss_value::{NoMemory, Rows, Seq};
 use std::alloc::Global;
 
 /// What a body leaves beside its shard: its outcome, and its batch for each stream.
@@ -46,7 +42,7 @@ pub fn touched_argument(touch: &Touch) -> Option<u8>
 
 /// Runs the steps of a body, and then closes the procedure's windows of batches, in written order.
 ///
-/// Aborts as the definition says. What was changed by then is noted in the shard.
+/// Aborts as the model's `run_body` does. What was changed by then is noted in the shard.
 fn run_steps(
     alloc: Global,
     given: &Given,
@@ -57,7 +53,7 @@ fn run_steps(
     requires runs { MayRun given.now.catalog.now }
     requires fits { AllByRecursion (StepRuns given.now.catalog.now) body.now }
     requires few { length given.now.catalog.now.windows ≤ 32 }
-    ensures done { IfOk result (BodyDone given.now body.now shard.old shard.new) }
+    ensures ok { IfOk result (BodyDone given.now body.now shard.old shard.new) }
     ensures stops { IfErr result (StopsAs (run_body (context_of given.now) body.now (contents_of shard.old))) }
     ensures changed { Changed shard.old shard.new }
 {
@@ -70,8 +66,8 @@ fn run_steps(
 /// Runs the body of a procedure on a shard between executions, all of it or nothing.
 ///
 /// Answers what the body comes to: done with its reply and batches, or an abort, which leaves the tables and windows from
-/// before and empty batches. Fails only for want of memory, which leaves the shard as it was. Costs the steps and what their
-/// triggers do, and for an abort at most as much again.
+/// before and empty batches. Out of memory leaves the shard as it was. Costs what the steps and their triggers cost, and for
+/// an abort at most as much again.
 ///
 /// Source: transaction executions of S-Store (Meehan et al., PVLDB 8, 2015, section 2).
 pub fn run_body(
@@ -80,15 +76,15 @@ pub fn run_body(
     body: &[Step],
     shard: &mut Shard,
 ) -> Result<BodyResult, NoMemory>
-    requires settled { IsSettled given.now.catalog.now shard.old }
+    requires committed { IsCommitted given.now.catalog.now shard.old }
     requires runs { MayRun given.now.catalog.now }
     requires fits { AllByRecursion (StepRuns given.now.catalog.now) body.now }
     requires few { length given.now.catalog.now.windows ≤ 32 }
-    ensures ran { IfOk result (BodyLeaves given.now body.now shard.old shard.new) }
+    ensures ok { IfOk result (BodyLeaves given.now body.now shard.old shard.new) }
     ensures of_catalog { IsOf given.now.catalog.now shard.new }
-    ensures back { IfOk result (λ left. CanGoBack shard.old shard.new) }
-    ensures kept { OnErr result (Same shard.old shard.new) }
-    ensures settled { OnErr result (IsSettled given.now.catalog.now shard.new) }
+    ensures back { IfOk result (λ left. CanRollBack shard.old shard.new) }
+    ensures err { OnErr result (Same shard.old shard.new) }
+    ensures committed { OnErr result (IsCommitted given.now.catalog.now shard.new) }
 {
     match run_steps(alloc, given, body, shard) {
         Ok(work) => Ok(BodyResult {
@@ -96,7 +92,8 @@ pub fn run_body(
             emitted: work.emitted,
         }),
         Err(RunError::Abort(reason)) => {
-            shard.roll_back();
+            shard.rollback();
+            // After an abort too each stream gets a batch, an empty one, so that streams stay in step with counts.
             let emitted = empty_lists(alloc, given.catalog.streams.len())?;
             Ok(BodyResult {
                 outcome: Outcome::Aborted(reason),
@@ -104,7 +101,7 @@ pub fn run_body(
             })
         }
         Err(RunError::NoMemory) => {
-            shard.roll_back();
+            shard.rollback();
             Err(NoMemory)
         }
     }

@@ -1,8 +1,8 @@
-//! How windows move, and the triggers that this fires.
+//! How windows move, and the triggers that this sets off.
 //!
 //! What a trigger stages may move another window, so these functions call one another. `depth` is how deep the triggers
-//! of windows may still nest: it falls where the triggers of a window run, and at 0 none do. In an accepted catalogue the
-//! number of windows is depth enough, since no chain of triggers meets a window twice.
+//! of windows may still nest: it falls by one where the triggers of a window run, and at 0 none run. In an accepted catalogue
+//! the number of windows is depth enough, since no chain of triggers meets a window twice. So no rank of windows is needed.
 
 ghost use Rattle.std.specs.Prelude.{◌≡◌, ◌<◌, [], ◌∷◌, length, IfOk, IfErr, OnOk};
 ghost use Rattle.std.specs.List.{AllByRecursion};
@@ -16,18 +16,16 @@ ghost use Rattle.ss_proc.specs.Meanings.{close_and_fire, execute_and_fire, fire_
 
 use crate::statements::statement_effect;
 use crate::work::{Given, Work, join_unit};
-use ss_eetrig::firings::{TriggerEvent, firings};
-use ss_model::catalog::Catalog;
-use ss_operators::run_error::RunError;
-use ss_plan::statement::Wrote;
-use ss_shard::shard::Shard;
-use ss_sql_lex::typed::Statement;
-use ss_value::seq::Seq;
-use ss_value::value::{Row, Rows};
-use ss_value::{NoMemory, Unit};
+use ss_eetrig::TriggerEvent;
+use ss_eetrig::firings::firings;
+use ss_model::{Catalog, RunError};
+use ss_plan::Wrote;
+use ss_shard::Shard;
+use ss_sql_lex::Statement;
+use ss_value::{NoMemory, Row, Rows, Seq, Unit};
 use std::alloc::Global;
 
-/// What a window counts: rows where there is no such window. Constant.
+/// What a window counts, and rows where there is no such window.
 fn window_unit(catalog: &Catalog, window: u16) -> Unit
     ensures { result ≡ (window_def catalog.now window).unit }
 {
@@ -37,7 +35,7 @@ fn window_unit(catalog: &Catalog, window: u16) -> Unit
     }
 }
 
-/// The list of one row. Fails only for want of memory.
+/// The list of one row.
 fn one_row(alloc: Global, row: Row) -> Result<Rows, NoMemory>
     ensures { IfOk result (λ rows. rows ≡ row ∷ []) }
 {
@@ -46,7 +44,7 @@ fn one_row(alloc: Global, row: Row) -> Result<Rows, NoMemory>
     Ok(rows)
 }
 
-/// Runs the triggers of a window whose end moved, nested to this depth.
+/// Runs the triggers of a window of which the end of what it shows has moved, nested to this depth.
 #[cycle(cascade)]
 fn cascade(
     alloc: Global,
@@ -58,7 +56,7 @@ fn cascade(
 ) -> Result<(), RunError>
     requires of_catalog { IsOf given.now.catalog.now shard.old }
     requires runs { MayRun given.now.catalog.now }
-    ensures done { OnOk result (Brings (cascade_to_depth depth (context_of given.now) window) shard.old work.old shard.new work.new) }
+    ensures ok { OnOk result (Brings (cascade_to_depth depth (context_of given.now) window) shard.old work.old shard.new work.new) }
     ensures stops { IfErr result (StepStops (cascade_to_depth depth (context_of given.now) window) shard.old work.old) }
     ensures changed { Changed shard.old shard.new }
 {
@@ -78,7 +76,7 @@ fn cascade(
     )
 }
 
-/// Closes a unit of a window, and runs the window's triggers if this moves the end of what it shows.
+/// Closes a unit of a window, and runs the window's triggers, nested to this depth, if this moves the end of what it shows.
 #[cycle(cascade)]
 fn close_to_depth(
     alloc: Global,
@@ -92,7 +90,7 @@ fn close_to_depth(
     requires of_catalog { IsOf given.now.catalog.now shard.old }
     requires runs { MayRun given.now.catalog.now }
     requires there { window < length given.now.catalog.now.windows }
-    ensures done { OnOk result (Brings (close_to_depth depth given.now window unit) shard.old work.old shard.new work.new) }
+    ensures ok { OnOk result (Brings (close_to_depth depth given.now window unit) shard.old work.old shard.new work.new) }
     ensures stops { IfErr result (StepStops (close_to_depth depth given.now window unit) shard.old work.old) }
     ensures changed { Changed shard.old shard.new }
 {
@@ -102,7 +100,8 @@ fn close_to_depth(
     Ok(())
 }
 
-/// Stages a row in a window: as a unit of its own, or one row more for the unit that is open.
+/// Stages a row in a window: as a unit of its own in a window of rows, and in a window of batches as one row more of the unit
+/// that is open, which sets nothing off until it closes.
 #[cycle(cascade)]
 fn stage_row(
     alloc: Global,
@@ -116,7 +115,7 @@ fn stage_row(
     requires of_catalog { IsOf given.now.catalog.now shard.old }
     requires runs { MayRun given.now.catalog.now }
     requires there { window < length given.now.catalog.now.windows }
-    ensures done { OnOk result (Brings (stage_to_depth depth given.now window row) shard.old work.old shard.new work.new) }
+    ensures ok { OnOk result (Brings (stage_to_depth depth given.now window row) shard.old work.old shard.new work.new) }
     ensures stops { IfErr result (StepStops (stage_to_depth depth given.now window row) shard.old work.old) }
     ensures changed { Changed shard.old shard.new }
 {
@@ -132,7 +131,8 @@ fn stage_row(
     }
 }
 
-/// Stages rows in a window, one after another, up to the first abort. None is copied.
+/// Stages rows in a window, one after another, each with the triggers that it sets off before the next, up to the first abort.
+/// No row is copied.
 #[cycle(cascade)]
 fn stage_rows(
     alloc: Global,
@@ -146,7 +146,7 @@ fn stage_rows(
     requires of_catalog { IsOf given.now.catalog.now shard.old }
     requires runs { MayRun given.now.catalog.now }
     requires there { window < length given.now.catalog.now.windows }
-    ensures done { OnOk result (Brings (stage_all_to_depth depth given.now window rows) shard.old work.old shard.new work.new) }
+    ensures ok { OnOk result (Brings (stage_all_to_depth depth given.now window rows) shard.old work.old shard.new work.new) }
     ensures stops { IfErr result (StepStops (stage_all_to_depth depth given.now window rows) shard.old work.old) }
     ensures changed { Changed shard.old shard.new }
 {
@@ -171,7 +171,7 @@ fn execute_to_depth(
     requires of_catalog { IsOf given.now.catalog.now shard.old }
     requires runs { MayRun given.now.catalog.now }
     requires fits { FitsTables given.now.catalog.now statement.now }
-    ensures done { OnOk result (Brings (execute_to_depth depth given.now inserted.now params.now statement.now) shard.old work.old shard.new work.new) }
+    ensures ok { OnOk result (Brings (execute_to_depth depth given.now inserted.now params.now statement.now) shard.old work.old shard.new work.new) }
     ensures stops { IfErr result (StepStops (execute_to_depth depth given.now inserted.now params.now statement.now) shard.old work.old) }
     ensures changed { Changed shard.old shard.new }
 {
@@ -197,7 +197,7 @@ fn run_statements(
     requires of_catalog { IsOf given.now.catalog.now shard.old }
     requires runs { MayRun given.now.catalog.now }
     requires fits { AllByRecursion (FitsTables given.now.catalog.now) statements.now }
-    ensures done { OnOk result (Brings (execute_all_to_depth depth given.now inserted.now statements.now) shard.old work.old shard.new work.new) }
+    ensures ok { OnOk result (Brings (execute_all_to_depth depth given.now inserted.now statements.now) shard.old work.old shard.new work.new) }
     ensures stops { IfErr result (StepStops (execute_all_to_depth depth given.now inserted.now statements.now) shard.old work.old) }
     ensures changed { Changed shard.old shard.new }
 {
@@ -210,7 +210,8 @@ fn run_statements(
     Ok(())
 }
 
-/// Runs the triggers that an event sets off, in written order, where these rows were just inserted.
+/// Runs the triggers that an event sets off, in written order. `inserted` are the rows of the emit, and none where a window
+/// moved.
 #[cycle(cascade)]
 fn run_triggers(
     alloc: Global,
@@ -223,7 +224,7 @@ fn run_triggers(
 ) -> Result<(), RunError>
     requires of_catalog { IsOf given.now.catalog.now shard.old }
     requires runs { MayRun given.now.catalog.now }
-    ensures done { OnOk result (Brings (fire_to_depth depth given.now event inserted.now) shard.old work.old shard.new work.new) }
+    ensures ok { OnOk result (Brings (fire_to_depth depth given.now event inserted.now) shard.old work.old shard.new work.new) }
     ensures stops { IfErr result (StepStops (fire_to_depth depth given.now event inserted.now) shard.old work.old) }
     ensures changed { Changed shard.old shard.new }
 {
@@ -244,9 +245,7 @@ fn run_triggers(
     Ok(())
 }
 
-/// Runs the triggers of a stream in written order, on these rows, with all that they set off.
-///
-/// Aborts as the definition says. What they changed by then is noted in the shard.
+/// Runs the triggers of a stream in written order, on these rows, with all that they set off. Aborts as they do.
 pub fn run_stream_triggers(
     alloc: Global,
     given: &Given,
@@ -257,7 +256,7 @@ pub fn run_stream_triggers(
 ) -> Result<(), RunError>
     requires of_catalog { IsOf given.now.catalog.now shard.old }
     requires runs { MayRun given.now.catalog.now }
-    ensures done { OnOk result (Brings (fire_stream given.now stream rows.now) shard.old work.old shard.new work.new) }
+    ensures ok { OnOk result (Brings (fire_stream given.now stream rows.now) shard.old work.old shard.new work.new) }
     ensures stops { IfErr result (StepStops (fire_stream given.now stream rows.now) shard.old work.old) }
     ensures changed { Changed shard.old shard.new }
 {
@@ -268,8 +267,7 @@ pub fn run_stream_triggers(
 
 /// Closes a unit of a window, and runs the window's triggers if this moves the end of what it shows.
 ///
-/// Aborts with `WindowFull` where the window has had as many units as it may have, and as the triggers do. What was changed
-/// by then is noted in the shard.
+/// Aborts with `WindowFull` where the window has had as many units as it may ever have, and as the triggers do.
 pub fn close_unit(
     alloc: Global,
     given: &Given,
@@ -281,7 +279,7 @@ pub fn close_unit(
     requires of_catalog { IsOf given.now.catalog.now shard.old }
     requires runs { MayRun given.now.catalog.now }
     requires there { window < length given.now.catalog.now.windows }
-    ensures done { OnOk result (Brings (close_and_fire given.now window unit) shard.old work.old shard.new work.new) }
+    ensures ok { OnOk result (Brings (close_and_fire given.now window unit) shard.old work.old shard.new work.new) }
     ensures stops { IfErr result (StepStops (close_and_fire given.now window unit) shard.old work.old) }
     ensures changed { Changed shard.old shard.new }
 {
@@ -289,9 +287,7 @@ pub fn close_unit(
     close_to_depth(alloc, depth, given, window, unit, shard, work)
 }
 
-/// Runs a statement of a body, with the triggers of the windows that it moves.
-///
-/// Aborts as the definition says. What was changed by then is noted in the shard.
+/// Runs a statement of a body, with the triggers of the windows that it moves. Aborts as the statement and the triggers do.
 pub fn execute_statement(
     alloc: Global,
     given: &Given,
@@ -303,7 +299,7 @@ pub fn execute_statement(
     requires of_catalog { IsOf given.now.catalog.now shard.old }
     requires runs { MayRun given.now.catalog.now }
     requires fits { FitsTables given.now.catalog.now statement.now }
-    ensures done { OnOk result (Brings (execute_and_fire given.now params.now statement.now) shard.old work.old shard.new work.new) }
+    ensures ok { OnOk result (Brings (execute_and_fire given.now params.now statement.now) shard.old work.old shard.new work.new) }
     ensures stops { IfErr result (StepStops (execute_and_fire given.now params.now statement.now) shard.old work.old) }
     ensures changed { Changed shard.old shard.new }
 {

@@ -3,7 +3,7 @@
 ghost use Rattle.std.specs.Prelude.{◌≡◌, OnOk, IfErr, Ok};
 ghost use Rattle.ss_model.specs.Statements.{Execution};
 ghost use Rattle.ss_model.specs.Bodies.{check_condition, execute_abort_if};
-ghost use Rattle.ss_operators.specs.Stops.{StopsAs};
+ghost use Rattle.ss_model.specs.Stops.{StopsAs};
 ghost use Rattle.ss_shard.specs.Shards.{IsOf};
 ghost use Rattle.ss_plan.specs.Statements.{SplitByKeys};
 ghost use Rattle.ss_proc.specs.Executions.{context_of};
@@ -11,22 +11,17 @@ ghost use Rattle.ss_proc.specs.Meanings.{Brings, StepStops};
 
 use crate::statements::execution_query;
 use crate::work::{Given, Work};
-use ss_model::entry::Reason;
-use ss_operators::operators::cmp_holds;
-use ss_operators::run_error::RunError;
-use ss_rows::expressions::evaluate;
-use ss_rows::operand::lent_or_zero;
-use ss_rows::tuple::{Tuple, column_in};
-use ss_shard::shard::Shard;
-use ss_sql_lex::typed::Condition;
-use ss_value::order::compare;
-use ss_value::value::{Row, Rows};
+use ss_model::{Reason, RunError, cmp_holds};
+use ss_rows::{Tuple, column_in, evaluate, lent_or_zero};
+use ss_shard::Shard;
+use ss_sql_lex::Condition;
+use ss_value::{Row, Rows, compare};
 use std::alloc::Global;
 
 /// Compares the first value of a query's one row with the right side, which is evaluated on no row, and aborts with
 /// the code where the comparison holds.
 ///
-/// Any other number of rows than one is an abort of its own. An empty row counts as 0. Costs the right side.
+/// Any other number of rows than one aborts with `NotOneRow`. The value of an empty row counts as 0. Costs the right side.
 fn check_condition<'a>(
     alloc: Global,
     params: &'a Row,
@@ -34,7 +29,7 @@ fn check_condition<'a>(
     code: i64,
     rows: &Rows,
 ) -> Result<(), RunError>
-    ensures done { OnOk result ((w : Execution) → check_condition params.now test.now code rows.now w ≡ Ok w) }
+    ensures ok { OnOk result ((w : Execution) → check_condition params.now test.now code rows.now w ≡ Ok w) }
     ensures stops { IfErr result (λ stop. (w : Execution) → StopsAs (check_condition params.now test.now code rows.now w) stop) }
 {
     let [row] = rows.as_slice() else {
@@ -50,8 +45,8 @@ fn check_condition<'a>(
 
 /// Runs a condition's query, then compares its one row with the right side.
 ///
-/// Aborts as the query and the right side do, with `NotOneRow`, or with the code. Writes nothing. Costs the query and
-/// the right side.
+/// Aborts as the query and the right side do, with `NotOneRow`, or with the code. Changes nothing. Costs the query and the
+/// right side.
 pub fn abort_if(
     alloc: Global,
     given: &Given,
@@ -63,9 +58,10 @@ pub fn abort_if(
 ) -> Result<(), RunError>
     requires of_catalog { IsOf given.now.catalog.now shard.now }
     requires keyed { SplitByKeys given.now.catalog.now }
-    ensures done { OnOk result (Brings (execute_abort_if (context_of given.now) params.now test.now code) shard.now work.now shard.now work.now) }
+    ensures ok { OnOk result (Brings (execute_abort_if (context_of given.now) params.now test.now code) shard.now work.now shard.now work.now) }
     ensures stops { IfErr result (StepStops (execute_abort_if (context_of given.now) params.now test.now code) shard.now work.now) }
 {
+    // `work` is a parameter for the contract alone, which says that it stays.
     let _ = &work.reply;
     let rows = execution_query(alloc, given, params, &test.query, shard)?;
     check_condition(alloc, params, test, code, &rows)

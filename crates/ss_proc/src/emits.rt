@@ -1,8 +1,8 @@
-//! Rows that a body emits, and those that it replies.
+//! Rows that a body emits, and rows that it adds to its reply.
 
 ghost use Rattle.std.specs.Prelude.{◌≡◌, [], ◌++◌, get_or, set, OnOk, IfErr, Ok};
 ghost use Rattle.ss_model.specs.Bodies.{emit_rows, exceeds_row_limit};
-ghost use Rattle.ss_operators.specs.Stops.{StopsAs};
+ghost use Rattle.ss_model.specs.Stops.{StopsAs};
 ghost use Rattle.ss_shard.specs.Shards.{IsOf, Changed};
 ghost use Rattle.ss_proc.specs.Executions.{context_of, longer_reply, MayRun};
 ghost use Rattle.ss_proc.specs.Meanings.{Brings, StepStops};
@@ -10,25 +10,23 @@ ghost use Rattle.ss_proc.specs.Meanings.{Brings, StepStops};
 use crate::cascade::run_stream_triggers;
 use crate::limits::exceeds_row_limit;
 use crate::work::{Given, Work, move_rows};
-use ss_model::entry::Reason;
-use ss_operators::run_error::RunError;
-use ss_shard::shard::Shard;
-use ss_value::NoMemory;
-use ss_value::seq::Seq;
-use ss_value::value::{Row, Rows};
+use ss_model::{Reason, RunError};
+use ss_shard::Shard;
+use ss_value::{NoMemory, Row, Rows, Seq};
 use std::alloc::Global;
 
-/// Whether rows behind the batch of a stream are over the limit. Constant.
+/// Whether the batch of a stream with these rows behind it is over the limit.
 fn batch_is_full(stream: u16, emitted: &Seq<Rows>, rows: &[Row]) -> bool
     ensures { result ≡ exceeds_row_limit (get_or emitted.now stream []) rows.now }
 {
     match emitted.get(usize::from(stream)) {
         Some(batch) => exceeds_row_limit(batch.as_slice(), rows),
+        // No batch counts as one without a row.
         None => exceeds_row_limit(&rows[..0], rows),
     }
 }
 
-/// Moves rows behind the batch of a stream, where there is one. None is copied.
+/// Moves rows behind the batch of a stream, where there is one. No row is copied.
 fn add_batch(stream: u16, rows: Rows, emitted: &mut Seq<Rows>) -> Result<(), NoMemory>
     ensures { OnOk result (emitted.new ≡ set emitted.old stream (get_or emitted.old stream [] ++ rows)) }
 {
@@ -40,8 +38,7 @@ fn add_batch(stream: u16, rows: Rows, emitted: &mut Seq<Rows>) -> Result<(), NoM
 
 /// Adds rows to the batch of a stream, which has at most 1,024, and runs the stream's triggers on them.
 ///
-/// Aborts with `BatchFull`, and as the triggers do. The rows are moved into the batch once the triggers have run, which
-/// neither see batches nor change them.
+/// Aborts with `BatchFull`, and as the triggers do.
 pub fn emit_rows(
     alloc: Global,
     given: &Given,
@@ -52,21 +49,22 @@ pub fn emit_rows(
 ) -> Result<(), RunError>
     requires of_catalog { IsOf given.now.catalog.now shard.old }
     requires runs { MayRun given.now.catalog.now }
-    ensures done { OnOk result (Brings (emit_rows (context_of given.now) stream rows) shard.old work.old shard.new work.new) }
+    ensures ok { OnOk result (Brings (emit_rows (context_of given.now) stream rows) shard.old work.old shard.new work.new) }
     ensures stops { IfErr result (StepStops (emit_rows (context_of given.now) stream rows) shard.old work.old) }
     ensures changed { Changed shard.old shard.new }
 {
     if batch_is_full(stream, &work.emitted, rows.as_slice()) {
         return Err(RunError::Abort(Reason::BatchFull(stream)));
     }
+    // The rows are lent to the triggers and then moved: triggers neither see batches nor change them, so no copy is needed.
     run_stream_triggers(alloc, given, stream, rows.as_slice(), shard, work)?;
     add_batch(stream, rows, &mut work.emitted)?;
     Ok(())
 }
 
-/// Adds rows to the reply, which has at most 1,024. Aborts with `ReplyFull`. None is copied.
+/// Adds rows to the reply, which has at most 1,024. Aborts with `ReplyFull`. No row is copied.
 pub fn reply_rows(rows: Rows, reply: &mut Rows) -> Result<(), RunError>
-    ensures done { OnOk result (longer_reply reply.old rows ≡ Ok reply.new) }
+    ensures ok { OnOk result (longer_reply reply.old rows ≡ Ok reply.new) }
     ensures stops { IfErr result (λ stop. StopsAs (longer_reply reply.old rows) stop) }
 {
     if exceeds_row_limit(reply.as_slice(), rows.as_slice()) {

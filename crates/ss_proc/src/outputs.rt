@@ -6,14 +6,11 @@ ghost use Rattle.ss_model.specs.Database.{emits_to, output_streams};
 ghost use Rattle.ss_proc.specs.Entries.{batches_for};
 
 use crate::windows::take_unit;
-use ss_model::catalog::{Catalog, Procedure, Step};
-use ss_model::entry::Emitted;
-use ss_value::NoMemory;
-use ss_value::seq::Seq;
-use ss_value::value::Rows;
+use ss_model::{Catalog, Emitted, Procedure, Step};
+use ss_value::{NoMemory, Rows, Seq};
 use std::alloc::Global;
 
-/// Whether a step emits to a stream. Constant.
+/// Whether a step of a body emits to a stream.
 fn emits_to(stream: u16, step: &Step) -> bool
     ensures { result ≡ emits_to stream step.now }
 {
@@ -23,7 +20,7 @@ fn emits_to(stream: u16, step: &Step) -> bool
     }
 }
 
-/// Whether a body emits to a stream. Linear in its steps.
+/// Whether a body emits to a stream.
 fn emits(stream: u16, body: &[Step]) -> bool
     ensures { result ≡ list_any (emits_to stream) body.now }
 {
@@ -35,14 +32,14 @@ fn emits(stream: u16, body: &[Step]) -> bool
     false
 }
 
-/// Takes the batch of a stream out, and puts it behind others.
+/// Takes the batch of a stream out of `left`, and puts it behind the others in `batches`.
 fn add_output(
     alloc: Global,
     stream: u16,
     left: &mut Seq<Rows>,
     batches: &mut Seq<Emitted>,
 ) -> Result<(), NoMemory>
-    ensures batches { OnOk result (batches.new ≡ batches.old ++ record { stream = stream; rows = get_or left.old stream [] } ∷ []) }
+    ensures ok { OnOk result (batches.new ≡ batches.old ++ record { stream = stream; rows = get_or left.old stream [] } ∷ []) }
     ensures left { OnOk result (left.new ≡ set left.old stream []) }
 {
     let rows = take_unit(alloc, stream, left);
@@ -50,7 +47,8 @@ fn add_output(
     Ok(())
 }
 
-/// The batch of each stream that a procedure emits to, in rising order. The rows are moved.
+/// The batch of each stream that a procedure emits to, empty ones too, in rising order of streams. The rows are moved. Linear
+/// in the steps of the body for each stream.
 pub fn emitted_batches(
     alloc: Global,
     catalog: &Catalog,

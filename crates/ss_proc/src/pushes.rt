@@ -1,22 +1,17 @@
-//! Pushes: batches that clients give.
+//! Pushes: batches that clients push to border streams.
 
 ghost use Rattle.std.specs.Prelude.{◌≡◌, ◌<◌, ◌^◌, [], ◌∷◌, length, IfOk, OnErr};
 ghost use Rattle.ss_model.specs.Batches.{pushed_batch};
 ghost use Rattle.ss_shard.specs.Sources.{number_in, SameNumbers, push_outcome};
-ghost use Rattle.ss_proc.specs.Entries.{HasPlace};
+ghost use Rattle.ss_proc.specs.Entries.{HasSourceEntry};
 
 use crate::runner::Executed;
-use ss_model::entry::Emitted;
-use ss_shard::shard::Shard;
-use ss_shard::sources::push_outcome;
-use ss_value::NoMemory;
-use ss_value::copies::Copies;
-use ss_value::seq::Seq;
-use ss_value::text::Name;
-use ss_value::value::Rows;
+use ss_model::Emitted;
+use ss_shard::{Shard, push_outcome};
+use ss_value::{Copies, Name, NoMemory, Rows, Seq};
 use std::alloc::Global;
 
-/// The one batch of these rows. Linear in the rows, which are copied.
+/// The batch of these rows for a stream, as a list of one. The rows are copied.
 fn one_batch(alloc: Global, stream: u16, rows: &Rows) -> Result<Seq<Emitted>, NoMemory>
     ensures { IfOk result (λ batches. batches ≡ record { stream = stream; rows = rows.now } ∷ []) }
 {
@@ -26,11 +21,11 @@ fn one_batch(alloc: Global, stream: u16, rows: &Rows) -> Result<Seq<Emitted>, No
     Ok(batches)
 }
 
-/// Runs a push: what its number comes to against the one that its source has next. An accepted one gives its batch, a
-/// duplicate and one behind a gap give none.
+/// Runs a push: compares its number with the next one of its source. An accepted push emits its batch; a duplicate, and one
+/// behind a gap, emit none.
 ///
-/// No number changes: the source of an accepted one has then a place for the number that `keep` gives it. Logarithmic in the
-/// stream's sources, and a copy of the rows where it is accepted. Fails only for want of memory.
+/// No number changes until the commit. The source of an accepted push has an entry by then, so that the commit, which raises
+/// the number, takes no memory. Logarithmic in the stream's sources, and a copy of the rows where the push is accepted.
 ///
 /// Source: batches come in the order of their numbers, each once (Meehan et al., PVLDB 8, 2015, section 2.2).
 pub fn run_push(
@@ -43,9 +38,9 @@ pub fn run_push(
 ) -> Result<Executed, NoMemory>
     requires there { stream < length shard.old.sources }
     requires countable { seq < 2 ^ 63 }
-    ensures outcome { IfOk result (λ e. e.outcome ≡ push_outcome seq (number_in shard.old.sources stream source.now)) }
+    ensures ok { IfOk result (λ e. e.outcome ≡ push_outcome seq (number_in shard.old.sources stream source.now)) }
     ensures emitted { IfOk result (λ e. e.emitted ≡ pushed_batch stream rows.now e.outcome) }
-    ensures placed { IfOk result (λ e. HasPlace stream source.now seq e.outcome shard.new.sources) }
+    ensures sourced { IfOk result (λ e. HasSourceEntry stream source.now seq e.outcome shard.new.sources) }
     ensures same { SameNumbers shard.old.sources shard.new.sources }
     ensures rest { shard.new ≡ record shard.old { sources = shard.new.sources } }
 {

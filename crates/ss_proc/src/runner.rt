@@ -3,25 +3,21 @@
 ghost use Rattle.std.specs.Prelude.{◌≡◌, ◌≤◌, ◌<◌, true, length, slice_get, IfOk, OnErr};
 ghost use Rattle.ss_model.specs.Accepted.{Accepted};
 ghost use Rattle.ss_model.specs.Database.{fits_entry};
-ghost use Rattle.ss_shard.specs.HeldShard.{HeldShard};
-ghost use Rattle.ss_shard.specs.Shards.{IsOf, CanGoBack, Same, IsSettled};
+ghost use Rattle.ss_shard.specs.ShardValue.{ShardValue};
+ghost use Rattle.ss_shard.specs.Shards.{IsOf, CanRollBack, Same, IsCommitted};
 ghost use Rattle.ss_model.specs.Batches.{output_batches};
 ghost use Rattle.ss_model.specs.Database.{Database};
 ghost use Rattle.ss_shard.specs.Windows.{HoldsDatabase};
-ghost use Rattle.ss_proc.specs.Entries.{IsNext, IsPlaced, ProcedureRan, RanOnEach};
+ghost use Rattle.ss_proc.specs.Entries.{IsNext, EntryHasSource, ProcedureRan, RanOnEach};
 
 use crate::bodies::{BodyResult, run_body, touched_argument};
 use crate::outputs::emitted_batches;
 use crate::pushes::run_push;
 use crate::work::Given;
-use ss_model::catalog::Catalog;
-use ss_model::entry::{Emitted, Entry, Outcome};
-use ss_plan::batches::Batches;
-use ss_plan::inputs::Inputs;
-use ss_shard::shard::Shard;
-use ss_value::NoMemory;
-use ss_value::seq::Seq;
-use ss_value::value::Row;
+use ss_model::{Catalog, Emitted, Entry, Outcome};
+use ss_plan::{Batches, Inputs};
+use ss_shard::Shard;
+use ss_value::{NoMemory, Row, Seq};
 use std::alloc::Global;
 
 /// What an execution came to.
@@ -29,7 +25,7 @@ use std::alloc::Global;
 pub struct Executed {
     /// Its outcome.
     pub outcome: Outcome,
-    /// Its batches: of a step the one that it emitted to each of its procedure's streams, in rising order, of an accepted
+    /// Its batches: of a step one for each stream that its procedure emits to, in rising order of streams, and of an accepted
     /// push its own. A call has none.
     pub emitted: Seq<Emitted>,
 }
@@ -37,14 +33,15 @@ pub struct Executed {
 /// What runs entries.
 ///
 /// An execution is a transaction: it changes all that its body changes, or nothing (Meehan et al., PVLDB 8, 2015, section
-/// 2.3).
+/// 2.3). Whoever runs entries needs this contract alone, which is the model's meaning of an entry, and not how bodies are run.
 pub trait Runner {
-    /// Runs an entry on a shard between executions, on the batches that it takes. The caller then keeps it or takes it back,
-    /// by `ends`.
+    /// Runs an entry on a shard between executions, on the batches that it takes. Its caller then calls `commit` or `rollback`:
+    /// it alone knows whether the entry has its place in the list.
     ///
     /// Answers exactly the outcome and the batches that the entry has on whatever database the shard stands for, and leaves
-    /// the tables and windows that it leaves: after an abort those from before, with empty batches. Counts and next numbers
-    /// stay until the entry is kept. Fails only for want of memory, after which the shard stands for what it stood for.
+    /// the tables and windows that the entry leaves: after an abort those from before, with empty batches. Counts and next
+    /// numbers stay until the commit. After out of memory the shard stands for what it stood for, and nothing is left to roll
+    /// back.
     fn execute(
         &self,
         alloc: Global,
@@ -56,14 +53,14 @@ pub trait Runner {
         requires accepted { Accepted catalog.now }
         requires fits { fits_entry catalog.now entry.now ≡ true }
         requires next { IsNext entry.now shard.old }
-        requires settled { IsSettled catalog.now shard.old }
-        ensures ran { IfOk result (RanOnEach catalog.now shard.old shard.new entry.now inputs.now.batches.now) }
-        ensures placed { IfOk result (λ e. IsPlaced entry.now e.outcome shard.new.sources) }
+        requires committed { IsCommitted catalog.now shard.old }
+        ensures ok { IfOk result (RanOnEach catalog.now shard.old shard.new entry.now inputs.now.batches.now) }
+        ensures sourced { IfOk result (λ e. EntryHasSource entry.now e.outcome shard.new.sources) }
         ensures of_catalog { IsOf catalog.now shard.new }
-        ensures back { IfOk result (λ e. CanGoBack shard.old shard.new) }
+        ensures back { IfOk result (λ e. CanRollBack shard.old shard.new) }
         ensures holds { OnErr result ((db : Database) → HoldsDatabase catalog.now shard.old db → HoldsDatabase catalog.now shard.new db) }
-        ensures kept { OnErr result (Same shard.old shard.new) }
-        ensures settled { OnErr result (IsSettled catalog.now shard.new) };
+        ensures err { OnErr result (Same shard.old shard.new) }
+        ensures committed { OnErr result (IsCommitted catalog.now shard.new) };
 }
 
 /// The runner that reads bodies as they stand in the catalogue.
@@ -81,12 +78,12 @@ fn run_procedure(
 ) -> Result<BodyResult, NoMemory>
     requires accepted { Accepted catalog.now }
     requires there { number < length catalog.now.procedures }
-    requires settled { IsSettled catalog.now shard.old }
-    ensures ran { IfOk result (ProcedureRan catalog.now number args.now batches.now shard.old shard.new) }
+    requires committed { IsCommitted catalog.now shard.old }
+    ensures ok { IfOk result (ProcedureRan catalog.now number args.now batches.now shard.old shard.new) }
     ensures of_catalog { IsOf catalog.now shard.new }
-    ensures back { IfOk result (λ left. CanGoBack shard.old shard.new) }
-    ensures kept { OnErr result (Same shard.old shard.new) }
-    ensures settled { OnErr result (IsSettled catalog.now shard.new) }
+    ensures back { IfOk result (λ left. CanRollBack shard.old shard.new) }
+    ensures err { OnErr result (Same shard.old shard.new) }
+    ensures committed { OnErr result (IsCommitted catalog.now shard.new) }
 {
     let Some(procedure) = catalog.procedures.get(usize::from(number)) else {
         unreachable!()
@@ -101,8 +98,8 @@ fn run_procedure(
     run_body(alloc, &given, procedure.body.as_slice(), shard)
 }
 
-/// The batches that a body leaves, of the streams that its procedure emits to. Where there is no memory for them all is
-/// taken back.
+/// What an execution came to, with the batches of the streams that its procedure emits to. Out of memory rolls the execution
+/// back.
 fn with_outputs(
     alloc: Global,
     catalog: &Catalog,
@@ -112,12 +109,12 @@ fn with_outputs(
 ) -> Result<Executed, NoMemory>
     requires there { number < length catalog.now.procedures }
     requires few { length catalog.now.streams ≤ 32 }
-    requires back { (before : HeldShard) × CanGoBack before shard.old × IsOf catalog.now before }
-    ensures outcome { IfOk result (λ e. e.outcome ≡ left.outcome) }
+    requires back { (before : ShardValue) × CanRollBack before shard.old × IsOf catalog.now before }
+    ensures ok { IfOk result (λ e. e.outcome ≡ left.outcome) }
     ensures emitted { IfOk result (λ e. e.emitted ≡ output_batches catalog.now left.emitted (slice_get catalog.now.procedures number)) }
-    ensures stays { IfOk result (λ e. shard.new ≡ shard.old) }
-    ensures kept { OnErr result ((before : HeldShard) → CanGoBack before shard.old → Same before shard.new) }
-    ensures settled { OnErr result (IsSettled catalog.now shard.new) }
+    ensures unchanged { IfOk result (λ e. shard.new ≡ shard.old) }
+    ensures err { OnErr result ((before : ShardValue) → CanRollBack before shard.old → Same before shard.new) }
+    ensures committed { OnErr result (IsCommitted catalog.now shard.new) }
 {
     let Some(procedure) = catalog.procedures.get(usize::from(number)) else {
         unreachable!()
@@ -126,16 +123,16 @@ fn with_outputs(
     match emitted_batches(alloc, catalog, procedure, emitted) {
         Ok(emitted) => Ok(Executed { outcome, emitted }),
         Err(NoMemory) => {
-            shard.roll_back();
+            shard.rollback();
             Err(NoMemory)
         }
     }
 }
 
 impl Runner for PlainRunner {
-    /// Costs the steps of the body and what their triggers do, and for an abort at most as much again. Its own memory is that
-    /// of its open units, batches and reply; what the steps write is noted in the shard. A push is logarithmic in its
-    /// stream's sources, and takes a copy of its rows.
+    /// Costs what the steps of the body and their triggers cost, and for an abort at most as much again. Its own memory is that
+    /// of its open units, batches and reply; the changes are noted in the shard. A push is logarithmic in its stream's sources,
+    /// and takes a copy of its rows.
     fn execute(
         &self,
         alloc: Global,

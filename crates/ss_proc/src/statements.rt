@@ -1,25 +1,22 @@
 //! Statements and queries of an execution.
 
 ghost use Rattle.std.specs.Prelude.{◌≡◌, IfOk, IfErr, Ok};
-ghost use Rattle.ss_operators.specs.Stops.{StopsAs};
+ghost use Rattle.ss_model.specs.Stops.{StopsAs};
 ghost use Rattle.ss_shard.specs.Shards.{IsOf, Changed};
 ghost use Rattle.ss_plan.specs.Statements.{SplitByKeys, FitsTables, WroteBy};
 ghost use Rattle.ss_proc.specs.Meanings.{EffectMade, EffectStops, rows_of_query};
 
 use crate::work::Given;
-use ss_operators::run_error::RunError;
-use ss_plan::inputs::Inputs;
-use ss_plan::query::query_shard;
-use ss_plan::statement::{Wrote, run_statement};
-use ss_rows::frame::Frame;
-use ss_shard::shard::Shard;
-use ss_sql_lex::typed::{Query, Statement};
-use ss_value::seq::Seq;
-use ss_value::value::{Row, Rows};
+use ss_model::RunError;
+use ss_plan::{Inputs, Wrote, query_shard, run_statement};
+use ss_rows::Frame;
+use ss_shard::Shard;
+use ss_sql_lex::{Query, Statement};
+use ss_value::{Row, Rows, Seq};
 use std::alloc::Global;
 
-/// What a statement makes, where these rows were just inserted, with these parameters. Aborts as it does, and costs what it
-/// costs.
+/// Runs a statement with these parameters, where `inserted` are the rows of the emit at hand: it changes tables, or gives the
+/// rows to be staged. Aborts as the statement does.
 pub fn statement_effect(
     alloc: Global,
     given: &Given,
@@ -31,10 +28,10 @@ pub fn statement_effect(
     requires of_catalog { IsOf given.now.catalog.now shard.old }
     requires keyed { SplitByKeys given.now.catalog.now }
     requires fits { FitsTables given.now.catalog.now statement.now }
-    ensures done { IfOk result (EffectMade given.now inserted.now params.now statement.now shard.old shard.new) }
+    ensures ok { IfOk result (EffectMade given.now inserted.now params.now statement.now shard.old shard.new) }
     ensures stops { IfErr result (EffectStops given.now inserted.now params.now statement.now shard.old) }
     ensures changed { Changed shard.old shard.new }
-    ensures windows { shard.new.windows ≡ shard.old.windows }
+    ensures unchanged { shard.new.windows ≡ shard.old.windows }
     ensures wrote { IfOk result (λ wrote. WroteBy statement.now shard.old shard.new wrote) }
 {
     let frame = Frame {
@@ -49,7 +46,7 @@ pub fn statement_effect(
     run_statement(alloc, given.catalog, shard, statement, &frame, &inputs)
 }
 
-/// The rows of a query with these parameters. Aborts as it does, and costs what it costs.
+/// The rows of a query with these parameters. Aborts as the query does.
 pub fn execution_query(
     alloc: Global,
     given: &Given,
@@ -59,7 +56,7 @@ pub fn execution_query(
 ) -> Result<Rows, RunError>
     requires of_catalog { IsOf given.now.catalog.now shard.now }
     requires keyed { SplitByKeys given.now.catalog.now }
-    ensures rows { IfOk result (λ rows. rows_of_query given.now params.now query.now shard.now ≡ Ok rows) }
+    ensures ok { IfOk result (λ rows. rows_of_query given.now params.now query.now shard.now ≡ Ok rows) }
     ensures stops { IfErr result (StopsAs (rows_of_query given.now params.now query.now shard.now)) }
 {
     let frame = Frame {

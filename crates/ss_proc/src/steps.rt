@@ -14,11 +14,10 @@ use crate::conditions::abort_if;
 use crate::emits::{emit_rows, reply_rows};
 use crate::statements::execution_query;
 use crate::work::{Given, Work};
-use ss_model::catalog::{Inner, Step};
-use ss_operators::run_error::RunError;
-use ss_shard::shard::Shard;
-use ss_sql_lex::typed::Query;
-use ss_value::value::Row;
+use ss_model::{Inner, RunError, Step};
+use ss_shard::Shard;
+use ss_sql_lex::Query;
+use ss_value::Row;
 use std::alloc::Global;
 
 /// Runs a step of a `for_each` on the current row, whose columns are the parameters.
@@ -33,7 +32,7 @@ fn execute_inner(
     requires of_catalog { IsOf given.now.catalog.now shard.old }
     requires runs { MayRun given.now.catalog.now }
     requires fits { InnerRuns given.now.catalog.now inner.now }
-    ensures done { OnOk result (Brings (execute_inner (context_of given.now) current.now inner.now) shard.old work.old shard.new work.new) }
+    ensures ok { OnOk result (Brings (execute_inner (context_of given.now) current.now inner.now) shard.old work.old shard.new work.new) }
     ensures stops { IfErr result (StepStops (execute_inner (context_of given.now) current.now inner.now) shard.old work.old) }
     ensures changed { Changed shard.old shard.new }
 {
@@ -55,7 +54,7 @@ fn execute_inners(
     requires of_catalog { IsOf given.now.catalog.now shard.old }
     requires runs { MayRun given.now.catalog.now }
     requires fits { AllByRecursion (InnerRuns given.now.catalog.now) body.now }
-    ensures done { OnOk result (Brings (inner_steps given.now current.now body.now) shard.old work.old shard.new work.new) }
+    ensures ok { OnOk result (Brings (inner_steps given.now current.now body.now) shard.old work.old shard.new work.new) }
     ensures stops { IfErr result (StepStops (inner_steps given.now current.now body.now) shard.old work.old) }
     ensures changed { Changed shard.old shard.new }
 {
@@ -77,7 +76,7 @@ fn for_each(
     requires of_catalog { IsOf given.now.catalog.now shard.old }
     requires runs { MayRun given.now.catalog.now }
     requires fits { AllByRecursion (InnerRuns given.now.catalog.now) body.now }
-    ensures done { OnOk result (Brings (steps_of_rows given.now body.now rows.now) shard.old work.old shard.new work.new) }
+    ensures ok { OnOk result (Brings (steps_of_rows given.now body.now rows.now) shard.old work.old shard.new work.new) }
     ensures stops { IfErr result (StepStops (steps_of_rows given.now body.now rows.now) shard.old work.old) }
     ensures changed { Changed shard.old shard.new }
 {
@@ -87,7 +86,7 @@ fn for_each(
     Ok(())
 }
 
-/// Runs a `for_each` on the batch of an input.
+/// Runs the steps of a `for_each` on each row of the batch of an input, and none where there is no such input.
 fn for_each_of(
     alloc: Global,
     given: &Given,
@@ -99,7 +98,7 @@ fn for_each_of(
     requires of_catalog { IsOf given.now.catalog.now shard.old }
     requires runs { MayRun given.now.catalog.now }
     requires fits { AllByRecursion (InnerRuns given.now.catalog.now) body.now }
-    ensures done { OnOk result (Brings (steps_of_rows given.now body.now (get_or given.now.batches.now input [])) shard.old work.old shard.new work.new) }
+    ensures ok { OnOk result (Brings (steps_of_rows given.now body.now (get_or given.now.batches.now input [])) shard.old work.old shard.new work.new) }
     ensures stops { IfErr result (StepStops (steps_of_rows given.now body.now (get_or given.now.batches.now input [])) shard.old work.old) }
     ensures changed { Changed shard.old shard.new }
 {
@@ -120,7 +119,7 @@ fn emit(
 ) -> Result<(), RunError>
     requires of_catalog { IsOf given.now.catalog.now shard.old }
     requires runs { MayRun given.now.catalog.now }
-    ensures done { OnOk result (Brings (execute_step (context_of given.now) (Emit stream query.now)) shard.old work.old shard.new work.new) }
+    ensures ok { OnOk result (Brings (execute_step (context_of given.now) (Emit stream query.now)) shard.old work.old shard.new work.new) }
     ensures stops { IfErr result (StepStops (execute_step (context_of given.now) (Emit stream query.now)) shard.old work.old) }
     ensures changed { Changed shard.old shard.new }
 {
@@ -138,7 +137,7 @@ fn reply(
 ) -> Result<(), RunError>
     requires of_catalog { IsOf given.now.catalog.now shard.now }
     requires runs { MayRun given.now.catalog.now }
-    ensures done { OnOk result (Brings (execute_step (context_of given.now) (Return query.now)) shard.now work.old shard.now work.new) }
+    ensures ok { OnOk result (Brings (execute_step (context_of given.now) (Return query.now)) shard.now work.old shard.now work.new) }
     ensures stops { IfErr result (StepStops (execute_step (context_of given.now) (Return query.now)) shard.now work.old) }
 {
     let rows = execution_query(alloc, given, given.args, query, shard)?;
@@ -147,7 +146,7 @@ fn reply(
 
 /// Runs a step of a body, whose parameters are the arguments.
 ///
-/// Aborts exactly where the step does, and with the same reason. What it changed by then is noted in the shard.
+/// Aborts exactly where the model's step does, and with the same reason.
 fn execute_step(
     alloc: Global,
     given: &Given,
@@ -158,7 +157,7 @@ fn execute_step(
     requires of_catalog { IsOf given.now.catalog.now shard.old }
     requires runs { MayRun given.now.catalog.now }
     requires fits { StepRuns given.now.catalog.now step.now }
-    ensures done { OnOk result (Brings (execute_step (context_of given.now) step.now) shard.old work.old shard.new work.new) }
+    ensures ok { OnOk result (Brings (execute_step (context_of given.now) step.now) shard.old work.old shard.new work.new) }
     ensures stops { IfErr result (StepStops (execute_step (context_of given.now) step.now) shard.old work.old) }
     ensures changed { Changed shard.old shard.new }
 {
@@ -177,8 +176,7 @@ fn execute_step(
     }
 }
 
-/// Runs the steps of a body in order, up to the first abort, which is theirs. What they changed by then is noted in the
-/// shard. Costs what the steps cost.
+/// Runs the steps of a body in order, up to the first abort.
 pub fn execute_steps(
     alloc: Global,
     given: &Given,
@@ -189,7 +187,7 @@ pub fn execute_steps(
     requires of_catalog { IsOf given.now.catalog.now shard.old }
     requires runs { MayRun given.now.catalog.now }
     requires fits { AllByRecursion (StepRuns given.now.catalog.now) steps.now }
-    ensures done { OnOk result (Brings (try_fold (execute_step (context_of given.now)) steps.now) shard.old work.old shard.new work.new) }
+    ensures ok { OnOk result (Brings (try_fold (execute_step (context_of given.now)) steps.now) shard.old work.old shard.new work.new) }
     ensures stops { IfErr result (StepStops (try_fold (execute_step (context_of given.now)) steps.now) shard.old work.old) }
     ensures changed { Changed shard.old shard.new }
 {

@@ -1,4 +1,4 @@
-//! The owner's windows of batches, which close after the steps.
+//! The windows of batches that a procedure owns, each of which gets its unit behind the last step of the body.
 
 ghost use Rattle.std.specs.Prelude.{◌≡◌, ◌<◌, ◌≤◌, [], get_or, set, length, OnOk, IfErr, Some};
 ghost use Rattle.ss_model.specs.Bodies.{is_closed_by, close_window};
@@ -8,15 +8,12 @@ ghost use Rattle.ss_proc.specs.Meanings.{Brings, StepStops, close_owned};
 
 use crate::cascade::close_unit;
 use crate::work::{Given, Work};
-use ss_model::catalog::WindowDef;
-use ss_operators::run_error::RunError;
-use ss_shard::shard::Shard;
-use ss_value::Unit;
-use ss_value::seq::Seq;
-use ss_value::value::Rows;
+use ss_model::{RunError, WindowDef};
+use ss_shard::Shard;
+use ss_value::{Rows, Seq, Unit};
 use std::alloc::Global;
 
-/// Whether a window is a window of batches of this procedure. Constant.
+/// Whether a window is a window of batches that this procedure owns.
 fn is_closed_by(procedure: u16, window: &WindowDef) -> bool
     ensures { result ≡ is_closed_by procedure (Some window.now) }
 {
@@ -27,7 +24,7 @@ fn is_closed_by(procedure: u16, window: &WindowDef) -> bool
         }
 }
 
-/// Takes the list of a number out of its place, which has none then. Takes no memory.
+/// Takes the list of a number out, and leaves an empty one in its position. Takes no memory.
 pub fn take_unit(alloc: Global, window: u16, open_units: &mut Seq<Rows>) -> Rows
     ensures unit { result ≡ get_or open_units.old window [] }
     ensures none { open_units.new ≡ set open_units.old window [] }
@@ -38,7 +35,7 @@ pub fn take_unit(alloc: Global, window: u16, open_units: &mut Seq<Rows>) -> Rows
     }
 }
 
-/// Closes the unit that the execution has open for a window, with the triggers where this moves the window's end.
+/// Closes the unit that the execution has open in a window, with the window's triggers if this moves the end of what it shows.
 fn close_window(
     alloc: Global,
     given: &Given,
@@ -49,7 +46,7 @@ fn close_window(
     requires of_catalog { IsOf given.now.catalog.now shard.old }
     requires runs { MayRun given.now.catalog.now }
     requires there { window < length given.now.catalog.now.windows }
-    ensures done { OnOk result (Brings (close_window (context_of given.now) window) shard.old work.old shard.new work.new) }
+    ensures ok { OnOk result (Brings (close_window (context_of given.now) window) shard.old work.old shard.new work.new) }
     ensures stops { IfErr result (StepStops (close_window (context_of given.now) window) shard.old work.old) }
     ensures changed { Changed shard.old shard.new }
 {
@@ -67,7 +64,7 @@ pub fn close_owned(
     requires of_catalog { IsOf given.now.catalog.now shard.old }
     requires runs { MayRun given.now.catalog.now }
     requires few { length given.now.catalog.now.windows ≤ 32 }
-    ensures done { OnOk result (Brings (close_owned given.now) shard.old work.old shard.new work.new) }
+    ensures ok { OnOk result (Brings (close_owned given.now) shard.old work.old shard.new work.new) }
     ensures stops { IfErr result (StepStops (close_owned given.now) shard.old work.old) }
     ensures changed { Changed shard.old shard.new }
 {

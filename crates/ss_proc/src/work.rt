@@ -3,11 +3,9 @@
 ghost use Rattle.std.specs.Prelude.{◌≡◌, ◌∷◌, [], ◌++◌, set, get_or, replicate, length, IfOk, OnOk};
 ghost use Rattle.ss_proc.specs.Executions.{empty_work};
 
-use ss_model::catalog::Catalog;
-use ss_plan::batches::Batches;
-use ss_value::NoMemory;
-use ss_value::seq::Seq;
-use ss_value::value::{Row, Rows};
+use ss_model::Catalog;
+use ss_plan::Batches;
+use ss_value::{NoMemory, Row, Rows, Seq};
 use std::alloc::Global;
 
 /// What an execution is given: its procedure, arguments and batches. A call has no batch, and a step no argument.
@@ -37,7 +35,7 @@ pub struct Work {
     pub reply: Rows,
 }
 
-/// As many lists without a row as asked for.
+/// As many empty lists of rows as asked for.
 pub fn empty_lists(alloc: Global, count: usize) -> Result<Seq<Rows>, NoMemory>
     ensures { IfOk result (λ lists. lists ≡ replicate count []) }
 {
@@ -48,7 +46,7 @@ pub fn empty_lists(alloc: Global, count: usize) -> Result<Seq<Rows>, NoMemory>
     Ok(lists)
 }
 
-/// No unit, no batch and no reply yet. Takes memory for a place for each window and each stream.
+/// No row yet in a unit, a batch or the reply. Takes memory for a list for each window and each stream.
 pub fn empty_work(alloc: Global, catalog: &Catalog) -> Result<Work, NoMemory>
     ensures { IfOk result (λ work. work ≡ empty_work catalog.now) }
 {
@@ -61,7 +59,7 @@ pub fn empty_work(alloc: Global, catalog: &Catalog) -> Result<Work, NoMemory>
     })
 }
 
-/// Adds a row to the unit that is open in a window. Fails only for want of memory. Constant on average.
+/// Adds a row to the unit that is open in a window. Constant on average.
 pub fn join_unit(window: u16, row: Row, open_units: &mut Seq<Rows>) -> Result<(), NoMemory>
     ensures { OnOk result (open_units.new ≡ set open_units.old window (get_or open_units.old window [] ++ row ∷ [])) }
 {
@@ -74,7 +72,7 @@ pub fn join_unit(window: u16, row: Row, open_units: &mut Seq<Rows>) -> Result<()
     Ok(())
 }
 
-/// Moves rows behind others: none is copied. Linear in their number; fails only for want of memory.
+/// Moves rows behind others. No row is copied.
 pub fn move_rows(rows: Rows, list: &mut Rows) -> Result<(), NoMemory>
     ensures { OnOk result (list.new ≡ list.old ++ rows) }
 {

@@ -1,11 +1,11 @@
-//! The program `sstore`: a catalogue and a script of calls and pushes in, replies, the serial list and the tables out.
+//! The program `sstore`: it reads a catalogue and requests, runs them, and writes the report.
 //!
-//! It makes the real ends, and calls what `ss_top` promises.
+//! All that it does is `ss_top::sstore`, on standard input and standard output. The program is a crate of its own, since a
+//! program can't be tested from another crate.
 #![tactic(auto)]
 
 use ss_lines::{ReadSource, WriteSink};
-use ss_top::start::refuse_words;
-use ss_top::top::sstore;
+use ss_top::{refuse_words, sstore};
 use std::process::ExitCode;
 use std::{env, io};
 
@@ -18,9 +18,9 @@ fn words(rt: &HostRuntime) -> io::Result<Vec<String>> {
     Ok(words)
 }
 
-/// Makes the real ends, standard input and standard output, and calls `sstore`, or `refuse_words` where there are no
-/// words.
+/// Calls `sstore` on standard input and standard output, or `refuse_words` where the words can't be had.
 fn main(rt: HostRuntime) -> ExitCode {
+    // The sink comes first: what is wrong with the words is written to it.
     let mut sink = WriteSink::new(io::writer(&rt));
     let words = match words(&rt) {
         Ok(words) => words,

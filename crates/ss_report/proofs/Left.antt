@@ -1,19 +1,19 @@
--- The answers that are left of each client, and the replies that are.
+-- The answers to each client that are left, and the replies that are written.
 use Rattle.std.proofs.Common.{Bor, ◌≡◌, ◌∙◌, ℕ, zero, suc, ◌+◌, ◌<◌, ◌==◌, ◌++◌, List, [], ◌∷◌, length, map, get_or, take, drop, drop-drop, get_or-drop, take-suc, add-one, slice_set, Bool, true, false, refl, sym, ap, subst, arith}
 use Rattle.std.proofs.lemmas.Bool.Decides.{nat_tests}
 use Rattle.std.proofs.lemmas.List.{get_or-set_other, map-set}
+use Rattle.ss_lemmas.proofs.LoopItem.{next as next_item}
+use Rattle.ss_lemmas.proofs.Numbers.{eqb_is}
 use Rattle.serde_json.specs.Data.{Data}
 use Rattle.ss_model.specs.declared.catalog.Catalog.{Catalog}
 use Rattle.ss_model.specs.declared.entry.Answer.{Answer}
 use Rattle.ss_model.specs.declared.entry.Request.{Request}
 use Rattle.ss_model.specs.ReportLines.{reply_line, line_text, lines_text}
 use Rattle.ss_model.specs.Report.{asked_entry, entries_behind, reply_lines}
-use Rattle.ss_report.proofs.Steps.{next_item, told_next}
+use Rattle.ss_report.proofs.Steps.{reported_next}
 use Rattle.ss_report.specs.Lent.{lists_behind}
 use Rattle.ss_report_laws.specs.Replies.{answers_of, answer_to}
-use Rattle.ss_report_laws.proofs.Telling.{before, count_here, equal_of}
-use Rattle.ss_report_laws.proofs.ByClient.{same_before}
-use Rattle.ss_report_laws.proofs.Weaving.{answer_asked}
+use Rattle.ss_report_laws.proofs.CallerLemmas.{before, count_here, same_before, answer_asked}
 
 -- of each client the answers behind those to the requests before
 abbrev pub AreLeft : List (List Answer) → List Request → List (List Answer) → Type 0
@@ -33,7 +33,7 @@ are_left_next answers left next earlier r h is = λ k. ap (λ xs. answers_of xs 
   where
     by : (k : ℕ) (b : Bool) → (r.client == k) ≡ b → answers_of (slice_set left r.client (drop 1 (answers_of left r.client))) k ≡ drop (before k (earlier ++ r ∷ [])) (answers_of answers k)
     by k true e =
-        subst (λ c. answers_of (slice_set left r.client (drop 1 (answers_of left r.client))) c ≡ drop (before c (earlier ++ r ∷ [])) (answers_of answers c)) (equal_of r.client k e)
+        subst (λ c. answers_of (slice_set left r.client (drop 1 (answers_of left r.client))) c ≡ drop (before c (earlier ++ r ∷ [])) (answers_of answers c)) (eqb_is r.client k e)
         (
         rest_there left r.client
         ∙ ap (drop 1) (h r.client)
@@ -61,24 +61,24 @@ replies_behind catalog missing answers earlier rs = reply_lines catalog rs (map 
 pub one_more : {A : Type 0} (xs : List A) (k : ℕ) (x : A) → k < length xs → x ≡ get_or xs k x → take (k + 1) xs ≡ take k xs ++ x ∷ []
 one_more xs k x h e = ap (λ n. take n xs) (add-one k) ∙ take-suc xs k x h ∙ ap (λ y. take k xs ++ y ∷ []) (sym e)
 
--- what is told so far, and what is left to tell
-abbrev pub IsToldSoFar : Catalog → Answer → List (List Answer) → List Request → List Request → List (List Answer) → List ℕ → List ℕ → Type 0
-IsToldSoFar catalog missing answers earlier rs left now all = (now ++ lines_text (replies_behind catalog missing answers earlier rs) ≡ all) × AreLeft answers earlier left
+-- what is written so far, and what is left to write
+abbrev pub IsReportedSoFar : Catalog → Answer → List (List Answer) → List Request → List Request → List (List Answer) → List ℕ → List ℕ → Type 0
+IsReportedSoFar catalog missing answers earlier rs left now all = (now ++ lines_text (replies_behind catalog missing answers earlier rs) ≡ all) × AreLeft answers earlier left
 
 -- and one reply more
 pub reply_more : (catalog : Catalog) (missing : Answer) (answers left next : List (List Answer)) (requests : List Request) (i : ℕ) (r : Request) (a : Answer) (v : Data) (now new all : List ℕ) → i < length requests
     → r ≡ get_or requests i r → a ≡ get_or (answers_of left r.client) 0 missing → next ≡ slice_set left r.client (drop 1 (answers_of left r.client)) → v ≡ reply_line catalog r.line a → new ≡ now ++ line_text v
-    → IsToldSoFar catalog missing answers (take i requests) (drop i requests) left now all → IsToldSoFar catalog missing answers (take (i + 1) requests) (drop (i + 1) requests) next new all
+    → IsReportedSoFar catalog missing answers (take i requests) (drop i requests) left now all → IsReportedSoFar catalog missing answers (take (i + 1) requests) (drop (i + 1) requests) next new all
 reply_more catalog missing answers left next requests i r a v now new all h e is rest line goes_on t =
     let earlier = take i requests in
     let later = drop (i + 1) requests in
     let here = next_item requests i r h e in
-    let told : now ++ lines_text (replies_behind catalog missing answers earlier (r ∷ later)) ≡ all = ap (λ rs. now ++ lines_text (replies_behind catalog missing answers earlier rs)) (sym here) ∙ t.0 in
+    let reported : now ++ lines_text (replies_behind catalog missing answers earlier (r ∷ later)) ≡ all = ap (λ rs. now ++ lines_text (replies_behind catalog missing answers earlier rs)) (sym here) ∙ t.0 in
     let own : a ≡ answer_to missing answers (asked_entry r.client (before r.client earlier) r.what) = next_is missing answers left earlier r a t.1 is in
     let more : new ++ lines_text (replies_behind catalog missing answers (earlier ++ r ∷ []) later) ≡ all =
-    told_next now new all v (reply_line catalog r.line (answer_to missing answers (asked_entry r.client (before r.client earlier) r.what))) (replies_behind catalog missing answers (earlier ++ r ∷ []) later) goes_on
-    (line ∙ ap (reply_line catalog r.line) own) told in
-    subst (λ rs. IsToldSoFar catalog missing answers rs later next new all) (sym (one_more requests i r h e)) (more, are_left_next answers left next earlier r t.1 rest)
+    reported_next now new all v (reply_line catalog r.line (answer_to missing answers (asked_entry r.client (before r.client earlier) r.what))) (replies_behind catalog missing answers (earlier ++ r ∷ []) later) goes_on
+    (line ∙ ap (reply_line catalog r.line) own) reported in
+    subst (λ rs. IsReportedSoFar catalog missing answers rs later next new all) (sym (one_more requests i r h e)) (more, are_left_next answers left next earlier r t.1 rest)
 
 -- ---- lists that are lent
 

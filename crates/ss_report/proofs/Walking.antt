@@ -6,11 +6,12 @@ use Rattle.std.specs.List.{find, AllByRecursion}
 use Rattle.std.proofs.lemmas.Bool.Decides.{nat_tests}
 use Rattle.ss_value.specs.Rows.{Row}
 use Rattle.std.specs.FinMap as finmap
+use Rattle.ss_lemmas.proofs.Numbers.{eqb_self}
 use Rattle.ss_model.specs.Contents.{Table}
-use Rattle.ss_table.specs.Held.{LiveRows, first_in, after_in}
+use Rattle.ss_table.specs.TableValue.{LiveRows, first_in, after_in}
 use Rattle.ss_table.specs.Keyed.{SlotsDiffer}
 use Rattle.ss_shard.specs.Contents.{without_slot, rows_by_key}
-use Rattle.ss_shard.proofs.ByKey.{entries_by_key}
+use Rattle.ss_shard.proofs.CallerLemmas.{entries_by_key}
 use Rattle.ss_report.specs.Lent.{rows_behind}
 
 abbrev pub Live : Type 0
@@ -26,9 +27,6 @@ row_in es slot = option_map row_of (find (λ e. e.1.0 == slot) es)
 
 -- ---- entries whose slots differ
 
-same_slot : (n : ℕ) → (n == n) ≡ true
-same_slot n = grind (arith, nat_tests)
-
 other_slot : (m n : ℕ) → (n ≡ m → ⊥) → (m == n) ≡ false
 other_slot m n apart = by (m == n) refl
   where
@@ -43,13 +41,13 @@ midst P (x ∷ xs) e behind h = midst P xs e behind h.1
 
 module _ (e : Live) (behind : List Live) where
   row_here : (before : List Live) → SlotsDiffer (before ++ e ∷ behind) → row_in (before ++ e ∷ behind) e.1.0 ≡ Some e.1.1
-  row_here [] apart = ap (λ b. option_map row_of (cond b (Some e) (find (λ d. d.1.0 == e.1.0) behind))) (same_slot e.1.0)
+  row_here [] apart = ap (λ b. option_map row_of (cond b (Some e) (find (λ d. d.1.0 == e.1.0) behind))) (eqb_self e.1.0)
   row_here (x ∷ xs) apart =
       ap (λ b. option_map row_of (cond b (Some x) (find (λ d. d.1.0 == e.1.0) (xs ++ e ∷ behind)))) (other_slot x.1.0 e.1.0 (midst (λ d. d.1.0 ≡ x.1.0 → ⊥) xs e behind apart.0))
       ∙ row_here xs apart.1
 
   next_here : (before : List Live) → SlotsDiffer (before ++ e ∷ behind) → after_in (before ++ e ∷ behind) e.1.0 ≡ first_in behind
-  next_here [] apart = ap (λ b. cond b (first_in behind) (after_in behind e.1.0)) (same_slot e.1.0)
+  next_here [] apart = ap (λ b. cond b (first_in behind) (after_in behind e.1.0)) (eqb_self e.1.0)
   next_here (x ∷ xs) apart =
       ap (λ b. cond b (first_in (xs ++ e ∷ behind)) (after_in (xs ++ e ∷ behind) e.1.0)) (other_slot x.1.0 e.1.0 (midst (λ d. d.1.0 ≡ x.1.0 → ⊥) xs e behind apart.0))
       ∙ next_here xs apart.1

@@ -2,16 +2,15 @@
 
 ghost use Rattle.std.specs.FinMap as finmap;
 ghost use Rattle.std.specs.Prelude.{◌≡◌, IfOk, IsSome, Some};
-ghost use Rattle.ss_table.specs.Held.{row_at};
+ghost use Rattle.ss_table.specs.TableValue.{row_at};
 ghost use Rattle.ss_shard.specs.Contents.{rows_by_key};
 ghost use Rattle.ss_report.specs.Lent.{rows_behind};
 
-use ss_table::table::{Slot, Table};
-use ss_value::NoMemory;
-use ss_value::value::Row;
+use ss_table::Table;
+use ss_value::{NoMemory, Row, Slot};
 use std::alloc::Global;
 
-/// The row in a live slot. Constant.
+/// The row in a live slot.
 fn live_row(table: &Table, slot: Slot) -> &Row
     requires { IsSome (row_at table.now.live slot) }
     ensures { row_at table.now.live slot ≡ Some result.now }
@@ -22,13 +21,13 @@ fn live_row(table: &Table, slot: Slot) -> &Row
     }
 }
 
-/// The rows of a table in the order of their keys, where they stand: none is copied.
+/// The rows of a table in the order of their keys, lent and not copied.
 ///
-/// One walk, so n constant steps for n rows, and the memory of a reference a row. Fails only for want of memory.
+/// One walk by hints, in which no step searches: linear in the rows, with memory for one reference for each.
 pub fn rows_in_order<'a>(alloc: Global, table: &'a Table) -> Result<Vec<&'a Row>, NoMemory>
     ensures { IfOk result (λ rows. rows_behind rows.items ≡ finmap.values (rows_by_key table.now.live)) }
 {
-    // So no two rows have one slot, and a step from a slot is a step from its row.
+    // A law of tables: no two rows have one slot, so a step from a slot is a step from its row.
     table.rows_are_keyed();
     let mut rows = Vec::new(alloc);
     let mut at = table.first_near();

@@ -6,12 +6,11 @@ ghost use Rattle.ss_model.specs.Report.{is_done_push, is_step, voter_text};
 
 use crate::lines::voter_json;
 use crate::write::append_line;
-use ss_model::entry::{Entry, Listed, Outcome};
-use ss_value::NoMemory;
-use ss_value::seq::Seq;
+use ss_model::{Entry, Listed, Outcome};
+use ss_value::{NoMemory, Seq};
 use std::alloc::Global;
 
-/// Whether it is a push whose batch was accepted.
+/// Whether this entry is a push whose batch was accepted.
 fn is_done_push(listed: &Listed) -> bool
     ensures { result ≡ is_done_push listed.now.entry listed.now.outcome }
 {
@@ -21,7 +20,7 @@ fn is_done_push(listed: &Listed) -> bool
     }
 }
 
-/// Whether it is a step.
+/// Whether this entry is a step.
 fn is_step(listed: &Listed) -> bool
     ensures { result ≡ is_step listed.now.entry }
 {
@@ -31,7 +30,7 @@ fn is_step(listed: &Listed) -> bool
     }
 }
 
-/// The number of pushes whose batch was accepted. Linear in the list.
+/// The number of pushes whose batch was accepted.
 fn pushes_done(list: &[Listed]) -> usize
     ensures { result ≡ count_by (λ (l : ListedEntry). is_done_push l.entry l.outcome) list.now }
 {
@@ -44,7 +43,7 @@ fn pushes_done(list: &[Listed]) -> usize
     count
 }
 
-/// The number of steps. Linear in the list.
+/// The number of steps.
 fn steps(list: &[Listed]) -> usize
     ensures { result ≡ count_by (λ (l : ListedEntry). is_step l.entry) list.now }
 {
@@ -57,8 +56,7 @@ fn steps(list: &[Listed]) -> usize
     count
 }
 
-/// The bytes of the summary of a list, for which so many votes were asked. Linear in the list. Fails only for want of
-/// memory.
+/// The bytes of the summary of a list, for which `votes` votes were asked for. Linear in the list.
 pub fn summary_bytes(alloc: Global, votes: u64, list: &[Listed]) -> Result<Seq<u8>, NoMemory>
     ensures { IfOk result (λ bytes. bytes ≡ voter_text votes list.now) }
 {

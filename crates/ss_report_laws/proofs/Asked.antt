@@ -8,7 +8,7 @@ use Rattle.ss_model.specs.declared.entry.Asked.TheVariants.{Call as CallAsked, P
 use Rattle.ss_model.specs.declared.entry.Entry.{Entry}
 use Rattle.ss_model.specs.declared.entry.Request.{Request}
 use Rattle.ss_model.specs.Report.{asked_entry, entries_behind, asked_entries, client_index}
-use Rattle.ss_model.proofs.Truths.{some_same}
+use Rattle.ss_lemmas.proofs.Bools.{some_same}
 
 -- an element is the first, or further behind
 contained : {A : Type 0} (y : A) (ys : List A) (x : A) → Contains (y ∷ ys) x → (y ≡ x) ⊎ Contains ys x
@@ -19,9 +19,9 @@ index_of : (client c n : ℕ) (what : Asked) → client_index client (asked_entr
 index_of client c n (CallAsked q args) = refl
 index_of client c n (PushAsked s source seq rows) = refl
 
--- the index that is told is the client's
-told_index : (client c n i : ℕ) → cond (c == client) (Some n) None ≡ Some i → (c ≡ client) × (n ≡ i)
-told_index client c n i e = elim (cases_Bool (c == client)) [
+-- where an entry has an index among a client's requests, it is that client's, and that is its index
+answered_index : (client c n i : ℕ) → cond (c == client) (Some n) None ≡ Some i → (c ≡ client) × (n ≡ i)
+answered_index client c n i e = elim (cases_Bool (c == client)) [
   | inl same ↦ (eqb-true c client same, some_same n i (sym (cond-true (c == client) (Some n) None same) ∙ e))
   | inr other ↦ let none : None ≡ Some i = sym (cond-false (c == client) (Some n) None other) ∙ e in absurd (cc)
 ]
@@ -36,23 +36,23 @@ one_more client earlier r = sum_by_push (λ (x : Request). cond (x.client == cli
 -- the index of what a request asks for is the number of its client's earlier requests
 first_index : (client i : ℕ) (earlier : List Request) (r : Request) (e : Entry)
     → asked_entry r.client (requests_of r.client earlier) r.what ≡ e → client_index client e ≡ Some i → (r.client ≡ client) × (requests_of client earlier ≡ i)
-first_index client i earlier r e is told =
-    let both = told_index client r.client (requests_of r.client earlier) i (sym (index_of client r.client (requests_of r.client earlier) r.what) ∙ ap (client_index client) is ∙ told) in
+first_index client i earlier r e is answered =
+    let both = answered_index client r.client (requests_of r.client earlier) i (sym (index_of client r.client (requests_of r.client earlier) r.what) ∙ ap (client_index client) is ∙ answered) in
     (both.0, ap (λ c. requests_of c earlier) (sym both.0) ∙ both.1)
 
 -- behind requests no index is below their number
 later_index : (client i : ℕ) (earlier rs : List Request) (e : Entry) → Contains (entries_behind earlier rs) e → client_index client e ≡ Some i → requests_of client earlier ≤ i
-later_index client i earlier [] e among told = let none : among.0 < 0 = among.1 in absurd (omega arith)
-later_index client i earlier (r ∷ rs) e among told = elim (contained _ (entries_behind (earlier ++ r ∷ []) rs) e among) [
-  | inl here ↦ let both = first_index client i earlier r e here told in omega (arith, both.1)
-  | inr behind ↦ omega (arith, later_index client i (earlier ++ r ∷ []) rs e behind told, one_more client earlier r)
+later_index client i earlier [] e among answered = let none : among.0 < 0 = among.1 in absurd (omega arith)
+later_index client i earlier (r ∷ rs) e among answered = elim (contained _ (entries_behind (earlier ++ r ∷ []) rs) e among) [
+  | inl here ↦ let both = first_index client i earlier r e here answered in omega (arith, both.1)
+  | inr behind ↦ omega (arith, later_index client i (earlier ++ r ∷ []) rs e behind answered, one_more client earlier r)
 ]
 
 -- a request's own entry stands before the others of its client
 not_later : (client i : ℕ) (earlier rs : List Request) (r : Request) (e f : Entry) → asked_entry r.client (requests_of r.client earlier) r.what ≡ e
     → Contains (entries_behind (earlier ++ r ∷ []) rs) f → client_index client e ≡ Some i → client_index client f ≡ Some i → ⊥
-not_later client i earlier rs r e f is among told same =
-    let both = first_index client i earlier r e is told in
+not_later client i earlier rs r e f is among answered same =
+    let both = first_index client i earlier r e is answered in
     let counted = cond-true {A = ℕ} (r.client == client) 1 0 (eq-eqb r.client client both.0) in
     omega (arith, both.1, later_index client i (earlier ++ r ∷ []) rs f among same, one_more client earlier r, counted)
 
@@ -62,16 +62,16 @@ either_way : (client i : ℕ) (earlier rs : List Request) (r : Request) (e f : E
     → client_index client e ≡ Some i → client_index client f ≡ Some i
     → (asked_entry r.client (requests_of r.client earlier) r.what ≡ e) ⊎ Contains (entries_behind (earlier ++ r ∷ []) rs) e
     → (asked_entry r.client (requests_of r.client earlier) r.what ≡ f) ⊎ Contains (entries_behind (earlier ++ r ∷ []) rs) f → e ≡ f
-either_way client i earlier rs r e f behind told same (inl p) (inl q) = sym p ∙ q
-either_way client i earlier rs r e f behind told same (inl p) (inr q) = absurd (not_later client i earlier rs r e f p q told same)
-either_way client i earlier rs r e f behind told same (inr p) (inl q) = absurd (not_later client i earlier rs r f e q p same told)
-either_way client i earlier rs r e f behind told same (inr p) (inr q) = behind p q told same
+either_way client i earlier rs r e f behind answered same (inl p) (inl q) = sym p ∙ q
+either_way client i earlier rs r e f behind answered same (inl p) (inr q) = absurd (not_later client i earlier rs r e f p q answered same)
+either_way client i earlier rs r e f behind answered same (inr p) (inl q) = absurd (not_later client i earlier rs r f e q p same answered)
+either_way client i earlier rs r e f behind answered same (inr p) (inr q) = behind p q answered same
 
 same_behind : (client i : ℕ) (earlier rs : List Request) (e f : Entry) → Contains (entries_behind earlier rs) e → Contains (entries_behind earlier rs) f
     → client_index client e ≡ Some i → client_index client f ≡ Some i → e ≡ f
-same_behind client i earlier [] e f among also told same = let none : among.0 < 0 = among.1 in absurd (omega arith)
-same_behind client i earlier (r ∷ rs) e f among also told same =
-    either_way client i earlier rs r e f (same_behind client i (earlier ++ r ∷ []) rs e f) told same
+same_behind client i earlier [] e f among also answered same = let none : among.0 < 0 = among.1 in absurd (omega arith)
+same_behind client i earlier (r ∷ rs) e f among also answered same =
+    either_way client i earlier rs r e f (same_behind client i (earlier ++ r ∷ []) rs e f) answered same
     (contained _ (entries_behind (earlier ++ r ∷ []) rs) e among) (contained _ (entries_behind (earlier ++ r ∷ []) rs) f also)
 
 -- entries that are asked for, of one client and index, are one

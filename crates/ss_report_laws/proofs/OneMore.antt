@@ -3,14 +3,15 @@ use Rattle.std.proofs.Common.{◌≡◌, ◌∙◌, ℕ, zero, suc, ◌+◌, ◌
 use Rattle.std.specs.List.{AllByRecursion, count_by}
 use Rattle.std.proofs.lemmas.Bool.Decides.{nat_tests}
 use Rattle.std.proofs.lemmas.List.{get_or-set_same, get_or-set_other}
+use Rattle.ss_lemmas.proofs.Numbers.{eqb_is}
 use Rattle.ss_model.specs.declared.entry.Answer.{Answer}
 use Rattle.ss_model.specs.declared.entry.Answer.TheVariants.{Listed as ListedAnswer, NoMemory, ListFull, Halted}
 use Rattle.ss_model.specs.declared.entry.Entry.TheVariants.{Step as StepEntry}
 use Rattle.ss_model.specs.declared.entry.Listed.{Listed}
 use Rattle.ss_model.specs.declared.entry.Request.{Request}
 use Rattle.ss_model.specs.Report.{End, Unlisted, asked_entry}
-use Rattle.ss_report_laws.specs.Replies.{is_of, mine, told_at, requests_of, answers_of, expected, IsListedOr, AreTold, IsOneMore}
-use Rattle.ss_report_laws.proofs.Telling.{before, count_one, equal_of, asked_is_of}
+use Rattle.ss_report_laws.specs.Replies.{is_of, mine, listed_at, requests_of, answers_of, expected_entries, IsListedOr, AreAnswered, IsOneMore}
+use Rattle.ss_report_laws.proofs.AnswersInOrder.{before, count_one, asked_is_of}
 use Rattle.ss_report_laws.proofs.ByClient.{IsUnlisted, passed}
 
 -- ---- lists
@@ -38,16 +39,16 @@ requests_more k (x ∷ rs) r = by (x.client == k) (requests_more k rs r)
     by true h = ap (λ xs. x ∷ xs) h
     by false h = h
 
-expected_more : (k n : ℕ) (rs : List Request) (answers : List Answer) (r : Request) (a : Answer) → length answers ≡ length rs → expected k n (rs ++ r ∷ []) (answers ++ a ∷ []) ≡ expected k n rs answers ++ expected k (n + length answers) (r ∷ []) (a ∷ [])
-expected_more k n [] [] r a h = let same : n + 0 ≡ n = omega arith in ap (λ m. expected k m (r ∷ []) (a ∷ [])) (sym same)
+expected_more : (k n : ℕ) (rs : List Request) (answers : List Answer) (r : Request) (a : Answer) → length answers ≡ length rs → expected_entries k n (rs ++ r ∷ []) (answers ++ a ∷ []) ≡ expected_entries k n rs answers ++ expected_entries k (n + length answers) (r ∷ []) (a ∷ [])
+expected_more k n [] [] r a h = let same : n + 0 ≡ n = omega arith in ap (λ m. expected_entries k m (r ∷ []) (a ∷ [])) (sym same)
 expected_more k n [] (b ∷ answers) r a h = absurd (omega (arith, h))
 expected_more k n (x ∷ rs) [] r a h = absurd (omega (arith, h))
 expected_more k n (x ∷ rs) (b ∷ answers) r a h =
-    by b (expected_more k (n + 1) rs answers r a (omega (arith, h)) ∙ ap (λ m. expected k (n + 1) rs answers ++ expected k m (r ∷ []) (a ∷ [])) (omega arith))
+    by b (expected_more k (n + 1) rs answers r a (omega (arith, h)) ∙ ap (λ m. expected_entries k (n + 1) rs answers ++ expected_entries k m (r ∷ []) (a ∷ [])) (omega arith))
   where
-    by : (b : Answer) → expected k (n + 1) (rs ++ r ∷ []) (answers ++ a ∷ []) ≡ expected k (n + 1) rs answers ++ expected k (n + length (b ∷ answers)) (r ∷ []) (a ∷ [])
-        → expected k n (x ∷ rs ++ r ∷ []) (b ∷ answers ++ a ∷ []) ≡ expected k n (x ∷ rs) (b ∷ answers) ++ expected k (n + length (b ∷ answers)) (r ∷ []) (a ∷ [])
-    by (ListedAnswer place o) e = ap (λ ps. told_at place o (asked_entry k n x.what) ∷ ps) e
+    by : (b : Answer) → expected_entries k (n + 1) (rs ++ r ∷ []) (answers ++ a ∷ []) ≡ expected_entries k (n + 1) rs answers ++ expected_entries k (n + length (b ∷ answers)) (r ∷ []) (a ∷ [])
+        → expected_entries k n (x ∷ rs ++ r ∷ []) (b ∷ answers ++ a ∷ []) ≡ expected_entries k n (x ∷ rs) (b ∷ answers) ++ expected_entries k (n + length (b ∷ answers)) (r ∷ []) (a ∷ [])
+    by (ListedAnswer place o) e = ap (λ ps. listed_at place o (asked_entry k n x.what) ∷ ps) e
     by NoMemory e = e
     by (ListFull m) e = e
     by (Halted m) e = e
@@ -60,23 +61,23 @@ all_more P (y ∷ ys) x h p = (h.0, all_more P ys x h.1 p)
 
 -- a client's answers are those before, and the new one where it is the client
 answers_more : (c k : ℕ) (a : Answer) (earlier later : List (List Answer)) → IsOneMore c a earlier later → (b : Bool) → (c == k) ≡ b → answers_of later k ≡ answers_of earlier k ++ only_if b a
-answers_more c k a earlier later m true is = subst (λ j. answers_of later j ≡ answers_of earlier j ++ a ∷ []) (equal_of c k is) m.here
+answers_more c k a earlier later m true is = subst (λ j. answers_of later j ≡ answers_of earlier j ++ a ∷ []) (eqb_is c k is) m.here
 answers_more c k a earlier later m false is = m.elsewhere k (grind (arith, nat_tests)) ∙ sym (append-nil (answers_of earlier k))
 
--- what the client is told more
-abbrev told_more : ℕ → ℕ → Request → Answer → Bool → List (ℕ × Listed)
-told_more k n r a b = cond b (expected k n (r ∷ []) (a ∷ [])) []
+-- the entry that the client's new answer reports
+abbrev answered_more : ℕ → ℕ → Request → Answer → Bool → List (ℕ × Listed)
+answered_more k n r a b = cond b (expected_entries k n (r ∷ []) (a ∷ [])) []
 
-module _ (requests : List Request) (first : ℕ) (list : List Listed) (end : End) (answers more : List (List Answer)) (r : Request) (a : Answer) (one : IsOneMore r.client a answers more) (t : AreTold requests first list end answers) where
+module _ (requests : List Request) (first : ℕ) (list : List Listed) (end : End) (answers more : List (List Answer)) (r : Request) (a : Answer) (one : IsOneMore r.client a answers more) (t : AreAnswered requests first list end answers) where
   expects : (k : ℕ) (b : Bool) → (r.client == k) ≡ b
-      → expected k 0 (requests_of k (requests ++ r ∷ [])) (answers_of more k) ≡ mine k first list ++ told_more k (length (answers_of answers k)) r a b
+      → expected_entries k 0 (requests_of k (requests ++ r ∷ [])) (answers_of more k) ≡ mine k first list ++ answered_more k (length (answers_of answers k)) r a b
   expects k true is =
-      (λ i. expected k 0 ((requests_more k requests r ∙ ap (λ b. requests_of k requests ++ only_if b r) is) i) (answers_more r.client k a answers more one true is i))
+      (λ i. expected_entries k 0 ((requests_more k requests r ∙ ap (λ b. requests_of k requests ++ only_if b r) is) i) (answers_more r.client k a answers more one true is i))
       ∙ expected_more k 0 (requests_of k requests) (answers_of answers k) r a (t.many k)
-      ∙ ap (λ n. expected k 0 (requests_of k requests) (answers_of answers k) ++ expected k n (r ∷ []) (a ∷ [])) (omega arith)
-      ∙ ap (λ ps. ps ++ expected k (length (answers_of answers k)) (r ∷ []) (a ∷ [])) (sym (t.each k))
+      ∙ ap (λ n. expected_entries k 0 (requests_of k requests) (answers_of answers k) ++ expected_entries k n (r ∷ []) (a ∷ [])) (omega arith)
+      ∙ ap (λ ps. ps ++ expected_entries k (length (answers_of answers k)) (r ∷ []) (a ∷ [])) (sym (t.each k))
   expects k false is =
-      (λ i. expected k 0 ((requests_more k requests r ∙ ap (λ b. requests_of k requests ++ only_if b r) is ∙ append-nil (requests_of k requests)) i) ((answers_more r.client k a answers more one false is ∙ append-nil (answers_of answers k)) i))
+      (λ i. expected_entries k 0 ((requests_more k requests r ∙ ap (λ b. requests_of k requests ++ only_if b r) is ∙ append-nil (requests_of k requests)) i) ((answers_more r.client k a answers more one false is ∙ append-nil (answers_of answers k)) i))
       ∙ sym (t.each k) ∙ sym (append-nil (mine k first list))
 
   many_more : (k : ℕ) (b : Bool) → (r.client == k) ≡ b → length (answers_of more k) ≡ length (requests_of k (requests ++ r ∷ []))
@@ -95,8 +96,8 @@ module _ (requests : List Request) (first : ℕ) (list : List Listed) (end : End
 -- ---- the steps of a run
 
 -- before the first request
-pub told_none : (first : ℕ) (end : End) (answers : List (List Answer)) → ((client : ℕ) → answers_of answers client ≡ []) → AreTold [] first [] end answers
-told_none first end answers none = record {
+pub answered_none : (first : ℕ) (end : End) (answers : List (List Answer)) → ((client : ℕ) → answers_of answers client ≡ []) → AreAnswered [] first [] end answers
+answered_none first end answers none = record {
   many = λ k. ap length (none k);
   each = λ k. refl;
   others = λ k. subst (AllByRecursion (IsListedOr (Unlisted end))) (sym (none k)) tt;
@@ -108,13 +109,13 @@ none_of (suc n) zero = refl
 none_of (suc n) (suc k) = none_of n k
 
 -- so many clients without an answer
-pub told_nothing : (first : ℕ) (end : End) (clients : ℕ) → AreTold [] first [] end (replicate clients [])
-told_nothing first end clients = told_none first end (replicate clients []) (none_of clients)
+pub answered_nothing : (first : ℕ) (end : End) (clients : ℕ) → AreAnswered [] first [] end (replicate clients [])
+answered_nothing first end clients = answered_none first end (replicate clients []) (none_of clients)
 
 -- a request is listed at the end of the list
-pub told_request : (requests : List Request) (first : ℕ) (list : List Listed) (end : End) (answers more : List (List Answer)) (r : Request) (l : Listed) → l.entry ≡ asked_entry r.client (length (answers_of answers r.client)) r.what
-    → IsOneMore r.client (ListedAnswer (first + length list) l.outcome) answers more → AreTold requests first list end answers → AreTold (requests ++ r ∷ []) first (list ++ l ∷ []) end more
-told_request requests first list end answers more r l is one t = record {
+pub answered_request : (requests : List Request) (first : ℕ) (list : List Listed) (end : End) (answers more : List (List Answer)) (r : Request) (l : Listed) → l.entry ≡ asked_entry r.client (length (answers_of answers r.client)) r.what
+    → IsOneMore r.client (ListedAnswer (first + length list) l.outcome) answers more → AreAnswered requests first list end answers → AreAnswered (requests ++ r ∷ []) first (list ++ l ∷ []) end more
+answered_request requests first list end answers more r l is one t = record {
   many = λ k. many_more requests first list end answers more r a one t k (r.client == k) refl;
   each = λ k. listed k (r.client == k) refl;
   others = λ k. others_more requests first list end answers more r a one t tt k (r.client == k) refl;
@@ -123,22 +124,22 @@ told_request requests first list end answers more r l is one t = record {
     a : Answer
     a = ListedAnswer (first + length list) l.outcome
 
-    own : (k : ℕ) (b : Bool) → (r.client == k) ≡ b → only_if b (first + length list, l) ≡ told_more k (length (answers_of answers k)) r a b
+    own : (k : ℕ) (b : Bool) → (r.client == k) ≡ b → only_if b (first + length list, l) ≡ answered_more k (length (answers_of answers k)) r a b
     own k true e =
-        let entry : l.entry ≡ asked_entry k (length (answers_of answers k)) r.what = is ∙ ap (λ c. asked_entry c (length (answers_of answers c)) r.what) (equal_of r.client k e) in
-        ap (λ f. told_at (first + length list) l.outcome f ∷ []) entry
+        let entry : l.entry ≡ asked_entry k (length (answers_of answers k)) r.what = is ∙ ap (λ c. asked_entry c (length (answers_of answers c)) r.what) (eqb_is r.client k e) in
+        ap (λ f. listed_at (first + length list) l.outcome f ∷ []) entry
     own k false e = refl
 
-    listed : (k : ℕ) (b : Bool) → (r.client == k) ≡ b → mine k first (list ++ l ∷ []) ≡ expected k 0 (requests_of k (requests ++ r ∷ [])) (answers_of more k)
+    listed : (k : ℕ) (b : Bool) → (r.client == k) ≡ b → mine k first (list ++ l ∷ []) ≡ expected_entries k 0 (requests_of k (requests ++ r ∷ [])) (answers_of more k)
     listed k b e =
         let of : is_of k l.entry ≡ b = ap (is_of k) is ∙ asked_is_of k r.client (length (answers_of answers r.client)) r.what ∙ e in
         mine_more k first list l ∙ ap (λ c. mine k first list ++ only_if c (first + length list, l)) of ∙ ap (λ ps. mine k first list ++ ps) (own k b e)
         ∙ sym (expects requests first list end answers more r a one t k b e)
 
 -- a request stays outside the list
-pub told_refused : (requests : List Request) (first : ℕ) (list : List Listed) (end : End) (answers more : List (List Answer)) (r : Request) (a : Answer) → IsUnlisted a → Unlisted end a
-    → IsOneMore r.client a answers more → AreTold requests first list end answers → AreTold (requests ++ r ∷ []) first list end more
-told_refused requests first list end answers more r a other may one t = record {
+pub answered_refused : (requests : List Request) (first : ℕ) (list : List Listed) (end : End) (answers more : List (List Answer)) (r : Request) (a : Answer) → IsUnlisted a → Unlisted end a
+    → IsOneMore r.client a answers more → AreAnswered requests first list end answers → AreAnswered (requests ++ r ∷ []) first list end more
+answered_refused requests first list end answers more r a other may one t = record {
   many = λ k. many_more requests first list end answers more r a one t k (r.client == k) refl;
   each = λ k. as_before k (r.client == k) refl;
   others = λ k. others_more requests first list end answers more r a one t (allowed a other may) k (r.client == k) refl;
@@ -150,17 +151,17 @@ told_refused requests first list end answers more r a other may one t = record {
     allowed (ListFull n) h u = u
     allowed (Halted n) h u = u
 
-    nothing : (k : ℕ) (b : Bool) → told_more k (length (answers_of answers k)) r a b ≡ []
+    nothing : (k : ℕ) (b : Bool) → answered_more k (length (answers_of answers k)) r a b ≡ []
     nothing k true = passed k (length (answers_of answers k)) r [] a [] other
     nothing k false = refl
 
-    as_before : (k : ℕ) (b : Bool) → (r.client == k) ≡ b → mine k first list ≡ expected k 0 (requests_of k (requests ++ r ∷ [])) (answers_of more k)
+    as_before : (k : ℕ) (b : Bool) → (r.client == k) ≡ b → mine k first list ≡ expected_entries k 0 (requests_of k (requests ++ r ∷ [])) (answers_of more k)
     as_before k b e = sym (append-nil (mine k first list)) ∙ ap (λ ps. mine k first list ++ ps) (sym (nothing k b)) ∙ sym (expects requests first list end answers more r a one t k b e)
 
 -- a step is listed
-pub told_step : (requests : List Request) (first : ℕ) (list : List Listed) (end : End) (answers : List (List Answer)) (q r : ℕ) (l : Listed) → l.entry ≡ StepEntry q r → AreTold requests first list end answers
-    → AreTold requests first (list ++ l ∷ []) end answers
-told_step requests first list end answers q r l is t = record {
+pub answered_step : (requests : List Request) (first : ℕ) (list : List Listed) (end : End) (answers : List (List Answer)) (q r : ℕ) (l : Listed) → l.entry ≡ StepEntry q r → AreAnswered requests first list end answers
+    → AreAnswered requests first (list ++ l ∷ []) end answers
+answered_step requests first list end answers q r l is t = record {
   many = t.many;
   each = λ k. mine_more k first list l ∙ ap (λ e. mine k first list ++ only_if (is_of k e) (first + length list, l)) is ∙ append-nil (mine k first list) ∙ t.each k;
   others = t.others;
@@ -177,7 +178,7 @@ requests_counted k earlier (r ∷ rs) = ap (before k) (sym (append_assoc earlier
     by false e = omega (arith, e)
 
 -- a client's next request has the number of its answers
-pub next_index : (requests : List Request) (first : ℕ) (list : List Listed) (end : End) (answers : List (List Answer)) (client : ℕ) → AreTold requests first list end answers
+pub next_index : (requests : List Request) (first : ℕ) (list : List Listed) (end : End) (answers : List (List Answer)) (client : ℕ) → AreAnswered requests first list end answers
     → length (answers_of answers client) ≡ count_by (λ (x : Request). x.client == client) requests
 next_index requests first list end answers k t = let counted = requests_counted k [] requests in let m = t.many k in omega (arith, counted, m)
 

@@ -11,10 +11,9 @@ use Rattle.ss_model.specs.declared.entry.Outcome.TheVariants.{Done}
 use Rattle.ss_model.specs.declared.entry.Request.{Request}
 use Rattle.ss_model.specs.Database.{Database, empty_database}
 use Rattle.ss_model.specs.Report.{Rising, client_index, Whole, Report, report_text}
-use Rattle.ss_model.proofs.SlidingSeen.{sliding_seen, accepted}
-use Rattle.ss_model.proofs.SlidingRun.{push_and_step, push_and_step_replay}
-use Rattle.ss_report_laws.specs.OneList.{Tells}
-use Rattle.ss_report_laws.proofs.Told.{one_list}
+use Rattle.ss_model.proofs.CallerLemmas.{sliding_seen, accepted, push_and_step, push_and_step_replay}
+use Rattle.ss_report_laws.specs.OneList.{ReportsList}
+use Rattle.ss_report_laws.proofs.AnsweredEntries.{one_list}
 
 abbrev batch : Rows
 batch = (Int (pos 7) ∷ []) ∷ []
@@ -45,9 +44,9 @@ reported = record {
   text = refl;
 }
 
-told : Tells sliding_seen pushes start bytes push_and_step
-told = record { replays = push_and_step_replay; first = 0; end = Whole; report = reported }
+answered : ReportsList sliding_seen pushes start bytes push_and_step
+answered = record { replays = push_and_step_replay; first = 0; end = Whole; report = reported }
 
 -- whoever has these bytes and requests has this list
-alone : (other : List Listed) → Tells sliding_seen pushes start bytes other → push_and_step ≡ other
-alone other tells = one_list sliding_seen accepted pushes start bytes push_and_step other told tells
+alone : (other : List Listed) → ReportsList sliding_seen pushes start bytes other → push_and_step ≡ other
+alone other tells = one_list sliding_seen accepted pushes start bytes push_and_step other answered tells

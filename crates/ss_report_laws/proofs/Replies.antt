@@ -1,4 +1,4 @@
--- The replies tell which of the asked entries stand in the list.
+-- From the replies follows which of the requests' entries are in the list.
 use Rattle.std.proofs.Common.{◌≡◌, ◌∙◌, ◌+◌, ◌||◌, ℕ, List, [], ◌∷◌, ◌++◌, Bool, true, false, cond, Option, Some, None, is_some, refl, sym, ap}
 use Rattle.std.specs.List.{AllByRecursion, Contains}
 use Rattle.std.proofs.lemmas.List.Elements.{All-from_recursion, All-contains}
@@ -14,7 +14,7 @@ use Rattle.ss_model.specs.declared.entry.Request.{Request}
 use Rattle.ss_model.specs.Report.{entries_behind, asked_entries, is_same_request, find_listed, IsAnswer, AreAnswers, End, Whole, Stopped, Unlisted, reply_lines}
 use Rattle.ss_model.specs.ReportLines.{reply_line}
 use Rattle.ss_report_laws.proofs.Lines.{texts}
-use Rattle.ss_report_laws.proofs.Words.{is_listed, same_replies}
+use Rattle.ss_report_laws.proofs.LineText.{is_listed, same_replies}
 
 -- whether a request's entry stands in a list
 abbrev pub is_found : Entry → List Listed → Bool
@@ -30,16 +30,16 @@ found_some place e (l ∷ ls) =
     ]
 
 -- an answer is of a listed entry where there is one, and only there
-answer_told : (end : End) (o : Option (ℕ × Outcome)) (a : Answer) → IsAnswer (Unlisted end) o a → is_listed a ≡ is_some o
-answer_told Whole None (ListedAnswer place outcome) h = absurd h
-answer_told (Stopped stop) None (ListedAnswer place outcome) h = absurd h
-answer_told end None NoMemory h = refl
-answer_told end None (ListFull n) h = refl
-answer_told end None (Halted faults) h = refl
-answer_told end (Some found) a h = ap is_listed h
+answer_answered : (end : End) (o : Option (ℕ × Outcome)) (a : Answer) → IsAnswer (Unlisted end) o a → is_listed a ≡ is_some o
+answer_answered Whole None (ListedAnswer place outcome) h = absurd h
+answer_answered (Stopped stop) None (ListedAnswer place outcome) h = absurd h
+answer_answered end None NoMemory h = refl
+answer_answered end None (ListFull n) h = refl
+answer_answered end None (Halted faults) h = refl
+answer_answered end (Some found) a h = ap is_listed h
 
 answer_found : (end : End) (place : ℕ) (list : List Listed) (e : Entry) (a : Answer) → IsAnswer (Unlisted end) (find_listed place e list) a → is_found e list ≡ is_listed a
-answer_found end place list e a h = sym (found_some place e list) ∙ sym (answer_told end (find_listed place e list) a h)
+answer_found end place list e a h = sym (found_some place e list) ∙ sym (answer_answered end (find_listed place e list) a h)
 
 -- both lists have it, or neither
 abbrev pub IsInBoth : List Listed → List Listed → Entry → Type 0

@@ -1,15 +1,16 @@
--- What is told client by client is told in the order of the input.
+-- Where the list has the entries that the answers report client by client, so it has by the answers in the order of the input.
 use Rattle.std.proofs.Common.{◌≡◌, ◌∙◌, ℕ, zero, suc, ◌+◌, ◌<◌, ◌≤◌, ◌==◌, List, [], ◌∷◌, ◌++◌, length, map, get_or, drop, drop-cons, add-one, Bool, true, false, cond, refl, sym, ap, subst, arith}
 use Rattle.std.specs.List.{AllByRecursion}
 use Rattle.std.proofs.lemmas.List.{length-map}
+use Rattle.ss_lemmas.proofs.Numbers.{eqb_self, eqb_is}
 use Rattle.ss_model.specs.declared.entry.Answer.{Answer}
 use Rattle.ss_model.specs.declared.entry.Asked.{Asked}
 use Rattle.ss_model.specs.declared.entry.Asked.TheVariants.{Call as CallAsked, Push as PushAsked}
 use Rattle.ss_model.specs.declared.entry.Listed.{Listed}
 use Rattle.ss_model.specs.declared.entry.Request.{Request}
 use Rattle.ss_model.specs.Report.{End, Unlisted, asked_entry, entries_behind, asked_entries}
-use Rattle.ss_report_laws.specs.Replies.{requests_of, answers_of, expected, IsListedOr, AreTold, answer_to, woven, ToldIsReport}
-use Rattle.ss_report_laws.proofs.Telling.{before, count_one, count_here, equal_of, itself, AreToldInOrder, told_in_order}
+use Rattle.ss_report_laws.specs.Replies.{requests_of, answers_of, expected_entries, IsListedOr, AreAnswered, answer_to, weave, AnswersMakeReport}
+use Rattle.ss_report_laws.proofs.AnswersInOrder.{before, count_one, count_here, AreAnsweredInOrder, answered_in_order}
 use Rattle.ss_report_laws.proofs.ByClient.{answers_to, by_client, same_before}
 
 -- the answer to a client's request of a number
@@ -58,7 +59,7 @@ module _ (missing : Answer) (answers : List (List Answer)) where
           → (b : Bool) → (r.client == k) ≡ b → cond b (a ∷ later) later ≡ drop (before k earlier) (answers_of answers k)
       by a later one rest true is =
           let less : before k earlier < length (answers_of answers k) = one_left answers k earlier r rs h is in
-          let own : a ≡ get_or (answers_of answers k) (before k earlier) missing = one ∙ ap (λ c. get_or (answers_of answers c) (before c earlier) missing) (equal_of r.client k is) in
+          let own : a ≡ get_or (answers_of answers k) (before k earlier) missing = one ∙ ap (λ c. get_or (answers_of answers c) (before c earlier) missing) (eqb_is r.client k is) in
           let next : before k (earlier ++ r ∷ []) ≡ suc (before k earlier) = count_here (λ (x : Request). x.client == k) earlier r is ∙ add-one (before k earlier) in
           (λ i. own i ∷ (rest ∙ ap (λ n. drop n (answers_of answers k)) next) i) ∙ sym (drop-cons (answers_of answers k) (before k earlier) missing less)
       by a later one rest false is = rest ∙ ap (λ n. drop n (answers_of answers k)) (same_before k earlier r is)
@@ -73,20 +74,20 @@ module _ (missing : Answer) (answers : List (List Answer)) where
   woven_others P earlier [] h all = tt
   woven_others P earlier (r ∷ rs) h all = (
     subst P (sym (answer_asked missing answers r.client (before r.client earlier) r.what))
-        (all_at P (answers_of answers r.client) (before r.client earlier) missing (all r.client) (one_left answers r.client earlier r rs h (itself r.client))),
+        (all_at P (answers_of answers r.client) (before r.client earlier) missing (all r.client) (one_left answers r.client earlier r rs h (eqb_self r.client))),
     woven_others P (earlier ++ r ∷ []) rs (enough_next answers earlier r rs h) all,
   )
 
 -- ---- all answers
 
-pub told_clients : (requests : List Request) (first : ℕ) (list : List Listed) (end : End) (missing : Answer) (answers : List (List Answer)) → AreTold requests first list end answers → AreToldInOrder requests first list end (woven missing requests answers)
-told_clients requests first list end missing answers t =
+pub answered_clients : (requests : List Request) (first : ℕ) (list : List Listed) (end : End) (missing : Answer) (answers : List (List Answer)) → AreAnswered requests first list end answers → AreAnsweredInOrder requests first list end (weave missing requests answers)
+answered_clients requests first list end missing answers t =
     let enough : IsEnough answers [] requests = λ k. (let e = t.many k in omega (arith, e)) in
     record {
       many = length-map (asked_entries requests) (answer_to missing answers);
-      each = λ k. t.each k ∙ sym (by_client k [] requests (woven missing requests answers) ∙ ap (expected k 0 (requests_of k requests)) (woven_to missing answers k [] requests enough));
+      each = λ k. t.each k ∙ sym (by_client k [] requests (weave missing requests answers) ∙ ap (expected_entries k 0 (requests_of k requests)) (woven_to missing answers k [] requests enough));
       others = woven_others missing answers (IsListedOr (Unlisted end)) [] requests enough t.others;
     }
 
-pub told_report : ToldIsReport
-told_report = λ catalog requests db first list end missing answers t. told_in_order catalog requests db first list end (woven missing requests answers) (told_clients requests first list end missing answers t)
+pub answered_report : AnswersMakeReport
+answered_report = λ catalog requests db first list end missing answers t. answered_in_order catalog requests db first list end (weave missing requests answers) (answered_clients requests first list end missing answers t)

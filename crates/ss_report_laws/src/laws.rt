@@ -1,15 +1,15 @@
 //! Laws of reports, each the contract of a function that does nothing.
 
-ghost use Rattle.ss_report_laws.specs.OneList.{ReportsTellOneList};
-ghost use Rattle.ss_report_laws.specs.Replies.{ToldIsReport};
+ghost use Rattle.ss_report_laws.specs.OneList.{AReportHasOneList};
+ghost use Rattle.ss_report_laws.specs.Replies.{AnswersMakeReport};
 
-/// Two lists that replay from one database, and whose reports for the same requests are the same bytes, are one list.
-pub fn reports_tell_one_list()
-    ensures { ReportsTellOneList }
+/// Two lists that replay from one database, and have the same bytes as their reports for the same requests, are one.
+pub fn a_report_has_one_list()
+    ensures { AReportHasOneList }
 {}
 
-/// Where of each client the list has just what its answers tell, the answers in the order of the requests, the list and
-/// the end make up the report.
-pub fn told_is_report()
-    ensures { ToldIsReport }
+/// Where the list has of each client just the entries that its answers report, the answers in the order of the
+/// requests, the list and the end make up the report.
+pub fn answers_make_report()
+    ensures { AnswersMakeReport }
 {}

@@ -1,8 +1,15 @@
-//! Laws of reports, on the definitions alone.
+//! Laws of reports, on the definitions alone: each is the contract of a function that does nothing, in `laws`.
 //!
-//! Whoever has the requests, the database before them and the bytes of a report has the list: no other list that
-//! replays has the same report. And what each client was told of its own requests makes up the report, whose replies
-//! stand in the order of the input. Each law is the contract of a function that does nothing.
+//! - `a_report_has_one_list`: whoever has the requests, the database before them and the bytes of a report has the
+//!   list, since no other list that replays has the same report
+//! - `answers_make_report`: the answers to each client's own requests make up the report, whose replies are in the
+//!   order of the input. It says nothing of how the answers came about, so it serves every way to run
+//!
+//! `specs/OneList` and `specs/Replies` state them; `proofs/Premises` and `proofs/RepliesPremises` meet their premises
+//! at a small catalogue. They are a crate of their own, below those that run requests and write reports (`ss_run`,
+//! `ss_report`), since both promise in the words of `specs/Replies`.
 #![tactic(auto)]
 
-pub mod laws;
+mod laws;
+
+pub use laws::{a_report_has_one_list, answers_make_report};

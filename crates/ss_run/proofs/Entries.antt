@@ -4,6 +4,7 @@ use Rattle.std.specs.declared.option.Option.{Option}
 use Rattle.std.specs.Option.{option_map}
 use Rattle.std.specs.declared.result.Result.{Result}
 use Rattle.std.specs.Prelude.{Ok, Err, IfOk, IfSome}
+use Rattle.ss_lemmas.proofs.LoopItem.{get_last}
 use Rattle.ss_value.specs.Rows.{Rows}
 use Rattle.ss_model.specs.declared.catalog.Catalog.{Catalog}
 use Rattle.ss_model.specs.declared.entry.Entry.{Entry}
@@ -16,18 +17,15 @@ use Rattle.ss_model.specs.InStep.{IsInStep}
 use Rattle.ss_model.specs.Replays.{Replays}
 use Rattle.ss_model.specs.Settling.{pending_steps}
 use Rattle.ss_model.specs.WholeDatabase.{HadAtMost}
-use Rattle.ss_model.proofs.Replays.{goes_on}
-use Rattle.ss_model_laws.proofs.Advanced.{steps_move}
-use Rattle.ss_model_laws.proofs.InStep.{in_step_after, empty_in_step}
-use Rattle.ss_model_laws.proofs.Settled.{lower_pending}
-use Rattle.ss_model_laws.proofs.WholeDatabase.{empty_whole, had_at_most}
+use Rattle.ss_model.proofs.CallerLemmas.{goes_on}
+use Rattle.ss_model_laws.proofs.CallerLemmas.{steps_move, in_step_after, empty_in_step, lower_pending, empty_whole, had_at_most}
 use Rattle.ss_stream.specs.Pending.{Pending}
 use Rattle.ss_stream.specs.OfDatabase.{AreStreamsOf}
 use Rattle.ss_flow.specs.Advances.{Advances}
-use Rattle.ss_shard.specs.HeldShard.{HeldShard}
+use Rattle.ss_shard.specs.ShardValue.{ShardValue}
 use Rattle.ss_shard.specs.Windows.{HoldsDatabase}
 use Rattle.ss_proc.specs.declared.runner.Executed.{Executed}
-use Rattle.ss_proc.specs.Entries.{IsCountable, Keeps, Ran}
+use Rattle.ss_proc.specs.Entries.{IsCountable, Commits, Ran}
 use Rattle.ss_run.specs.Stands.{Joined, database_at, with_entry}
 
 no_batches : (n s : ℕ) → ◌≡◌ {A = List Rows} (get_or (replicate n []) s []) []
@@ -58,7 +56,7 @@ module _ (catalog : Catalog) (accepted : Accepted catalog) where
       (goes_on catalog (empty_database catalog) list (record { entry = e; outcome = o } ∷ [])).joins r (ap (option_map (λ (a : Applied). a.outcome)) is ∙ ap Some (sym same), tt)
 
   -- what the streams need of an entry that has run
-  pub advances_at : (list : List Listed) (e : Entry) (executed : Executed) (shard : HeldShard) (streams : List Pending) → length list < 2 ^ 60 → (ran : Ran catalog (database_at catalog list) e executed shard)
+  pub advances_at : (list : List Listed) (e : Entry) (executed : Executed) (shard : ShardValue) (streams : List Pending) → length list < 2 ^ 60 → (ran : Ran catalog (database_at catalog list) e executed shard)
       → AreStreamsOf catalog (database_at catalog list) streams → Advances catalog (database_at catalog list) e ran.applied executed.emitted streams
   advances_at list e executed shard streams short ran are = record {
     shape = (in_step list).matched.shape;
@@ -68,7 +66,7 @@ module _ (catalog : Catalog) (accepted : Accepted catalog) where
     few = λ s. let many = (few_batches list).streams s in omega arith;
   }
 
-  -- and what keeping it needs
+  -- and what its commit needs
   pub countable_at : (list : List Listed) (e : Entry) (a : Applied) → length list < 2 ^ 60 → apply catalog (database_at catalog list) e ≡ Some a → IsCountable e
   countable_at list (Call client index q args) a short is = tt
   countable_at list (Push client index s source seq rows) a short is = tt
@@ -89,19 +87,14 @@ module _ (catalog : Catalog) (accepted : Accepted catalog) where
       let (a, is) = value_of _ joined.outcome last.0 in
       rw (joined.joined, after_one list (StepEntry q r) joined.outcome a is) (lower_pending catalog accepted (database_at catalog list) (in_step list) q r a is)
 
--- once it is kept, the shard stands for what the entry leaves
-pub kept_listed : (catalog : Catalog) (db : Database) (e : Entry) (executed : Executed) (shard new : HeldShard) (l : Listed) → l ≡ record { entry = e; outcome = executed.outcome } → (ran : Ran catalog db e executed shard)
-    → Keeps catalog l.entry l.outcome shard new → HoldsDatabase catalog new ran.applied.db
-kept_listed catalog db e executed shard new l is ran keeps = subst (λ (x : Listed). Keeps catalog x.entry x.outcome shard new) is keeps db executed ran refl
-
--- ---- the last of a list
-last_at : {A : Type 0} (xs : List A) (x : A) → slice_get (xs ++ x ∷ []) (length xs) ≡ Some x
-last_at [] x = refl
-last_at (y ∷ ys) x = last_at ys x
+-- once it is committed, the shard stands for what the entry leaves
+pub kept_listed : (catalog : Catalog) (db : Database) (e : Entry) (executed : Executed) (shard new : ShardValue) (l : Listed) → l ≡ record { entry = e; outcome = executed.outcome } → (ran : Ran catalog db e executed shard)
+    → Commits catalog l.entry l.outcome shard new → HoldsDatabase catalog new ran.applied.db
+kept_listed catalog db e executed shard new l is ran keeps = subst (λ (x : Listed). Commits catalog x.entry x.outcome shard new) is keeps db executed ran refl
 
 pub last_is : {A : Type 0} (xs new : List A) (x y : A) (n : ℕ) → new ≡ xs ++ x ∷ [] → n ≡ length xs → slice_get new n ≡ Some y → y ≡ x
 last_is xs new x y n joined at here =
-    let there : slice_get new n ≡ Some x = rw (joined, at) (last_at xs x) in
+    let there : slice_get new n ≡ Some x = rw (joined, at) (get_last xs x) in
     let both : Some y ≡ Some x = sym here ∙ there in
     cc
 

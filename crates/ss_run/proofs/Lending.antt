@@ -15,12 +15,12 @@ use Rattle.ss_model.specs.declared.entry.Entry.TheVariants.{Call, Push, Step as 
 use Rattle.ss_model.specs.Accepted.{Accepted}
 use Rattle.ss_model.specs.Database.{Database, batch_count, stream_batches, is_ready, is_ready_entry, takes_stream}
 use Rattle.ss_model.specs.Orders.{procedure_takes}
-use Rattle.ss_model.proofs.Truths.{first_of_two, second_of_two}
+use Rattle.ss_lemmas.proofs.Bools.{first_of_two, second_of_two}
 use Rattle.ss_stream.specs.Pending.{cursor_at, least_passed, pending_batch}
 use Rattle.ss_stream.specs.Streams.{ReservedStreams, stream_at}
 use Rattle.ss_stream.specs.OfDatabase.{AreStreamsOf, consumer_cursors, kept_stream}
-use Rattle.ss_sched.proofs.Counts.{inputs_below}
-use Rattle.ss_shard.specs.HeldShard.{HeldShard}
+use Rattle.ss_sched.proofs.CallerLemmas.{inputs_below}
+use Rattle.ss_shard.specs.ShardValue.{ShardValue}
 use Rattle.ss_shard.specs.Windows.{HoldsDatabase}
 use Rattle.ss_proc.specs.Entries.{AreAtHand, IsNext}
 use Rattle.ss_run.specs.Stands.{HasBatch, HasBatches, batch_at, batches_for}
@@ -97,7 +97,7 @@ module _ (catalog : Catalog) (db : Database) where
   pub record Finds (streams : ReservedStreams) (e : Entry) : Type 0 where
     pub there : HasBatches catalog streams e
     pub at_hand : AreAtHand catalog db e (batches_for catalog streams e)
-    pub next : (shard : HeldShard) → HoldsDatabase catalog shard db → IsNext e shard
+    pub next : (shard : ShardValue) → HoldsDatabase catalog shard db → IsNext e shard
 
   finds_step : (accepted : Accepted catalog) (streams : ReservedStreams) → AreStreamsOf catalog db streams.streams → (q r : ℕ) (o : Option Procedure) → slice_get catalog.procedures q ≡ o → unwrap_or (option_map (is_ready db q r) o) false ≡ true → Finds streams (StepEntry q r)
   finds_step accepted streams are q r None here ready = cc

@@ -5,8 +5,8 @@ use Rattle.ss_model.specs.declared.catalog.Catalog.{Catalog}
 use Rattle.ss_model.specs.declared.entry.Entry.TheVariants.{Step as StepEntry}
 use Rattle.ss_model.specs.Database.{Database, batch_count, is_ready, is_ready_entry, fits_entry}
 use Rattle.ss_model.specs.Settling.{is_ready_now}
-use Rattle.ss_model.proofs.Truths.{first_of_two}
-use Rattle.ss_model_laws.proofs.Readiness.{named}
+use Rattle.ss_lemmas.proofs.Bools.{first_of_two}
+use Rattle.ss_model_laws.proofs.CallerLemmas.{named}
 
 module _ (catalog : Catalog) (db : Database) where
   -- the step of a ready procedure is ready and fits

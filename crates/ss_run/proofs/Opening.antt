@@ -6,7 +6,7 @@ use Rattle.ss_model.specs.declared.catalog.Catalog.{Catalog}
 use Rattle.ss_model.specs.declared.catalog.WindowDef.{WindowDef}
 use Rattle.ss_model.specs.Accepted.{Accepted}
 use Rattle.ss_model.specs.CatalogForm.{has_window_sizes}
-use Rattle.ss_model.proofs.Truths.{first_of_two, second_of_two}
+use Rattle.ss_lemmas.proofs.Bools.{first_of_two, second_of_two}
 use Rattle.ss_shard.specs.Databases.{WindowIsSound}
 
 -- the windows of an accepted catalogue are sound

@@ -1,4 +1,4 @@
--- The premises of a run at the workflow that splits a batch and joins it again, and a list that answers them.
+-- The premises of a run, met by the workflow that splits a batch and joins it again, and a list that answers its requests.
 use Rattle.std.proofs.Common.{◌≡◌, ℕ, pos, codes, [], ◌∷◌, true, refl, inl, replicate, arith}
 use Rattle.ss_value.specs.declared.value.Value.TheVariants.{Int}
 use Rattle.ss_model.specs.declared.entry.Answer.TheVariants.{Listed as ListedAnswer}
@@ -7,12 +7,11 @@ use Rattle.ss_model.specs.declared.entry.Outcome.TheVariants.{Done}
 use Rattle.ss_model.specs.declared.entry.Request.{Request}
 use Rattle.ss_model.specs.Accepted.{Accepted}
 use Rattle.ss_model.specs.Report.{Whole}
-use Rattle.ss_report_laws.specs.Replies.{AreTold}
-use Rattle.ss_report_laws.proofs.OneMore.{pushed_one, told_nothing}
-use Rattle.ss_model_laws.proofs.Workflow.{accepted, workflow}
-use Rattle.ss_model_laws.proofs.WorkflowRun.{whole_batch}
+use Rattle.ss_report_laws.specs.Replies.{AreAnswered}
+use Rattle.ss_report_laws.proofs.CallerLemmas.{pushed_one, answered_nothing}
+use Rattle.ss_model_laws.proofs.CallerLemmas.{accepted, workflow, whole_batch}
 use Rattle.ss_run.specs.RunAnswers.{AnswersInOrder, all_fit}
-use Rattle.ss_run.proofs.Told.{told_next}
+use Rattle.ss_run.proofs.Answering.{answered_next}
 
 -- client 0 pushes a batch, and then the same one again
 abbrev pushes : ℕ → Request
@@ -29,8 +28,8 @@ both_fit = refl
 pub in_order : AnswersInOrder (pushes 2 ∷ []) whole_batch
 in_order = inl (refl, tt)
 
-pub told : AreTold (pushes 2 ∷ []) 0 whole_batch Whole ((ListedAnswer 0 (Done []) ∷ []) ∷ replicate 7 [])
-told =
-    told_next [] [] whole_batch (replicate 8 []) _ (pushes 2) (ListedAnswer 0 (Done [])) (told_nothing 0 Whole 8)
+pub answered : AreAnswered (pushes 2 ∷ []) 0 whole_batch Whole ((ListedAnswer 0 (Done []) ∷ []) ∷ replicate 7 [])
+answered =
+    answered_next [] [] whole_batch (replicate 8 []) _ (pushes 2) (ListedAnswer 0 (Done [])) (answered_nothing 0 Whole 8)
     (record { at_end = refl; by_steps = record { steps = _; is = refl; all_steps = refl } })
     (pushed_one 0 (ListedAnswer 0 (Done [])) (replicate 8 []) _ (omega arith) refl)

@@ -1,4 +1,4 @@
--- How far the streams of a database are.
+-- How many batches the streams of a database have had.
 use Rattle.std.proofs.Common.{◌≡◌, ◌<◌, ◌∙◌, ℕ, List, [], map, length, get_or, arith, ap, sym}
 use Rattle.std.proofs.lemmas.List.FromFn.{get_or-map-range_with_len, length-map-range_with_len, fill_by_all}
 use Rattle.std.proofs.lemmas.List.{length-map}
@@ -12,7 +12,7 @@ use Rattle.ss_model.specs.Orders.{HasShape}
 use Rattle.ss_stream.specs.Pending.{Pending, emitted_count}
 use Rattle.ss_stream.specs.Streams.{no_stream}
 use Rattle.ss_stream.specs.OfDatabase.{AreStreamsOf, consumer_cursors, kept_stream}
-use Rattle.ss_stream.proofs.Least.{count-from}
+use Rattle.ss_stream.proofs.CallerLemmas.{count-from}
 use Rattle.ss_sched.specs.Progress.{HasProgress}
 use Rattle.ss_shard.specs.declared.database.Database.{Database}
 use Rattle.ss_run.specs.Stands.{IsAt, database_at}

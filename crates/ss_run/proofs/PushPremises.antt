@@ -1,4 +1,4 @@
--- What a push asks for before it runs and before it is kept, at a catalogue with a window and a border stream.
+-- The premises of a push before it runs and before it is committed, met by a catalogue with a window and a border stream.
 use Rattle.std.proofs.Common.{◌≡◌, ◌≤◌, ◌∙◌, ℕ, cond, pos, true, List, [], ◌∷◌, length, Some, is_some, ap, refl, arith}
 use Rattle.std.specs.List.{AllByRecursion}
 use Rattle.std.specs.Cmp.{eq_by_cmp_equiv}
@@ -9,10 +9,10 @@ use Rattle.ss_model.specs.declared.entry.Entry.{Entry}
 use Rattle.ss_model.specs.declared.entry.Entry.TheVariants.{Push}
 use Rattle.ss_model.specs.declared.entry.Outcome.TheVariants.{Done, Gap}
 use Rattle.ss_model.specs.Database.{NextNumbers, empty_database, fits_entry}
-use Rattle.ss_model.proofs.SlidingSeen.{sliding_seen}
+use Rattle.ss_model.proofs.CallerLemmas.{sliding_seen}
 use Rattle.ss_shard.specs.Databases.{WindowIsSound}
 use Rattle.ss_shard.specs.Sources.{HasSource}
-use Rattle.ss_proc.specs.Entries.{AreAtHand, IsCountable, IsPlaced}
+use Rattle.ss_proc.specs.Entries.{AreAtHand, IsCountable, EntryHasSource}
 
 -- its database can be opened
 pub sound : AllByRecursion WindowIsSound sliding_seen.windows
@@ -53,9 +53,9 @@ at_hand = refl
 pub countable : IsCountable push
 countable = tt
 
--- it can be kept where it was accepted and its source has its place, and where it was not
-pub placed : IsPlaced push (Done []) (given ∷ [])
-placed = (stands, omega arith)
+-- it can be committed where it was accepted and its source has its place, and where it was not
+pub sourced : EntryHasSource push (Done []) (given ∷ [])
+sourced = (stands, omega arith)
 
-pub refused : IsPlaced push (Gap 3) []
+pub refused : EntryHasSource push (Gap 3) []
 refused = tt

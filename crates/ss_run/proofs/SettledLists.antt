@@ -8,8 +8,8 @@ use Rattle.ss_model.specs.Database.{Database, batch_count, empty_database}
 use Rattle.ss_model.specs.Replays.{after, database_after}
 use Rattle.ss_model.specs.Settled.{SettlesOn}
 use Rattle.ss_model.specs.Settling.{after_entries, next_settled}
-use Rattle.ss_model.proofs.Replays.{goes_on}
-use Rattle.ss_model_laws.proofs.Settled.{loop_settles}
+use Rattle.ss_model.proofs.CallerLemmas.{goes_on}
+use Rattle.ss_model_laws.proofs.CallerLemmas.{loop_settles}
 use Rattle.ss_run.specs.BySteps.{SettledBy, SettlesSoFar}
 use Rattle.ss_run.specs.Stands.{Joined, database_at}
 

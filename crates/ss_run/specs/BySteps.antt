@@ -16,34 +16,34 @@ use Rattle.ss_model.specs.Settling.{Settles, pending_steps}
 use Rattle.ss_run.specs.RunAnswers.{client_entries}
 use Rattle.ss_run.specs.Stands.{Joined, database_at, with_entry}
 
--- a list that goes on by steps alone
+-- the second list is the first with steps alone behind it
 pub record GoesOnBySteps (list new : List Listed) : Type 0 where
   pub steps : List Listed
   pub is : new ≡ list ++ steps
   pub all_steps : client_entries steps ≡ []
 
--- the next step of a procedure joined the list, and one less is to run
+-- the next step of a procedure joined the list, and one step less is pending
 pub record NextJoined (catalog : Catalog) (list new : List Listed) (q : ℕ) : Type 0 where
   pub joined : Joined list new (StepEntry q (batch_count (database_at catalog list) q))
   pub lowers : pending_steps catalog (database_at catalog new) + 1 ≡ pending_steps catalog (database_at catalog list)
 
--- one step joined the list, and one less is to run
+-- one step joined the list, and one step less is pending
 pub record StepJoined (catalog : Catalog) (list new : List Listed) : Type 0 where
   pub procedure : ℕ
   pub batch : ℕ
   pub joined : Joined list new (StepEntry procedure batch)
   pub lowers : pending_steps catalog (database_at catalog new) + 1 ≡ pending_steps catalog (database_at catalog list)
 
--- each hint is a procedure's of the catalogue, and there are at most 64
+-- each hint names a procedure of the catalogue, and there are at most 64
 pub record AreHinted (catalog : Catalog) (hints : List ℕ) : Type 0 where
   pub there : AllByRecursion (λ h. h < length catalog.procedures) hints
   pub few : length hints ≤ 64
 
--- a hint was followed: nothing changed, or one step joined the list, and one less is to run
+-- a hint was followed: list and hints are as they were, or one step joined the list, and one step less is pending
 abbrev pub HintRan : Catalog → List Listed → List Listed → List ℕ → List ℕ → Type 0
 HintRan catalog list new hints left = ((new ≡ list) × (left ≡ hints)) ⊎ StepJoined catalog list new
 
--- an entry joined a list at this place with this outcome, and steps behind it
+-- an entry joined the list at its end, which is this place, with this outcome, and steps alone behind it
 pub record Answered (list new : List Listed) (e : Entry) (place : ℕ) (outcome : Outcome) : Type 0 where
   pub at_end : place ≡ length list
   pub by_steps : GoesOnBySteps (with_entry list e outcome) new
@@ -54,17 +54,17 @@ IsAnswered list new e (ListedAnswer place outcome) = Answered list new e place o
 IsAnswered list new e NoMemory = new ≡ list
 IsAnswered list new e _ = ⊥
 
--- the request of this number was answered so, as the one at this index among its client's
+-- this is the answer to the request with this number, which is the one at this index among its client's
 abbrev pub AnswersRequest : List Request → ℕ → ℕ → List Listed → List Listed → Answer → Type 0
 AnswersRequest requests number index list new answer = (r : Request) → slice_get requests number ≡ Some r → IsAnswered list new (asked_entry r.client index r.what) answer
 
--- a list went on by just the steps that settling runs
+-- the second list is the first with just the steps behind it that settling runs
 pub record SettledBy (catalog : Catalog) (list new : List Listed) : Type 0 where
   pub steps : List Listed
   pub is : new ≡ list ++ steps
   pub settles : Settles catalog (database_at catalog list) (map (λ (l : Listed). l.entry) steps)
 
--- a list went on by steps that were each the next one of settling
+-- the second list is the first with steps behind it, each of which was the next one of settling
 pub record SettlesSoFar (catalog : Catalog) (list new : List Listed) : Type 0 where
   pub steps : List Listed
   pub is : new ≡ list ++ steps

@@ -8,11 +8,11 @@ use Rattle.ss_model.specs.declared.entry.Request.{Request}
 use Rattle.ss_model.specs.Database.{fits_entry}
 use Rattle.ss_model.specs.Report.{asked_entries, is_step}
 
--- whether every request asks for what is in the catalogue, with what fits
+-- whether each request names what the catalogue has, with arguments or rows that fit it
 abbrev pub all_fit : Catalog → List Request → Bool
 all_fit catalog requests = list_all (fits_entry catalog) (asked_entries requests)
 
--- the first list is the second in its order, but for some that are left out
+-- the first list is the second without some of its items
 abbrev pub IsPartOf : {A : Type 0} → List A → List A → Type 0
 IsPartOf [] ys = Unit {0}
 IsPartOf (x ∷ xs) [] = ⊥
@@ -22,6 +22,6 @@ IsPartOf (x ∷ xs) (y ∷ ys) = ((x ≡ y) × IsPartOf xs ys) ⊎ IsPartOf (x �
 abbrev pub client_entries : List Listed → List Entry
 client_entries list = filter (λ e. not (is_step e)) (map (λ (l : Listed). l.entry) list)
 
--- what clients asked for in the list are the requests in order, but for those that are left out
+-- the entries that clients asked for are those of the requests, in order, without some of them
 abbrev pub AnswersInOrder : List Request → List Listed → Type 0
 AnswersInOrder requests list = IsPartOf (client_entries list) (asked_entries requests)

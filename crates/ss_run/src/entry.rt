@@ -1,24 +1,22 @@
-//! One entry: it runs, joins the list, and only then is final.
+//! One entry: it runs, joins the list, and only then is committed.
 
 ghost use Rattle.std.specs.Prelude.{◌≡◌, true, length, IfSome, IfNone};
 ghost use Rattle.ss_model.specs.Accepted.{Accepted};
 ghost use Rattle.ss_model.specs.Database.{fits_entry, is_ready_entry};
-ghost use Rattle.ss_shard.specs.HeldShard.{HeldShard};
+ghost use Rattle.ss_shard.specs.ShardValue.{ShardValue};
 ghost use Rattle.ss_run.specs.Stands.{CanBeListed, IsAt, Joined, JoinedAs, database_at, with_entry};
 
 use crate::execution::execute_entry;
-use ss_flow::flow::advance;
-use ss_flow::room::make_room;
-use ss_model::catalog::Catalog;
-use ss_model::entry::{Entry, Listed, Outcome};
-use ss_proc::ends::{keep, rollback};
-use ss_proc::runner::Executed;
-use ss_shard::database::Database;
-use ss_value::copies::Copies;
-use ss_value::seq::Seq;
+use ss_flow::{advance, make_room};
+use ss_model::{Catalog, Entry, Listed, Outcome};
+use ss_proc::{Executed, commit, rollback};
+use ss_shard::Database;
+use ss_value::{Copies, Seq};
 use std::alloc::Global;
 
-/// How many entries a list may have: at this count there is no place for another one, as if memory were wanting.
+/// The most entries of a list: one more is answered as at out of memory.
+///
+/// No memory holds as many, and the limit bounds every count of batches, so none leaves its machine type.
 const MOST_ENTRIES: usize = 1 << 60;
 
 /// A database with the list that led to it.
@@ -30,19 +28,21 @@ pub struct Store {
     pub list: Seq<Listed>,
 }
 
-/// Puts an entry that has run at the end of the list, and only then makes what it changed final. Answers its place.
+/// Puts an entry that has run at the end of the list, and only then commits what it changed. Answers its place.
 ///
-/// Costs what `keep` costs, and a move of its batches. None is for want of memory alone, for its batches or for its place
-/// in the list: then all is taken back, and list and store are as they were before the entry ran.
+/// Costs what `commit` costs, and a move of its batches. None means out of memory, for its batches or for its place in the
+/// list: then the entry is rolled back, and list and database are as they were before it ran.
 fn join_list(catalog: &Catalog, store: &mut Store, entry: Entry, executed: Executed) -> Option<u64>
     requires accepted { Accepted catalog.now }
-    requires ran { (before : HeldShard) × CanBeListed catalog.now before store.old.database store.old.list entry executed }
+    requires ran { (before : ShardValue) × CanBeListed catalog.now before store.old.database store.old.list entry executed }
     ensures at { IsAt catalog.now store.new.database store.new.list }
     ensures some { IfSome result (λ place. (place ≡ length store.old.list) × (store.new.list ≡ with_entry store.old.list entry executed.outcome)) }
     ensures none { IfNone result (store.new.list ≡ store.old.list) }
 {
     let Executed { outcome, emitted } = executed;
     let place = store.list.len();
+    // All that takes memory comes before the commit, and a rollback takes none: so the entry is in the list with its
+    // changes, or neither is there.
     if place >= MOST_ENTRIES {
         rollback(&mut store.database.whole);
         return None;
@@ -55,17 +55,18 @@ fn join_list(catalog: &Catalog, store: &mut Store, entry: Entry, executed: Execu
         rollback(&mut store.database.whole);
         return None;
     };
+    // Entry and outcome have moved into the list, and are lent from there.
     let Some(listed) = store.list.get(place) else {
         unreachable!()
     };
-    keep(&mut store.database.whole, &listed.entry, &listed.outcome);
+    commit(&mut store.database.whole, &listed.entry, &listed.outcome);
     advance(catalog, &mut store.database.streams, &listed.entry, emitted);
     Some(place as u64)
 }
 
 /// Runs an entry that is ready and puts it at the end of the list. Answers its place.
 ///
-/// Costs its execution, and what keeping it costs. None is for want of memory alone: then list and store are as they were.
+/// Costs its execution and its commit. None means out of memory: then list and database are as they were.
 pub fn list_entry(alloc: Global, catalog: &Catalog, store: &mut Store, entry: Entry) -> Option<u64>
     requires accepted { Accepted catalog.now }
     requires fits { fits_entry catalog.now entry ≡ true }
@@ -89,7 +90,7 @@ pub fn list_entry(alloc: Global, catalog: &Catalog, store: &mut Store, entry: En
 
 /// Runs an entry that is ready and puts it at the end of the list. Answers its place, and a copy of its outcome.
 ///
-/// The copy is linear in the reply. None is for want of memory alone: then list and store are as they were.
+/// The copy is linear in the reply. None means out of memory: then list and database are as they were.
 pub fn answer_entry(
     alloc: Global,
     catalog: &Catalog,
@@ -113,6 +114,7 @@ pub fn answer_entry(
     ) else {
         return None;
     };
+    // The copy for the client comes before the commit, behind which nothing can be rolled back.
     let Ok(outcome) = executed.outcome.duplicate(alloc) else {
         rollback(&mut store.database.whole);
         return None;

@@ -4,23 +4,20 @@ ghost use Rattle.std.specs.Prelude.{◌≡◌, true, map, IfOk, OnErr};
 ghost use Rattle.std.specs.List.{AllByRecursion};
 ghost use Rattle.ss_model.specs.Accepted.{Accepted};
 ghost use Rattle.ss_model.specs.Database.{Database as Model, fits_entry};
-ghost use Rattle.ss_shard.specs.Shards.{CanGoBack, IsOf, IsSettled, Same};
+ghost use Rattle.ss_shard.specs.Shards.{CanRollBack, IsOf, IsCommitted, Same};
 ghost use Rattle.ss_shard.specs.Windows.{HoldsDatabase};
-ghost use Rattle.ss_proc.specs.Entries.{IsPlaced};
+ghost use Rattle.ss_proc.specs.Entries.{EntryHasSource};
 ghost use Rattle.ss_run.specs.Stands.{HasBatch, HasBatches, IsReadyOn, RanWhereReady, batch_at, batches_for};
 
-use ss_model::catalog::Catalog;
-use ss_model::entry::Entry;
-use ss_plan::batches::Batches;
-use ss_plan::inputs::Inputs;
-use ss_proc::runner::{Executed, PlainRunner, Runner};
-use ss_shard::shard::Shard;
-use ss_stream::streams::Streams;
-use ss_value::NoMemory;
-use ss_value::seq::Seq;
+use ss_model::{Catalog, Entry};
+use ss_plan::{Batches, Inputs};
+use ss_proc::{Executed, PlainRunner, Runner};
+use ss_shard::Shard;
+use ss_stream::Streams;
+use ss_value::{NoMemory, Seq};
 use std::alloc::Global;
 
-/// The batches of this number of these streams, lent: none is copied. Fails only for want of memory.
+/// The batches with this number of these streams, lent and not copied.
 fn lend_batches<'a>(
     alloc: Global,
     streams: &'a Streams,
@@ -40,7 +37,7 @@ fn lend_batches<'a>(
     Ok(batches)
 }
 
-/// The batches that an entry takes: of a step those of its number of each input, of a call or a push none.
+/// The batches that an entry takes: a step takes from each of its inputs the one with its number, a call or a push none.
 fn input_batches<'a>(
     alloc: Global,
     catalog: &Catalog,
@@ -53,17 +50,17 @@ fn input_batches<'a>(
     let Entry::Step { procedure, batch } = entry else {
         return Ok(Batches::new(alloc));
     };
+    // The contract gives a procedure that isn't there no inputs, so this is an answer like another.
     let Some(found) = catalog.procedures.get(usize::from(*procedure)) else {
         return Ok(Batches::new(alloc));
     };
     lend_batches(alloc, streams, found.inputs.as_slice(), *batch)
 }
 
-/// Runs an entry on a shard between executions, a step on the batches that its inputs lend. The caller then keeps it or
-/// takes it back.
+/// Runs an entry on a shard between executions, a step on the batches that its inputs lend. The caller then commits it or
+/// rolls it back.
 ///
-/// Costs its body, and a look at each of its inputs. Fails only for want of memory, after which the shard stands for what
-/// it stood for.
+/// Costs its body, and a look at each of its inputs. After an error the shard stands for what it stood for before.
 pub fn execute_entry(
     alloc: Global,
     catalog: &Catalog,
@@ -73,19 +70,20 @@ pub fn execute_entry(
 ) -> Result<Executed, NoMemory>
     requires accepted { Accepted catalog.now }
     requires fits { fits_entry catalog.now entry.now ≡ true }
-    requires settled { IsSettled catalog.now whole.old }
+    requires committed { IsCommitted catalog.now whole.old }
     requires ready { IsReadyOn catalog.now whole.old streams.now.streams entry.now }
-    ensures ran { IfOk result (RanWhereReady catalog.now whole.old whole.new streams.now.streams entry.now) }
-    ensures placed { IfOk result (λ x. IsPlaced entry.now x.outcome whole.new.sources) }
+    ensures ok { IfOk result (RanWhereReady catalog.now whole.old whole.new streams.now.streams entry.now) }
+    ensures sourced { IfOk result (λ x. EntryHasSource entry.now x.outcome whole.new.sources) }
     ensures of_catalog { IsOf catalog.now whole.new }
-    ensures back { IfOk result (λ x. CanGoBack whole.old whole.new) }
+    ensures back { IfOk result (λ x. CanRollBack whole.old whole.new) }
     ensures holds { OnErr result ((db : Model) → HoldsDatabase catalog.now whole.old db → HoldsDatabase catalog.now whole.new db) }
-    ensures kept { OnErr result (Same whole.old whole.new) }
-    ensures settled { OnErr result (IsSettled catalog.now whole.new) }
+    ensures err { OnErr result (Same whole.old whole.new) }
+    ensures committed { OnErr result (IsCommitted catalog.now whole.new) }
 {
     let Ok(batches) = input_batches(alloc, catalog, streams, entry) else {
         return Err(NoMemory);
     };
+    // Only a trigger is given inserted rows, and an entry begins with its body.
     let no_row = Seq::new(alloc);
     let inputs = Inputs {
         batches: &batches,

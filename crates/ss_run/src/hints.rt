@@ -1,4 +1,4 @@
-//! Steps that hints name, until no hint waits.
+//! Runs the steps that hints name, until no hint waits.
 
 ghost use Rattle.std.specs.Prelude.{◌≡◌, ◌≤◌, ◌<◌, [], length};
 ghost use Rattle.std.specs.List.{AllByRecursion};
@@ -8,14 +8,13 @@ ghost use Rattle.ss_run.specs.Stands.{IsAt, database_at};
 
 use crate::entry::Store;
 use crate::steps::run_step;
-use ss_model::catalog::Catalog;
-use ss_sched::inbox::{Inbox, Work};
+use ss_model::Catalog;
 use ss_sched::ready::ready;
-use ss_sched::wake::wake_list;
-use ss_value::sets::ProcSet;
+use ss_sched::{Inbox, Work, wake_list};
+use ss_value::ProcSet;
 use std::alloc::Global;
 
-/// Puts a hint for each of these procedures, in rising number. A look at each procedure; takes no memory.
+/// Puts a hint for each of these procedures, by rising number. Costs a look at each procedure, and takes no memory.
 pub fn put_hints<J>(catalog: &Catalog, inbox: &mut Inbox<J>, procedures: &ProcSet)
     requires accepted { Accepted catalog.now }
     requires hinted { AreHinted catalog.now inbox.old.hints }
@@ -30,7 +29,7 @@ pub fn put_hints<J>(catalog: &Catalog, inbox: &mut Inbox<J>, procedures: &ProcSe
     }
 }
 
-/// Puts the hint of a procedure that is ready. Takes no memory.
+/// Puts the hint of a procedure again where it is still ready.
 fn hint_again<J>(catalog: &Catalog, store: &Store, inbox: &mut Inbox<J>, procedure: u16)
     requires accepted { Accepted catalog.now }
     requires at { IsAt catalog.now store.now.database store.now.list }
@@ -50,9 +49,8 @@ fn hint_again<J>(catalog: &Catalog, store: &Store, inbox: &mut Inbox<J>, procedu
     }
 }
 
-/// Follows a hint: runs one ready batch of its procedure, and puts the hints of those that this may wake, and its own
-/// again if the procedure is still ready. Where the procedure isn't ready, or there is no memory, nothing changes:
-/// settling comes back to it.
+/// Follows a hint: runs its procedure on the next batch, and puts a hint for each procedure that this wakes, and its own
+/// again where it is still ready. Where the procedure isn't ready, or at out of memory, nothing changes.
 fn run_hint<J>(
     alloc: Global,
     catalog: &Catalog,
@@ -78,6 +76,7 @@ fn run_hint<J>(
     ) {
         return;
     }
+    // At out of memory the hint is dropped. It said only that the procedure may be ready, and settling finds it again.
     let Some(place) = run_step(alloc, catalog, store, procedure) else {
         return;
     };
@@ -85,13 +84,14 @@ fn run_hint<J>(
         unreachable!()
     };
     put_hints(catalog, inbox, &wake_list(catalog, &listed.entry));
+    // Last, so that those that it woke have their turn before its next batch.
     hint_again(catalog, store, inbox, procedure);
 }
 
 /// Runs the steps that the waiting hints name, and those that they set off, until no hint waits.
 ///
-/// As many steps as are run, at most those pending; each costs what `run_step` costs, and a look at each procedure's
-/// inputs for its hints.
+/// Runs no more steps than are pending. Each costs what `run_step` costs, and for its hints a look at each input of each
+/// procedure.
 pub fn run_hints<J>(alloc: Global, catalog: &Catalog, store: &mut Store, inbox: &mut Inbox<J>)
     requires accepted { Accepted catalog.now }
     requires at { IsAt catalog.now store.old.database store.old.list }
@@ -101,12 +101,12 @@ pub fn run_hints<J>(alloc: Global, catalog: &Catalog, store: &mut Store, inbox: 
     ensures by_steps { GoesOnBySteps store.old.list store.new.list }
     ensures hints { inbox.new.hints ≡ [] }
     ensures jobs { inbox.new.jobs ≡ [] }
-    ensures room { inbox.new.room ≡ inbox.old.room }
+    ensures unchanged { inbox.new.room ≡ inbox.old.room }
 {
     while let Some(work) = inbox.take() {
         match work {
             Work::Hint(procedure) => run_hint(alloc, catalog, store, inbox, procedure),
-            // no job waits
+            // No job waits at first, and a hint puts none.
             Work::Job(_) => unreachable!(),
         }
     }

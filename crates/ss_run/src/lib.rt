@@ -1,20 +1,35 @@
-//! Runs requests and the steps that they set off, one after another.
+//! Runs requests and the steps that they set off, one after another, on one database.
 //!
-//! - `execution`: an entry runs on the batches that the streams lend it
-//! - `entry`: one entry: it runs, joins the list, and only then is final
-//! - `steps`: a ready procedure runs on its next batch
-//! - `hints`: steps that hints name, until none waits
-//! - `settle`: steps until none is ready
-//! - `request`: one request, with all that it sets off
-//! - `replies`: what each client is told
-//! - `session`: all requests, and settling behind them
+//! [`run_requests`] is the whole run. It gives a [`Session`]: the list, the answers to each client, and the database. On
+//! the way, a [`Store`] has the database with the list that led to it, and each call here keeps the two in agreement,
+//! whatever it answers. From one entry up to the run:
+//!
+//! - `execution`: runs an entry on the batches that the streams lend it
+//! - `entry`: runs an entry, puts it at the end of the list, and only then commits it
+//! - `steps`: runs a ready procedure on its next batch
+//! - `hints`: runs the steps that hints name, until no hint waits
+//! - `request`: runs one request, with all that it sets off
+//! - `settle`: runs steps until no procedure is ready
+//! - `replies`: the answers to each client so far
+//! - `session`: runs all requests, and then settles
+//!
+//! Every call that takes `alloc` may answer that it is out of memory, by `NoMemory` or by None. The entry that it was
+//! running is then rolled back and not in the list. A call costs what its executions cost, and what its page adds.
 #![tactic(auto)]
 
-pub mod entry;
-pub mod execution;
-pub mod hints;
-pub mod replies;
-pub mod request;
-pub mod session;
+mod entry;
+mod execution;
+mod hints;
+mod replies;
+mod request;
+mod session;
 pub mod settle;
-pub mod steps;
+mod steps;
+
+pub use entry::{Store, answer_entry, list_entry};
+pub use execution::execute_entry;
+pub use hints::{put_hints, run_hints};
+pub use replies::{CLIENTS, Replies};
+pub use request::pump;
+pub use session::{Session, run_requests};
+pub use steps::run_step;

@@ -1,4 +1,4 @@
-//! What each client is told.
+//! The answers to each client so far.
 
 ghost use Rattle.std.specs.Prelude.{◌≡◌, ◌≤◌, ◌<◌, ◌+◌, ◌++◌, ◌∷◌, [], ℕ, map, length, slice_set, get_or, OnOk, IfOk};
 ghost use Rattle.std.specs.List.{AllByRecursion};
@@ -6,14 +6,12 @@ ghost use Rattle.ss_model.specs.declared.entry.Request.{Request};
 ghost use Rattle.ss_report_laws.specs.Replies.{answers_of, requests_of};
 ghost use Rattle.ss_run.specs.Replies.{SparesElsewhere, no_answers, spare_of};
 
-use ss_model::entry::{Answer, Request};
-use ss_value::NoMemory;
-use ss_value::reserved::Reserved;
-use ss_value::seq::Seq;
+use ss_model::{Answer, Request};
+use ss_value::{NoMemory, Reserved, Seq};
 use std::alloc::Global;
 use std::marker::Model;
 
-/// How many clients there are.
+/// How many clients there are, by numbers from 0 on.
 pub const CLIENTS: usize = 8;
 
 /// The answers to one client, with room for more.
@@ -37,9 +35,9 @@ impl Model for ClientReplies {
 }
 
 impl ClientReplies {
-    /// No answer, with room for so many.
+    /// No answer yet, with room for this many.
     fn new(alloc: Global, room: usize) -> Result<ClientReplies, NoMemory>
-        ensures answers { IfOk result (λ made. made.answers ≡ []) }
+        ensures ok { IfOk result (λ made. made.answers ≡ []) }
         ensures room { IfOk result (λ made. room ≤ made.spare) }
     {
         let answers = Vec::with_capacity(alloc, room)?;
@@ -53,7 +51,7 @@ impl ClientReplies {
         self.answers.len()
     }
 
-    /// Adds an answer, for which there is room. Takes no memory.
+    /// Adds an answer, for which there is room.
     fn add(&mut self, answer: Answer)
         requires { 1 ≤ self.old.spare }
         ensures answers { self.new.answers ≡ self.old.answers ++ answer ∷ [] }
@@ -62,7 +60,7 @@ impl ClientReplies {
         self.answers.push_reserved(answer)
     }
 
-    /// The answers alone: moved, not copied.
+    /// The answers alone, moved and not copied.
     fn into_seq(self) -> Seq<Answer>
         ensures { result ≡ self.answers }
     {
@@ -71,7 +69,7 @@ impl ClientReplies {
     }
 }
 
-/// The answers to each client so far, with room for those to come, so that none is lost for want of memory.
+/// The answers to each client so far, with room for those to come, so that out of memory never loses one.
 ///
 /// Contracts see the answers by client, and the room of each: how many more can be added without memory.
 #[derive(Drop)]
@@ -87,7 +85,7 @@ impl Model for Replies {
     ghost view = { λ s. held_replies s.clients };
 }
 
-/// How many of these requests are a client's. A look at each.
+/// How many of these requests are a client's.
 fn count_requests(requests: &[Request], client: u8) -> usize
     ensures { result ≡ length (requests_of client requests.now) }
 {
@@ -101,9 +99,9 @@ fn count_requests(requests: &[Request], client: u8) -> usize
 }
 
 impl Replies {
-    /// No answer yet, with room for one to each of these requests. Looks eight times at each request.
+    /// No answer yet, with room for one to each of these requests. Looks at each request once for each client.
     pub fn new(alloc: Global, requests: &[Request]) -> Result<Replies, NoMemory>
-        ensures answers { IfOk result (λ made. made.answers ≡ no_answers) }
+        ensures ok { IfOk result (λ made. made.answers ≡ no_answers) }
         ensures room { IfOk result (λ made. (client : ℕ) → client < 8 → length (requests_of client requests.now) ≤ spare_of made client) }
     {
         let mut clients = Reserved::new(alloc);
@@ -118,7 +116,7 @@ impl Replies {
         })
     }
 
-    /// How many answers a client has had. Constant.
+    /// How many answers a client has had, in constant time.
     pub fn count(&self, client: u8) -> u64
         requires { client < length self.now.answers }
         ensures { result ≡ length (answers_of self.now.answers client) }
@@ -129,7 +127,7 @@ impl Replies {
         found.len() as u64
     }
 
-    /// Adds an answer to a client, for which there is room. Constant, and takes no memory.
+    /// Adds an answer to a client, for which there is room, in constant time and without memory.
     pub fn add(&mut self, client: u8, answer: Answer)
         requires there { client < length self.old.answers }
         requires room { 1 ≤ spare_of self.old client }
@@ -143,7 +141,7 @@ impl Replies {
         found.add(answer)
     }
 
-    /// The answers by client: moved into lists, for which there is room, and not copied. Takes no memory.
+    /// The answers by client, moved and not copied, in a list that has room for them. Takes no memory.
     pub fn into_lists(self, room: Reserved<Seq<Answer>>) -> Seq<Seq<Answer>>
         requires empty { room.items ≡ [] }
         requires room { length self.answers ≤ room.spare }

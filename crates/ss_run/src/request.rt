@@ -1,6 +1,6 @@
 //! One request, with all that it sets off.
 
-ghost use Rattle.std.specs.Prelude.{◌≡◌, ◌≤◌, ◌<◌, [], true, length, slice_get, IfOk, IfSome, IfNone, Some};
+ghost use Rattle.std.specs.Prelude.{◌≡◌, ◌≤◌, ◌<◌, [], true, length, slice_get, IfSome, IfNone, Some};
 ghost use Rattle.ss_model.specs.declared.entry.Request.{Request};
 ghost use Rattle.ss_model.specs.Accepted.{Accepted};
 ghost use Rattle.ss_model.specs.Database.{fits_entry};
@@ -10,50 +10,15 @@ ghost use Rattle.ss_run.specs.Stands.{IsAt, JoinedAs};
 
 use crate::entry::{Store, answer_entry};
 use crate::hints::{put_hints, run_hints};
-use ss_model::catalog::Catalog;
-use ss_model::entry::{Answer, Asked, Entry, Outcome, Request};
-use ss_sched::inbox::{Inbox, Work};
-use ss_sched::wake::wake_list;
-use ss_value::NoMemory;
-use ss_value::copies::Copies;
-use ss_value::seq::Seq;
+use ss_model::{Answer, Catalog, Outcome, Request, asked_entry};
+use ss_sched::{Inbox, Work, wake_list};
+use ss_value::{Copies, Seq};
 use std::alloc::Global;
 
-/// The entry of a request, which is the one at `index` among its client's.
-///
-/// A copy of what is asked for: linear in it. Fails only for want of memory.
-fn entry_of(alloc: Global, request: &Request, index: u64) -> Result<Entry, NoMemory>
-    ensures { IfOk result (λ e. e ≡ asked_entry request.now.client index request.now.what) }
-{
-    let client = request.client;
-    let entry = match request.what.duplicate(alloc)? {
-        Asked::Call { procedure, args } => Entry::Call {
-            client,
-            index,
-            procedure,
-            args,
-        },
-        Asked::Push {
-            stream,
-            source,
-            seq,
-            rows,
-        } => Entry::Push {
-            client,
-            index,
-            stream,
-            source,
-            seq,
-            rows,
-        },
-    };
-    Ok(entry)
-}
-
 /// Runs one request, which is the one at `index` among its client's, and puts it at the end of the list. Answers its
-/// place and its outcome.
+/// place and its outcome. It copies what is asked for.
 ///
-/// None is for want of memory alone: then list and store are as they were.
+/// None means out of memory: then list and database are as they were.
 fn run_request(
     alloc: Global,
     catalog: &Catalog,
@@ -68,15 +33,16 @@ fn run_request(
     ensures some { IfSome result (JoinedAs store.old.list store.new.list (asked_entry request.now.client index request.now.what)) }
     ensures none { IfNone result (store.new.list ≡ store.old.list) }
 {
-    let Ok(entry) = entry_of(alloc, request, index) else {
+    let Ok(what) = request.what.duplicate(alloc) else {
         return None;
     };
+    let entry = asked_entry(request.client, index, what);
     answer_entry(alloc, catalog, store, entry)
 }
 
-/// Serves one request: it runs, and then the steps that it sets off, and those that they set off, until no hint waits.
+/// Serves one request: it runs, then the steps that it sets off, and those that they set off, until no hint waits.
 ///
-/// Answers its place and its outcome, or that there was no memory for it: then list and store are as they were.
+/// Answers its place and its outcome, or that there was no memory for it: then list and database are as they were.
 fn serve(
     alloc: Global,
     catalog: &Catalog,
@@ -94,7 +60,7 @@ fn serve(
     ensures answered { IsAnswered store.old.list store.new.list (asked_entry request.now.client index request.now.what) result }
     ensures hints { inbox.new.hints ≡ [] }
     ensures jobs { inbox.new.jobs ≡ [] }
-    ensures room { inbox.new.room ≡ inbox.old.room }
+    ensures unchanged { inbox.new.room ≡ inbox.old.room }
 {
     let Some((place, outcome)) = run_request(alloc, catalog, store, request, index) else {
         return Answer::NoMemory;
@@ -107,7 +73,7 @@ fn serve(
     Answer::Listed { place, outcome }
 }
 
-/// Puts a request, by its number, into the inbox, takes it, and serves it.
+/// Serves the request with this number, which is the one at `index` among its client's, by way of the empty inbox.
 pub fn pump(
     alloc: Global,
     catalog: &Catalog,
@@ -128,8 +94,9 @@ pub fn pump(
     ensures answered { AnswersRequest requests.now number index store.old.list store.new.list result }
     ensures hints { inbox.new.hints ≡ [] }
     ensures jobs { inbox.new.jobs ≡ [] }
-    ensures room { inbox.new.room ≡ inbox.old.room }
+    ensures unchanged { inbox.new.room ≡ inbox.old.room }
 {
+    // Nothing else waits, so the job that is put is the one that is taken.
     inbox.put_job(number);
     let Some(Work::Job(number)) = inbox.take() else {
         unreachable!()

@@ -7,7 +7,7 @@ ghost use Rattle.ss_model.specs.Orders.{Orders};
 ghost use Rattle.ss_model.specs.Replays.{Replays};
 ghost use Rattle.ss_model.specs.Report.{Whole};
 ghost use Rattle.ss_model.specs.Settling.{Drained};
-ghost use Rattle.ss_report_laws.specs.Replies.{AreTold};
+ghost use Rattle.ss_report_laws.specs.Replies.{AreAnswered};
 ghost use Rattle.ss_shard.specs.Databases.{IsWhole, StandsFor};
 ghost use Rattle.ss_run.specs.RunAnswers.{AnswersInOrder, all_fit};
 ghost use Rattle.ss_run.specs.Stands.{IsAt, database_at};
@@ -16,13 +16,10 @@ use crate::entry::Store;
 use crate::replies::{CLIENTS, Replies};
 use crate::request::pump;
 use crate::settle::settle;
-use ss_model::catalog::Catalog;
-use ss_model::entry::{Answer, Listed, Request};
-use ss_sched::inbox::Inbox;
-use ss_shard::database::{Database, opening};
-use ss_value::NoMemory;
-use ss_value::reserved::Reserved;
-use ss_value::seq::Seq;
+use ss_model::{Answer, Catalog, Listed, Request};
+use ss_sched::Inbox;
+use ss_shard::{Database, opening};
+use ss_value::{NoMemory, Reserved, Seq};
 use std::alloc::Global;
 
 /// What a run comes to.
@@ -36,8 +33,8 @@ pub struct Session {
     pub database: Database,
 }
 
-/// Runs all requests in input order, each with all that it sets off, and then settles: on this database, which no entry has
-/// changed yet.
+/// Runs all requests in input order, each with all that it sets off, and then settles, from this database on, which no entry
+/// has changed yet.
 fn run_from(
     alloc: Global,
     catalog: &Catalog,
@@ -47,15 +44,16 @@ fn run_from(
     requires accepted { Accepted catalog.now }
     requires fit { all_fit catalog.now requests.now ≡ true }
     requires at { IsAt catalog.now database [] }
-    ensures at { IfOk result (λ s. IsAt catalog.now s.database s.list) }
+    ensures ok { IfOk result (λ s. IsAt catalog.now s.database s.list) }
     ensures in_order { IfOk result (λ s. AnswersInOrder requests.now s.list) }
-    ensures told { IfOk result (λ s. AreTold requests.now 0 s.list Whole s.answers) }
+    ensures answered { IfOk result (λ s. AreAnswered requests.now 0 s.list Whole s.answers) }
     ensures drained { IfOk result (λ s. Drained catalog.now (database_at catalog.now s.list)) }
 {
     let mut store = Store {
         database,
         list: Seq::new(alloc),
     };
+    // Room for the inbox and the answers is made before the first request, so that behind it only settling can fail.
     let mut inbox = Inbox::new(alloc, 1)?;
     let mut replies = Replies::new(alloc, requests.as_slice())?;
     let mut lists = Reserved::new(alloc);
@@ -67,6 +65,7 @@ fn run_from(
         );
         replies.add(request.client, answer);
     }
+    // Batches may still be pending: a hint whose step was out of memory was dropped.
     settle(alloc, catalog, &mut store)?;
     let Store { database, list } = store;
     Ok(Session {
@@ -79,10 +78,10 @@ fn run_from(
 /// Runs all requests from the empty database on, one after another in input order, each with the steps that it sets off,
 /// and then settles.
 ///
-/// A request costs its execution, and copies of what is asked for and of its reply; a step its execution, and a look at
-/// the inputs of each procedure. Nothing grows with the list, the streams or the requests so far. A request for which there
-/// is no memory has no entry, changes nothing, and the next one runs. The run fails only where there is no memory for the
-/// empty database, the inbox and the answers at its start, or for a step when it settles.
+/// A request costs its execution, and copies of what is asked for and of its reply; a step costs its execution, and a look
+/// at the inputs of each procedure. No cost grows with the list, the streams or the requests so far. A request for which
+/// there is no memory has no entry and changes nothing, and the next one runs. The run fails only where there is no memory
+/// for the empty database, the inbox and the answers before the first request, or for a step when it settles.
 ///
 /// Source: transactions of a partition run one after another, as in H-Store (Stonebraker et al., The End of an
 /// Architectural Era, VLDB 2007); triggered work goes ahead of client work, as in S-Store's scheduler (Meehan et al.,
@@ -94,10 +93,10 @@ pub fn run_requests(
 ) -> Result<Session, NoMemory>
     requires accepted { Accepted catalog.now }
     requires fit { all_fit catalog.now requests.now ≡ true }
-    ensures replays { IfOk result (λ s. Replays catalog.now (empty_database catalog.now) s.list) }
+    ensures ok { IfOk result (λ s. Replays catalog.now (empty_database catalog.now) s.list) }
     ensures orders { IfOk result (λ s. Orders catalog.now (empty_database catalog.now) s.list) }
     ensures in_order { IfOk result (λ s. AnswersInOrder requests.now s.list) }
-    ensures told { IfOk result (λ s. AreTold requests.now 0 s.list Whole s.answers) }
+    ensures answered { IfOk result (λ s. AreAnswered requests.now 0 s.list Whole s.answers) }
     ensures drained { IfOk result (λ s. Drained catalog.now (database_at catalog.now s.list)) }
     ensures whole { IfOk result (λ s. IsWhole catalog.now s.database) }
     ensures stands { IfOk result (λ s. StandsFor catalog.now s.database (database_at catalog.now s.list)) }

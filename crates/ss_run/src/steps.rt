@@ -1,4 +1,4 @@
-//! Steps: a ready procedure runs on its next batch.
+//! Runs a ready procedure on its next batch.
 
 ghost use Rattle.std.specs.Prelude.{◌≡◌, true, length, IfSome, IfNone};
 ghost use Rattle.ss_model.specs.Accepted.{Accepted};
@@ -7,13 +7,12 @@ ghost use Rattle.ss_run.specs.BySteps.{NextJoined};
 ghost use Rattle.ss_run.specs.Stands.{IsAt, database_at};
 
 use crate::entry::{Store, list_entry};
-use ss_model::catalog::Catalog;
-use ss_model::entry::Entry;
+use ss_model::{Catalog, Entry};
 use std::alloc::Global;
 
-/// Runs a ready procedure on its next batch, and puts that at the end of the list. Answers its place.
+/// Runs a ready procedure on its next batch, and puts this step at the end of the list. Answers its place.
 ///
-/// Costs its body, and what `list_entry` costs. None is for want of memory alone: then list and store are as they were.
+/// Costs what `list_entry` costs. None means out of memory: then list and database are as they were.
 pub fn run_step(alloc: Global, catalog: &Catalog, store: &mut Store, procedure: u16) -> Option<u64>
     requires accepted { Accepted catalog.now }
     requires at { IsAt catalog.now store.old.database store.old.list }

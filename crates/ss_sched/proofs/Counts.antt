@@ -6,7 +6,7 @@ use Rattle.ss_model.specs.declared.catalog.Procedure.{Procedure}
 use Rattle.ss_model.specs.declared.catalog.Catalog.{Catalog}
 use Rattle.ss_model.specs.CatalogForm.{counts_within_limits, numbers_in_range, touch_in_range}
 use Rattle.ss_model.specs.Accepted.{Accepted}
-use Rattle.ss_model.proofs.Truths.{first_of_two, second_of_two, at_place}
+use Rattle.ss_lemmas.proofs.Bools.{first_of_two, second_of_two, at_index}
 
 all_below : (n m : ℕ) (xs : List ℕ) → n ≤ m → list_all (λ s. nat_lt s n) xs ≡ true → AllByRecursion (λ s. s < m) xs
 all_below n m [] le all = tt
@@ -29,4 +29,4 @@ module _ (catalog : Catalog) (accepted : Accepted catalog) where
   pub inputs_below : (m q : ℕ) (d : Procedure) → length catalog.streams ≤ m → slice_get catalog.procedures q ≡ Some d → AllByRecursion (λ s. s < m) d.inputs
   inputs_below m q d le here =
       all_below (length catalog.streams) m d.inputs le
-      (first_of_two _ _ (at_place (λ (p : Procedure). list_all (λ s. nat_lt s (length catalog.streams)) p.inputs && touch_in_range p.args p.touch) catalog.procedures (second_of_two _ _ numbers) q d here))
+      (first_of_two _ _ (at_index (λ (p : Procedure). list_all (λ s. nat_lt s (length catalog.streams)) p.inputs && touch_in_range p.args p.touch) catalog.procedures (second_of_two _ _ numbers) q d here))

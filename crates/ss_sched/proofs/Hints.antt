@@ -1,13 +1,12 @@
 -- Hints of which none waits twice.
 use Rattle.std.proofs.Common.{◌≡◌, ◌≢◌, ◌<◌, ◌≤◌, ◌==◌, ◌||◌, ◌⊎◌, ◌∙◌, inl, inr, ℕ, zero, suc, Bool, true, false, List, [], ◌∷◌, ◌++◌, length, get_or, set, replicate, arith, ap, sym, subst, refl}
-use Rattle.std.proofs.lemmas.Bool.{eqb-true}
+use Rattle.std.proofs.lemmas.Bool.{eqb-true, or_right}
 use Rattle.std.proofs.Math.ListN.{length-set}
 use Rattle.std.proofs.lemmas.Bool.Decides.{Decides-eqb, eqb_tells}
 use Rattle.std.proofs.lemmas.List.{length_push, get_or-set_same, get_or-set_other}
 use Rattle.std.proofs.lemmas.Map.Steps.{length-le_from_distinct_below}
 use Rattle.std.specs.List.{AllByRecursion, IsDistinct, list_any}
 use Rattle.ss_sched.specs.Lanes.{AreHints, IsMarked, has_hint}
-use Rattle.ss_model.proofs.Truths.{or_second}
 
 below_member : (hs : List ℕ) → AllByRecursion (λ h. h < 64) hs → (q : ℕ) → list_any (λ h. q == h) hs ≡ true → q < 64
 below_member [] all q any = cc
@@ -77,7 +76,7 @@ pub mark_more : (hs : List ℕ) (flags : List Bool) (p : ℕ) → p < 64 → IsM
 mark_more hs flags p lt marked = (simp length-set marked.0, λ q. by q (eqb_tells p q))
   where
     by : (q : ℕ) → ((p == q ≡ true) × (p ≡ q)) ⊎ ((p == q ≡ false) × (p ≢ q)) → get_or (set flags p true) q false ≡ has_hint (hs ++ p ∷ []) q
-    by q (inl same) = rw (← same.1) (get_or-set_same flags p true false (let long = marked.0 in omega arith)) ∙ sym (marked_push hs p q ∙ or_second _ _ same.0)
+    by q (inl same) = rw (← same.1) (get_or-set_same flags p true false (let long = marked.0 in omega arith)) ∙ sym (marked_push hs p q ∙ or_right _ _ same.0)
     by q (inr other) = get_or-set_other flags p q true false (λ e. other.1 (sym e)) ∙ marked.1 q ∙ sym (marked_push hs p q ∙ or_nothing (has_hint hs q) (p == q) other.0)
 
 gone : (h : ℕ) (hs : List ℕ) → AllByRecursion (λ g. h == g ≡ false) hs → has_hint hs h ≡ false

@@ -1,8 +1,9 @@
+pub mod CallerLemmas
 pub mod Counts
 pub mod Hints
-pub mod Readiness
-pub mod Outputs
-pub mod Waking
-pub mod Ranking
 pub mod NextStep
+pub mod Outputs
 pub mod Premises
+pub mod Ranking
+pub mod Readiness
+pub mod Waking

@@ -1,6 +1,6 @@
 -- The streams to which steps emit, step by step.
 use Rattle.std.proofs.Common.{◌≡◌, ◌==◌, ◌||◌, ◌⊎◌, ◌↔◌, ◌<◌, ◌+◌, ◌∙◌, inl, inr, ℕ, Bool, true, false, List, length, drop, get_or, ap, sym, refl}
-use Rattle.std.proofs.lemmas.Bool.{eqb-true}
+use Rattle.std.proofs.lemmas.Bool.{eqb-true, or_right, or_left}
 use Rattle.std.proofs.lemmas.Bool.Decides.{Decides-eqb}
 use Rattle.std.proofs.lemmas.List.{drop_more}
 use Rattle.std.specs.List.{list_any}
@@ -8,19 +8,19 @@ use Rattle.ss_sql_lex.specs.declared.typed.Query.{Query}
 use Rattle.ss_model.specs.declared.catalog.Step.{Step}
 use Rattle.ss_model.specs.declared.catalog.Step.TheVariants.{Sql, AbortIf, ForEach, Emit, Return}
 use Rattle.ss_model.specs.Database.{emits_to}
-use Rattle.ss_model.proofs.Truths.{either_so, or_first, or_second}
+use Rattle.ss_lemmas.proofs.Bools.{either_so}
 
 -- a number more in a set, and one step less behind it
 pub output_joins : (Old New Whole : Type 0) (s t : ℕ) (rest : Bool) → (Old ⊎ ((s == t || rest) ≡ true)) ↔ Whole → New ↔ ((s ≡ t) ⊎ Old) → (New ⊎ (rest ≡ true)) ↔ Whole
 output_joins Old New Whole s t rest old new = (to, from)
   where
     known : (s ≡ t) ⊎ Old → Old ⊎ ((s == t || rest) ≡ true)
-    known (inl e) = inr (or_first _ _ ((Decides-eqb s t).1 e))
+    known (inl e) = inr (or_left _ _ ((Decides-eqb s t).1 e))
     known (inr o) = inl o
 
     to : New ⊎ (rest ≡ true) → Whole
     to (inl n) = old.0 (known (new.0 n))
-    to (inr r) = old.0 (inr (or_second _ _ r))
+    to (inr r) = old.0 (inr (or_right _ _ r))
 
     here : (s == t ≡ true) ⊎ (rest ≡ true) → New ⊎ (rest ≡ true)
     here (inl e) = inl (new.1 (inl (eqb-true s t e)))

@@ -1,4 +1,4 @@
--- What the calls ask for, met at a workflow that splits a batch in two and joins both again.
+-- The premises of the calls, met by a workflow that splits a batch in two and joins both again.
 use Rattle.std.proofs.Common.{◌≡◌, ℕ, zero, suc, List, [], ◌∷◌, length, true, false, refl, arith, Some}
 use Rattle.ss_model.specs.declared.entry.Entry.TheVariants.{Step as StepEntry}
 use Rattle.ss_model.specs.Database.{fits_entry}

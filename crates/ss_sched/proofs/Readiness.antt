@@ -1,4 +1,4 @@
--- What is ready by numbers is ready.
+-- A procedure that is ready by its counts is ready.
 use Rattle.std.proofs.Common.{◌≡◌, ◌==◌, ◌&&◌, ◌∙◌, ℕ, nat_lt, Bool, true, false, not, List, [], ◌∷◌, length, get_or, slice_get, Some, arith, ap, sym, refl}
 use Rattle.std.proofs.Math.ListN.{get_or-map}
 use Rattle.std.proofs.lemmas.Bool.Decides.{Decides-eqb}
@@ -20,7 +20,7 @@ use Rattle.ss_sched.proofs.Counts.{inputs_below}
 pub inputs_are_streams : (catalog : Catalog) (streams : List Pending) (q : ℕ) (d : Procedure) → Accepted catalog → length streams ≡ length catalog.streams → slice_get catalog.procedures q ≡ Some d → AreStreams streams d.inputs
 inputs_are_streams catalog streams q d accepted long here = inputs_below catalog accepted (length streams) q d (omega arith) here
 
--- what isn't called streams
+-- a kind is called or takes batches, and not both
 pub call_or_streams : (k : Kind) (b : Bool) → is_call k ≡ b → is_streaming k ≡ not b
 call_or_streams CallKind b e = ap not e
 call_or_streams Border b e = ap not e

@@ -1,6 +1,6 @@
--- Whom an entry wakes.
+-- The procedures that an entry wakes.
 use Rattle.std.proofs.Common.{◌≡◌, ◌≢◌, ◌<◌, ◌≤◌, ◌+◌, ◌==◌, ◌&&◌, ◌⊎◌, ◌↔◌, ◌∙◌, inl, inr, ℕ, zero, suc, Bool, true, false, length, slice_get, Some, None, arith, ap, sym, subst, refl}
-use Rattle.std.proofs.lemmas.Bool.{eqb-true, cases_eq, and_from}
+use Rattle.std.proofs.lemmas.Bool.{eqb-true, cases_eq, and_from, or_right, or_left}
 use Rattle.std.proofs.lemmas.Bool.Decides.{Decides-eqb, eqb_tells}
 use Rattle.std.proofs.lemmas.Option.{slice_get_within}
 use Rattle.std.specs.declared.option.Option.{Option}
@@ -12,7 +12,7 @@ use Rattle.ss_model.specs.declared.entry.Entry.TheVariants.{Call, Push, Step as 
 use Rattle.ss_model.specs.Database.{takes_stream}
 use Rattle.ss_model.specs.Orders.{IsWired, procedure_emits, procedure_takes, procedure_has}
 use Rattle.ss_model.specs.Wakes.{wakes}
-use Rattle.ss_model.proofs.Truths.{first_of_two, second_of_two, either_so, or_first, or_second}
+use Rattle.ss_lemmas.proofs.Bools.{first_of_two, second_of_two, either_so}
 use Rattle.ss_sched.specs.Wakes.{may_append}
 
 -- ---- a number of a range that passes
@@ -29,8 +29,8 @@ any_number test a zero s from to is = absurd (omega arith)
 any_number test a (suc n) s from to is = by (eqb_tells a s) (λ h. any_number test (a + 1) n s h (omega arith) is)
   where
     by : ((a == s ≡ true) × (a ≡ s)) ⊎ ((a == s ≡ false) × (a ≢ s)) → (a + 1 ≤ s → list_any test (range_with_len (a + 1) n) ≡ true) → list_any test (range_with_len a (suc n)) ≡ true
-    by (inl same) later = or_first _ _ (ap test same.1 ∙ is)
-    by (inr other) later = let apart : a ≢ s = other.1 in or_second _ _ (later (omega arith))
+    by (inl same) later = or_left _ _ (ap test same.1 ∙ is)
+    by (inr other) later = let apart : a ≢ s = other.1 in or_right _ _ (later (omega arith))
 
 -- ---- an entry wakes who takes a stream to which it may append
 wakes_by : (catalog : Catalog) (e : Entry) (q : ℕ) → wakes catalog e q ≡ true → (s : ℕ) × (may_append catalog e s ≡ true) × (procedure_takes catalog q s ≡ true)
@@ -47,7 +47,7 @@ wakes_from catalog wired (StepEntry p r) q s may takes =
     let within : s < length catalog.streams = wired.emits_there p s may in
     any_number (λ s. procedure_emits catalog p s && procedure_takes catalog q s) 0 (length catalog.streams) s (omega arith) (omega arith) (and_from _ _ may takes)
 
--- told of a procedure by the streams that it takes
+-- said of a procedure by the streams that it takes
 pub woken_is : (catalog : Catalog) → IsWired catalog → (e : Entry) (q : ℕ) (d : Procedure) → slice_get catalog.procedures q ≡ Some d → (Has : ℕ → Type 0) → ((s : ℕ) → Has s ↔ (may_append catalog e s ≡ true))
     → ((s : ℕ) × Has s × (takes_stream s d ≡ true)) ↔ (wakes catalog e q ≡ true)
 woken_is catalog wired e q d here Has are = (

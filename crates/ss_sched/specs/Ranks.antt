@@ -6,15 +6,15 @@ use Rattle.ss_model.specs.declared.catalog.Procedure.{Procedure}
 use Rattle.ss_model.specs.Database.{is_border}
 use Rattle.ss_model.specs.Settling.{rank, rank_from, emitting_procedure}
 
--- the ranks of a catalogue's procedures, by number
+-- these are the ranks of the catalogue's procedures, by number
 abbrev pub AreRanks : Catalog → List ℕ → Type 0
 AreRanks catalog ranks = (q : ℕ) → q < length catalog.procedures → get_or ranks q 0 ≡ rank catalog q
 
--- each stream's emitter, by number
+-- these are the emitters of the catalogue's streams, by number
 abbrev pub AreEmitters : Catalog → List ℕ → Type 0
 AreEmitters catalog emitters = (s : ℕ) → s < length catalog.streams → get_or emitters s 0 ≡ emitting_procedure catalog s
 
--- the greatest rank of the emitters of these streams
+-- the greatest rank of the emitters of these streams, and 0 where there is no stream
 abbrev pub greatest_rank : List ℕ → List ℕ → List ℕ → ℕ
 greatest_rank ranks emitters inputs = fold (λ most s. max most (get_or ranks (get_or emitters s 0) 0)) 0 inputs
 
@@ -22,7 +22,7 @@ greatest_rank ranks emitters inputs = fold (λ most s. max most (get_or ranks (g
 abbrev pub rank_by : List ℕ → List ℕ → Procedure → ℕ
 rank_by ranks emitters q = cond (is_border q.kind) 0 (suc (greatest_rank ranks emitters q.inputs))
 
--- paths from the border are counted up to this depth
+-- these are the ranks where paths from the border are counted up to this depth
 pub record AreCounted (catalog : Catalog) (depth : ℕ) (ranks : List ℕ) : Type 0 where
   pub ranks_are : (q : ℕ) → q < length catalog.procedures → get_or ranks q 0 ≡ rank_from depth catalog q
   pub small : (q : ℕ) → get_or ranks q 0 ≤ depth

@@ -1,4 +1,4 @@
-//! Hints and jobs that wait.
+//! The inbox of a partition: hints and jobs that wait.
 
 ghost use Rattle.std.specs.Prelude.{◌≡◌, ◌≤◌, ◌<◌, [], ◌∷◌, ◌++◌, length, IfOk, IfNone, IfSome, IsTrue, ◌↔◌};
 ghost use Rattle.ss_sched.specs.Lanes.{with_hint, Taken, IsMarked};
@@ -8,29 +8,29 @@ use std::alloc::Global;
 use std::collections::VecDeque;
 use std::marker::Model;
 
-/// The most hints that wait: one for each procedure.
+/// The most hints that can wait: one for each procedure, of which a catalogue has 64 at most.
 const HINTS: usize = 64;
 
-/// What waits in an inbox.
+/// One item of an inbox.
 #[derive(Drop)]
 pub enum Work<J> {
-    /// A procedure that may be ready.
+    /// The number of a procedure that may be ready.
     Hint(u16),
-    /// What a client asks for.
+    /// A job: what a client asks for.
     Job(J),
 }
 
 /// What waits for a partition: hints that procedures may be ready, and jobs of clients.
 ///
-/// Each lane is first in first out, and hints go first. A hint waits once at most, so that there is always room for it.
-/// All calls but `new` are constant and take no memory.
+/// Each lane is first in, first out, and hints go ahead of jobs. The hint of a procedure waits once at most, so there is
+/// always room for it; `new` says how many jobs there is room for. All calls but `new` take constant time.
 ///
 /// Source: the fast track of S-Store's scheduler, in which triggered work goes ahead of client work (Meehan et al.,
 /// PVLDB 8, 2015, section 3.2).
 #[derive(Drop)]
 pub struct Inbox<J> {
     hints: VecDeque<u16>,
-    /// Which of the procedures wait in `hints`.
+    /// For each procedure, whether its hint waits, so that `hints` is never searched for it.
     waits: [bool; HINTS],
     jobs: VecDeque<J>,
 }
@@ -47,7 +47,7 @@ impl<J> Model for Inbox<J> {
     ghost invariant = { λ i. AreHints i.hints.items × IsMarked i.hints.items i.waits × (64 ≤ deque_capacity i.hints) };
 }
 
-/// The flags of no hints.
+/// The flags where no hint waits.
 fn no_marks() -> [bool; HINTS]
     ensures { IsMarked [] result }
 {
@@ -55,9 +55,9 @@ fn no_marks() -> [bool; HINTS]
 }
 
 impl<J> Inbox<J> {
-    /// An inbox in which nothing waits, with room for this many jobs.
+    /// An empty inbox with room for this many jobs.
     pub fn new(alloc: Global, jobs: usize) -> Result<Inbox<J>, NoMemory>
-        ensures hints { IfOk result (λ i. i.hints ≡ []) }
+        ensures ok { IfOk result (λ i. i.hints ≡ []) }
         ensures jobs { IfOk result (λ i. i.jobs ≡ []) }
         ensures room { IfOk result (λ i. i.room ≡ jobs) }
     {
@@ -87,7 +87,7 @@ impl<J> Inbox<J> {
         self.jobs.push_back_reserved(job)
     }
 
-    /// Puts a hint behind the others, but for one that waits: then nothing changes.
+    /// Puts the hint of a procedure behind the others. Where it waits already, nothing changes.
     pub fn put_hint(&mut self, procedure: u16)
         requires { procedure < 64 }
         ensures hints { self.new.hints ≡ with_hint self.old.hints procedure }
@@ -99,10 +99,11 @@ impl<J> Inbox<J> {
             return;
         }
         self.waits[usize::from(procedure)] = true;
+        // There is room: each of the 64 procedures waits once at most.
         self.hints.push_back_reserved(procedure)
     }
 
-    /// Takes what is next: the first hint where one waits, else the first job, and None exactly where nothing waits.
+    /// Takes the next item: the first hint where one waits, else the first job; None exactly where nothing waits.
     pub fn take(&mut self) -> Option<Work<J>>
         ensures some { IfSome result (λ work. Taken self.old work self.new) }
         ensures none { IfNone result ((self.old.hints ≡ []) × (self.old.jobs ≡ []) × (self.new ≡ self.old)) }

@@ -1,16 +1,26 @@
-//! What runs next: the inbox of a partition, what is ready, who has to be woken, and how a store is settled.
+//! The scheduler of a partition: what waits, which procedures are ready, and which one runs next.
 //!
-//! - `inbox`: hints and jobs that wait
+//! Nothing here runs an entry or changes a database; `ss_run` does. It finds its next step in two ways: an [`Inbox`]
+//! holds hints, which name procedures that may be ready, ahead of the jobs of clients; and settling takes the ready
+//! procedure of least rank until none is ready.
+//!
+//! - `inbox`: the hints and jobs that wait
+//! - `wake`: the procedures that an entry may make ready, each of which gets a hint
+//! - `ready`: whether a procedure is ready
 //! - `rank`: the longest path from the border to each procedure
-//! - `ready`: which procedures are ready
-//! - `settle`: the next step of settling
-//! - `wake`: who has to be woken after an execution
+//! - `settle`: the next procedure to run when settling
 //!
-//! Only `Inbox::new` takes memory.
+//! Procedures and streams are named by their numbers in the catalogue. Only `Inbox::new` takes memory; all other calls
+//! cost no more than a look at each input and each step of each procedure, unless their page says otherwise.
 #![tactic(auto)]
 
-pub mod inbox;
-pub mod rank;
+mod inbox;
+mod rank;
 pub mod ready;
-pub mod settle;
-pub mod wake;
+mod settle;
+mod wake;
+
+pub use inbox::{Inbox, Work};
+pub use rank::Ranks;
+pub use settle::{next_ranked, next_settled};
+pub use wake::wake_list;

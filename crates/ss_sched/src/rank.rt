@@ -1,4 +1,4 @@
-//! The longest path from the border to each procedure.
+//! Ranks: the longest path from the border to each procedure.
 
 ghost use Rattle.std.specs.Prelude.{◌≡◌, ◌≤◌, ◌<◌, ◌+◌, length, get_or, ℕ};
 ghost use Rattle.std.specs.List.{AllByRecursion, list_any};
@@ -7,18 +7,20 @@ ghost use Rattle.ss_model.specs.Database.{emits_to};
 ghost use Rattle.ss_model.specs.Settling.{emitting_procedure};
 ghost use Rattle.ss_sched.specs.Ranks.{AreEmitters, AreRanks, AreCounted, greatest_rank, rank_by};
 
-use ss_model::catalog::{Catalog, Procedure, Step};
+use ss_model::{Catalog, Procedure, Step};
 use std::marker::Model;
 
-/// The most procedures of a catalogue.
+/// The most procedures that a catalogue has.
 const PROCEDURES: usize = 64;
 
-/// The most streams of a catalogue.
+/// The most streams that a catalogue has.
 const STREAMS: usize = 32;
 
-/// The rank of each procedure of a catalogue: the longest path from the border to it, in procedures behind the first.
+/// The rank of each procedure of a catalogue: the length of the longest path to it from a border procedure, whose own rank
+/// is 0.
 ///
-/// Contracts see the list of them, by number. A table of 64 bytes in place, with no memory of its own.
+/// Contracts see the list of ranks, by number of the procedure. A path has 64 procedures at most, so a rank fits a byte,
+/// and the value is 64 bytes with no memory of its own.
 #[derive(Drop)]
 pub struct Ranks {
     by_number: [u8; PROCEDURES],
@@ -32,7 +34,7 @@ impl Model for Ranks {
     ghost view = { λ r. r.by_number };
 }
 
-/// A table of zeros.
+/// A rank of 0 for each procedure.
 fn zeros() -> [u8; PROCEDURES]
     ensures zero { (q : ℕ) → get_or result q 0 ≡ 0 }
     ensures long { length result ≡ 64 }
@@ -40,7 +42,7 @@ fn zeros() -> [u8; PROCEDURES]
     [0; PROCEDURES]
 }
 
-/// Whether one of these steps emits to a stream. A look at each.
+/// Whether one of these steps emits to a stream.
 fn emits(body: &[Step], stream: u16) -> bool
     ensures { result ≡ list_any (emits_to stream) body.now }
 {
@@ -54,7 +56,7 @@ fn emits(body: &[Step], stream: u16) -> bool
     false
 }
 
-/// The first procedure that emits to a stream, and 0 where none does. A look at each step of the catalogue.
+/// The first procedure that emits to a stream, and 0 where none does.
 fn emitting_procedure(catalog: &Catalog, stream: u16) -> u16
     requires { Accepted catalog.now }
     ensures emitter { result ≡ emitting_procedure catalog.now stream }
@@ -68,7 +70,7 @@ fn emitting_procedure(catalog: &Catalog, stream: u16) -> u16
     0
 }
 
-/// The emitter of each stream. A look at each step of the catalogue for each stream.
+/// The emitter of each stream, by number.
 fn emitters(catalog: &Catalog) -> [u16; STREAMS]
     requires { Accepted catalog.now }
     ensures emitters { AreEmitters catalog.now result }
@@ -81,8 +83,8 @@ fn emitters(catalog: &Catalog) -> [u16; STREAMS]
     found
 }
 
-/// The greatest rank of the emitters of these streams, and 0 of none. A look at each.
-fn greatest(inputs: &[u16], emitters: &[u16], ranks: &[u8]) -> u8
+/// The greatest rank of the emitters of these streams, and 0 where there is no stream.
+fn greatest_rank(inputs: &[u16], emitters: &[u16], ranks: &[u8]) -> u8
     requires streams { AllByRecursion (λ s. s < length emitters.now) inputs.now }
     requires procedures { (s : ℕ) → s < length emitters.now → get_or emitters.now s 0 < length ranks.now }
     ensures { result ≡ greatest_rank ranks.now emitters.now inputs.now }
@@ -95,7 +97,7 @@ fn greatest(inputs: &[u16], emitters: &[u16], ranks: &[u8]) -> u8
     most
 }
 
-/// The rank of a procedure, where those of the emitters of its inputs are known. A look at each input.
+/// The rank of a procedure from those of the emitters of its inputs.
 fn next_rank(procedure: &Procedure, emitters: &[u16], ranks: &[u8; PROCEDURES]) -> u8
     requires streams { AllByRecursion (λ s. s < length emitters.now) procedure.now.inputs }
     requires procedures { (s : ℕ) → s < length emitters.now → get_or emitters.now s 0 < 64 }
@@ -105,10 +107,10 @@ fn next_rank(procedure: &Procedure, emitters: &[u16], ranks: &[u8; PROCEDURES]) 
     if procedure.kind.is_border() {
         return 0;
     }
-    1 + greatest(procedure.inputs.as_slice(), emitters, ranks)
+    1 + greatest_rank(procedure.inputs.as_slice(), emitters, ranks)
 }
 
-/// The ranks with paths of one procedure more counted. A look at each input of each procedure.
+/// The ranks with paths that are one procedure longer counted too.
 fn next_ranks(
     catalog: &Catalog,
     emitters: &[u16; STREAMS],
@@ -130,21 +132,22 @@ fn next_ranks(
 impl Ranks {
     /// The ranks of a catalogue's procedures.
     ///
-    /// No path has more procedures than the catalogue, so that many rounds are enough. A look at each step of the
-    /// catalogue for each stream, and in each round one at each input of each procedure. Takes no memory.
+    /// Made in rounds, each of which counts paths that are one procedure longer. Costs a look at each step of the catalogue
+    /// for each stream, and in each round one at each input of each procedure.
     pub fn of(catalog: &Catalog) -> Ranks
         requires { Accepted catalog.now }
         ensures { AreRanks catalog.now result }
     {
         let emitters = emitters(catalog);
         let mut by_number = zeros();
+        // No path has more procedures than the catalogue, so as many rounds are enough, in whatever order they are listed.
         for round in 0..catalog.procedures.len() {
             by_number = next_ranks(catalog, &emitters, &by_number);
         }
         Ranks { by_number }
     }
 
-    /// The rank of a procedure. Constant.
+    /// The rank of a procedure, in constant time.
     pub fn of_procedure(&self, procedure: u16) -> u8
         requires { procedure < 64 }
         ensures { result ≡ get_or self.now procedure 0 }

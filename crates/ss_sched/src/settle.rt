@@ -1,4 +1,4 @@
-//! The next step of settling.
+//! The next procedure to run when settling.
 
 ghost use Rattle.std.specs.Prelude.{◌≡◌, ◌<◌, ℕ, length, IfSome};
 ghost use Rattle.ss_model.specs.Accepted.{Accepted};
@@ -9,10 +9,10 @@ ghost use Rattle.ss_sched.specs.Ranks.{AreRanks};
 
 use crate::rank::Ranks;
 use crate::ready::ready;
-use ss_model::catalog::Catalog;
-use ss_stream::streams::Streams;
+use ss_model::Catalog;
+use ss_stream::Streams;
 
-/// The one of lower rank of what was found so far and the next procedure, and the earlier one where they tie.
+/// The one of lower rank of the procedure found so far, if any, and the next one; where they tie, the former.
 fn lower_rank(catalog: &Catalog, ranks: &Ranks, found: Option<u16>, procedure: u16) -> Option<u16>
     requires accepted { Accepted catalog.now }
     requires ranks { AreRanks catalog.now ranks.now }
@@ -30,9 +30,9 @@ fn lower_rank(catalog: &Catalog, ranks: &Ranks, found: Option<u16>, procedure: u
     }
 }
 
-/// The ready procedure of least rank, and of those the earliest; None exactly where no procedure is ready.
+/// The ready procedure of least rank, and of those the one of least number; None exactly where no procedure is ready.
 ///
-/// A look at each input of each procedure. Takes no memory. Who settles step by step makes the ranks once.
+/// Costs a look at each input of each procedure. A caller that settles step by step makes the ranks once, before the first.
 pub fn next_ranked(
     catalog: &Catalog,
     ranks: &Ranks,
@@ -47,6 +47,7 @@ pub fn next_ranked(
     ensures within { IfSome result (λ q. q < length catalog.now.procedures) }
 {
     let mut found = None;
+    // By rising number, so that of equal ranks the one of least number is found.
     for number in 0..catalog.procedures.len() {
         let procedure = number as u16;
         if ready(catalog, cursors, streams, procedure) {
@@ -56,10 +57,9 @@ pub fn next_ranked(
     found
 }
 
-/// The next step of settling: the ready procedure of least rank, which is the longest path from the border, and of
-/// those the earliest. None exactly where no procedure is ready.
+/// The ready procedure of least rank, and of those the one of least number; None exactly where no procedure is ready.
 ///
-/// Makes the ranks first, as `Ranks::of`. Takes no memory.
+/// The same as [`next_ranked`], for a caller that has no ranks: they are made first, at the cost of `Ranks::of`.
 pub fn next_settled(catalog: &Catalog, cursors: &[u64], streams: &Streams) -> Option<u16>
     requires accepted { Accepted catalog.now }
     requires cursors { length cursors.now ≡ length catalog.now.procedures }

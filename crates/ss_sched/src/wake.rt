@@ -1,4 +1,4 @@
-//! Who has to be woken after an execution.
+//! The procedures that an entry wakes.
 
 ghost use Rattle.std.specs.Prelude.{◌≡◌, ◌<◌, ◌↔◌, ℕ, true, IsTrue};
 ghost use Rattle.std.specs.Int.{IsBitSet};
@@ -8,12 +8,11 @@ ghost use Rattle.ss_model.specs.Database.{fits_entry, emits_to, takes_stream};
 ghost use Rattle.ss_model.specs.Wakes.{wakes};
 ghost use Rattle.ss_sched.specs.Wakes.{may_append};
 
-use ss_model::catalog::{Catalog, Procedure, Step};
-use ss_model::entry::Entry;
-use ss_value::sets::ProcSet;
+use ss_model::{Catalog, Entry, Procedure, Step};
+use ss_value::ProcSet;
 
-/// The set of one stream.
-fn just(stream: u16) -> ProcSet
+/// The set of one stream. A `ProcSet` is a set of numbers below 64, so it serves for streams as well.
+fn set_of_stream(stream: u16) -> ProcSet
     requires { stream < 64 }
     ensures { (s : ℕ) → IsBitSet result s ↔ (s ≡ stream) }
 {
@@ -22,7 +21,7 @@ fn just(stream: u16) -> ProcSet
     streams
 }
 
-/// The streams to which these steps emit. A look at each step.
+/// The streams to which these steps emit.
 fn body_outputs(body: &[Step]) -> ProcSet
     requires { (s : ℕ) → list_any (emits_to s) body.now ≡ true → s < 64 }
     ensures { (s : ℕ) → IsBitSet result s ↔ (list_any (emits_to s) body.now ≡ true) }
@@ -36,7 +35,7 @@ fn body_outputs(body: &[Step]) -> ProcSet
     streams
 }
 
-/// The streams to which an entry may append a batch. Of a step a look at each step of its body.
+/// The streams to which an entry may append a batch.
 fn entry_outputs(catalog: &Catalog, entry: &Entry) -> ProcSet
     requires accepted { Accepted catalog.now }
     requires fits { fits_entry catalog.now entry.now ≡ true }
@@ -44,7 +43,7 @@ fn entry_outputs(catalog: &Catalog, entry: &Entry) -> ProcSet
 {
     match entry {
         Entry::Call { .. } => ProcSet::empty(),
-        Entry::Push { stream, .. } => just(*stream),
+        Entry::Push { stream, .. } => set_of_stream(*stream),
         Entry::Step { procedure, .. } => {
             let Some(found) = catalog.procedures.get(usize::from(*procedure)) else {
                 unreachable!()
@@ -54,7 +53,7 @@ fn entry_outputs(catalog: &Catalog, entry: &Entry) -> ProcSet
     }
 }
 
-/// Whether a procedure takes one of these streams. A look at each input.
+/// Whether a procedure takes one of these streams.
 fn takes_any(procedure: &Procedure, streams: &ProcSet) -> bool
     requires { AllByRecursion (λ s. s < 64) procedure.now.inputs }
     ensures { IsTrue result ↔ ((s : ℕ) × IsBitSet streams.now s × (takes_stream s procedure.now ≡ true)) }
@@ -67,10 +66,10 @@ fn takes_any(procedure: &Procedure, streams: &ProcSet) -> bool
     false
 }
 
-/// The procedures that an entry may make ready: each consumer of a stream to which it appends, and for a push, accepted
-/// or refused, the border procedure of its stream.
+/// The procedures that an entry may make ready: for a step each consumer of a stream to which it emits, and for a push,
+/// accepted or refused, the border procedure of its stream.
 ///
-/// A look at each input of each procedure, and for a step one at each step of its body. Takes no memory.
+/// Costs a look at each input of each procedure, and for a step one at each step of its body.
 ///
 /// Source: the partition-engine triggers of S-Store, by which a procedure's output sets off the one behind it (Meehan
 /// et al., PVLDB 8, 2015, section 3.2).

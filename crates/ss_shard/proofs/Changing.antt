@@ -5,29 +5,27 @@ use Rattle.std.specs.List.{AllByRecursion}
 use Rattle.std.specs.Ordering.{eq_by_cmp}
 use Rattle.std.specs.FinMap as finite
 use Rattle.std.specs.FinMap.Entries as entries
+use Rattle.ss_lemmas.proofs.Orderings.{equal_test}
 use Rattle.ss_value.specs.Rows.{Row}
 use Rattle.ss_value.specs.Order.{row_cmp}
-use Rattle.ss_table.specs.Held.{Held, LiveRows, key_of, replaced}
+use Rattle.ss_table.specs.TableValue.{TableValue, LiveRows, key_of, replace}
 use Rattle.ss_table.specs.Keyed.{SlotsDiffer, AreKeyed}
 use Rattle.ss_table.specs.Steps.{WasDeleted, WasReplaced}
-use Rattle.ss_table.proofs.Keys.{rows_total}
-use Rattle.ss_table.proofs.Maps.{rows_antisymmetric, ties}
-use Rattle.ss_table.proofs.PutBack.{get_inserted}
+use Rattle.ss_table.proofs.CallerLemmas.{rows_total, rows_antisymmetric, get_inserted}
 use Rattle.ss_undo.specs.declared.change.Change.{Change}
-use Rattle.ss_undo.specs.Came.{Step, Came}
-use Rattle.ss_undo.proofs.Back.{came_more}
-use Rattle.ss_shard.specs.HeldShard.{HeldShard}
+use Rattle.ss_undo.specs.ResultsFrom.{Step, ResultsFrom}
+use Rattle.ss_undo.proofs.CallerLemmas.{came_more, windows_more}
+use Rattle.ss_shard.specs.ShardValue.{ShardValue}
 use Rattle.ss_shard.specs.Sources.{SameNumbers}
 use Rattle.ss_shard.specs.Rows.{StandsIn, RowPut, RowTaken}
-use Rattle.ss_window.specs.Held.{HeldWindow, staged}
-use Rattle.ss_undo.specs.Windows.{WindowStep, WindowsCame}
-use Rattle.ss_undo.proofs.Windows.{windows_more}
-use Rattle.ss_shard.specs.Shards.{shapes_of, frames_of, AllKeyed, AllHeld, Changed}
+use Rattle.ss_window.specs.WindowValue.{WindowValue, stage}
+use Rattle.ss_undo.specs.Windows.{WindowStep, WindowsResultFrom}
+use Rattle.ss_shard.specs.Shards.{shapes_of, frames_of, AllKeyed, AllInvariant, Changed}
 
 -- a change that is made and noted
-pub noted_both : (old new : HeldShard) (c : Change) → Step old.tables c new.tables → WindowStep old.windows c new.windows → new.changes ≡ old.changes ++ c ∷ [] → new.number ≡ old.number → new.cursors ≡ old.cursors → new.sources ≡ old.sources → new.columns ≡ old.columns
-    → shapes_of new.tables ≡ shapes_of old.tables → (AllKeyed old.tables → AllKeyed new.tables) → frames_of new.windows ≡ frames_of old.windows → (AllHeld old.windows → AllHeld new.windows) → Changed old new
-noted_both old new c step staged items number cursors sources columns shapes keyed frames held = record {
+pub noted_both : (old new : ShardValue) (c : Change) → Step old.tables c new.tables → WindowStep old.windows c new.windows → new.changes ≡ old.changes ++ c ∷ [] → new.number ≡ old.number → new.cursors ≡ old.cursors → new.sources ≡ old.sources → new.columns ≡ old.columns
+    → shapes_of new.tables ≡ shapes_of old.tables → (AllKeyed old.tables → AllKeyed new.tables) → frames_of new.windows ≡ frames_of old.windows → (AllInvariant old.windows → AllInvariant new.windows) → Changed old new
+noted_both old new c step stage items number cursors sources columns shapes keyed frames held = record {
   columns = columns;
   number = number;
   cursors = cursors;
@@ -42,38 +40,38 @@ noted_both old new c step staged items number cursors sources columns shapes key
     cursors = cursors ∙ can.cursors;
     sources = subst (SameNumbers before.sources) (sym sources) can.sources;
     final = can.final;
-    came = subst (λ cs. Came before.tables cs new.tables) (sym items) (came_more before.tables old.tables new.tables old.changes c can.came step);
-    settled = can.settled;
-    staged = subst (λ cs. WindowsCame before.windows cs new.windows) (sym items) (windows_more before.windows old.windows new.windows old.changes c can.staged staged);
+    came = subst (λ cs. ResultsFrom before.tables cs new.tables) (sym items) (came_more before.tables old.tables new.tables old.changes c can.came step);
+    committed = can.committed;
+    staged = subst (λ cs. WindowsResultFrom before.windows cs new.windows) (sym items) (windows_more before.windows old.windows new.windows old.changes c can.staged stage);
   };
 }
 
 -- a change of a row
-pub noted : (old new : HeldShard) (c : Change) → Step old.tables c new.tables → WindowStep old.windows c new.windows → new.changes ≡ old.changes ++ c ∷ [] → new.number ≡ old.number → new.cursors ≡ old.cursors → new.sources ≡ old.sources → new.columns ≡ old.columns → new.windows ≡ old.windows
+pub noted : (old new : ShardValue) (c : Change) → Step old.tables c new.tables → WindowStep old.windows c new.windows → new.changes ≡ old.changes ++ c ∷ [] → new.number ≡ old.number → new.cursors ≡ old.cursors → new.sources ≡ old.sources → new.columns ≡ old.columns → new.windows ≡ old.windows
     → shapes_of new.tables ≡ shapes_of old.tables → (AllKeyed old.tables → AllKeyed new.tables) → Changed old new
-noted old new c step staged items number cursors sources columns windows shapes keyed =
-    noted_both old new c step staged items number cursors sources columns shapes keyed (ap frames_of windows) (λ h. subst (λ (ws : List HeldWindow). AllHeld ws) (sym windows) h)
+noted old new c step stage items number cursors sources columns windows shapes keyed =
+    noted_both old new c step stage items number cursors sources columns shapes keyed (ap frames_of windows) (λ h. subst (λ (ws : List WindowValue). AllInvariant ws) (sym windows) h)
 
 -- room that is made, and nothing else
-pub unnoted : (old new : HeldShard) → new.cursors ≡ old.cursors → new.sources ≡ old.sources → new.windows ≡ old.windows → new.tables ≡ old.tables → new.changes ≡ old.changes → new.number ≡ old.number → new.columns ≡ old.columns → Changed old new
+pub unnoted : (old new : ShardValue) → new.cursors ≡ old.cursors → new.sources ≡ old.sources → new.windows ≡ old.windows → new.tables ≡ old.tables → new.changes ≡ old.changes → new.number ≡ old.number → new.columns ≡ old.columns → Changed old new
 unnoted old new cursors sources windows tables items number columns = record {
   columns = columns;
   number = number;
   cursors = cursors;
   sources = sources;
   shapes = ap shapes_of tables;
-  keyed = λ h. subst (λ (tables : List Held). AllKeyed tables) (sym tables) h;
+  keyed = λ h. subst (λ (tables : List TableValue). AllKeyed tables) (sym tables) h;
   frames = ap frames_of windows;
-  held = λ h. subst (λ (ws : List HeldWindow). AllHeld ws) (sym windows) h;
+  held = λ h. subst (λ (ws : List WindowValue). AllInvariant ws) (sym windows) h;
   back = λ before can. record {
     number = number ∙ can.number;
     columns = columns ∙ can.columns;
     cursors = cursors ∙ can.cursors;
     sources = subst (SameNumbers before.sources) (sym sources) can.sources;
     final = can.final;
-    came = subst (λ cs. Came before.tables cs new.tables) (sym items) (subst (Came before.tables old.changes) (sym tables) can.came);
-    settled = can.settled;
-    staged = subst (λ cs. WindowsCame before.windows cs new.windows) (sym items) (subst (WindowsCame before.windows old.changes) (sym windows) can.staged);
+    came = subst (λ cs. ResultsFrom before.tables cs new.tables) (sym items) (subst (ResultsFrom before.tables old.changes) (sym tables) can.came);
+    committed = can.committed;
+    staged = subst (λ cs. WindowsResultFrom before.windows cs new.windows) (sym items) (subst (WindowsResultFrom before.windows old.changes) (sym windows) can.staged);
   };
 }
 
@@ -89,7 +87,7 @@ module _ (P : ℕ × Row → Type 0) where
   found_so q (d ∷ es) v h e = first_so (eq_by_cmp row_cmp q d.0) d (entries.find row_cmp q es) v h.0 (found_so q es v h.1) e
 
 tied : (q k : Row) → eq_by_cmp row_cmp q k ≡ true → q ≡ k
-tied q k e = rows_antisymmetric q k (ties (row_cmp q k) e)
+tied q k e = rows_antisymmetric q k (equal_test (row_cmp q k) e)
 
 one_key : (p q : Row) (es : List (Row × (ℕ × Row))) (v w : ℕ × Row) → SlotsDiffer es → entries.find row_cmp p es ≡ Some v → entries.find row_cmp q es ≡ Some w → v.0 ≡ w.0 → p ≡ q
 one_key p q [] v w h e f same = cc
@@ -108,16 +106,16 @@ pub at_some : {A : Type 0} (o : Option A) (x : A) (P : A → Type 0) → o ≡ S
 at_some o x P e h = subst (λ o. IsSomeAnd o P) e h
 
 -- of a table that is found by a number
-pub at_table : (tables : List Held) (t u : ℕ) (was : Held) (P : Held → Type 0) → u ≡ t → slice_get tables u ≡ Some was → IsSomeAnd (slice_get tables t) P → P was
+pub at_table : (tables : List TableValue) (t u : ℕ) (was : TableValue) (P : TableValue → Type 0) → u ≡ t → slice_get tables u ≡ Some was → IsSomeAnd (slice_get tables t) P → P was
 at_table tables t u was P same here h = at_some (slice_get tables t) was P (ap (slice_get tables) (sym same) ∙ here) h
 
--- the row that was put in the place of another
-pub row_is : (was now : Held) (slot : ℕ) (before row : Row) (w : WasReplaced was now slot before) → now ≡ replaced was slot row → key_of was.key row ≡ key_of was.key before → w.row ≡ row
+-- the row that was put in place of another
+pub row_is : (was now : TableValue) (slot : ℕ) (before row : Row) (w : WasReplaced was now slot before) → now ≡ replace was slot row → key_of was.key row ≡ key_of was.key before → w.row ≡ row
 row_is was now slot before row w is alike =
     let k = key_of was.key w.row in
-    let one : finite.get now.live k ≡ Some (slot, w.row) = ap (λ (h : Held). finite.get h.live k) w.is ∙ get_inserted rows_total rows_antisymmetric was.live k (slot, w.row) in
+    let one : finite.get now.live k ≡ Some (slot, w.row) = ap (λ (h : TableValue). finite.get h.live k) w.is ∙ get_inserted rows_total rows_antisymmetric was.live k (slot, w.row) in
     let two : finite.get now.live k ≡ Some (slot, row) =
-    ap (λ (h : Held). finite.get h.live k) is
+    ap (λ (h : TableValue). finite.get h.live k) is
     ∙ ap (λ q. finite.get (finite.insert was.live q (slot, row)) k) (alike ∙ w.same_key)
     ∙ get_inserted rows_total rows_antisymmetric was.live k (slot, row) in
     let p : ℕ × Row = (slot, w.row) in
@@ -127,7 +125,7 @@ row_is was now slot before row w is alike =
 
 -- ---- what the calls did
 
-module _ (tables : List Held) (t slot : ℕ) (was now : Held) (here : slice_get tables t ≡ Some was) (keyed : AreKeyed was) where
+module _ (tables : List TableValue) (t slot : ℕ) (was now : TableValue) (here : slice_get tables t ≡ Some was) (keyed : AreKeyed was) where
   pub taken : WasDeleted was now slot → (key row : Row) → StandsIn tables t key slot row → RowTaken tables (slice_set tables t now) t key
   taken w key row stands =
       let same : key_of was.key w.row ≡ key = slot_key was.live (key_of was.key w.row) key slot w.row row keyed.apart w.there (at_some (slice_get tables t) was (λ h. finite.get h.live key ≡ Some (slot, row)) here stands) in
@@ -136,12 +134,12 @@ module _ (tables : List Held) (t slot : ℕ) (was now : Held) (here : slice_get 
         now = now;
         here = here;
         is = refl;
-        key = ap (λ (h : Held). h.key) w.is;
-        limit = ap (λ (h : Held). h.limit) w.is;
-        live = ap (λ (h : Held). h.live) w.is ∙ ap (λ k. finite.remove was.live k) same;
+        key = ap (λ (h : TableValue). h.key) w.is;
+        limit = ap (λ (h : TableValue). h.limit) w.is;
+        live = ap (λ (h : TableValue). h.live) w.is ∙ ap (λ k. finite.remove was.live k) same;
       }
 
-  pub put : (old row : Row) → WasReplaced was now slot old → now ≡ replaced was slot row → key_of was.key row ≡ key_of was.key old → (key other : Row) → StandsIn tables t key slot other → RowPut tables (slice_set tables t now) t key slot row
+  pub put : (old row : Row) → WasReplaced was now slot old → now ≡ replace was slot row → key_of was.key row ≡ key_of was.key old → (key other : Row) → StandsIn tables t key slot other → RowPut tables (slice_set tables t now) t key slot row
   put old row w is alike key other stands =
       let same : key_of was.key old ≡ key = slot_key was.live (key_of was.key old) key slot old other keyed.apart w.before (at_some (slice_get tables t) was (λ h. finite.get h.live key ≡ Some (slot, other)) here stands) in
       record {
@@ -149,7 +147,7 @@ module _ (tables : List Held) (t slot : ℕ) (was now : Held) (here : slice_get 
         now = now;
         here = here;
         is = refl;
-        key = ap (λ (h : Held). h.key) is;
-        limit = ap (λ (h : Held). h.limit) is;
-        live = ap (λ (h : Held). h.live) is ∙ ap (λ k. finite.insert was.live k (slot, row)) (alike ∙ same);
+        key = ap (λ (h : TableValue). h.key) is;
+        limit = ap (λ (h : TableValue). h.limit) is;
+        live = ap (λ (h : TableValue). h.live) is ∙ ap (λ k. finite.insert was.live k (slot, row)) (alike ∙ same);
       }

@@ -50,15 +50,15 @@ module _ {K : Type 0} (bytes : K → List ℕ) where
     abbrev here : Bool
     here = is_eq (bytes_cmp q name)
 
-    same_place : (k : List ℕ) (x : ℕ) (rest : Option ℕ) → name ≡ k → cond (is_eq (bytes_cmp q k)) (Some n) rest ≡ cond here (Some n) (cond (is_eq (bytes_cmp q k)) (Some x) rest)
-    same_place k x rest same = subst (λ (p : List ℕ). cond (is_eq (bytes_cmp q p)) (Some n) rest ≡ cond here (Some n) (cond (is_eq (bytes_cmp q p)) (Some x) rest)) same (by here)
+    same_position : (k : List ℕ) (x : ℕ) (rest : Option ℕ) → name ≡ k → cond (is_eq (bytes_cmp q k)) (Some n) rest ≡ cond here (Some n) (cond (is_eq (bytes_cmp q k)) (Some x) rest)
+    same_position k x rest same = subst (λ (p : List ℕ). cond (is_eq (bytes_cmp q p)) (Some n) rest ≡ cond here (Some n) (cond (is_eq (bytes_cmp q p)) (Some x) rest)) same (by here)
       where
         by : (b : Bool) → cond b (Some n) rest ≡ cond b (Some n) (cond b (Some x) rest)
         by true = refl
         by false = refl
 
-    later_place : (k : List ℕ) (x : ℕ) (new rest : Option ℕ) → is_eq (bytes_cmp name k) ≡ false → new ≡ cond here (Some n) rest → cond (is_eq (bytes_cmp q k)) (Some x) new ≡ cond here (Some n) (cond (is_eq (bytes_cmp q k)) (Some x) rest)
-    later_place k x new rest apart is = by here refl is
+    later_position : (k : List ℕ) (x : ℕ) (new rest : Option ℕ) → is_eq (bytes_cmp name k) ≡ false → new ≡ cond here (Some n) rest → cond (is_eq (bytes_cmp q k)) (Some x) new ≡ cond here (Some n) (cond (is_eq (bytes_cmp q k)) (Some x) rest)
+    later_position k x new rest apart is = by here refl is
       where
         by : (b : Bool) → here ≡ b → new ≡ cond b (Some n) rest → cond (is_eq (bytes_cmp q k)) (Some x) new ≡ cond b (Some n) (cond (is_eq (bytes_cmp q k)) (Some x) rest)
         by true e h = ap (λ b. cond b (Some x) new) (ap (λ (p : List ℕ). is_eq (bytes_cmp p k)) (tied q name e) ∙ apart) ∙ h
@@ -71,8 +71,8 @@ module _ {K : Type 0} (bytes : K → List ℕ) where
         by : (b : Bool) → is_eq (bytes_cmp name (bytes e.0)) ≡ b → is_some (cond b (Some e.1) (number_at es name)) ≡ true
             → (is_some (number_at es name) ≡ true → number_at (set_value (is_at (λ k. bytes_cmp name (bytes k))) es n) q ≡ cond here (Some n) (number_at es q))
             → number_at (cond b ((e.0, n) ∷ es) (e ∷ set_value (is_at (λ k. bytes_cmp name (bytes k))) es n)) q ≡ cond here (Some n) (number_at (e ∷ es) q)
-        by true at h rest = same_place (bytes e.0) e.1 (number_at es q) (tied name (bytes e.0) at)
-        by false at h rest = later_place (bytes e.0) e.1 _ (number_at es q) at (rest h)
+        by true at h rest = same_position (bytes e.0) e.1 (number_at es q) (tied name (bytes e.0) at)
+        by false at h rest = later_position (bytes e.0) e.1 _ (number_at es q) at (rest h)
 
   pub number_inserted : (q : List ℕ) (k : K) (n : ℕ) (es : List (K × ℕ)) → number_at (insert_entry (λ x y. bytes_cmp (bytes x) (bytes y)) es k n) q ≡ cond (is_eq (bytes_cmp q (bytes k))) (Some n) (number_at es q)
   number_inserted q k n [] = refl
@@ -82,8 +82,8 @@ module _ {K : Type 0} (bytes : K → List ℕ) where
           → number_at (insert_entry (λ x y. bytes_cmp (bytes x) (bytes y)) es k n) q ≡ cond (is_eq (bytes_cmp q (bytes k))) (Some n) (number_at es q)
           → number_at (match_ordering o ((k, n) ∷ e ∷ es) ((e.0, n) ∷ es) (e ∷ insert_entry (λ x y. bytes_cmp (bytes x) (bytes y)) es k n)) q ≡ cond (is_eq (bytes_cmp q (bytes k))) (Some n) (number_at (e ∷ es) q)
       by Less o rest = refl
-      by Equal o rest = same_place q (bytes k) n (bytes e.0) e.1 (number_at es q) (tied (bytes k) (bytes e.0) (ap is_eq o))
-      by Greater o rest = later_place q (bytes k) n (bytes e.0) e.1 _ (number_at es q) (ap is_eq o) rest
+      by Equal o rest = same_position q (bytes k) n (bytes e.0) e.1 (number_at es q) (tied (bytes k) (bytes e.0) (ap is_eq o))
+      by Greater o rest = later_position q (bytes k) n (bytes e.0) e.1 _ (number_at es q) (ap is_eq o) rest
 
   pub has_number : (es : List (K × ℕ)) (ns : NextNumbers) (q : List ℕ) → numbers_of es ≡ ns → is_some (finite.get ns q) ≡ true → is_some (number_at es q) ≡ true
   has_number es ns q is some = ap is_some (sym (get_number es q)) ∙ ap (λ (ns : NextNumbers). is_some (finite.get ns q)) is ∙ some
@@ -94,7 +94,7 @@ module _ {K : Type 0} (bytes : K → List ℕ) where
       get_number fs q ∙ ap (λ es. number_at es q) is ∙ number_written q name n es some
       ∙ sym (get-insert nat_list_cmp_total (numbers_of es) name n q ∙ ap (cond (eq_by_cmp bytes_cmp q name) (Some n)) (get_number es q)))
 
-  -- a source that had no place has the number 0 still
+  -- a source that had no entry has the number 0 still
   pub none_risen : (es fs : List (K × ℕ)) (k : K) → number_at es (bytes k) ≡ None → fs ≡ insert_entry (λ x y. bytes_cmp (bytes x) (bytes y)) es k 0 → (name : List ℕ) → number_of (numbers_of fs) name ≡ number_of (numbers_of es) name
   none_risen es fs k none is name =
       ap (λ o. unwrap_or o 0) (get_number fs name ∙ ap (λ es. number_at es name) is ∙ number_inserted name k 0 es)

@@ -9,9 +9,9 @@ use Rattle.ss_model.specs.declared.catalog.Catalog.{Catalog}
 use Rattle.ss_model.specs.declared.entry.Reason.TheVariants.{WindowFull}
 use Rattle.ss_model.specs.Results.{abort_when}
 use Rattle.ss_model.specs.Contents.{Window, Contents, window_def, window_units, append_unit, default_window}
-use Rattle.ss_table.specs.Held.{Held}
+use Rattle.ss_table.specs.TableValue.{TableValue}
 use Rattle.ss_window.specs.Slides.{visible_end}
-use Rattle.ss_window.specs.Held.{HeldWindow, unit_count, staged, moves_end, all_units}
+use Rattle.ss_window.specs.WindowValue.{WindowValue, unit_count, stage, moves_end, all_units}
 use Rattle.ss_shard.specs.Contents.{contents_with, windows_of}
 use Rattle.ss_shard.specs.Shards.{HasWindows}
 use Rattle.ss_shard.specs.Windows.{unit_added, unit_moves_end}
@@ -22,8 +22,8 @@ pub length_replicate : {A : Type 0} (n : ℕ) (x : A) → length (replicate n x)
 length_replicate zero x = refl
 length_replicate (suc n) x = ap suc (length_replicate n x)
 
--- all units of the model are those that were given up, and those that are held
-pub all_count : (h : HeldWindow) → length (all_units h) ≡ unit_count h
+-- all units of the model are those that were dropped, and those that are held
+pub all_count : (h : WindowValue) → length (all_units h) ≡ unit_count h
 all_count h = length-append (replicate h.gone []) h.kept ∙ ap (λ n. n + length h.kept) (length_replicate h.gone [])
 
 le_true : (a b : ℕ) → a ≤ b → nat_le a b ≡ true
@@ -32,7 +32,7 @@ le_true a b h = grind (arith, nat_tests)
 le_false : (a b : ℕ) → b < a → nat_le a b ≡ false
 le_false a b h = grind (arith, nat_tests)
 
-module _ (catalog : Catalog) (tables : List Held) (windows : List HeldWindow) (has : HasWindows catalog windows) (w : ℕ) (was : HeldWindow) (here : slice_get windows w ≡ Some was) where
+module _ (catalog : Catalog) (tables : List TableValue) (windows : List WindowValue) (has : HasWindows catalog windows) (w : ℕ) (was : WindowValue) (here : slice_get windows w ≡ Some was) where
   abbrev held : Contents
   held = contents_with tables windows
 
@@ -54,14 +54,14 @@ module _ (catalog : Catalog) (tables : List Held) (windows : List HeldWindow) (h
       ∙ ap (λ k. not (visible_end d.size d.slide k == visible_end d.size d.slide (suc k))) count_there
       ∙ (λ i. not (visible_end (sym is.size i) (sym is.slide i) (unit_count was) == visible_end (sym is.size i) (sym is.slide i) (suc (unit_count was))))
 
-  added_there : (unit : Rows) → append_unit held w unit ≡ contents_with tables (slice_set windows w (staged was unit))
+  added_there : (unit : Rows) → append_unit held w unit ≡ contents_with tables (slice_set windows w (stage was unit))
   unfolding append_unit
   added_there unit =
       ap (λ (us : Window). record held { windows = set (windows_of windows) w (us ++ unit ∷ []) }) units_there
       ∙ ap (λ (us : Window). record held { windows = set (windows_of windows) w us }) (append_assoc (replicate was.gone []) was.kept (unit ∷ []))
-      ∙ ap (λ (ws : List Window). record held { windows = ws }) (sym (map-set all_units windows w (staged was unit)))
+      ∙ ap (λ (ws : List Window). record held { windows = ws }) (sym (map-set all_units windows w (stage was unit)))
 
-  pub unit_more : (unit : Rows) → unit_count was < 2 ^ 62 → unit_added catalog w unit held ≡ Ok (moves_end was, contents_with tables (slice_set windows w (staged was unit)))
+  pub unit_more : (unit : Rows) → unit_count was < 2 ^ 62 → unit_added catalog w unit held ≡ Ok (moves_end was, contents_with tables (slice_set windows w (stage was unit)))
   unit_more unit less =
       ap (λ k. abort_when (nat_le (2 ^ 62) k) (WindowFull w) (Ok (unit_moves_end catalog w held, append_unit held w unit))) count_there
       ∙ ap (λ b. abort_when b (WindowFull w) (Ok (unit_moves_end catalog w held, append_unit held w unit))) (le_false (2 ^ 62) (unit_count was) less)

@@ -1,4 +1,4 @@
--- A shard stands for its own tables and windows, and with them for all that keep the same.
+-- A shard stands for its own tables and windows, and with them for all databases of which the same is kept.
 use Rattle.std.proofs.Common.{◌≡◌, ◌-◌, ◌≤◌, ℕ, zero, suc, List, [], ◌∷◌, ◌++◌, map, get_or, drop, length, replicate, refl, sym, ap, subst, ◌∙◌, Option, Some, None, arith}
 use Rattle.ss_value.specs.Rows.{Rows}
 use Rattle.ss_model.specs.declared.catalog.WindowDef.{WindowDef}
@@ -8,13 +8,13 @@ use Rattle.ss_model.specs.Results.{map_indexed}
 use Rattle.ss_model.specs.Contents.{Contents, window_def, default_window, kept_units}
 use Rattle.ss_model.specs.Database.{Database, Applied, apply}
 use Rattle.ss_model.specs.Settling.{Kept, kept, SameKeptApplied}
-use Rattle.ss_model_kept.proofs.KeptDatabase.{kept_is_enough}
+use Rattle.ss_model_kept.proofs.CallerLemmas.{kept_is_enough}
 use Rattle.ss_window.specs.Slides.{first_kept as first_kept_at}
-use Rattle.ss_window.specs.Held.{HeldWindow, unit_count, passed, all_units, IsHeld}
-use Rattle.ss_window.proofs.Rises.{given_up_first}
-use Rattle.ss_shard.specs.HeldShard.{HeldShard}
+use Rattle.ss_window.specs.WindowValue.{WindowValue, unit_count, outdated_count, all_units, WindowInvariant}
+use Rattle.ss_window.proofs.CallerLemmas.{given_up_first}
+use Rattle.ss_shard.specs.ShardValue.{ShardValue}
 use Rattle.ss_shard.specs.Contents.{windows_of, contents_of}
-use Rattle.ss_shard.specs.Shards.{frame_of, frame_for, frames_of, AllHeld, HasWindows, IsOf}
+use Rattle.ss_shard.specs.Shards.{frame_of, frame_for, frames_of, AllInvariant, HasWindows, IsOf}
 use Rattle.ss_shard.specs.Windows.{kept_part, kept_of, Holds, HoldsDatabase, own_database}
 use Rattle.ss_shard.specs.Laws.{Carried}
 use Rattle.ss_shard.proofs.Staging.{all_count}
@@ -26,16 +26,16 @@ gone_past zero n us h = let e : n ≡ n - 0 = omega arith in ap (λ n. drop n us
 gone_past (suc gone) zero us h = absurd (omega arith)
 gone_past (suc gone) (suc n) us h = gone_past gone n us (omega arith) ∙ ap (λ k. drop k us) (let e : n - gone ≡ suc n - suc gone = omega arith in e)
 
-part_meant : (d : WindowDef) (h : HeldWindow) → frame_of h ≡ frame_for d → IsHeld h → (length (all_units h), kept_units d (all_units h)) ≡ kept_part h
+part_meant : (d : WindowDef) (h : WindowValue) → frame_of h ≡ frame_for d → WindowInvariant h → (length (all_units h), kept_units d (all_units h)) ≡ kept_part h
 part_meant d h frame held =
     let count = all_count h in
     let size : d.size ≡ h.size = sym (ap (λ f. f.1.0) frame) in
     let slide : d.slide ≡ h.slide = sym (ap (λ f. f.1.1) frame) in
-    let units : kept_units d (all_units h) ≡ drop (passed h) h.kept =
+    let units : kept_units d (all_units h) ≡ drop (outdated_count h) h.kept =
     (λ i. drop (first_kept_at (size i) (slide i) (count i)) (all_units h)) ∙ gone_past h.gone (first_kept_at h.size h.slide (unit_count h)) h.kept (given_up_first h held) in
     λ i. (count i, units i)
 
-parts_in : (f : ℕ → WindowDef) (hs : List HeldWindow) (ds : List WindowDef) → ((i : ℕ) → f i ≡ get_or ds i default_window) → frames_of hs ≡ map frame_for ds → AllHeld hs
+parts_in : (f : ℕ → WindowDef) (hs : List WindowValue) (ds : List WindowDef) → ((i : ℕ) → f i ≡ get_or ds i default_window) → frames_of hs ≡ map frame_for ds → AllInvariant hs
     → map_indexed (λ i us. (length us, kept_units (f i) us)) (map all_units hs) ≡ map kept_part hs
 parts_in f [] ds is frames held = refl
 parts_in f (h ∷ hs) [] is frames held = cc
@@ -46,16 +46,16 @@ parts_in f (h ∷ hs) (d ∷ ds) is frames held =
     let others = parts_in (λ i. f (suc i)) hs ds (λ i. is (suc i)) rest held.1 in
     λ i. first i ∷ others i
 
-pub parts_meant : (catalog : Catalog) (windows : List HeldWindow) → HasWindows catalog windows → map_indexed (kept_of catalog) (windows_of windows) ≡ map kept_part windows
+pub parts_meant : (catalog : Catalog) (windows : List WindowValue) → HasWindows catalog windows → map_indexed (kept_of catalog) (windows_of windows) ≡ map kept_part windows
 parts_meant catalog windows has = parts_in (window_def catalog) windows catalog.windows (λ i. refl) has.frames has.held
 
 -- a shard stands for its own
-pub holds_itself : (catalog : Catalog) (shard : HeldShard) → IsOf catalog shard → Holds catalog shard (contents_of shard)
+pub holds_itself : (catalog : Catalog) (shard : ShardValue) → IsOf catalog shard → Holds catalog shard (contents_of shard)
 holds_itself catalog shard is = record { tables = refl; windows = sym (parts_meant catalog shard.windows is.windows) }
 
 -- ---- one database of those that it stands for
 
-module _ (catalog : Catalog) (old new : HeldShard) (is : IsOf catalog old) (now : IsOf catalog new) (db : Database) (holds : HoldsDatabase catalog old db) where
+module _ (catalog : Catalog) (old new : ShardValue) (is : IsOf catalog old) (now : IsOf catalog new) (db : Database) (holds : HoldsDatabase catalog old db) where
   same_kept : kept catalog (own_database old db) ≡ kept catalog db
   unfolding kept
   same_kept =

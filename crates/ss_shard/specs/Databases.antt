@@ -6,29 +6,29 @@ use Rattle.ss_model.specs.declared.catalog.WindowDef.{WindowDef}
 use Rattle.ss_model.specs.declared.catalog.Catalog.{Catalog}
 use Rattle.ss_model.specs.Database.{Database as Model, empty_database}
 use Rattle.ss_model.specs.WholeDatabase.{WholeDatabase}
-use Rattle.ss_table.specs.Held.{Held}
-use Rattle.ss_index.specs.Pairs.{Held as Index}
+use Rattle.ss_table.specs.TableValue.{TableValue}
+use Rattle.ss_index.specs.Pairs.{IndexValue as Index}
 use Rattle.ss_undo.specs.Indexed.{Group}
-use Rattle.ss_window.specs.Held.{HeldWindow, empty_window}
+use Rattle.ss_window.specs.WindowValue.{WindowValue, empty_window}
 use Rattle.ss_stream.specs.OfDatabase.{AreStreamsOf}
-use Rattle.ss_shard.specs.Shards.{IsSettled}
+use Rattle.ss_shard.specs.Shards.{IsCommitted}
 use Rattle.ss_shard.specs.Windows.{HoldsDatabase}
 use Rattle.ss_shard.specs.declared.database.Database.{Database}
 use Rattle.ss_shard.specs.Contents.{row_limit}
 
--- a table that no row was put in
-abbrev pub empty_table : TableDef → Held
-empty_table d = record { key = d.key; limit = row_limit d.place; live = finite.empty; dead = finite.empty }
+-- the table of a definition, without a row
+abbrev pub empty_table : TableDef → TableValue
+empty_table d = record { key = d.key; limit = row_limit d.placement; live = finite.empty; dead = finite.empty }
 
 -- the tables of a catalogue before the first execution
-abbrev pub empty_tables : List TableDef → List Held
+abbrev pub empty_tables : List TableDef → List TableValue
 empty_tables defs = map empty_table defs
 
--- an index of no pair, on these columns
+-- an index without a pair, on these columns
 abbrev pub empty_index : List ℕ → Index
 empty_index columns = record { columns = columns; pairs = finite.empty }
 
--- indexes of no pair
+-- indexes without a pair, each on its columns
 abbrev pub empty_group : List (List ℕ) → Group
 empty_group listed = map empty_index listed
 
@@ -36,26 +36,26 @@ empty_group listed = map empty_index listed
 abbrev pub empty_indexes : List TableDef → List Group
 empty_indexes defs = map (λ (d : TableDef). empty_group d.indexes) defs
 
--- its windows
-abbrev pub empty_windows : List WindowDef → List HeldWindow
+-- the windows of a catalogue before the first execution
+abbrev pub empty_windows : List WindowDef → List WindowValue
 empty_windows defs = map (λ d. empty_window d.unit d.size d.slide) defs
 
 -- a window shows at least one unit, and moves on by no more than it shows
 abbrev pub WindowIsSound : WindowDef → Type 0
 WindowIsSound d = (1 ≤ d.slide) × (d.slide ≤ d.size)
 
--- a database holds what a database of the model has: its shard the tables, windows, counts and next numbers, and its streams
--- of each stream the batches that some procedure has still to take
+-- the program's database stands for one of the model: its shard for the tables, windows, counts and next numbers, and its
+-- streams have of each stream the batches that some procedure has still to take
 pub record StandsFor (catalog : Catalog) (database : Database) (db : Model) : Type 0 where
   pub shard : HoldsDatabase catalog database.whole db
   pub streams : AreStreamsOf catalog db database.streams.streams
 
--- between executions: one shard of number 0, with nothing to take back, and what it holds is a whole database
+-- a database between executions: its shard has the number 0 and nothing to take back, and it stands for a whole database
 pub record IsWhole (catalog : Catalog) (database : Database) : Type 0 where
-  pub settled : IsSettled catalog database.whole
+  pub committed : IsCommitted catalog database.whole
   pub number : database.whole.number ≡ 0
   pub stands : (db : Model) × StandsFor catalog database db × WholeDatabase catalog db
 
--- a database of a catalogue whose empty database is whole
+-- if the empty database of the catalogue is whole, this database is
 abbrev pub OpensWhole : Catalog → Database → Type 0
 OpensWhole catalog database = WholeDatabase catalog (empty_database catalog) → IsWhole catalog database

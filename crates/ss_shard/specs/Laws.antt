@@ -1,19 +1,19 @@
--- A shard stands for each database that keeps what it holds.
+-- A shard stands for each database that has what it has.
 use Rattle.std.specs.Prelude.{◌≡◌, Some}
 use Rattle.ss_model.specs.declared.catalog.Catalog.{Catalog}
 use Rattle.ss_model.specs.declared.entry.Entry.{Entry}
 use Rattle.ss_model.specs.Database.{Database, Applied, apply}
-use Rattle.ss_shard.specs.HeldShard.{HeldShard}
+use Rattle.ss_shard.specs.ShardValue.{ShardValue}
 use Rattle.ss_shard.specs.Contents.{contents_of}
 use Rattle.ss_shard.specs.Shards.{IsOf}
 use Rattle.ss_shard.specs.Windows.{Holds, HoldsDatabase, own_database}
 
 -- law: a shard stands for its own tables and windows
 abbrev pub HoldsItself : Type 0
-HoldsItself = (catalog : Catalog) (shard : HeldShard) → IsOf catalog shard → Holds catalog shard (contents_of shard)
+HoldsItself = (catalog : Catalog) (shard : ShardValue) → IsOf catalog shard → Holds catalog shard (contents_of shard)
 
--- an entry has a value on a database, with this outcome and these batches, counts and next numbers, and a shard stands for what it leaves
-pub record Carried (catalog : Catalog) (db : Database) (e : Entry) (shard : HeldShard) (a : Applied) : Type 0 where
+-- an entry has a value on a database, with the outcome, batches, counts and next numbers of `a`, and a shard stands for what it leaves
+pub record Carried (catalog : Catalog) (db : Database) (e : Entry) (shard : ShardValue) (a : Applied) : Type 0 where
   pub applied : Applied
   pub value : apply catalog db e ≡ Some applied
   pub outcome : a.outcome ≡ applied.outcome
@@ -22,8 +22,8 @@ pub record Carried (catalog : Catalog) (db : Database) (e : Entry) (shard : Held
   pub counts : (applied.db).counts ≡ (a.db).counts
   pub numbers : (applied.db).next_numbers ≡ (a.db).next_numbers
 
--- law: what an entry comes to on the shard's own database it comes to on each one that the shard stands for
+-- law: what an entry comes to on the shard's own database, it comes to on each database that the shard stands for
 abbrev pub CarriedToEach : Type 0
 CarriedToEach =
-    (catalog : Catalog) (old new : HeldShard) → IsOf catalog old → IsOf catalog new → (db : Database) → HoldsDatabase catalog old db →
+    (catalog : Catalog) (old new : ShardValue) → IsOf catalog old → IsOf catalog new → (db : Database) → HoldsDatabase catalog old db →
     (e : Entry) (a : Applied) → apply catalog (own_database old db) e ≡ Some a → (a.db).contents ≡ contents_of new → Carried catalog db e new a

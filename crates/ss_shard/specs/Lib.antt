@@ -1,6 +1,6 @@
 pub mod Contents
 pub mod Sources
-pub mod HeldShard
+pub mod ShardValue
 pub mod Rows
 pub mod Shards
 pub mod Windows

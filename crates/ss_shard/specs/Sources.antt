@@ -1,4 +1,4 @@
--- The next sequence numbers of the sources of pushes.
+-- The numbers that the next pushes of sources have to carry.
 use Rattle.std.specs.Prelude.{◌≡◌, ◌==◌, ℕ, nat_lt, cond, List, [], get_or, set, length, unwrap_or, IsSome}
 use Rattle.std.specs.Coded.{Coded, coded_list, coded_ℕ}
 use Rattle.std.specs.FinMap as finite
@@ -10,7 +10,7 @@ use Rattle.ss_model.specs.Database.{NextNumbers}
 abbrev pub coded_numbers : Coded NextNumbers
 coded_numbers = finite.code (coded_list coded_ℕ) coded_ℕ
 
--- the number that the next push of a source has to carry: 0 where none stands
+-- the number that the next push of a source has to carry: 0 where it has no entry
 abbrev pub number_of : NextNumbers → List ℕ → ℕ
 number_of numbers source = unwrap_or (finite.get numbers source) 0
 
@@ -18,23 +18,23 @@ number_of numbers source = unwrap_or (finite.get numbers source) 0
 abbrev pub numbers_at : List NextNumbers → ℕ → NextNumbers
 numbers_at sources s = get_or sources s finite.empty
 
--- the number of a source of a stream
+-- the next number of a source of a stream
 abbrev pub number_in : List NextNumbers → ℕ → List ℕ → ℕ
 number_in sources s source = number_of (numbers_at sources s) source
 
--- a source of a stream has its place, whatever its number
+-- a source of a stream has an entry, whatever its number
 abbrev pub HasSource : List NextNumbers → ℕ → List ℕ → Type 0
 HasSource sources s source = IsSome (finite.get (numbers_at sources s) source)
 
--- as many streams, and the same number for each source. One with the number 0 counts as absent
+-- as many streams, and the same next number for each source; an entry with the number 0 counts as none
 pub record SameNumbers (old new : List NextNumbers) : Type 0 where
   pub streams : length new ≡ length old
   pub numbers : (s : ℕ) (source : List ℕ) → number_in new s source ≡ number_in old s source
 
--- the next numbers where a source of a stream has this one
+-- the next numbers, with this one for a source of a stream
 abbrev pub with_number : List NextNumbers → ℕ → List ℕ → ℕ → List NextNumbers
 with_number sources s source n = set sources s (finite.insert (numbers_at sources s) source n)
 
--- what a push of this number comes to, where the next one is this: done, a duplicate, or behind a gap
+-- what a push of the number `seq` comes to where `next` is next: done, a duplicate, or behind a gap
 abbrev pub push_outcome : ℕ → ℕ → Outcome
 push_outcome seq next = cond (seq == next) (Done []) (cond (nat_lt seq next) (Duplicate next) (Gap next))

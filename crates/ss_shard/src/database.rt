@@ -4,51 +4,47 @@ ghost use Rattle.std.specs.Prelude.{◌≡◌, ◌≤◌, IfOk, length, replicat
 ghost use Rattle.std.specs.List.{AllByRecursion};
 ghost use Rattle.ss_model.specs.Database.{empty_database};
 ghost use Rattle.ss_shard.specs.Contents.{row_limit};
-ghost use Rattle.ss_shard.specs.Shards.{IsSettled};
+ghost use Rattle.ss_shard.specs.Shards.{IsCommitted};
 ghost use Rattle.ss_shard.specs.Databases.{WindowIsSound, empty_table, empty_tables, empty_group, empty_indexes, empty_windows, StandsFor, OpensWhole};
 
 use crate::shard::Shard;
 use crate::sources::no_sources;
-use ss_index::index::Index;
-use ss_index::indexes::Indexes;
-use ss_model::catalog::{Catalog, Place, TableDef, WindowDef};
-use ss_stream::streams::Streams;
-use ss_stream::wiring::empty_streams;
-use ss_table::table::Table;
-use ss_value::NoMemory;
-use ss_value::copies::Copies;
-use ss_value::seq::Seq;
-use ss_window::window::Window;
+use ss_index::{Index, Indexes};
+use ss_model::{Catalog, Placement, TableDef, WindowDef};
+use ss_stream::{Streams, empty_streams};
+use ss_table::Table;
+use ss_value::{Copies, NoMemory, Seq};
+use ss_window::Window;
 use std::alloc::Global;
 
-/// The most rows that a placed table has.
+/// The most rows that a table may have that one partition holds whole.
 pub const TABLE_ROWS: usize = 1_000_000;
 
-/// A database: one shard that holds all tables, windows, counts and next numbers, and the streams.
+/// A database: one shard that holds all tables, windows, counts and next numbers, and beside it the streams.
 #[derive(Drop)]
 pub struct Database {
-    /// The shard.
+    /// The shard, of number 0.
     pub whole: Shard,
     /// Of each stream the batches that some procedure has still to take.
     pub streams: Streams,
 }
 
-/// The most rows that a table of this place has, and None of a split one, which has no limit.
-fn row_limit(place: Place) -> Option<usize>
-    ensures { result ≡ row_limit place }
+/// The most rows that a table of this placement may have, and None for a split one, which has no limit.
+fn row_limit(placement: Placement) -> Option<usize>
+    ensures { result ≡ row_limit placement }
 {
-    match place {
-        Place::Part(_) => Some(TABLE_ROWS),
-        Place::By(_) => None,
+    match placement {
+        Placement::Part(_) => Some(TABLE_ROWS),
+        Placement::By(_) => None,
     }
 }
 
-/// A table of this definition, without a row. Linear in its key's columns.
+/// A table of this definition, without a row.
 fn empty_table(alloc: Global, table: &TableDef) -> Result<Table, NoMemory>
     ensures { IfOk result (λ made. made ≡ empty_table table.now) }
 {
     let key = table.key.duplicate(alloc)?;
-    Ok(Table::new(alloc, key, row_limit(table.place)))
+    Ok(Table::new(alloc, key, row_limit(table.placement)))
 }
 
 /// Tables of these definitions, without a row.
@@ -63,7 +59,7 @@ fn empty_tables(alloc: Global, tables: &[TableDef]) -> Result<Seq<Table>, NoMemo
     Ok(made)
 }
 
-/// Indexes of no pair, on these columns. Linear in the columns.
+/// Indexes without a pair, on these columns.
 fn empty_group(alloc: Global, listed: &[Seq<u8>]) -> Result<Indexes, NoMemory>
     ensures { IfOk result (λ made. made ≡ empty_group listed.now) }
 {
@@ -75,7 +71,7 @@ fn empty_group(alloc: Global, listed: &[Seq<u8>]) -> Result<Indexes, NoMemory>
     Ok(made)
 }
 
-/// The indexes of tables of these definitions, of no pair.
+/// The indexes of tables of these definitions, without a pair.
 fn empty_indexes(alloc: Global, tables: &[TableDef]) -> Result<Seq<Indexes>, NoMemory>
     ensures { IfOk result (λ made. made ≡ empty_indexes tables.now) }
 {
@@ -115,12 +111,14 @@ fn zeros(alloc: Global, count: usize) -> Result<Seq<u64>, NoMemory>
     Ok(made)
 }
 
-/// The database of a catalogue before the first execution. Linear in the catalogue's tables, their keys and indexes, its
-/// windows and its procedures, with a look at each input for each stream.
+/// The database of a catalogue before the first execution.
+///
+/// Linear in the catalogue's tables, their keys and indexes, its windows and its procedures, with a look at each input of a
+/// procedure for each stream.
 pub fn opening(alloc: Global, catalog: &Catalog) -> Result<Database, NoMemory>
     requires sound { AllByRecursion WindowIsSound catalog.now.windows }
     requires few { length catalog.now.procedures ≤ 64 }
-    ensures settled { IfOk result (λ db. IsSettled catalog.now db.whole) }
+    ensures committed { IfOk result (λ db. IsCommitted catalog.now db.whole) }
     ensures number { IfOk result (λ db. db.whole.number ≡ 0) }
     ensures stands { IfOk result (λ db. StandsFor catalog.now db (empty_database catalog.now)) }
     ensures whole { IfOk result (λ db. OpensWhole catalog.now db) }

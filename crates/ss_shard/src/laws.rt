@@ -7,8 +7,9 @@ pub fn holds_itself()
     ensures { HoldsItself }
 {}
 
-/// An entry comes to the same on every database that a shard stands for: the same outcome, batches and counts, and where the shard
-/// has come to what the entry leaves on one of them, it stands for what it leaves on each.
-pub fn carried()
+/// An entry comes to the same on every database that a shard stands for: the same outcome, batches, counts and next numbers.
+/// And where a shard has the tables and windows that the entry leaves on the shard's own database, it stands for what the
+/// entry leaves on each.
+pub fn carried_to_each()
     ensures { CarriedToEach }
 {}

@@ -1,19 +1,17 @@
 //! A row of a table and its pairs, put in together.
 
 ghost use Rattle.std.specs.Prelude.{◌≡◌, None, OnOk, OnErr, IfOk, IfErr};
-ghost use Rattle.ss_table.specs.Held.{HasKey, inserted};
+ghost use Rattle.ss_table.specs.TableValue.{HasKey, insert};
 ghost use Rattle.ss_table.specs.Refusals.{refusal, RefusesAs};
 ghost use Rattle.ss_table.specs.Steps.{WasInserted};
 ghost use Rattle.ss_undo.specs.Indexed.{with_row_of};
 
-use ss_index::indexes::Indexes;
-use ss_table::table::{Slot, Table, TableError};
-use ss_value::NoMemory;
-use ss_value::seq::Seq;
-use ss_value::value::Row;
+use ss_index::Indexes;
+use ss_table::{Table, TableError};
+use ss_value::{NoMemory, Row, Seq, Slot};
 
-/// Adds the pairs of a row to the indexes of a table, where it has any. A search and a move of one chunk for each
-/// index. Want of memory changes none.
+/// Adds the pairs of a row to the indexes of a table, where it has any. Costs a search and a move of one chunk for each
+/// index. Out of memory leaves all of them as they are.
 pub fn add_pairs(
     indexes: &mut Seq<Indexes>,
     table: u16,
@@ -29,8 +27,8 @@ pub fn add_pairs(
     }
 }
 
-/// Inserts a row into a table and its pairs into the table's indexes, and gives its slot. Costs as the table's
-/// `insert`, and as `add_pairs` besides. An error changes nothing.
+/// Inserts a row into a table and its pairs into the table's indexes, and answers its slot. Costs what the table's `insert`
+/// and `add_pairs` cost. An error changes nothing.
 #[tactic(auto, using(ss_undo::proofs::Back::removed_back))]
 pub fn insert_indexed(
     rows: &mut Table,
@@ -39,13 +37,13 @@ pub fn insert_indexed(
     row: Row,
 ) -> Result<Slot, TableError>
     requires { HasKey rows.old.key row }
-    ensures ok { IfOk result (λ slot. rows.new ≡ inserted rows.old slot row) }
+    ensures ok { IfOk result (λ slot. rows.new ≡ insert rows.old slot row) }
     ensures admitted { OnOk result (refusal rows.old row ≡ None) }
     ensures step { IfOk result (λ slot. WasInserted rows.old rows.new slot) }
     ensures pairs { IfOk result (λ slot. (was : WasInserted rows.old rows.new slot) → indexes.new ≡ with_row_of indexes.old table was.row slot) }
-    ensures kept { OnErr result (rows.new ≡ rows.old) }
+    ensures err { OnErr result (rows.new ≡ rows.old) }
     ensures unpaired { OnErr result (indexes.new ≡ indexes.old) }
-    ensures cause { IfErr result (RefusesAs (refusal rows.old row)) }
+    ensures refused { IfErr result (RefusesAs (refusal rows.old row)) }
 {
     let slot = match rows.insert(row) {
         Ok(slot) => slot,
@@ -54,6 +52,7 @@ pub fn insert_indexed(
     let Some(row) = rows.row(slot) else {
         unreachable!()
     };
+    // The row first, since its pairs have its slot; where they find no memory it is taken out again, which needs none.
     if add_pairs(indexes, table, row, slot).is_err() {
         let _ = rows.remove_fresh(slot);
         return Err(TableError::NoMemory);

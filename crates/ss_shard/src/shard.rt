@@ -1,55 +1,51 @@
-//! The tables, indexes and windows of a partition, with the changes since they were last final.
+//! The tables, indexes and windows of a partition, with the changes since the last commit or rollback.
 
 ghost use Rattle.std.specs.Prelude.{◌≡◌, ◌<◌, List, [], length, map, set, get_or, Some, OnOk, IfOk, IfErr, OnErr, IfSome, slice_get, option_map};
 ghost use Rattle.std.specs.Option.{option_copied};
 ghost use Rattle.ss_model.specs.Database.{Database};
 ghost use Rattle.ss_model.specs.declared.catalog.Catalog.{Catalog};
-ghost use Rattle.ss_table.specs.Held.{Held};
-ghost use Rattle.ss_index.specs.Holding.{HaveRows};
+ghost use Rattle.ss_table.specs.TableValue.{TableValue};
+ghost use Rattle.ss_undo.specs.Holding.{HaveRows};
 ghost use Rattle.ss_undo.specs.Indexed.{AreIndexed, columns_in, columns_of};
 ghost use Rattle.ss_shard.specs.Contents.{tables_of};
-ghost use Rattle.ss_shard.specs.HeldShard.{HeldShard};
-ghost use Rattle.ss_shard.specs.Rows.{IsKeyed, HasSlot, HasKeyOf, refused};
-ghost use Rattle.ss_shard.specs.Shards.{IsOf, CanGoBack, Changed, Same, IsSettled, AllHeld};
+ghost use Rattle.ss_shard.specs.ShardValue.{ShardValue};
+ghost use Rattle.ss_shard.specs.Rows.{IsKeyed, HasSlot, HasKeyOf, refusal_of};
+ghost use Rattle.ss_shard.specs.Shards.{IsOf, CanRollBack, Changed, Same, IsCommitted, AllInvariant};
 ghost use Rattle.ss_shard.specs.Sources.{number_in, HasSource, SameNumbers, with_number};
 ghost use Rattle.ss_shard.specs.Windows.{kept_part, HoldsDatabase};
 ghost use Rattle.ss_shard.specs.Changes.{RowInserted, InsertStops, SlotTaken, SlotPut, UnitStaged, StagingStops};
 
 use crate::pairs::{add_pairs, insert_indexed};
 use crate::sources::Sources;
-use ss_index::indexes::Indexes;
-use ss_model::entry::Reason;
-use ss_operators::run_error::RunError;
-use ss_table::table::{Slot, Table, TableError};
-use ss_undo::change::Change;
-use ss_undo::undo::Undo;
-use ss_value::NoMemory;
-use ss_value::seq::Seq;
-use ss_value::text::Name;
-use ss_value::value::{Row, Rows};
-use ss_window::window::Window;
+use ss_index::Indexes;
+use ss_model::{Reason, RunError};
+use ss_table::{Table, TableError};
+use ss_undo::{Change, Undo};
+use ss_value::{Name, NoMemory, Row, Rows, Seq, Slot};
+use ss_window::Window;
 use std::alloc::Global;
 use std::marker::Model;
 
-/// The most units that a window ever has: 2^62.
+/// The most units that a window may ever have had: 2^62.
 pub const WINDOW_UNITS: u64 = 4_611_686_018_427_387_904;
 
 /// What one partition holds.
 ///
-/// Its tables, windows and counts have the numbers of the catalogue's, and its sources those of its streams. Each change of a row, and each unit that is
-/// staged, goes through the calls of this type, which note it, so that all changes of an execution can be taken back, or
-/// kept, without memory. The indexes of a table go along: the pairs of a row stand as long as the table or a note keeps
-/// the row.
+/// Its tables, windows and procedures have the catalogue's numbers, and its sources are listed by stream. Each change of a
+/// row, and each unit that is staged, goes through the calls of this type, which note it, so that all changes of an
+/// execution can be committed or rolled back without memory. The indexes of a table go along: the pairs of a row stand as
+/// long as the table or a note has the row.
 ///
-/// Contracts see the number, the tables, the changes since they were last final, the columns of the indexes, the windows,
-/// the counts and the next numbers. What an index holds follows from the tables and the changes, so no contract speaks of it.
+/// Contracts see the number, the tables, the changes since the last commit or rollback, the columns of the indexes, the
+/// windows, the counts and the next numbers. What an index holds follows from the tables and the changes, so no contract
+/// speaks of it.
 ///
-/// - `insert_row`: besides the table's `insert` a search and a move of one chunk for each index.
-/// - `delete_row`: nothing for indexes; each drops its pair where the change is kept.
-/// - `replace_row`: a search and a move for each index; each drops the old pair where the change is kept.
+/// - `insert_row`: the table's `insert`, and a search and a move of one chunk for each index.
+/// - `delete_row`: nothing for indexes; each drops the row's pair at the commit.
+/// - `replace_row`: a search and a move of one chunk for each index; each drops the old row's pair at the commit.
 /// - `stage_unit`: the window's `stage`.
-/// - `roll_back`, `keep`: a search and a move for each index and each change that added or owes a pair, a call of the
-///   window for each unit that was staged, and no memory.
+/// - `rollback`, `commit`: a search and a move of one chunk for each index and each change whose pair has to go, a call of
+///   the window for each unit that was staged, and no memory.
 #[derive(Drop)]
 pub struct Shard {
     number: u8,
@@ -60,14 +56,14 @@ pub struct Shard {
     cursors: Seq<u64>,
     /// The sources of pushes to each stream, by number.
     sources: Seq<Sources>,
-    /// The changes since tables and windows were last final.
+    /// The changes since the last commit or rollback.
     undo: Undo,
 }
 
 impl Model for Shard {
-    ghost use Rattle.ss_shard.specs.HeldShard.{HeldShard, coded_shard};
+    ghost use Rattle.ss_shard.specs.ShardValue.{ShardValue, coded_shard};
 
-    ghost Value = { HeldShard };
+    ghost Value = { ShardValue };
 
     ghost coded = { coded_shard };
 
@@ -86,9 +82,9 @@ impl Model for Shard {
     ghost invariant = { λ s. AreIndexed s.tables s.undo.items s.indexes };
 }
 
-/// What an insert that a table refuses comes to.
-fn refused(table: u16, error: TableError) -> RunError
-    ensures { result ≡ refused table error }
+/// What an insert that a table refuses comes to: out of memory, or an abort that names the table.
+fn refusal_of(table: u16, error: TableError) -> RunError
+    ensures { result ≡ refusal_of table error }
 {
     match error {
         TableError::NoMemory => RunError::NoMemory,
@@ -98,8 +94,8 @@ fn refused(table: u16, error: TableError) -> RunError
 }
 
 impl Shard {
-    /// A shard of these tables, indexes, windows, counts and sources, with nothing to take back. A table without an entry in
-    /// `indexes` has none. Takes no memory.
+    /// A shard of these tables, indexes, windows, counts and sources, with nothing to take back. A table past the end of
+    /// `indexes` has no index. Takes no memory.
     pub fn new(
         alloc: Global,
         number: u8,
@@ -136,7 +132,7 @@ impl Shard {
         self.tables.get(usize::from(table))
     }
 
-    /// All tables, by number. At no cost.
+    /// All tables, by number. Constant.
     pub fn tables(&self) -> &[Table]
         ensures { result.now ≡ self.now.tables }
     {
@@ -160,15 +156,15 @@ impl Shard {
         }
     }
 
-    /// How many batches each procedure has taken, by number. At no cost.
+    /// How many batches each procedure has taken, by number. Constant.
     pub fn cursors(&self) -> &[u64]
         ensures { result.now ≡ self.now.cursors }
     {
         self.cursors.as_slice()
     }
 
-    /// The number that the next push of a source to a stream has to carry. Logarithmic in the stream's sources; takes no
-    /// memory.
+    /// The number that the next push of a source to a stream has to carry: 0 for one that never pushed. Logarithmic in the
+    /// stream's sources; takes no memory.
     pub fn next_number(&self, stream: u16, source: &Name) -> u64
         ensures { result ≡ number_in self.now.sources stream source.now }
     {
@@ -180,7 +176,7 @@ impl Shard {
 
     /// The indexes of a table, in each of which each live row of the table has its pair. Constant.
     pub fn indexes(&self, table: u16) -> Option<&Indexes>
-        ensures rows { IfSome result (λ group. (h : Held) → slice_get self.now.tables table ≡ Some h → HaveRows h.live group.now) }
+        ensures rows { IfSome result (λ group. (h : TableValue) → slice_get self.now.tables table ≡ Some h → HaveRows h.live group.now) }
         ensures columns { option_map columns_in (option_copied result) ≡ slice_get self.now.columns table }
     {
         self.indexes.get(usize::from(table))
@@ -188,37 +184,39 @@ impl Shard {
 
     /// Inserts a row into a table.
     ///
-    /// Aborts with `KeyTaken` where a row of the table has its key, and else with `TableFull` where a placed table
-    /// has as many rows as it may have. Costs as the table's `insert`, and as an `add` of each of its indexes. An error
-    /// changes no row.
+    /// Aborts with `KeyTaken` where a row of the table has its key, and else with `TableFull` where the table has as many
+    /// rows as it may have. Costs what the table's `insert` and an `add` of each of its indexes cost. An error changes no row.
     pub fn insert_row(&mut self, table: u16, row: Row) -> Result<(), RunError>
         requires { IsKeyed self.old.tables table row }
-        ensures done { OnOk result (RowInserted self.old self.new table row) }
+        ensures ok { OnOk result (RowInserted self.old self.new table row) }
         ensures stops { IfErr result (InsertStops self.old table row) }
         ensures changed { Changed self.old self.new }
-        ensures windows { self.new.windows ≡ self.old.windows }
-        ensures kept { OnErr result (self.new.tables ≡ self.old.tables) }
+        ensures unchanged { self.new.windows ≡ self.old.windows }
+        ensures err { OnErr result (self.new.tables ≡ self.old.tables) }
     {
+        // As in each change below: room for the note, then the change, then the note. So no change is without its note.
         self.undo.room()?;
         let Some(rows) = self.tables.get_mut(usize::from(table)) else {
             unreachable!()
         };
         let slot = match insert_indexed(rows, &mut self.indexes, table, row) {
             Ok(slot) => slot,
-            Err(error) => return Err(refused(table, error)),
+            Err(error) => return Err(refusal_of(table, error)),
         };
+        // A law, which does nothing: here and below the proof needs it of a table before and after a change.
         rows.rows_are_keyed();
         self.undo.note(Change::Inserted { table, slot });
         Ok(())
     }
 
-    /// Deletes the row in a slot of a table. Constant on average. Want of memory changes no row.
+    /// Deletes the row in a slot of a table, which keeps the slot, dead, until the commit or the rollback. Constant on average.
+    /// Out of memory changes no row.
     pub fn delete_row(&mut self, table: u16, slot: Slot) -> Result<(), NoMemory>
         requires { HasSlot self.old.tables table slot }
-        ensures done { OnOk result (SlotTaken self.old.tables self.new.tables table slot) }
+        ensures ok { OnOk result (SlotTaken self.old.tables self.new.tables table slot) }
         ensures changed { Changed self.old self.new }
-        ensures windows { self.new.windows ≡ self.old.windows }
-        ensures kept { OnErr result (self.new.tables ≡ self.old.tables) }
+        ensures unchanged { self.new.windows ≡ self.old.windows }
+        ensures err { OnErr result (self.new.tables ≡ self.old.tables) }
     {
         self.undo.room()?;
         let Some(rows) = self.tables.get_mut(usize::from(table)) else {
@@ -231,16 +229,17 @@ impl Shard {
         Ok(())
     }
 
-    /// Puts a row of the same key in a slot of a table. Constant on average, and an `add` of each of the table's
-    /// indexes. Want of memory changes no row.
+    /// Puts a row with the same key into a slot of a table, in place of the one there. Costs an `add` of each of the table's
+    /// indexes, and is constant on average besides. Out of memory changes no row.
     pub fn replace_row(&mut self, table: u16, slot: Slot, row: Row) -> Result<(), NoMemory>
         requires { HasKeyOf self.old.tables table slot row }
-        ensures done { OnOk result (SlotPut self.old.tables self.new.tables table slot row) }
+        ensures ok { OnOk result (SlotPut self.old.tables self.new.tables table slot row) }
         ensures changed { Changed self.old self.new }
-        ensures windows { self.new.windows ≡ self.old.windows }
-        ensures kept { OnErr result (self.new.tables ≡ self.old.tables) }
+        ensures unchanged { self.new.windows ≡ self.old.windows }
+        ensures err { OnErr result (self.new.tables ≡ self.old.tables) }
     {
         self.undo.room()?;
+        // Before the row, so that out of memory comes while the old row still stands. Its pair stays until the commit.
         add_pairs(&mut self.indexes, table, &row, slot)?;
         let Some(rows) = self.tables.get_mut(usize::from(table)) else {
             unreachable!()
@@ -254,21 +253,22 @@ impl Shard {
 
     /// Adds a unit to a window, and answers whether the end of what the window shows has moved.
     ///
-    /// Aborts with `WindowFull` where the window has had as many units as it may have. Constant on average. An error
+    /// Aborts with `WindowFull` where the window has had as many units as it may ever have. Constant on average. An error
     /// changes no window.
     pub fn stage_unit(&mut self, window: u16, unit: Rows) -> Result<bool, RunError>
         requires { window < length self.old.windows }
-        ensures done { IfOk result (UnitStaged self.old self.new window unit) }
+        ensures ok { IfOk result (UnitStaged self.old self.new window unit) }
         ensures stops { IfErr result (StagingStops self.old window unit) }
         ensures changed { Changed self.old self.new }
-        ensures tables { self.new.tables ≡ self.old.tables }
-        ensures kept { OnErr result (self.new.windows ≡ self.old.windows) }
+        ensures unchanged { self.new.tables ≡ self.old.tables }
+        ensures err { OnErr result (self.new.windows ≡ self.old.windows) }
     {
         self.undo.room()?;
         let Some(units) = self.windows.get_mut(usize::from(window)) else {
             unreachable!()
         };
-        units.units_are_held();
+        // A law, which does nothing: the proof needs it of the window before and after.
+        units.invariant_holds();
         if units.units() >= WINDOW_UNITS {
             return Err(RunError::Abort(Reason::WindowFull(window)));
         }
@@ -276,13 +276,13 @@ impl Shard {
             Ok(moved) => moved,
             Err(_) => return Err(RunError::NoMemory),
         };
-        units.units_are_held();
+        units.invariant_holds();
         self.undo.note(Change::Staged { window });
         Ok(moved)
     }
 
-    /// Says how many batches a procedure has taken, where there is one of this number. Constant. No rollback takes it
-    /// back.
+    /// Sets how many batches a procedure has taken, where there is one of this number. Constant. No rollback takes it back:
+    /// a step that aborts has taken its batch too.
     pub fn set_cursor(&mut self, procedure: u16, count: u64)
         ensures { self.new ≡ record self.old { cursors = set self.old.cursors procedure count } }
     {
@@ -291,12 +291,13 @@ impl Shard {
         }
     }
 
-    /// Gives a source of a stream its place, with the number 0 where it has none yet: no number changes. Logarithmic in the
-    /// stream's sources, and a copy of the name; fails only for want of memory. No rollback takes the place away.
+    /// Gives a source of a stream an entry, with the number 0, where it has none yet: no number changes, and a later
+    /// `set_number` needs no memory. Logarithmic in the stream's sources, and a copy of the name. No rollback takes the entry
+    /// away.
     pub fn add_source(&mut self, alloc: Global, stream: u16, source: &Name) -> Result<(), NoMemory>
         requires { stream < length self.old.sources }
         ensures same { SameNumbers self.old.sources self.new.sources }
-        ensures stands { OnOk result (HasSource self.new.sources stream source.now) }
+        ensures ok { OnOk result (HasSource self.new.sources stream source.now) }
         ensures rest { self.new ≡ record self.old { sources = self.new.sources } }
     {
         let Some(sources) = self.sources.get_mut(usize::from(stream)) else {
@@ -305,7 +306,7 @@ impl Shard {
         sources.add(alloc, source)
     }
 
-    /// Says which number the next push of a source has to carry, where the source has its place. Logarithmic in the
+    /// Sets the number that the next push of a source has to carry, where the source has its entry. Logarithmic in the
     /// stream's sources; takes no memory. No rollback takes it back.
     pub fn set_number(&mut self, stream: u16, source: &Name, next: u64)
         requires { HasSource self.old.sources stream source.now }
@@ -317,32 +318,33 @@ impl Shard {
         sources.set(source, next);
     }
 
-    /// Takes all changes back, the last one first. Linear in them, each a call of its window, or of its table and at most
-    /// one of each of the table's indexes; takes no memory.
-    pub fn roll_back(&mut self)
-        requires { (before : HeldShard) × CanGoBack before self.old }
-        ensures back { (before : HeldShard) → CanGoBack before self.old → Same before self.new }
-        ensures holds { (catalog : Catalog) (before : HeldShard) (db : Database) → CanGoBack before self.old
+    /// Takes all changes of rows and windows back, the last one first. Linear in them: each costs a call of its window, or one
+    /// of its table and at most one of each of the table's indexes. Takes no memory.
+    pub fn rollback(&mut self)
+        requires { (before : ShardValue) × CanRollBack before self.old }
+        ensures back { (before : ShardValue) → CanRollBack before self.old → Same before self.new }
+        ensures holds { (catalog : Catalog) (before : ShardValue) (db : Database) → CanRollBack before self.old
             → HoldsDatabase catalog before db → HoldsDatabase catalog self.new db }
-        ensures settled { (catalog : Catalog) (before : HeldShard) → CanGoBack before self.old → IsOf catalog before → IsSettled catalog self.new }
+        ensures committed { (catalog : Catalog) (before : ShardValue) → CanRollBack before self.old → IsOf catalog before → IsCommitted catalog self.new }
     {
         self.undo
             .rollback(&mut self.tables, &mut self.indexes, &mut self.windows);
     }
 
-    /// Makes all changes final. Linear in them, each at most a call of its window, or of its table and of each of the
-    /// table's indexes; takes no memory.
+    /// Makes all changes final. Linear in them: each costs at most a call of its window, or one of its table and one of each of
+    /// the table's indexes. Takes no memory.
     ///
-    /// Rows stay, and of each window the number of units and those that may still be seen.
-    pub fn keep(&mut self)
-        requires { (before : HeldShard) × CanGoBack before self.old }
+    /// The live rows stay, and of each window the number of units ever and those that may still be seen. Dead rows and units
+    /// that can't be seen any more are dropped.
+    pub fn commit(&mut self)
+        requires { (before : ShardValue) × CanRollBack before self.old }
         ensures tables { tables_of self.new.tables ≡ tables_of self.old.tables }
-        ensures windows { AllHeld self.old.windows → map kept_part self.new.windows ≡ map kept_part self.old.windows }
+        ensures windows { AllInvariant self.old.windows → map kept_part self.new.windows ≡ map kept_part self.old.windows }
         ensures cursors { self.new.cursors ≡ self.old.cursors }
         ensures sources { self.new.sources ≡ self.old.sources }
         ensures number { self.new.number ≡ self.old.number }
         ensures columns { self.new.columns ≡ self.old.columns }
-        ensures settled { (catalog : Catalog) → IsOf catalog self.old → IsSettled catalog self.new }
+        ensures committed { (catalog : Catalog) → IsOf catalog self.old → IsCommitted catalog self.new }
     {
         self.undo
             .commit(&mut self.tables, &mut self.indexes, &mut self.windows);

@@ -4,17 +4,15 @@ ghost use Rattle.std.specs.Prelude.{◌≡◌, List, ℕ, IfOk, OnOk, OnErr, IsS
 ghost use Rattle.std.specs.FinMap as finite;
 ghost use Rattle.ss_shard.specs.Sources.{number_of, push_outcome};
 
-use ss_model::entry::Outcome;
-use ss_value::NoMemory;
-use ss_value::seq::Seq;
-use ss_value::text::Name;
+use ss_model::Outcome;
+use ss_value::{Name, NoMemory, Seq};
 use std::alloc::Global;
 use std::collections::BTreeMap;
 use std::marker::Model;
 
 /// The sources of a stream, by the bytes of their names, each with the number that its next push has to carry.
 ///
-/// A source without a place has the number 0, as one that never pushed. Contracts see a finite map. A look-up is
+/// A source without an entry has the number 0, as one that never pushed. Contracts see a finite map. A look-up is
 /// logarithmic in the number of sources.
 #[derive(Drop)]
 pub struct Sources {
@@ -35,7 +33,7 @@ impl Model for Sources {
 }
 
 impl Sources {
-    /// No source has a place yet. Takes no memory.
+    /// No source has an entry yet. Takes no memory.
     pub fn new(alloc: Global) -> Sources
         ensures { result ≡ finite.empty }
     {
@@ -51,11 +49,11 @@ impl Sources {
         self.numbers.get(source.as_bytes()).copied().unwrap_or(0)
     }
 
-    /// Gives a source its place, with the number 0 where it has none yet: no number changes. Logarithmic, and a copy of the
-    /// name; fails only for want of memory.
+    /// Gives a source an entry, with the number 0, where it has none yet: no number changes. Logarithmic, and a copy of the
+    /// name.
     pub fn add(&mut self, alloc: Global, source: &Name) -> Result<(), NoMemory>
         ensures same { (name : List ℕ) → number_of self.new name ≡ number_of self.old name }
-        ensures stands { OnOk result (IsSome (finite.get self.new source.now)) }
+        ensures ok { OnOk result (IsSome (finite.get self.new source.now)) }
     {
         if self.numbers.contains_key(source.as_bytes()) {
             return Ok(());
@@ -65,7 +63,7 @@ impl Sources {
         Ok(())
     }
 
-    /// Gives a source that has its place this number. Logarithmic; takes no memory.
+    /// Gives this number to a source that has an entry. Logarithmic; takes no memory.
     pub fn set(&mut self, source: &Name, next: u64)
         requires { IsSome (finite.get self.old source.now) }
         ensures { self.new ≡ finite.insert self.old source.now next }
@@ -77,7 +75,7 @@ impl Sources {
     }
 }
 
-/// No sources of so many streams.
+/// As many streams without a source as asked for.
 pub fn no_sources(alloc: Global, count: usize) -> Result<Seq<Sources>, NoMemory>
     ensures { IfOk result (λ made. made ≡ replicate count finite.empty) }
 {
@@ -88,7 +86,7 @@ pub fn no_sources(alloc: Global, count: usize) -> Result<Seq<Sources>, NoMemory>
     Ok(made)
 }
 
-/// What a push of this number comes to where the next one is that: done, a duplicate, or behind a gap. Constant.
+/// What a push of the number `seq` comes to where its source has the number `next` next: done, a duplicate, or behind a gap.
 ///
 /// Source: batches of S-Store come in the order of their numbers, each once (Meehan et al., PVLDB 8, 2015, section 2.2).
 pub fn push_outcome(alloc: Global, seq: u64, next: u64) -> Outcome

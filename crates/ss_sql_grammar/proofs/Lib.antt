@@ -1,4 +1,5 @@
 pub mod Agree
+pub mod CallerLemmas
 pub mod Parts
 pub mod Rules
 pub mod Turns

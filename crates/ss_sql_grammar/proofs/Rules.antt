@@ -1,10 +1,11 @@
 -- The theorem on rules: where one token decides, reading is exact for what is spelled.
 use Rattle.std.proofs.Common.{◌≡◌, ℕ, Bool, true, false, cond, List, [], ◌∷◌, ◌++◌, length, Ok, Err, refl, sym, subst, ◌∙◌, arith, ◌⊎◌, inl, inr, eqb}
-use Rattle.std.specs.Prelude.{◌||◌, ◌&&◌}
-use Rattle.std.proofs.lemmas.Bool.{and_parts}
+use Rattle.std.specs.Prelude.{◌&&◌}
+use Rattle.std.proofs.lemmas.Bool.{and_parts, or_right}
+use Rattle.ss_lemmas.proofs.Bools.{chosen}
 use Rattle.ss_sql_grammar.specs.Grammar.{Rule, one, nested, act, both, or, maybe, some, Kinds, IsOne, Made, Spells, ◌>>=◌, Reader, Each, Perhaps, perhaps, many, token, read, begins, has, apart, starts, goes_on, decides}
 use Rattle.ss_sql_grammar.specs.Exact.{Front, Stuck, Passed, Part, Exact}
-use Rattle.ss_sql_grammar.proofs.Parts.{bind_ok, bind_err, ok_is, chosen, has-append, apart_is, begins-append, begins_apart, map_passes, same_head, nonempty, uncons, starts_there, Closes, pair_exact}
+use Rattle.ss_sql_grammar.proofs.Parts.{bind_ok, bind_err, ok_is, has-append, apart_is, begins-append, begins_apart, map_passes, same_head, nonempty, uncons, starts_there, Closes, pair_exact}
 use Rattle.ss_sql_grammar.proofs.Turns.{perhaps_part, many_part, nil_or, begins_solid, begins_front}
 
 -- ---- a token
@@ -90,10 +91,6 @@ either kind first p q ts = cond (begins kind first ts) (p ts) (q ts)
 neither : (a b : Bool) → (a ≡ true → b ≡ false) → b ≡ true → a ≡ false
 neither true b h e = absurd (let g = h refl in cc)
 neither false b h e = refl
-
-or_right : (a b : Bool) → b ≡ true → (a || b) ≡ true
-or_right true b e = refl
-or_right false b e = e
 
 -- what begins with the second kinds does not begin with the first
 not_first : {T : Type 0} (kind : T → ℕ) (first1 first2 : List ℕ) (ts : List T) → apart first1 first2 ≡ true → begins kind first2 ts ≡ true → begins kind first1 ts ≡ false

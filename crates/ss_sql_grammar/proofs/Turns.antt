@@ -1,9 +1,10 @@
 -- What may come once, and what may come any number of times.
 use Rattle.std.proofs.Common.{◌≡◌, ℕ, zero, suc, ◌≤◌, Bool, true, false, List, [], ◌∷◌, ◌++◌, length, Option, Some, None, Result, Ok, Err, refl, sym, ap, subst, ◌∙◌, append_assoc, arith, inl, inr, length-append}
 use Rattle.std.proofs.lemmas.List.{append-nil}
+use Rattle.ss_lemmas.proofs.Bools.{chosen}
 use Rattle.ss_sql_grammar.specs.Grammar.{◌>>=◌, Reader, Each, Perhaps, perhaps, many, begins, has, apart}
 use Rattle.ss_sql_grammar.specs.Exact.{Front, Stuck, Passed, Part, Exact}
-use Rattle.ss_sql_grammar.proofs.Parts.{bind_ok, bind_err, ok_is, chosen, apart_is, begins-append, begins_apart, map_passes, then_passes, where_is, same_head, nonempty, starts_there, starts_front}
+use Rattle.ss_sql_grammar.proofs.Parts.{bind_ok, bind_err, ok_is, apart_is, begins-append, begins_apart, map_passes, then_passes, where_is, same_head, nonempty, starts_there, starts_front}
 
 pub nil_or : {T A : Type 0} (kind : T → ℕ) (Q : List T → A → Type 0) (q : Reader T A) (first last : List ℕ) → Part kind Q q first last → (other : List ℕ) → apart first other ≡ true
     → (front rest : List T) (a : A) → Q front a → begins kind other rest ≡ false → begins kind other (front ++ rest) ≡ false

@@ -24,12 +24,12 @@ pub record Sample {T A : Type 0} (S : List T → A → Type 0) : Type 0 where
   pub tree : A
   pub is : S text tree
 
--- no more than n tokens are left
+-- no more than n tokens are left, also where reading is stuck
 abbrev pub Passed : {T A : Type 0} → ℕ → Result (A × List T) ℕ → Type 0
 Passed n (Ok x) = length x.1 ≤ n
 Passed n (Err e) = e ≤ n
 
--- what may be empty; first: the kinds it begins with; last: the kinds that may go on behind it
+-- a reader is exact for what is spelled, which may be empty; first: the kinds it begins with; last: the kinds that may go on behind it
 pub record Part {T A : Type 0} (kind : T → ℕ) (S : List T → A → Type 0) (p : Reader T A) (first last : List ℕ) : Type 0 where
   pub starts : (t : T) (ts : List T) (a : A) → S (t ∷ ts) a → begins kind first (t ∷ ts) ≡ true
   pub sound : (ts : List T) (x : A × List T) → p ts ≡ Ok x → Front S ts x.0 x.1
@@ -39,7 +39,7 @@ pub record Part {T A : Type 0} (kind : T → ℕ) (S : List T → A → Type 0) 
   pub passes : (front more rest : List T) (t : T) (a : A) → S (front ++ t ∷ more) a → Passed (length rest) (p (front ++ t ∷ rest))
   pub sample : Sample S
 
--- a part that is never empty
+-- a reader is exact for what is spelled, which is never empty
 pub record Exact {T A : Type 0} (kind : T → ℕ) (S : List T → A → Type 0) (p : Reader T A) (first last : List ℕ) : Type 0 where
   pub part : Part kind S p first last
   pub solid : (a : A) → S [] a → ⊥

@@ -13,7 +13,7 @@ pub data Rule (N T X : Type 0) : Type 0 → Type 1 where
   maybe : {A B : Type 0} → Rule N T X A → Rule N T X B → Rule N T X (A × Option B)
   some : {A B : Type 0} → Rule N T X A → Rule N T X B → Rule N T X (A × List B)
 
--- the kind of a token; of what is nested the first kinds, and the kinds that may go on behind it; a token of a kind
+-- the kind of a token; the kinds that what is nested begins with, and those that may go on behind it; some token of each kind
 pub record Kinds (N T : Type 0) : Type 0 where
   pub kind : T → ℕ
   pub first : N → List ℕ
@@ -63,17 +63,17 @@ Spells kind S (some g h) ts x = Splits (λ front. Spells kind S g front x.0) (λ
 
 -- ---- the first kinds, the kinds that may go on behind a whole text, and what a choice by one token needs
 
--- k is one of the kinds
+-- whether k is one of the kinds
 abbrev pub has : List ℕ → ℕ → Bool
 has [] k = false
 has (x ∷ xs) k = (k == x) || has xs k
 
--- no kind is in both lists
+-- whether no kind is in both lists
 abbrev pub apart : List ℕ → List ℕ → Bool
 apart [] ys = true
 apart (x ∷ xs) ys = not (has ys x) && apart xs ys
 
--- the first token is of one of the kinds
+-- whether the first token is of one of the kinds
 abbrev pub begins : {T : Type 0} → (T → ℕ) → List ℕ → List T → Bool
 begins kind ks [] = false
 begins kind ks (t ∷ ts) = has ks (kind t)
@@ -98,7 +98,7 @@ goes_on k (or g h) = goes_on k g ++ goes_on k h
 goes_on k (maybe g h) = starts k h ++ (goes_on k h ++ goes_on k g)
 goes_on k (some g h) = starts k h ++ (goes_on k h ++ goes_on k g)
 
--- one token decides, at each choice
+-- whether one token decides at each choice
 abbrev pub decides : {N T X A : Type 0} → Kinds N T → Rule N T X A → Bool
 decides k (one c) = k.kind (k.spare c) == c
 decides k (nested n) = true
@@ -108,7 +108,7 @@ decides k (or g h) = decides k g && (decides k h && apart (starts k g) (starts k
 decides k (maybe g h) = decides k g && (decides k h && apart (starts k h) (goes_on k g))
 decides k (some g h) = decides k g && (decides k h && (apart (starts k h) (goes_on k g) && apart (starts k h) (goes_on k h)))
 
--- a token stands before whatever is nested
+-- whether a token stands before whatever is nested
 abbrev pub guarded : {N T X A : Type 0} → Rule N T X A → Bool
 guarded (one c) = true
 guarded (nested n) = false
@@ -118,7 +118,7 @@ guarded (or g h) = guarded g && guarded h
 guarded (maybe g h) = guarded g
 guarded (some g h) = guarded g
 
--- each kind of the first list is in the second
+-- whether each kind of the first list is in the second
 abbrev pub within : List ℕ → List ℕ → Bool
 within [] ys = true
 within (x ∷ xs) ys = has ys x && within xs ys
@@ -126,12 +126,12 @@ within (x ∷ xs) ys = has ys x && within xs ys
 -- ---- reading: the tree and the rest, or how many tokens are left where it is stuck
 
 infixl 10 ◌>>=◌
--- what was read, handed on; a stop stays a stop
+-- what was read is passed on, and what is stuck stays stuck
 abbrev pub ◌>>=◌ : {A B : Type 0} → Result A ℕ → (A → Result B ℕ) → Result B ℕ
 (Ok x) >>= f = f x
 (Err e) >>= f = Err e
 
--- from tokens to a tree and the rest, or to how many tokens are left where it is stuck
+-- a reader: from tokens to a tree and the rest, or to how many tokens are left where it is stuck
 abbrev pub Reader : Type 0 → Type 0 → Type 0
 Reader T A = List T → Result (A × List T) ℕ
 
@@ -139,11 +139,11 @@ Reader T A = List T → Result (A × List T) ℕ
 abbrev pub pair : {T A B : Type 0} → Reader T A → Reader T B → Reader T (A × B)
 pair p q ts = p ts >>= λ x. q x.1 >>= λ y. Ok ((x.0, y.0), y.1)
 
--- a reader where its first token stands, else nothing
+-- a reader where the next token begins what it reads, else nothing
 abbrev pub perhaps : {T B : Type 0} → (List T → Bool) → Reader T B → Reader T (Option B)
 perhaps begun q ts = if begun ts then (q ts >>= λ y. Ok (Some y.0, y.1)) else Ok (None, ts)
 
--- n bounds the turns
+-- a reader as long as the next token begins what it reads, n times at most
 abbrev pub many : {T B : Type 0} → ℕ → (List T → Bool) → Reader T B → Reader T (List B)
 many zero begun q ts = Ok ([], ts)
 many (suc n) begun q ts = if begun ts then (q ts >>= λ y. many n begun q y.1 >>= λ z. Ok (y.0 ∷ z.0, z.1)) else Ok ([], ts)

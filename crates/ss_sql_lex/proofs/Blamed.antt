@@ -5,6 +5,7 @@ use Rattle.std.specs.List.{list_all}
 use Rattle.std.proofs.lemmas.List.{take-append-drop}
 use Rattle.std.proofs.lemmas.Bool.{eqb-true, and_from, and_parts}
 use Rattle.std.proofs.lemmas.Bool.Decides.{nat_tests}
+use Rattle.ss_lemmas.proofs.Bools.{is_false}
 use Rattle.ss_value.specs.Words.{is_letter, is_word_byte}
 use Rattle.ss_sql_lex.specs.declared.token.TokenKind.{TokenKind}
 use Rattle.ss_sql_lex.specs.declared.token.TokenKind.TheVariants as k
@@ -21,11 +22,6 @@ use Rattle.ss_sql_lex.proofs.Stands.{behind, word_stands, name_stands, param_sta
 
 no_stand : (bs : List ℕ) (kind : TokenKind) (n : ℕ) → NoToken bs → Stands bs kind n → ⊥
 no_stand bs kind n none s = none kind s.own s.rest s.parts s.is s.longest
-
--- a test that can't be passed is failed
-fails : (b : Bool) → (b ≡ true → ⊥) → b ≡ false
-fails true f = absurd (f refl)
-fails false f = refl
 
 in_front_of : (b : ℕ) (xs ys : List ℕ) → xs ≡ ys → b ∷ xs ≡ b ∷ ys
 in_front_of b xs ys e = rw e refl
@@ -66,14 +62,14 @@ long_name b bs e h =
     record { own = b ∷ l.own; next = l.next; rest = l.rest; parts = in_front_of b bs (l.own ++ l.next ∷ l.rest) l.parts; name = and_from (is_letter b && nat_lt (length l.own) 32) (list_all is_word_byte l.own) (and_from (is_letter b) (nat_lt (length l.own) 32) e short) l.all; full = omega arith; more = l.more }
 
 name_cause : (b : ℕ) (bs : List ℕ) → NoToken (b ∷ bs) → is_letter b ≡ true → IsLongName (b ∷ bs)
-name_cause b bs none e = long_name b bs e (fails (nat_lt (run is_word_byte (b ∷ bs)) 33) (λ h. no_stand (b ∷ bs) k.Name (run is_word_byte (b ∷ bs)) none (name_stands b bs e h)))
+name_cause b bs none e = long_name b bs e (is_false (nat_lt (run is_word_byte (b ∷ bs)) 33) (λ h. no_stand (b ∷ bs) k.Name (run is_word_byte (b ∷ bs)) none (name_stands b bs e h)))
 
 param_cause : (b : ℕ) (bs : List ℕ) → NoToken (b ∷ bs) → eqb b 58 ≡ true → next_is is_letter bs ≡ true → IsLongParam (b ∷ bs)
 param_cause b [] none eb e = absurd cc
 param_cause b (c ∷ cs) none eb e = record {
   after = c ∷ cs;
   parts = ap (λ (n : ℕ). n ∷ c ∷ cs) (eqb-true b 58 eb);
-  long = long_name c cs e (fails (nat_lt (run is_word_byte (c ∷ cs)) 33) (λ h. no_stand (b ∷ c ∷ cs) k.Param (run is_word_byte (c ∷ cs) + 1) none (param_stands b c cs eb e h)));
+  long = long_name c cs e (is_false (nat_lt (run is_word_byte (c ∷ cs)) 33) (λ h. no_stand (b ∷ c ∷ cs) k.Param (run is_word_byte (c ∷ cs) + 1) none (param_stands b c cs eb e h)));
 }
 
 -- ---- numbers
@@ -88,7 +84,7 @@ number_cause : (b : ℕ) (bs : List ℕ) → NoToken (b ∷ bs) → is_digit b �
 number_cause b bs none e =
     let small = nat_lt (value_from 0 (b ∷ behind is_digit bs)) 9223372036854775808 in
     let joined = next_is is_joined (drop (run is_digit bs) bs) in
-    let bad : (small && not joined) ≡ false = fails (small && not joined) (λ h. no_stand (b ∷ bs) k.Number (run is_digit (b ∷ bs)) none (number_stands b bs e h)) in
+    let bad : (small && not joined) ≡ false = is_false (small && not joined) (λ h. no_stand (b ∷ bs) k.Number (run is_digit (b ∷ bs)) none (number_stands b bs e h)) in
     record {
       own = b ∷ behind is_digit bs;
       rest = drop (run is_digit bs) bs;
@@ -133,16 +129,16 @@ no_symbol b [] none = no_single b (has singles b) refl (symbol_none (b ∷ []) n
 no_symbol b (c ∷ bs) none = no_pair b c bs (has (seconds b) c) (has singles b) refl refl (symbol_none (b ∷ c ∷ bs) none (symbol_scan (b ∷ c ∷ bs)) refl)
 
 no_word : (b : ℕ) (bs : List ℕ) → NoToken (b ∷ bs) → is_upper b ≡ false
-no_word b bs none = fails (is_upper b) (λ e. no_stand (b ∷ bs) k.Word (run is_upper (b ∷ bs)) none (word_stands b bs e))
+no_word b bs none = is_false (is_upper b) (λ e. no_stand (b ∷ bs) k.Word (run is_upper (b ∷ bs)) none (word_stands b bs e))
 
-cause_of : (place b : ℕ) (bs : List ℕ) → NoToken (b ∷ bs) → (letter digit quote param : Bool) → is_letter b ≡ letter → is_digit b ≡ digit → eqb b 39 ≡ quote → (eqb b 58 && next_is is_letter bs) ≡ param
-    → HasCause place (b ∷ bs) (cond letter (e.BadCharacter (place + 32)) (cond digit (e.BadNumber place) (cond quote (e.OpenText place) (cond param (e.BadCharacter (place + 33)) (e.BadCharacter place)))))
-cause_of place b bs none true digit quote param l d q p = inr (inl (refl, name_cause b bs none l))
-cause_of place b bs none false true quote param l d q p = (refl, number_cause b bs none d)
-cause_of place b bs none false false true param l d q p = (refl, text_cause b bs none (eqb-true b 39 q))
-cause_of place b bs none false false false true l d q p = let f = and_parts (eqb b 58) (next_is is_letter bs) p in inr (inr (refl, param_cause b bs none f.0 f.1))
-cause_of place b bs none false false false false l d q p = inl (refl, rw (no_word b bs none, l, d, q, p, no_symbol b bs none) refl)
+cause_of : (offset b : ℕ) (bs : List ℕ) → NoToken (b ∷ bs) → (letter digit quote param : Bool) → is_letter b ≡ letter → is_digit b ≡ digit → eqb b 39 ≡ quote → (eqb b 58 && next_is is_letter bs) ≡ param
+    → HasCause offset (b ∷ bs) (cond letter (e.BadCharacter (offset + 32)) (cond digit (e.BadNumber offset) (cond quote (e.OpenText offset) (cond param (e.BadCharacter (offset + 33)) (e.BadCharacter offset)))))
+cause_of offset b bs none true digit quote param l d q p = inr (inl (refl, name_cause b bs none l))
+cause_of offset b bs none false true quote param l d q p = (refl, number_cause b bs none d)
+cause_of offset b bs none false false true param l d q p = (refl, text_cause b bs none (eqb-true b 39 q))
+cause_of offset b bs none false false false true l d q p = let f = and_parts (eqb b 58) (next_is is_letter bs) p in inr (inr (refl, param_cause b bs none f.0 f.1))
+cause_of offset b bs none false false false false l d q p = inl (refl, rw (no_word b bs none, l, d, q, p, no_symbol b bs none) refl)
 
 pub faults_have_causes : FaultsHaveCauses
-faults_have_causes place [] some none = absurd (omega arith)
-faults_have_causes place (b ∷ bs) some none = cause_of place b bs none (is_letter b) (is_digit b) (eqb b 39) (eqb b 58 && next_is is_letter bs) refl refl refl refl
+faults_have_causes offset [] some none = absurd (omega arith)
+faults_have_causes offset (b ∷ bs) some none = cause_of offset b bs none (is_letter b) (is_digit b) (eqb b 39) (eqb b 58 && next_is is_letter bs) refl refl refl refl

@@ -7,7 +7,7 @@ use Rattle.ss_sql_lex.specs.declared.token.Token.{Token}
 use Rattle.ss_sql_lex.specs.declared.token.TokenKind.{TokenKind}
 use Rattle.ss_sql_lex.specs.declared.token.LexError.{LexError}
 use Rattle.ss_sql_lex.specs.Bytes.{is_blank, next_is}
-use Rattle.ss_sql_lex.specs.Spelling.{IsSpelling, may_end}
+use Rattle.ss_sql_lex.specs.Spelling.{IsSpelling, may_stop}
 use Rattle.ss_sql_lex.specs.Lexing.{Begins, SpellsFrom}
 use Rattle.ss_sql_lex.specs.Faults.{NoToken, FailsFrom, fault_at}
 
@@ -18,12 +18,12 @@ pub record Stands (bs : List ℕ) (kind : TokenKind) (n : ℕ) : Type 0 where
   pub parts : bs ≡ own ++ rest
   pub long : n ≡ length own
   pub is : IsSpelling kind own
-  pub longest : may_end kind own rest ≡ true
+  pub longest : may_stop kind own rest ≡ true
 
 -- what reads one token
 pub record Scans (scan : List ℕ → Option (TokenKind × ℕ)) : Type 0 where
   pub sound : (bs : List ℕ) (kind : TokenKind) (n : ℕ) → scan bs ≡ Some (kind, n) → Stands bs kind n
-  pub complete : (own rest : List ℕ) (kind : TokenKind) → IsSpelling kind own → may_end kind own rest ≡ true → scan (own ++ rest) ≡ Some (kind, length own)
+  pub complete : (own rest : List ℕ) (kind : TokenKind) → IsSpelling kind own → may_stop kind own rest ≡ true → scan (own ++ rest) ≡ Some (kind, length own)
   pub solid : (kind : TokenKind) → IsSpelling kind [] → ⊥
   pub black : (kind : TokenKind) (b : ℕ) (own : List ℕ) → IsSpelling kind (b ∷ own) → is_blank b ≡ false
 
@@ -35,7 +35,7 @@ abbrev one_token : ℕ → List ℕ → (ℕ → List ℕ → Result (List Token
 one_token at bs more None = Err (fault_at at bs)
 one_token at bs more (Some (kind, n)) = ahead (record { kind = kind; from = at; to = at + n }) (more (at + n) (drop n bs))
 
--- fuel bounds the turns
+-- the tokens of a text, by this many turns at most
 abbrev pub lex : (List ℕ → Option (TokenKind × ℕ)) → ℕ → ℕ → List ℕ → Result (List Token) LexError
 lex scan zero at bs = Ok []
 lex scan (suc n) at [] = Ok []
@@ -58,7 +58,7 @@ blank_skip (b ∷ gap) bs h scan (suc n) at le =
     let one : lex scan (suc n) at (b ∷ (gap ++ bs)) ≡ lex scan n (suc at) (gap ++ bs) = first_blank scan n at b (gap ++ bs) f.0 in
     (r.0, r.1, one ∙ r.2 ∙ ap (λ (k : ℕ). lex scan r.0 k bs) (omega arith))
 
-token_read : (scan : List ℕ → Option (TokenKind × ℕ)) → Scans scan → (t : Token) (n at : ℕ) (own rest : List ℕ) → length (own ++ rest) ≤ n → t.from ≡ at → t.to ≡ t.from + length own → IsSpelling t.kind own → may_end t.kind own rest ≡ true
+token_read : (scan : List ℕ → Option (TokenKind × ℕ)) → Scans scan → (t : Token) (n at : ℕ) (own rest : List ℕ) → length (own ++ rest) ≤ n → t.from ≡ at → t.to ≡ t.from + length own → IsSpelling t.kind own → may_stop t.kind own rest ≡ true
     → (r : Result (List Token) LexError) → ((m : ℕ) → length rest ≤ m → lex scan m t.to rest ≡ r) → lex scan n at (own ++ rest) ≡ ahead t r
 token_read scan ok t n at [] rest le starts ends is longest r more = absurd (ok.solid t.kind is)
 token_read scan ok t zero at (b ∷ own) rest le starts ends is longest r more = absurd (omega arith)
@@ -76,7 +76,7 @@ in_front (t ∷ ts) r = ahead t (in_front ts r)
 
 -- the tokens at the beginning of a text are read
 lex_front : (scan : List ℕ → Option (TokenKind × ℕ)) → Scans scan → (ts : List Token) (n at : ℕ) (text left : List ℕ) → length text ≤ n → Begins at text ts left
-    → (r : Result (List Token) LexError) → ((m place : ℕ) → length left ≤ m → place + length left ≡ at + length text → lex scan m place left ≡ r) → lex scan n at text ≡ in_front ts r
+    → (r : Result (List Token) LexError) → ((m offset : ℕ) → length left ≤ m → offset + length left ≡ at + length text → lex scan m offset left ≡ r) → lex scan n at text ≡ in_front ts r
 lex_front scan ok [] n at text left le h r more = ap (lex scan n at) h ∙ more n at (rw (← h) le) (ap (λ (x : List ℕ). at + length x) (sym h))
 lex_front scan ok (t ∷ ts) n at text left le h r more =
     let s = blank_skip h.gap (h.own ++ h.rest) h.blank scan n at (rw (← h.parts) le) in
@@ -84,7 +84,7 @@ lex_front scan ok (t ∷ ts) n at text left le h r more =
     let starts = h.starts in
     let ends = h.ends in
     ap (lex scan n at) h.parts ∙ s.2 ∙ token_read scan ok t s.0 (at + length h.gap) h.own h.rest s.1 h.starts h.ends h.is h.longest (in_front ts r)
-    (λ m short. lex_front scan ok ts m t.to h.rest left short h.follows r (λ k place fits counts. more k place fits (omega arith)))
+    (λ m short. lex_front scan ok ts m t.to h.rest left short h.follows r (λ k offset fits counts. more k offset fits (omega arith)))
 
 in_front_ok : (ts : List Token) → in_front ts (Ok []) ≡ Ok ts
 in_front_ok [] = refl
@@ -96,7 +96,7 @@ in_front_err (t ∷ ts) f = rw (in_front_err ts f) refl
 
 -- what is spelled is read
 pub spelled_read : (scan : List ℕ → Option (TokenKind × ℕ)) → Scans scan → (ts : List Token) (text : List ℕ) → SpellsFrom 0 text ts → lex scan (length text) 0 text ≡ Ok ts
-spelled_read scan ok ts text h = lex_front scan ok ts (length text) 0 text h.left (omega arith) h.tokens (Ok []) (λ m place fits counts. blank_none h.left h.blank scan m place fits) ∙ in_front_ok ts
+spelled_read scan ok ts text h = lex_front scan ok ts (length text) 0 text h.left (omega arith) h.tokens (Ok []) (λ m offset fits counts. blank_none h.left h.blank scan m offset fits) ∙ in_front_ok ts
 
 none_read : (scan : List ℕ → Option (TokenKind × ℕ)) → Scans scan → (bs : List ℕ) → NoToken bs → (o : Option (TokenKind × ℕ)) → scan bs ≡ o → scan bs ≡ None
 none_read scan ok bs none None e = e
@@ -112,9 +112,9 @@ pub failed_read : (scan : List ℕ → Option (TokenKind × ℕ)) → Scans scan
 failed_read scan ok f text h =
     let counts = h.counts in
     lex_front scan ok h.tokens (length text) 0 text h.left (omega arith) h.are (Err f)
-    (λ m place fits counted.
+    (λ m offset fits counted.
     let parts = simp length-append at (ap length h.parts) in
-    let s = blank_skip h.gap h.rest h.blank scan m place (rw (← h.parts) fits) in
-    let p : place + length h.gap ≡ h.place = omega arith in
-    ap (lex scan m place) h.parts ∙ s.2 ∙ fault_read scan ok s.0 (place + length h.gap) h.rest s.1 h.some h.solid h.none ∙ rw (p, ← h.which) refl)
+    let s = blank_skip h.gap h.rest h.blank scan m offset (rw (← h.parts) fits) in
+    let p : offset + length h.gap ≡ h.offset = omega arith in
+    ap (lex scan m offset) h.parts ∙ s.2 ∙ fault_read scan ok s.0 (offset + length h.gap) h.rest s.1 h.some h.solid h.none ∙ rw (p, ← h.which) refl)
     ∙ in_front_err h.tokens f

@@ -1,10 +1,11 @@
 pub mod Blamed
+pub mod CallerLemmas
 pub mod Lexes
 pub mod Once
 pub mod Quotes
 pub mod Reached
-pub mod Spanned
 pub mod Runs
+pub mod Spanned
 pub mod Spelled
 pub mod Stands
 pub mod Values

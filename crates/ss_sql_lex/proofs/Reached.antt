@@ -17,14 +17,14 @@ abbrev pub end_of : ℕ → List Token → ℕ
 end_of at [] = at
 end_of at (t ∷ ts) = end_of t.to ts
 
--- tokens and blanks are read up to the place at, and the rest stands there
+-- tokens and blanks are read up to the offset `at`, and the rest stands there
 pub record Reached (text : List ℕ) (ts : List Token) (at : ℕ) (rest : List ℕ) : Type 0 where
   pub left : List ℕ
   pub gap : List ℕ
   pub are : Begins 0 text ts left
   pub parts : left ≡ gap ++ rest
   pub blank : list_all is_blank gap ≡ true
-  pub place : at ≡ end_of 0 ts + length gap
+  pub offset : at ≡ end_of 0 ts + length gap
   pub counts : at + length rest ≡ length text
 
 all_more : (p : ℕ → Bool) (xs : List ℕ) (b : ℕ) → list_all p xs ≡ true → p b ≡ true → list_all p (xs ++ b ∷ []) ≡ true
@@ -36,7 +36,7 @@ all_more p (x ∷ xs) b h e = all_more_at p x xs b (p x) refl h e (λ g. all_mor
     all_more_at p x xs b false e h g more = absurd (let f = rw e at h in cc)
 
 pub reached_start : (text : List ℕ) → Reached text [] 0 text
-reached_start text = record { left = text; gap = []; are = refl; parts = refl; blank = refl; place = refl; counts = omega arith }
+reached_start text = record { left = text; gap = []; are = refl; parts = refl; blank = refl; offset = refl; counts = omega arith }
 
 blank_at : (text : List ℕ) (ts : List Token) (at b : ℕ) (rest : List ℕ) → Reached text ts at (b ∷ rest) → is_blank b ≡ true → Reached text ts (at + 1) rest
 blank_at text ts at b rest r h = record {
@@ -45,7 +45,7 @@ blank_at text ts at b rest r h = record {
   are = r.are;
   parts = r.parts ∙ sym (append_assoc r.gap (b ∷ []) rest);
   blank = all_more is_blank r.gap b r.blank h;
-  place = let e = r.place in omega (arith, length-append r.gap (b ∷ []));
+  offset = let e = r.offset in omega (arith, length-append r.gap (b ∷ []));
   counts = let e = r.counts in omega arith;
 }
 
@@ -66,10 +66,10 @@ pub reached_token : (text : List ℕ) (ts : List Token) (at : ℕ) (bs : List �
 reached_token text ts at bs t r s = record {
   left = s.rest;
   gap = [];
-  are = begins_more 0 text ts r.left t s.rest r.are (record { gap = r.gap; own = s.own; rest = s.rest; parts = r.parts ∙ ap (λ (x : List ℕ). r.gap ++ x) s.parts; blank = r.blank; starts = s.starts ∙ r.place; ends = let e = s.starts in let f = s.ends in omega arith; is = s.is; longest = s.longest; follows = refl });
+  are = begins_more 0 text ts r.left t s.rest r.are (record { gap = r.gap; own = s.own; rest = s.rest; parts = r.parts ∙ ap (λ (x : List ℕ). r.gap ++ x) s.parts; blank = r.blank; starts = s.starts ∙ r.offset; ends = let e = s.starts in let f = s.ends in omega arith; is = s.is; longest = s.longest; follows = refl });
   parts = refl;
   blank = refl;
-  place = let e = end_of_more 0 ts t in omega arith;
+  offset = let e = end_of_more 0 ts t in omega arith;
   counts = let e = r.counts in let f = s.ends in omega (arith, simp length-append at (ap length s.parts));
 }
 
@@ -80,7 +80,7 @@ reached_end text ts at (b ∷ bs) r e = absurd (omega arith)
 
 -- where no token stands, the text fails
 pub reached_fault : (text : List ℕ) (ts : List Token) (at b : ℕ) (rest : List ℕ) (fault : LexError) → Reached text ts at (b ∷ rest) → is_blank b ≡ false → IsFaultAt at (b ∷ rest) fault → FailsFrom 0 text fault
-reached_fault text ts at b rest fault r solid h = record { tokens = ts; left = r.left; are = r.are; gap = r.gap; rest = b ∷ rest; parts = r.parts; blank = r.blank; some = omega arith; solid = solid; none = h.0; place = at; counts = let e = r.counts in omega arith; which = h.1 }
+reached_fault text ts at b rest fault r solid h = record { tokens = ts; left = r.left; are = r.are; gap = r.gap; rest = b ∷ rest; parts = r.parts; blank = r.blank; some = omega arith; solid = solid; none = h.0; offset = at; counts = let e = r.counts in omega arith; which = h.1 }
 
 -- a token is not empty, and lies within what there is
 pub stands_within : (at : ℕ) (bs : List ℕ) (t : Token) → StandsAt at bs t → (at < t.to) × (t.to ≤ at + length bs)

@@ -44,7 +44,7 @@ rises at text (t ∷ ts) left h = let starts = h.starts in (omega arith, rises t
 
 -- ---- as far as a text is read
 
--- tokens and blanks are read up to the place at, and the tokens stand in the text and rise
+-- tokens and blanks are read up to the offset `at`, and the tokens stand in the text and rise
 pub record Read (text : List ℕ) (ts : List Token) (at : ℕ) (rest : List ℕ) : Type 0 where
   pub reached : Reached text ts at rest
   pub spans : All (IsTokenOf text) ts

@@ -9,7 +9,7 @@ use Rattle.ss_sql_lex.specs.declared.token.TokenKind.{TokenKind}
 use Rattle.ss_sql_lex.specs.declared.token.TokenKind.TheVariants as k
 use Rattle.ss_value.specs.Words.{is_letter, is_word_byte, is_name}
 use Rattle.ss_sql_lex.specs.Bytes.{is_upper, is_digit, is_joined, next_is}
-use Rattle.ss_sql_lex.specs.Spelling.{is_run, value_from, IsSpelling, may_end, has, singles, seconds, in_quotes}
+use Rattle.ss_sql_lex.specs.Spelling.{is_run, value_from, IsSpelling, may_stop, has, singles, seconds, in_quotes}
 use Rattle.ss_sql_lex.specs.Reading.{run, scan, symbol_scan, close}
 use Rattle.ss_sql_lex.proofs.Runs.{run_whole}
 
@@ -22,13 +22,13 @@ digit_not b e = (grind (arith, nat_tests), grind (arith, nat_tests))
 pub lower_is_name : (b : ℕ) → is_letter b ≡ true → is_word_byte b ≡ true
 lower_is_name b e = rw e refl
 
-pub word_read : (own rest : List ℕ) → IsSpelling k.Word own → may_end k.Word own rest ≡ true → scan (own ++ rest) ≡ Some (k.Word, length own)
+pub word_read : (own rest : List ℕ) → IsSpelling k.Word own → may_stop k.Word own rest ≡ true → scan (own ++ rest) ≡ Some (k.Word, length own)
 word_read [] rest is ends = absurd cc
 word_read (b ∷ own) rest is ends =
     let f = and_parts (is_upper b) (list_all is_upper own) is in
     rw f.0 (ap (λ (n : ℕ). Some (k.Word, suc n)) (run_whole is_upper own rest f.1 (not-true (next_is is_upper rest) ends)))
 
-pub name_read : (own rest : List ℕ) → IsSpelling k.Name own → may_end k.Name own rest ≡ true → scan (own ++ rest) ≡ Some (k.Name, length own)
+pub name_read : (own rest : List ℕ) → IsSpelling k.Name own → may_stop k.Name own rest ≡ true → scan (own ++ rest) ≡ Some (k.Name, length own)
 name_read [] rest is ends = absurd cc
 name_read (b ∷ own) rest is ends =
     let g = and_parts (is_letter b && nat_lt (length own) 32) (list_all is_word_byte own) is in
@@ -51,7 +51,7 @@ name_all (b ∷ own) e =
     let f = and_parts (is_letter b) (nat_lt (length own) 32) g.0 in
     (rw (lower_is_name b f.0) g.1, grind (arith, nat_tests))
 
-pub param_read : (own rest : List ℕ) → IsSpelling k.Param own → may_end k.Param own rest ≡ true → scan (own ++ rest) ≡ Some (k.Param, length own)
+pub param_read : (own rest : List ℕ) → IsSpelling k.Param own → may_stop k.Param own rest ≡ true → scan (own ++ rest) ≡ Some (k.Param, length own)
 param_read [] rest is ends = absurd cc
 param_read (b ∷ own) rest is ends =
     let f = and_parts (eqb b 58) (is_name own) is in
@@ -70,7 +70,7 @@ digits_end (b ∷ rest) e = digit_joined b e
 digit_colon : (b : ℕ) → is_digit b ≡ true → eqb b 58 ≡ false
 digit_colon b e = grind (arith, nat_tests)
 
-pub number_read : (own rest : List ℕ) → IsSpelling k.Number own → may_end k.Number own rest ≡ true → scan (own ++ rest) ≡ Some (k.Number, length own)
+pub number_read : (own rest : List ℕ) → IsSpelling k.Number own → may_stop k.Number own rest ≡ true → scan (own ++ rest) ≡ Some (k.Number, length own)
 number_read [] rest is ends = absurd cc
 number_read (b ∷ own) rest is ends =
     let f = and_parts (is_run is_digit (b ∷ own)) (nat_lt (value_from 0 (b ∷ own)) 9223372036854775808) is in
@@ -112,7 +112,7 @@ plain_scan b bs e =
     let i = and_parts (not (eqb b 39)) (not (eqb b 58)) h.1 in
     rw (not-true (is_upper b) f.0, not-true (is_letter b) g.0, not-true (is_digit b) h.0, not-true (eqb b 39) i.0, not-true (eqb b 58) i.1) refl
 
-pub symbol_read : (own rest : List ℕ) → IsSpelling k.Symbol own → may_end k.Symbol own rest ≡ true → scan (own ++ rest) ≡ Some (k.Symbol, length own)
+pub symbol_read : (own rest : List ℕ) → IsSpelling k.Symbol own → may_stop k.Symbol own rest ≡ true → scan (own ++ rest) ≡ Some (k.Symbol, length own)
 symbol_read [] rest is ends = absurd cc
 symbol_read (b ∷ []) [] is ends = plain_scan b [] (single_plain b is) ∙ rw is refl
 symbol_read (b ∷ []) (c ∷ rest) is ends = plain_scan b (c ∷ rest) (single_plain b is) ∙ rw (not-true (has (seconds b) c) ends, is) refl
@@ -151,14 +151,14 @@ close_whole [] [] e = refl
 close_whole [] (c ∷ rest) e = rw e refl
 close_whole (b ∷ v) rest e = close_at b v rest (eqb b 39) refl (close_whole v rest e)
 
-pub text_read : (own rest : List ℕ) → IsSpelling k.Text own → may_end k.Text own rest ≡ true → scan (own ++ rest) ≡ Some (k.Text, length own)
+pub text_read : (own rest : List ℕ) → IsSpelling k.Text own → may_stop k.Text own rest ≡ true → scan (own ++ rest) ≡ Some (k.Text, length own)
 text_read own rest is ends =
     let c = close_whole is.value rest (not-true (next_is (λ b. eqb b 39) rest) ends) in
     let small : nat_lt (length is.value) 256 ≡ true = let h = is.short in grind (arith, nat_tests) in
     let n : suc (length (in_quotes is.value ++ rest)) - length rest ≡ suc (length (in_quotes is.value)) = omega (arith, length-append (in_quotes is.value) rest) in
     rw is.spelled (rw (c, small) (ap (λ (m : ℕ). Some (k.Text, m)) n))
 
-pub all_read : (own rest : List ℕ) (kind : TokenKind) → IsSpelling kind own → may_end kind own rest ≡ true → scan (own ++ rest) ≡ Some (kind, length own)
+pub all_read : (own rest : List ℕ) (kind : TokenKind) → IsSpelling kind own → may_stop kind own rest ≡ true → scan (own ++ rest) ≡ Some (kind, length own)
 all_read own rest k.Word = word_read own rest
 all_read own rest k.Name = name_read own rest
 all_read own rest k.Number = number_read own rest

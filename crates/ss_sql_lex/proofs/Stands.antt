@@ -1,24 +1,22 @@
 -- Reading one token: what is read stands there.
-use Rattle.std.proofs.Common.{◌≡◌, ℕ, suc, ◌+◌, ◌-◌, ◌≤◌, Bool, true, false, not, cond, List, [], ◌∷◌, ◌++◌, length, take, drop, Option, Some, None, refl, sym, ap, subst, ◌∙◌, arith, eqb, ◌⊎◌, inl, inr, length-append}
+use Rattle.std.proofs.Common.{◌≡◌, ℕ, suc, ◌+◌, ◌-◌, ◌≤◌, Bool, true, false, not, cond, List, [], ◌∷◌, ◌++◌, length, take, drop, Option, Some, None, refl, sym, ap, subst, ◌∙◌, arith, eqb, inl, inr, length-append}
 use Rattle.std.specs.Prelude.{◌&&◌, nat_lt, option_map}
 use Rattle.std.specs.List.{list_all}
 use Rattle.std.proofs.lemmas.List.{take-append-drop}
 use Rattle.std.proofs.lemmas.Bool.{eqb-true, and_from, and_parts, not-true}
 use Rattle.std.proofs.lemmas.Bool.Decides.{nat_tests}
+use Rattle.ss_lemmas.proofs.Bools.{chosen}
+use Rattle.ss_lemmas.proofs.Results.{map_some}
 use Rattle.ss_sql_lex.specs.declared.token.TokenKind.{TokenKind}
 use Rattle.ss_sql_lex.specs.declared.token.TokenKind.TheVariants as k
 use Rattle.ss_value.specs.Words.{is_letter, is_word_byte, is_name}
 use Rattle.ss_sql_lex.specs.Bytes.{is_blank, is_upper, is_digit, is_joined, next_is}
-use Rattle.ss_sql_lex.specs.Spelling.{is_run, value_from, IsSpelling, may_end, has, singles, seconds, in_quotes}
+use Rattle.ss_sql_lex.specs.Spelling.{is_run, value_from, IsSpelling, may_stop, has, singles, seconds, in_quotes}
 use Rattle.ss_sql_lex.specs.Reading.{run, scan, number_scan, name_scan, symbol_scan, close, text_scan, StandsAt}
 use Rattle.ss_sql_lex.specs.Faults.{NoToken}
 use Rattle.ss_sql_lex.proofs.Runs.{run_all, run_stops}
 use Rattle.ss_sql_lex.proofs.Lexes.{Stands, Scans}
 use Rattle.ss_sql_lex.proofs.Spelled.{has_all, lower_is_name, all_read}
-
-chosen : {A : Type 0} (b : Bool) (x y z : A) → cond b x y ≡ z → ((b ≡ true) × (x ≡ z)) ⊎ ((b ≡ false) × (y ≡ z))
-chosen true x y z e = inl (refl, e)
-chosen false x y z e = inr (refl, e)
 
 run_long_at : (p : ℕ → Bool) (b : ℕ) (bs : List ℕ) (c : Bool) → p b ≡ c → length (take (run p bs) bs) ≡ run p bs → length (take (run p (b ∷ bs)) (b ∷ bs)) ≡ run p (b ∷ bs)
 run_long_at p b bs true e h = rw e (ap suc h)
@@ -82,7 +80,7 @@ some_of_it x = Some x
 some_is : {A : Type 0} (x y : A) → some_of_it x ≡ some_of_it y → x ≡ y
 some_is x y e = cc
 
-no_third : (b c : ℕ) (bs : List ℕ) → may_end k.Symbol (b ∷ c ∷ []) bs ≡ true
+no_third : (b c : ℕ) (bs : List ℕ) → may_stop k.Symbol (b ∷ c ∷ []) bs ≡ true
 no_third b c [] = refl
 no_third b c (d ∷ bs) = refl
 
@@ -103,10 +101,6 @@ symbol_stands (b ∷ c ∷ bs) kind n e =
     ]
 
 -- ---- texts
-
-map_some : {A B : Type 0} (f : A → B) (o : Option A) (y : B) → option_map f o ≡ Some y → (x : A) × (o ≡ Some x) × (f x ≡ y)
-map_some f None y e = absurd cc
-map_some f (Some x) y e = (x, refl, some_is (f x) y e)
 
 record Closed (bs : List ℕ) (x : List ℕ × List ℕ) : Type 0 where
   text : bs ≡ in_quotes x.0 ++ x.1

@@ -2,7 +2,7 @@
 use Rattle.std.specs.Prelude.{ℕ, Bool, false, List, [], ◌∷◌, ◌&&◌, ◌||◌, ◌==◌, nat_le}
 use Rattle.ss_value.specs.Words.{is_word_byte}
 
--- one of the bytes from low to high
+-- whether a byte is one of those from low to high
 abbrev pub is_between : ℕ → ℕ → ℕ → Bool
 is_between low high b = nat_le low b && nat_le b high
 
@@ -22,7 +22,7 @@ is_digit b = is_between 48 57 b
 abbrev pub is_joined : ℕ → Bool
 is_joined b = is_upper b || is_word_byte b
 
--- there is a next byte, and it passes a test
+-- whether there is a next byte, and it passes a test
 abbrev pub next_is : (ℕ → Bool) → List ℕ → Bool
 next_is p [] = false
 next_is p (b ∷ bs) = p b

@@ -1,4 +1,4 @@
--- What each fault says of the bytes that stand at its place.
+-- What each fault says of the bytes that stand at its offset.
 use Rattle.std.specs.Prelude.{ℕ, ◌≡◌, ◌+◌, ◌<◌, ◌⊎◌, List, [], ◌∷◌, ◌++◌, length, Bool, true, false, not, ◌&&◌, ◌||◌, ◌==◌}
 use Rattle.ss_value.specs.Words.{is_letter, is_word_byte, is_name}
 use Rattle.ss_sql_lex.specs.declared.token.LexError.{LexError}
@@ -16,13 +16,13 @@ pub record IsLongName (bs : List ℕ) : Type 0 where
   pub full : length own ≡ 32
   pub more : is_word_byte next ≡ true
 
--- a colon, and such a name behind it
+-- a colon, and such a long name behind it
 pub record IsLongParam (bs : List ℕ) : Type 0 where
   pub after : List ℕ
   pub parts : bs ≡ 58 ∷ after
   pub long : IsLongName after
 
--- all the digits that stand there are too great a number, or a letter or _ follows them
+-- all the digits that stand there spell too great a number, or a letter or _ follows them
 pub record IsBadNumber (bs : List ℕ) : Type 0 where
   pub own : List ℕ
   pub rest : List ℕ
@@ -31,7 +31,7 @@ pub record IsBadNumber (bs : List ℕ) : Type 0 where
   pub whole : next_is is_digit rest ≡ false
   pub bad : (9223372036854775807 < value_from 0 own) ⊎ (next_is is_joined rest ≡ true)
 
--- a quote that no quote closes within a value of 255 bytes
+-- a quote behind which every value that is closed has more than 255 bytes
 pub record IsOpenText (bs : List ℕ) : Type 0 where
   pub quoted : List ℕ
   pub parts : bs ≡ 39 ∷ quoted
@@ -46,9 +46,9 @@ abbrev pub is_stray : List ℕ → Bool
 is_stray [] = false
 is_stray (b ∷ bs) = not (is_upper b || (is_letter b || (is_digit b || ((b == 39) || (((b == 58) && next_is is_letter bs) || begins_symbol b bs)))))
 
--- why the bytes at a place are a fault
+-- why the bytes at an offset are a fault
 abbrev pub HasCause : ℕ → List ℕ → LexError → Type 0
-HasCause place bs e.NoMemory = ⊥
-HasCause place bs (e.BadCharacter at) = ((at ≡ place) × (is_stray bs ≡ true)) ⊎ (((at ≡ place + 32) × IsLongName bs) ⊎ ((at ≡ place + 33) × IsLongParam bs))
-HasCause place bs (e.BadNumber at) = (at ≡ place) × IsBadNumber bs
-HasCause place bs (e.OpenText at) = (at ≡ place) × IsOpenText bs
+HasCause offset bs e.NoMemory = ⊥
+HasCause offset bs (e.BadCharacter at) = ((at ≡ offset) × (is_stray bs ≡ true)) ⊎ (((at ≡ offset + 32) × IsLongName bs) ⊎ ((at ≡ offset + 33) × IsLongParam bs))
+HasCause offset bs (e.BadNumber at) = (at ≡ offset) × IsBadNumber bs
+HasCause offset bs (e.OpenText at) = (at ≡ offset) × IsOpenText bs

@@ -1,4 +1,4 @@
--- What a token's spelling stands for.
+-- The content of a token, by its spelling.
 use Rattle.std.specs.Prelude.{ℕ, pos, List, [], ◌∷◌, drop, ◌==◌, if◌then◌else◌}
 use Rattle.ss_sql_lex.specs.declared.token.TokenKind.{TokenKind}
 use Rattle.ss_sql_lex.specs.declared.token.TokenKind.TheVariants as k
@@ -10,7 +10,7 @@ use Rattle.ss_sql_lex.specs.Spelling.{value_from}
 abbrev pub number_of : List ℕ → ℕ
 number_of own = value_from 0 own
 
--- what stands before the closing quote, where a quote that is written twice is one of the value
+-- what stands before the closing quote; a quote that is written twice is one quote of the value
 abbrev pub up_to_quote : List ℕ → List ℕ
 up_to_quote [] = []
 up_to_quote (b ∷ []) = if b == 39 then [] else b ∷ []
@@ -24,7 +24,7 @@ text_of own = up_to_quote (drop 1 own)
 abbrev pub param_of : List ℕ → List ℕ
 param_of own = drop 1 own
 
--- what a token of that kind and spelling stands for
+-- the content of a token of that kind and spelling
 abbrev pub content_of : TokenKind → List ℕ → Content
 content_of k.Word own = c.Plain
 content_of k.Name own = c.Name own

@@ -7,15 +7,15 @@ use Rattle.ss_sql_lex.specs.declared.token.TokenKind.{TokenKind}
 use Rattle.ss_sql_lex.specs.declared.token.LexError.{LexError}
 use Rattle.ss_sql_lex.specs.declared.token.LexError.TheVariants as e
 use Rattle.ss_sql_lex.specs.Bytes.{is_blank, is_digit, next_is}
-use Rattle.ss_sql_lex.specs.Spelling.{IsSpelling, may_end}
+use Rattle.ss_sql_lex.specs.Spelling.{IsSpelling, may_stop}
 use Rattle.ss_sql_lex.specs.Lexing.{Begins}
 
 -- no token stands at the front
 abbrev pub NoToken : List ℕ → Type 0
-NoToken bs = (kind : TokenKind) (own rest : List ℕ) → bs ≡ own ++ rest → IsSpelling kind own → may_end kind own rest ≡ true → ⊥
+NoToken bs = (kind : TokenKind) (own rest : List ℕ) → bs ≡ own ++ rest → IsSpelling kind own → may_stop kind own rest ≡ true → ⊥
 
--- which fault it is where none does. By the first byte: a name or a parameter's name can only be too long, by
--- its 33rd character; a number too great or joined to a letter; a text too long or open; else it is the byte itself
+-- the fault where no token stands at the front, by the first byte: a name or a parameter's name can only be too long, by its
+-- 33rd character; a number too great, or joined to a letter; a text too long or not closed; else the fault is the byte itself
 abbrev pub fault_at : ℕ → List ℕ → LexError
 fault_at at [] = e.BadCharacter at
 fault_at at (b ∷ bs) = if is_letter b then e.BadCharacter (at + 32)
@@ -24,8 +24,8 @@ fault_at at (b ∷ bs) = if is_letter b then e.BadCharacter (at + 32)
     else if (b == 58) && next_is is_letter bs then e.BadCharacter (at + 33)
     else e.BadCharacter at
 
--- a text from the place at on has tokens, then blanks, and then a byte that is no blank and begins no token:
--- the fault is the one at that place
+-- a text that begins at the offset `at` has tokens, then blanks, and then a byte that is no blank and begins no token:
+-- the fault is the one at that byte's offset
 pub record FailsFrom (at : ℕ) (text : List ℕ) (fault : LexError) : Type 0 where
   pub tokens : List Token
   pub left : List ℕ
@@ -37,9 +37,9 @@ pub record FailsFrom (at : ℕ) (text : List ℕ) (fault : LexError) : Type 0 wh
   pub some : 0 < length rest
   pub solid : next_is is_blank rest ≡ false
   pub none : NoToken rest
-  pub place : ℕ
-  pub counts : place + length rest ≡ at + length text
-  pub which : fault ≡ fault_at place rest
+  pub offset : ℕ
+  pub counts : offset + length rest ≡ at + length text
+  pub which : fault ≡ fault_at offset rest
 
 -- why a text is refused: its first fault, or out of memory, which says nothing of the text
 abbrev pub IsRefused : List ℕ → LexError → Type 0

@@ -26,4 +26,4 @@ QuotesAreTaken = (value : List ℕ) → text_of (39 ∷ in_quotes value) ≡ val
 
 -- where no token stands, the fault that is reported has its cause there
 abbrev pub FaultsHaveCauses : Type 0
-FaultsHaveCauses = (place : ℕ) (bs : List ℕ) → 0 < length bs → NoToken bs → HasCause place bs (fault_at place bs)
+FaultsHaveCauses = (offset : ℕ) (bs : List ℕ) → 0 < length bs → NoToken bs → HasCause offset bs (fault_at offset bs)

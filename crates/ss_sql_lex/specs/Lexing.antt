@@ -3,9 +3,9 @@ use Rattle.std.specs.Prelude.{ℕ, ◌≡◌, ◌+◌, List, [], ◌∷◌, ◌+
 use Rattle.std.specs.List.{list_all}
 use Rattle.ss_sql_lex.specs.declared.token.Token.{Token}
 use Rattle.ss_sql_lex.specs.Bytes.{is_blank}
-use Rattle.ss_sql_lex.specs.Spelling.{IsSpelling, may_end}
+use Rattle.ss_sql_lex.specs.Spelling.{IsSpelling, may_stop}
 
--- a text from the place at on begins with blanks and a token, and what stands behind it is as Follows says
+-- a text that begins at the offset `at` has blanks and a token at its front, and what stands behind these is as Follows says
 pub record Next (at : ℕ) (text : List ℕ) (t : Token) (Follows : List ℕ → Type 0) : Type 0 where
   pub gap : List ℕ
   pub own : List ℕ
@@ -15,15 +15,15 @@ pub record Next (at : ℕ) (text : List ℕ) (t : Token) (Follows : List ℕ →
   pub starts : t.from ≡ at + length gap
   pub ends : t.to ≡ t.from + length own
   pub is : IsSpelling t.kind own
-  pub longest : may_end t.kind own rest ≡ true
+  pub longest : may_stop t.kind own rest ≡ true
   pub follows : Follows rest
 
--- a text from the place at on begins with these tokens, and left stands behind them
+-- a text that begins at the offset `at` has these tokens at its front, with blanks before each, and `left` behind them
 abbrev pub Begins : ℕ → List ℕ → List Token → List ℕ → Type 0
 Begins at text [] left = text ≡ left
 Begins at text (t ∷ ts) left = Next at text t (λ rest. Begins t.to rest ts left)
 
--- a text from the place at on is these tokens, and blanks behind them
+-- a text that begins at the offset `at` is these tokens, with blanks before each, and blanks behind them
 pub record SpellsFrom (at : ℕ) (text : List ℕ) (ts : List Token) : Type 0 where
   pub left : List ℕ
   pub tokens : Begins at text ts left

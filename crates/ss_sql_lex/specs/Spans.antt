@@ -10,7 +10,7 @@ pub record IsTokenOf (text : List ℕ) (t : Token) : Type 0 where
   pub within : t.to ≤ length text
   pub is : IsSpelling t.kind (slice_range text t.from t.to)
 
--- each begins at the end of the one before it or later, the first at the place at or later
+-- each token begins at the end of the one before it or later, the first at the offset `at` or later
 abbrev pub Rise : ℕ → List Token → Type 0
 Rise at [] = Unit {0}
 Rise at (t ∷ ts) = (at ≤ t.from) × Rise t.to ts

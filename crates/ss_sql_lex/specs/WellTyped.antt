@@ -39,11 +39,11 @@ is_type TextType (Some TextType) = true
 is_type BoolType (Some BoolType) = true
 is_type _ _ = false
 
--- Int or Text, as items and right sides are
+-- whether an expression is an Int or a Text, as items and right sides are
 abbrev pub is_value_type : Option ExprType → Bool
 is_value_type t = is_type IntType t || is_type TextType t
 
--- two Ints or two Texts
+-- whether two expressions are two Ints or two Texts
 abbrev pub are_comparable : Option ExprType → Option ExprType → Bool
 are_comparable s t = (is_type IntType s && is_type IntType t) || (is_type TextType s && is_type TextType t)
 
@@ -63,11 +63,11 @@ schema_type columns c = option_map (λ (d : Column). column_type d.kind) (slice_
 
 -- ---- expressions
 
--- this type, where the sides are right
+-- this type where the sides are right, and none where they are not
 abbrev pub typed_when : Bool → ExprType → Option ExprType
 typed_when right t = cond right (Some t) None
 
--- one level, of whose sides the types are known: `sources` are the columns of each source
+-- the type of a node, by those of its sides: `sources` are the columns of each source
 abbrev pub level_type : List (List Column) → List Column → Expr-F (Option ExprType) → Option ExprType
 level_type sources params (Expr-F.Lit v) = Some (value_type v)
 level_type sources params (Expr-F.Param n) = schema_type params n
@@ -84,7 +84,7 @@ level_type sources params (Expr-F.Binary _ left right) = typed_when (is_type Int
 abbrev pub expr_type : List (List Column) → List Column → Expr → Option ExprType
 expr_type sources params = fold-Expr (Option ExprType) (level_type sources params)
 
--- WHERE is Bool
+-- whether the expression behind WHERE is a Bool, if there is one
 abbrev pub test_typed : List (List Column) → List Column → Option Expr → Bool
 test_typed sources params None = true
 test_typed sources params (Some e) = is_type BoolType (expr_type sources params e)
@@ -99,32 +99,32 @@ item_type sources params (Min e) = expr_type sources params e
 item_type sources params (Max e) = expr_type sources params e
 item_type sources params (Plain e) = expr_type sources params e
 
--- COUNT, SUM, MIN or MAX
+-- whether an item is COUNT, SUM, MIN or MAX
 abbrev pub is_aggregate : Item → Bool
 is_aggregate (Plain e) = false
 is_aggregate _ = true
 
--- a query with an aggregate item or with GROUP BY
+-- whether a query has an aggregate item or GROUP BY
 abbrev pub query_aggregated : Query → Bool
 query_aggregated q = list_any is_aggregate q.items || nat_le 1 (length q.groups)
 
--- the same column
+-- whether this is the column at this position of this source
 abbrev pub is_column : ColAt → ℕ → ℕ → Bool
 is_column g source column = (g.source == source) && (g.column == column)
 
--- one level: every column in it is grouped
+-- whether every column of a node is grouped, by whether those of its sides are
 abbrev pub level_grouped : List ColAt → Expr-F Bool → Bool
 level_grouped groups (Expr-F.Col source column) = list_any (λ g. is_column g source column) groups
 level_grouped groups (Expr-F.Unary op side) = side
 level_grouped groups (Expr-F.Binary op left right) = left && right
 level_grouped groups _ = true
 
--- an item that is no aggregate has grouped columns alone
+-- whether an item is an aggregate, or all its columns are grouped
 abbrev pub item_grouped : List ColAt → Item → Bool
 item_grouped groups (Plain e) = fold-Expr Bool (level_grouped groups) e
 item_grouped groups _ = true
 
--- as many as there are columns, each of its column's type
+-- whether there are as many types as columns, each that of its column
 abbrev pub types_fit : List (Option ExprType) → List Column → Bool
 types_fit [] [] = true
 types_fit (t ∷ ts) (c ∷ cs) = is_type (column_type c.kind) t && types_fit ts cs
@@ -148,7 +148,7 @@ query_sources s from (Some j) = s.sources from ∷ s.sources j.source ∷ []
 abbrev pub column_at : List (List Column) → ColAt → Option ExprType
 column_at sources c = schema_type (get_or sources c.source []) c.column
 
--- JOIN compares two Ints or two Texts
+-- whether JOIN compares two Ints or two Texts, if there is one
 abbrev pub join_typed : List (List Column) → Option Joined → Bool
 join_typed sources None = true
 join_typed sources (Some j) = are_comparable (column_at sources j.left) (column_at sources j.right)
@@ -157,11 +157,11 @@ join_typed sources (Some j) = are_comparable (column_at sources j.left) (column_
 abbrev pub query_types : Schemas → Query → List (Option ExprType)
 query_types s q = map (item_type (query_sources s q.from q.joined) s.params) q.items
 
--- ORDER BY counts the items from 1
+-- whether a number behind ORDER BY is that of an item, counted from 1
 abbrev pub order_typed : ℕ → OrderBy → Bool
 order_typed count o = nat_le 1 o.item && nat_le o.item count
 
--- its parts are typed, items of an aggregated query are grouped, ORDER BY counts its items, and there are 16 at most
+-- whether a query is well typed: its parts are, the items of an aggregated query are grouped, ORDER BY names items, and there are 16 at most
 abbrev pub query_typed : Schemas → Query → Bool
 query_typed s q =
     let sources = query_sources s q.from q.joined in
@@ -173,7 +173,7 @@ query_typed s q =
     && list_all (order_typed (length q.items)) q.order
     && nat_le (length q.items) 16
 
--- one item, against a right side of its type
+-- whether a condition is well typed: its query is, and has one item, which the right side can be compared with
 abbrev pub condition_typed : Schemas → Condition → Bool
 condition_typed s c =
     query_typed s c.query
@@ -182,16 +182,16 @@ condition_typed s c =
 
 -- ---- statements
 
--- an expression of the type of a column that is there
+-- whether there is a column's type, and an expression has it
 abbrev pub has_type : Option ExprType → Option ExprType → Bool
 has_type None t = false
 has_type (Some wanted) t = is_type wanted t
 
--- the column is one of these
+-- whether the column is one of these
 abbrev pub is_among : List ℕ → ℕ → Bool
 is_among columns column = list_any (λ c. c == column) columns
 
--- a column that is no key column, to a value of its type, and set once: `earlier` are the columns set before
+-- whether each SET gives a column a value of its type, which is no key column and is set once: `earlier` are the columns set before
 abbrev pub sets_typed : Schemas → List Column → List ℕ → List ℕ → List SetTo → Bool
 sets_typed s columns key earlier [] = true
 sets_typed s columns key earlier (set ∷ sets) =
@@ -200,7 +200,7 @@ sets_typed s columns key earlier (set ∷ sets) =
     && not (is_among earlier set.column)
     && sets_typed s columns key (earlier ++ set.column ∷ []) sets
 
--- values fit the target's columns, SETs those of the table, and WHERE is Bool
+-- whether a statement is well typed: values fit the target's columns, SETs those of the table, and WHERE is Bool
 abbrev pub statement_typed : Schemas → Statement → Bool
 statement_typed s (InsertValues target values) = types_fit (map (expr_type [] s.params) values) (s.targets target)
 statement_typed s (InsertQuery target q) = query_typed s q && types_fit (query_types s q) (s.targets target)

@@ -1,4 +1,4 @@
-//! What the spelling of a token stands for.
+//! The contents of tokens, by their spelling.
 
 ghost use Rattle.std.specs.Prelude.{◌≡◌, ◌∷◌, pos, IfOk, slice_range};
 ghost use Rattle.std.specs.Str.{IsUtf8};
@@ -7,11 +7,10 @@ ghost use Rattle.ss_sql_lex.specs.Spans.{IsTokenOf};
 ghost use Rattle.ss_sql_lex.specs.Spelling.{IsSpelling};
 
 use crate::token::{Token, TokenKind};
-use ss_value::NoMemory;
-use ss_value::text::{Name, Text, ValueError};
+use ss_value::{Name, NoMemory, Text, ValueError};
 use std::alloc::Global;
 
-/// What a token stands for.
+/// The content of a token.
 #[derive(Drop)]
 pub enum Content {
     /// A word or a symbol: its spelling says all.
@@ -25,7 +24,7 @@ pub enum Content {
     Text(Text),
 }
 
-/// The bytes of a token of the text. Takes constant time.
+/// The bytes of a token of the text. Constant.
 pub fn spelling<'a>(text: &'a [u8], token: &Token) -> &'a [u8]
     requires { IsTokenOf text.now token.now }
     ensures { result.now ≡ slice_range text.now token.now.from token.now.to }
@@ -33,7 +32,7 @@ pub fn spelling<'a>(text: &'a [u8], token: &Token) -> &'a [u8]
     &text[token.from..token.to]
 }
 
-/// The number that digits spell. Takes time linear in the digits.
+/// The number that digits spell. Linear in the digits.
 pub fn number_value(digits: &[u8]) -> i64
     requires { IsSpelling TokenKind.Number digits.now }
     ensures { result ≡ pos (number_of digits.now) }
@@ -42,6 +41,7 @@ pub fn number_value(digits: &[u8]) -> i64
     for digit in digits {
         value = value * 10 + u64::from(digit.saturating_sub(48));
     }
+    // The spelling of a Number is at most the greatest Int.
     value as i64
 }
 
@@ -50,9 +50,10 @@ pub fn name_value(alloc: Global, own: &[u8]) -> Result<Name, NoMemory>
     requires { IsSpelling TokenKind.Name own.now }
     ensures { IfOk result (λ name. name ≡ own.now) }
 {
-    match ss_value::text::name_of(alloc, own) {
+    match ss_value::name_of(alloc, own) {
         Ok(name) => Ok(name),
         Err(ValueError::NoMemory) => Err(NoMemory),
+        // The spelling of a Name is a name.
         Err(_) => unreachable!(),
     }
 }
@@ -67,7 +68,7 @@ pub fn param_value(alloc: Global, own: &[u8]) -> Result<Name, NoMemory>
 }
 
 /// What stands before the closing quote.
-fn unquoted(alloc: Global, quoted: &[u8]) -> Result<Vec<u8>, NoMemory>
+fn unquote(alloc: Global, quoted: &[u8]) -> Result<Vec<u8>, NoMemory>
     ensures { IfOk result (λ value. value.items ≡ up_to_quote quoted.now) }
 {
     let mut value = Vec::new(alloc);
@@ -85,16 +86,17 @@ fn unquoted(alloc: Global, quoted: &[u8]) -> Result<Vec<u8>, NoMemory>
     Ok(value)
 }
 
-/// The value of a Text. Takes time linear in its bytes, and copies its value, 255 bytes at most.
+/// The value of a Text. Linear in its bytes; copies its value, 255 bytes at most.
 pub fn text_value(alloc: Global, own: &[u8]) -> Result<Text, NoMemory>
     requires spelled { IsSpelling TokenKind.Text own.now }
     requires utf8 { IsUtf8 own.now }
     ensures { IfOk result (λ text. text ≡ text_of own.now) }
 {
     let (_, quoted) = own.split_at(1);
-    let value = unquoted(alloc, quoted)?;
-    match ss_value::text::text_of(alloc, value.as_slice()) {
+    let value = unquote(alloc, quoted)?;
+    match ss_value::text_of(alloc, value.as_slice()) {
         Ok(text) => Ok(text),
+        // The value of a Text has at most 255 bytes, and is UTF-8 where its spelling is.
         Err(ValueError::TextTooLong) => unreachable!(),
         Err(ValueError::NotUtf8) => unreachable!(),
         Err(ValueError::NoMemory) => Err(NoMemory),
@@ -102,8 +104,8 @@ pub fn text_value(alloc: Global, own: &[u8]) -> Result<Text, NoMemory>
     }
 }
 
-/// What a token of a text stands for. The text is UTF-8, and so is the value of each Text in it.
-/// Takes time linear in the token's bytes, and copies those of a name and of a text's value.
+/// The content of a token of a text. The text is UTF-8, and so is the value of each Text in it.
+/// Linear in the token's bytes; copies those of a name and of a text's value.
 pub fn content_of(alloc: Global, text: &[u8], token: &Token) -> Result<Content, NoMemory>
     requires token { IsTokenOf text.now token.now }
     requires utf8 { IsUtf8 text.now }

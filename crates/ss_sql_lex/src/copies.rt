@@ -1,17 +1,15 @@
-//! Copies of typed trees, equal to what they copy at any depth.
+//! Exact copies of typed trees, at any depth.
 //!
-//! Each takes time and memory linear in the tree, and stack by its depth. Each
-//! fails only when memory runs out.
+//! A copy takes time and memory linear in the tree, and calls itself once for each level of an expression. It is
+//! written by hand, since a derived `clone` promises a copy that is equal only one level deep.
 
 ghost use Rattle.std.specs.Prelude.{◌≡◌, IfOk};
 
 use crate::typed::{ColAt, Condition, Expr, Item, OrderBy, Query, SetTo, Statement};
-use ss_value::NoMemory;
-use ss_value::copies::Copies;
-use ss_value::keep::Keep;
+use ss_value::{Boxed, Copies, NoMemory};
 use std::alloc::Global;
 
-/// A copy of an expression: the tree with its values.
+/// A copy of an expression.
 pub fn copy_expr(alloc: Global, expr: &Expr) -> Result<Expr, NoMemory>
     ensures { IfOk result (λ copy. copy ≡ expr.now) }
 {
@@ -24,14 +22,14 @@ pub fn copy_expr(alloc: Global, expr: &Expr) -> Result<Expr, NoMemory>
         }),
         Expr::Unary { op, side } => {
             let side = copy_expr(alloc, side.get())?;
-            let side = Keep::new(alloc, side)?;
+            let side = Boxed::new(alloc, side)?;
             Ok(Expr::Unary { op: *op, side })
         }
         Expr::Binary { op, left, right } => {
             let left = copy_expr(alloc, left.get())?;
-            let left = Keep::new(alloc, left)?;
+            let left = Boxed::new(alloc, left)?;
             let right = copy_expr(alloc, right.get())?;
-            let right = Keep::new(alloc, right)?;
+            let right = Boxed::new(alloc, right)?;
             Ok(Expr::Binary {
                 op: *op,
                 left,
@@ -71,7 +69,7 @@ impl Copies for OrderBy {
     }
 }
 
-/// A copy of an expression, where there is one, and None where there is none.
+/// A copy of an expression, if there is one.
 pub fn copy_test(alloc: Global, test: &Option<Expr>) -> Result<Option<Expr>, NoMemory>
     ensures { IfOk result (λ copy. copy ≡ test.now) }
 {

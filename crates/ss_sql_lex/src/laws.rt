@@ -9,12 +9,12 @@ pub fn a_text_has_one_answer()
     ensures fault { FailsOnce }
 {}
 
-/// A value that is put in quotes is taken out of them again, so a Text has one value.
+/// A value in quotes is read back, so a Text has one value.
 pub fn quotes_are_taken()
     ensures { QuotesAreTaken }
 {}
 
-/// A fault has its cause at its place: a byte that begins no token, the 33rd character of a name, a
+/// A fault has its cause at its offset: a byte that begins no token, the 33rd character of a name, a
 /// number that is too great or joined to a letter, a text that is not closed or too long.
 pub fn faults_have_causes()
     ensures { FaultsHaveCauses }

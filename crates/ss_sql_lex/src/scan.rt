@@ -29,7 +29,7 @@ fn is_of(byte: u8, class: Class) -> bool
     }
 }
 
-/// How many bytes at the front are of a class. Takes time linear in that number.
+/// How many bytes at the front are of a class. Linear in that number.
 pub fn run_of(bytes: &[u8], class: Class) -> usize
     ensures run { result ≡ run (test_of class) bytes.now }
     ensures within { result ≤ length bytes.now }
@@ -45,8 +45,8 @@ pub fn run_of(bytes: &[u8], class: Class) -> usize
 }
 
 /// Of what stands behind a text's opening quote: how many bytes the text's value has, and how many
-/// bytes stand behind its closing quote. None, where it is not closed. Takes time linear in the
-/// bytes up to the closing quote.
+/// bytes stand behind its closing quote. None where it is not closed. Linear in the bytes up to the
+/// closing quote.
 pub fn close_of(quoted: &[u8]) -> Option<(usize, usize)>
     ensures lengths { result ≡ option_map (lengths 0) (close quoted.now) }
     ensures within { IfSome result (λ x. x.0 + x.1 < length quoted.now) }
@@ -69,13 +69,14 @@ pub fn close_of(quoted: &[u8]) -> Option<(usize, usize)>
 /// The greatest Int.
 const MAX_INT: u64 = 9223372036854775807;
 
-/// Do digits spell an Int?
+/// Whether digits spell an Int.
 #[tactic(auto, using(crate::proofs::Values::value_low))]
 fn is_int(digits: &[u8]) -> bool
     ensures { result ≡ nat_lt (value_from 0 digits.now) 9223372036854775808 }
 {
     let mut value: u64 = 0;
     for digit in digits {
+        // One more digit would bring the number over the greatest Int.
         if value > MAX_INT / 10 {
             return false;
         }
@@ -84,6 +85,7 @@ fn is_int(digits: &[u8]) -> bool
     value <= MAX_INT
 }
 
+/// Whether the next byte is a letter, a digit or `_`, which may not follow a number at once.
 fn next_is_joined(rest: &[u8]) -> bool
     ensures { result ≡ next_is is_joined rest.now }
 {
@@ -93,6 +95,7 @@ fn next_is_joined(rest: &[u8]) -> bool
     }
 }
 
+/// A number at the front, by its digits.
 fn number_of(bytes: &[u8]) -> Option<(TokenKind, usize)>
     ensures { result ≡ number_scan (run is_digit bytes.now) bytes.now }
 {
@@ -105,6 +108,7 @@ fn number_of(bytes: &[u8]) -> Option<(TokenKind, usize)>
     }
 }
 
+/// A name of this many characters, with `more` bytes before it: a parameter's colon. None where it is too long.
 fn name_of(kind: TokenKind, count: usize, more: usize) -> Option<(TokenKind, usize)>
     requires { more < 2 }
     ensures { result ≡ name_scan kind count more }
@@ -116,7 +120,7 @@ fn name_of(kind: TokenKind, count: usize, more: usize) -> Option<(TokenKind, usi
     }
 }
 
-/// Is the next byte a letter a to z?
+/// Whether the next byte is one of the letters a to z.
 pub fn next_is_letter(rest: &[u8]) -> bool
     ensures { result ≡ next_is is_letter rest.now }
 {
@@ -126,7 +130,7 @@ pub fn next_is_letter(rest: &[u8]) -> bool
     }
 }
 
-/// A parameter, by what stands behind its colon.
+/// A parameter, by what stands behind its colon. None where no name does.
 fn param_of(after: &[u8]) -> Option<(TokenKind, usize)>
     ensures { result ≡ (if next_is is_letter after.now then name_scan TokenKind.Param (run is_word_byte after.now) 1 else None) }
 {
@@ -137,7 +141,7 @@ fn param_of(after: &[u8]) -> Option<(TokenKind, usize)>
     }
 }
 
-/// A text, by what stands behind its opening quote.
+/// A text, by what stands behind its opening quote. None where it is not closed or too long.
 fn text_of(after: &[u8]) -> Option<(TokenKind, usize)>
     ensures { result ≡ text_scan (length after.now + 1) (close after.now) }
 {
@@ -149,7 +153,7 @@ fn text_of(after: &[u8]) -> Option<(TokenKind, usize)>
     }
 }
 
-/// What makes a symbol of two bytes of a first one.
+/// Whether two bytes are a symbol.
 fn is_pair(first: u8, second: u8) -> bool
     ensures { result ≡ has (seconds first) second }
 {
@@ -161,6 +165,7 @@ fn is_pair(first: u8, second: u8) -> bool
     }
 }
 
+/// The longest symbol that begins with the first byte.
 fn symbol_of(first: u8, after: &[u8]) -> Option<(TokenKind, usize)>
     ensures { result ≡ symbol_scan (first ∷ after.now) }
 {
@@ -172,7 +177,7 @@ fn symbol_of(first: u8, after: &[u8]) -> Option<(TokenKind, usize)>
 }
 
 /// The kind of the token at the front of the bytes and its length in bytes, if one stands there.
-/// Takes time linear in that length, and for a text that is not closed in the bytes.
+/// Linear in that length, and for a text that is not closed, in all the bytes.
 pub fn front_token(bytes: &[u8]) -> Option<(TokenKind, usize)>
     ensures { result ≡ scan bytes.now }
 {

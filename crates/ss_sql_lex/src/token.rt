@@ -19,7 +19,7 @@ pub enum TokenKind {
     Symbol,
 }
 
-/// A token of a text: its spelling is the bytes from `from` up to, without, `to`.
+/// A token of a text: its spelling is the bytes from `from` up to `to`, exclusive.
 #[derive(Clone, Copy, Debug, PartialEq, Eq, Drop)]
 pub struct Token {
     /// What it is.
@@ -30,18 +30,18 @@ pub struct Token {
     pub to: usize,
 }
 
-/// Why a text has no tokens. A place is the offset of a byte.
+/// Why a text has no tokens, with the offset of the fault in bytes.
 #[derive(Clone, Copy, Debug, PartialEq, Eq, Drop)]
 pub enum LexError {
     /// Out of memory for the list of tokens.
     NoMemory,
     /// A byte that begins no token, a parameter's colon with no name behind it, or the 33rd
-    /// character of a name: the place of that byte.
+    /// character of a name: the offset of that byte.
     BadCharacter(usize),
-    /// A number over 9223372036854775807, or one that a letter or _ follows at once: the place of
+    /// A number over 9223372036854775807, or one that a letter or _ follows at once: the offset of
     /// its first digit.
     BadNumber(usize),
-    /// A text that is not closed, or whose value is over 255 bytes: the place of its opening quote.
+    /// A text that is not closed, or whose value is over 255 bytes: the offset of its opening quote.
     OpenText(usize),
 }
 

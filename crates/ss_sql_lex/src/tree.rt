@@ -1,25 +1,23 @@
-//! Plain trees: SQL texts as the grammar reads them, with the places of their parts.
+//! Plain trees: SQL texts as the grammar reads them, with the offsets of their parts.
 //!
-//! A place is the offset of a byte in the text: of the first byte of the first token. Each use of a
-//! rule that does not merely pass to another has a node. Brackets leave none: a bracketed expression
-//! is at its outermost bracket. A name, a column, a number, a text and a parameter have the places of
-//! their own tokens besides.
+//! The offset of a node is that of its first token's first byte in the text. Each use of a rule that
+//! does not merely pass to another has a node. Brackets leave none: a bracketed expression has the
+//! offset of its outermost bracket. A name, a column, a number, a text and a parameter have the
+//! offsets of their own tokens besides.
 //!
 //! A tree takes one heap block for each side of an operator, one for each list in it, and one for
 //! each name and text. Two trees are equal to contracts where they are the same tree.
 
 ghost use Rattle.std.specs.Prelude.{◌≡◌};
-ghost use Rattle.ss_sql_lex.specs.Trees.{place_of, moved};
+ghost use Rattle.ss_sql_lex.specs.Trees.{offset_of, with_offset};
 
 use crate::typed::{BinaryOp, Cmp, UnaryOp};
-use ss_value::keep::Keep;
-use ss_value::seq::Seq;
-use ss_value::text::{Name, Text};
+use ss_value::{Boxed, Name, Seq, Text};
 
 /// A name, or the name of a parameter.
 #[derive(Drop)]
 pub struct NameTree {
-    /// The place of its token.
+    /// The offset of its token.
     pub at: usize,
     /// The name itself, without a parameter's colon.
     pub name: Name,
@@ -28,7 +26,7 @@ pub struct NameTree {
 /// A number.
 #[derive(Drop)]
 pub struct NumberTree {
-    /// The place of its token.
+    /// The offset of its token.
     pub at: usize,
     /// Its value, from 0 to 9223372036854775807.
     pub value: i64,
@@ -37,7 +35,7 @@ pub struct NumberTree {
 /// A text.
 #[derive(Drop)]
 pub struct TextTree {
-    /// The place of its token, which is its opening quote.
+    /// The offset of its token, which is its opening quote.
     pub at: usize,
     /// What stands between its quotes, each doubled quote once.
     pub value: Text,
@@ -52,63 +50,63 @@ pub struct ColumnTree {
     pub name: NameTree,
 }
 
-/// An expression. Each variant has the place of its first token, brackets included.
+/// An expression. Each variant has the offset of its first token, brackets included.
 #[derive(Drop)]
 pub enum ExprTree {
     /// A number.
     Number {
-        /// The place of the node.
+        /// The offset of the node.
         at: usize,
         /// The number.
         number: NumberTree,
     },
     /// A text.
     Text {
-        /// The place of the node.
+        /// The offset of the node.
         at: usize,
         /// The text.
         text: TextTree,
     },
     /// A parameter.
     Param {
-        /// The place of the node.
+        /// The offset of the node.
         at: usize,
         /// The parameter's name.
         param: NameTree,
     },
     /// A column.
     Column {
-        /// The place of the node.
+        /// The offset of the node.
         at: usize,
         /// The column.
         column: ColumnTree,
     },
     /// An operator before its side.
     Unary {
-        /// The place of the node.
+        /// The offset of the node.
         at: usize,
         /// The operator.
         op: UnaryOp,
         /// What it works on.
-        side: Keep<ExprTree>,
+        side: Boxed<ExprTree>,
     },
     /// An operator between its sides.
     Binary {
-        /// The place of the node, which is its left side's.
+        /// The offset of the node, which is its left side's.
         at: usize,
         /// The operator.
         op: BinaryOp,
         /// The left side.
-        left: Keep<ExprTree>,
+        left: Boxed<ExprTree>,
         /// The right side.
-        right: Keep<ExprTree>,
+        right: Boxed<ExprTree>,
     },
 }
 
 impl ExprTree {
-    /// The place of its first token, brackets included, in constant time.
-    pub fn place(&self) -> usize
-        ensures { result ≡ place_of self.now }
+    /// The offset of its first token, brackets included. Constant.
+    pub fn offset(&self) -> usize
+        ensures { result ≡ offset_of self.now }
     {
         match self {
             ExprTree::Number { at, .. } => *at,
@@ -120,9 +118,9 @@ impl ExprTree {
         }
     }
 
-    /// The same expression at another place, as an opening bracket gives it, in constant time.
-    pub fn with_place(self, at: usize) -> ExprTree
-        ensures { result ≡ moved at self }
+    /// The same expression at another offset, as an opening bracket gives it one. Constant.
+    pub fn with_offset(self, at: usize) -> ExprTree
+        ensures { result ≡ with_offset at self }
     {
         match self {
             ExprTree::Number { number, .. } => ExprTree::Number { at, number },
@@ -150,26 +148,26 @@ impl ExprTree {
 pub enum ItemTree {
     /// `COUNT(*)`
     Count {
-        /// The place of its keyword.
+        /// The offset of its keyword.
         at: usize,
     },
     /// `SUM(side)`
     Sum {
-        /// The place of its keyword.
+        /// The offset of its keyword.
         at: usize,
         /// What stands between its brackets.
         side: ExprTree,
     },
     /// `MIN(side)`
     Min {
-        /// The place of its keyword.
+        /// The offset of its keyword.
         at: usize,
         /// What stands between its brackets.
         side: ExprTree,
     },
     /// `MAX(side)`
     Max {
-        /// The place of its keyword.
+        /// The offset of its keyword.
         at: usize,
         /// What stands between its brackets.
         side: ExprTree,
@@ -210,7 +208,7 @@ pub struct SetTree {
 /// A query.
 #[derive(Drop)]
 pub struct QueryTree {
-    /// The place of SELECT.
+    /// The offset of SELECT.
     pub at: usize,
     /// The items, one at least.
     pub items: Seq<ItemTree>,
@@ -228,12 +226,12 @@ pub struct QueryTree {
     pub limit: Option<NumberTree>,
 }
 
-/// A statement. Each variant has the place of its first keyword.
+/// A statement. Each variant has the offset of its first keyword.
 #[derive(Drop)]
 pub enum StatementTree {
     /// `INSERT INTO target VALUES (values)`
     InsertValues {
-        /// The place of INSERT.
+        /// The offset of INSERT.
         at: usize,
         /// What the row goes into.
         target: NameTree,
@@ -242,7 +240,7 @@ pub enum StatementTree {
     },
     /// `INSERT INTO target query`
     InsertQuery {
-        /// The place of INSERT.
+        /// The offset of INSERT.
         at: usize,
         /// What the rows go into.
         target: NameTree,
@@ -251,7 +249,7 @@ pub enum StatementTree {
     },
     /// `UPDATE table SET sets WHERE test`
     Update {
-        /// The place of UPDATE.
+        /// The offset of UPDATE.
         at: usize,
         /// The table.
         table: NameTree,
@@ -262,7 +260,7 @@ pub enum StatementTree {
     },
     /// `DELETE FROM table WHERE test`
     Delete {
-        /// The place of DELETE.
+        /// The offset of DELETE.
         at: usize,
         /// The table.
         table: NameTree,
@@ -274,7 +272,7 @@ pub enum StatementTree {
 /// `(query) cmp right`
 #[derive(Drop)]
 pub struct ConditionTree {
-    /// The place of its opening bracket.
+    /// The offset of its opening bracket.
     pub at: usize,
     /// The query between the brackets.
     pub query: QueryTree,

@@ -1,6 +1,7 @@
-//! Exact copies of plain trees, with their places.
+//! Exact copies of plain trees, with their offsets, at any depth.
 //!
-//! A copy is linear in the tree. It calls itself once for each level of an expression, as the parser does.
+//! A copy takes time and memory linear in the tree, and calls itself once for each level of an expression, as the
+//! parser does.
 
 ghost use Rattle.std.specs.Prelude.{◌≡◌, IfOk};
 ghost use Rattle.ss_sql_lex.specs.declared.tree.ExprTree.TheVariants.{Unary, Binary};
@@ -11,10 +12,7 @@ use crate::tree::{
     QueryTree, SetTree, StatementTree, TextTree,
 };
 use crate::typed::{BinaryOp, UnaryOp};
-use ss_value::NoMemory;
-use ss_value::copies::Copies;
-use ss_value::keep::Keep;
-use ss_value::seq::Seq;
+use ss_value::{Boxed, Copies, NoMemory, Seq};
 use std::alloc::Global;
 
 impl Copies for NameTree {
@@ -40,7 +38,7 @@ impl Copies for TextTree {
     }
 }
 
-/// The same name again, where there is one.
+/// A copy of a source's name, if there is one.
 fn copy_source(alloc: Global, source: &Option<NameTree>) -> Result<Option<NameTree>, NoMemory>
     ensures { IfOk result (λ copy. copy ≡ source.now) }
 {
@@ -62,7 +60,7 @@ impl Copies for ColumnTree {
 fn unary_tree(alloc: Global, at: usize, op: UnaryOp, side: ExprTree) -> Result<ExprTree, NoMemory>
     ensures { IfOk result (λ tree. tree ≡ Unary at op side) }
 {
-    let side = Keep::new(alloc, side)?;
+    let side = Boxed::new(alloc, side)?;
     Ok(ExprTree::Unary { at, op, side })
 }
 
@@ -76,8 +74,8 @@ fn binary_tree(
 ) -> Result<ExprTree, NoMemory>
     ensures { IfOk result (λ tree. tree ≡ Binary at op left right) }
 {
-    let left = Keep::new(alloc, left)?;
-    let right = Keep::new(alloc, right)?;
+    let left = Boxed::new(alloc, left)?;
+    let right = Boxed::new(alloc, right)?;
     Ok(ExprTree::Binary {
         at,
         op,
@@ -86,7 +84,7 @@ fn binary_tree(
     })
 }
 
-/// The same expression again.
+/// A copy of an expression.
 pub fn copy_expr_tree(alloc: Global, expr: &ExprTree) -> Result<ExprTree, NoMemory>
     ensures { IfOk result (λ copy. copy ≡ expr.now) }
 {
@@ -178,7 +176,7 @@ impl Copies for SetTree {
     }
 }
 
-/// The same JOIN again, where there is one.
+/// A copy of a JOIN, if there is one.
 fn copy_join(alloc: Global, joined: &Option<JoinTree>) -> Result<Option<JoinTree>, NoMemory>
     ensures { IfOk result (λ copy. copy ≡ joined.now) }
 {
@@ -188,7 +186,7 @@ fn copy_join(alloc: Global, joined: &Option<JoinTree>) -> Result<Option<JoinTree
     }
 }
 
-/// The same test again, where there is one.
+/// A copy of the expression behind WHERE, if there is one.
 fn copy_where(alloc: Global, test: &Option<ExprTree>) -> Result<Option<ExprTree>, NoMemory>
     ensures { IfOk result (λ copy. copy ≡ test.now) }
 {
@@ -198,7 +196,7 @@ fn copy_where(alloc: Global, test: &Option<ExprTree>) -> Result<Option<ExprTree>
     }
 }
 
-/// The same limit again, where there is one.
+/// A copy of a LIMIT, if there is one.
 fn copy_limit(alloc: Global, limit: &Option<NumberTree>) -> Result<Option<NumberTree>, NoMemory>
     ensures { IfOk result (λ copy. copy ≡ limit.now) }
 {
@@ -230,7 +228,7 @@ impl Copies for QueryTree {
     }
 }
 
-/// The same UPDATE again.
+/// A copy of an UPDATE.
 fn copy_update(
     alloc: Global,
     at: usize,

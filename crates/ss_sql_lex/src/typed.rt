@@ -1,12 +1,11 @@
-//! Typed trees: sources, columns and parameters stand in them by number.
+//! Typed trees: sources, columns and parameters are numbers in them.
 //!
-//! A tree takes one heap block for each operator and one for each list in it. Its numbers are
-//! positions: of a table or a window in the catalogue, of a batch in the inputs of the procedure
-//! that the statement belongs to, of a column in its source, of a parameter in the procedure.
+//! A tree takes one heap block for each side of an operator, one for each list in it and one for
+//! each text. Its numbers are positions: of a table or a window in the catalogue, of a batch in the
+//! inputs of the procedure that the statement belongs to, of a column in its source, of a parameter
+//! in the procedure.
 
-use ss_value::keep::Keep;
-use ss_value::seq::Seq;
-use ss_value::value::Value;
+use ss_value::{Boxed, Seq, Value};
 
 /// Where the rows of a query come from.
 #[derive(Clone, Copy, Debug, PartialEq, Eq, Drop)]
@@ -15,7 +14,7 @@ pub enum SourceId {
     Table(u16),
     /// The window at this position in the catalogue.
     Window(u16),
-    /// The batch at hand of the stream at this position in the procedure's inputs.
+    /// The batch that the step takes of the stream at this position in the procedure's inputs.
     Batch(u16),
     /// The rows of the emit that a stream's trigger runs on.
     Inserted,
@@ -89,16 +88,16 @@ pub enum Expr {
         /// The operator.
         op: UnaryOp,
         /// What it works on.
-        side: Keep<Expr>,
+        side: Boxed<Expr>,
     },
     /// An operator between its sides.
     Binary {
         /// The operator.
         op: BinaryOp,
         /// What stands left of it.
-        left: Keep<Expr>,
+        left: Boxed<Expr>,
         /// What stands right of it.
-        right: Keep<Expr>,
+        right: Boxed<Expr>,
     },
 }
 
@@ -165,7 +164,7 @@ pub struct Query {
     pub limit: Option<u64>,
 }
 
-/// A comparison of a query's one value.
+/// A comparison of the one value that a query gives.
 #[derive(Drop)]
 pub struct Condition {
     /// The query, in brackets.
@@ -215,7 +214,7 @@ pub enum Statement {
     Update {
         /// The table's position in the catalogue.
         table: u16,
-        /// The columns that change, in the text's order.
+        /// The columns that are set, in the text's order.
         sets: Seq<SetTo>,
         /// The condition behind WHERE, if there is one.
         test: Option<Expr>,

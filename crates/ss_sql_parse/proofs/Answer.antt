@@ -3,14 +3,14 @@ use Rattle.std.proofs.Common.{◌≡◌, refl, ℕ, ◌≤◌, List, [], ◌∷�
 use Rattle.std.proofs.lemmas.List.{append-nil, length-map}
 use Rattle.ss_sql_lex.specs.declared.token.Token.{Token}
 use Rattle.ss_sql_lex.specs.Lexing.{Spells}
-use Rattle.ss_sql_lex.proofs.Once.{spells_one_list, spells_or_fails, fails_once}
+use Rattle.ss_sql_lex.proofs.CallerLemmas.{spells_one_list, spells_or_fails, fails_once}
 use Rattle.ss_sql_parse.specs.declared.lexeme.Lexeme.{Lexeme}
 use Rattle.ss_sql_parse.specs.declared.parse.ParseError.TheVariants as parse
 use Rattle.ss_sql_parse.specs.Keywords.{lexeme, lexemes}
 use Rattle.ss_sql_parse.specs.Sql.{Sql}
-use Rattle.ss_sql_parse.specs.Whole.{Spelled, Dead, IsUnexpectedAt}
+use Rattle.ss_sql_parse.specs.Whole.{Spelled, BeginsNone, IsUnexpectedAt}
 use Rattle.ss_sql_parse.specs.Laws.{HasOneText, IsReadOrRefused, HasOneRefusal}
-use Rattle.ss_sql_parse.proofs.Place.{Why, one_place}
+use Rattle.ss_sql_parse.proofs.Offsets.{Why, one_offset}
 
 same_tokens : (text : List ℕ) (ts us : List Token) → Spells text ts → Spells text us → lexemes text ts ≡ lexemes text us
 same_tokens text ts us h k = ap (lexemes text) (spells_one_list text ts us h k)
@@ -18,7 +18,7 @@ same_tokens text ts us h k = ap (lexemes text) (spells_one_list text ts us h k)
 pub one_text : {A : Type 0} (g : Sql A) → HasOneText g
 one_text g text a b h k = sym (h.is.only b (subst (λ ls. Spelled g ls b) (same_tokens text k.tokens h.tokens k.spelled h.spelled) k.is.is))
 
-not_dead : {A : Type 0} (g : Sql A) (ts front rest : List Lexeme) (tree : A) → ts ≡ front ++ rest → Spelled g ts tree → Dead g front rest → ⊥
+not_dead : {A : Type 0} (g : Sql A) (ts front rest : List Lexeme) (tree : A) → ts ≡ front ++ rest → Spelled g ts tree → BeginsNone g front rest → ⊥
 not_dead g ts front [] tree parts h dead = dead tree (subst (λ ls. Spelled g ls tree) (parts ∙ append-nil front) h)
 not_dead g ts front (t ∷ rest) tree parts h dead = dead rest tree (subst (λ ls. Spelled g ls tree) parts h)
 
@@ -47,5 +47,5 @@ one_refusal g text (parse.Lex fault) (parse.Unexpected at) some more h k = absur
 one_refusal g text (parse.Unexpected at) parse.NoMemory some more h k = absurd (more refl)
 one_refusal g text (parse.Unexpected at) (parse.Lex fault) some more h k = absurd (spells_or_fails text h.tokens fault h.spelled k)
 one_refusal g text (parse.Unexpected at) (parse.Unexpected other) some more h k =
-    ap parse.Unexpected (one_place g (lexemes text h.tokens) (length text) at other h.is
+    ap parse.Unexpected (one_offset g (lexemes text h.tokens) (length text) at other h.is
     (subst (λ ls. IsUnexpectedAt g ls (length text) other) (same_tokens text k.tokens h.tokens k.spelled h.spelled) k.is))

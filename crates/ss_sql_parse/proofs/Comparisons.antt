@@ -10,7 +10,7 @@ use Rattle.ss_sql_parse.specs.declared.stop.Stop.{Stop}
 use Rattle.ss_sql_parse.specs.declared.stop.Stop.TheVariants as stop
 use Rattle.ss_sql_parse.specs.Gives.{Fails}
 use Rattle.ss_sql_parse.specs.Sql.{sql, inner, cmp, unary, sum, test}
-use Rattle.ss_sql_parse.specs.Nodes.{joined}
+use Rattle.ss_sql_parse.specs.Nodes.{binary_tree}
 use Rattle.ss_sql_parse.specs.declared.operators.Level.TheVariants as level
 use Rattle.ss_sql_parse.specs.Levels.{tail}
 use Rattle.ss_sql_parse.proofs.Chain.{follows}
@@ -23,7 +23,7 @@ sum_reads ts first behind left rest x h t s = follows level.Add ts left rest x (
 -- two sums compared
 pub compares : (ts : List Lexeme) (left : ExprTree) (rest : List Lexeme) (op : Cmp) (behind : List Lexeme) (right : ExprTree) (after : List Lexeme)
     → read sql inner sum ts ≡ Ok (left, rest) → begins kind (starts sql cmp) rest ≡ true → read sql inner cmp rest ≡ Ok (op, behind) → read sql inner sum behind ≡ Ok (right, after)
-    → read sql inner test ts ≡ Ok (joined left (b.Compare op, right), after)
+    → read sql inner test ts ≡ Ok (binary_tree left (b.Compare op, right), after)
 compares ts left rest op behind right after h begun c s = rw (h, begun, c, s) refl
 
 -- no sum stands behind a comparison

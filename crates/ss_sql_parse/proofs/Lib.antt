@@ -3,8 +3,8 @@ mod Chain
 mod Decides
 mod Limit
 mod Nesting
-mod Place
+mod Offsets
 mod Series
 mod Comparisons
-mod Told
+mod Judged
 mod Whole

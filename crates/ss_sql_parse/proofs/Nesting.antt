@@ -6,8 +6,7 @@ use Rattle.ss_sql_grammar.specs.Exact.{Exact}
 use Rattle.ss_sql_parse.specs.Terminals.{kind, spare, a_number}
 use Rattle.ss_sql_parse.specs.Nodes.{number_tree, number_leaf}
 use Rattle.ss_sql_parse.specs.Sql.{Nest, InExpr, InNot, InUnary, sql, inner, deep, Deep, rule, number, lone_number, first_of, last_of}
-use Rattle.ss_sql_grammar.proofs.Rules.{rules_exact, one_exact, act_exact}
-use Rattle.ss_sql_grammar.proofs.Agree.{widened, agree_guarded}
+use Rattle.ss_sql_grammar.proofs.CallerLemmas.{rules_exact, one_exact, act_exact, widened, agree_guarded}
 
 pub rule_decides : (n : Nest) → decides sql (rule n) ≡ true
 rule_decides InExpr = refl
@@ -38,7 +37,7 @@ pub deep_exact : (d : ℕ) (n : Nest) → Exact kind (Deep d n) (deep d n) (firs
 deep_exact zero n = number_exact n
 deep_exact (suc d) n = next_exact d (deep_exact d) n
 
--- to whatever depth, if it is no less than the length
+-- to any depth that is no less than the length
 pub stable : (m d e : ℕ) → m ≤ d → m ≤ e → (n : Nest) (ts : List Lexeme) → length ts < m → deep d n ts ≡ deep e n ts
 unfolding deep
 stable zero d e l1 l2 n ts lt = absurd (omega arith)

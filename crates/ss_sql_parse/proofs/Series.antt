@@ -1,4 +1,4 @@
--- Lists behind commas, as a loop reads them.
+-- Lists with commas between their items, as a loop reads them.
 use Rattle.std.proofs.Common.{◌≡◌, ℕ, zero, suc, ◌-◌, ◌+◌, ◌≤◌, ◌<◌, true, false, List, [], ◌∷◌, ◌++◌, length, Result, Ok, Err, refl, sym, ap, ◌∙◌, arith, append_assoc}
 use Rattle.std.specs.Prelude.{map}
 use Rattle.std.proofs.lemmas.List.{append-nil}
@@ -9,7 +9,7 @@ use Rattle.ss_sql_parse.specs.Terminals.{code, kind}
 use Rattle.ss_sql_parse.specs.declared.stop.Stop.{Stop}
 use Rattle.ss_sql_parse.specs.declared.stop.Stop.TheVariants as stop
 use Rattle.ss_sql_parse.specs.Gives.{Fails}
-use Rattle.ss_sql_parse.specs.Statements.{listed}
+use Rattle.ss_sql_parse.specs.Statements.{items_of}
 use Rattle.ss_sql_parse.specs.Lists.{list_read}
 
 abbrev pub commas : List ℕ
@@ -25,7 +25,7 @@ abbrev beside : {A : Type 0} → A → List (Lexeme × A) × List Lexeme → Res
 beside x y = Ok ((x, y.0), y.1)
 
 abbrev in_list : {A : Type 0} → (A × List (Lexeme × A)) × List Lexeme → Result (List A × List Lexeme) ℕ
-in_list x = Ok (listed x.0, x.1)
+in_list x = Ok (items_of x.0, x.1)
 
 regroup : {A : Type 0} (x : A) (r : Result (List (Lexeme × A) × List Lexeme) ℕ) → with_items (x ∷ []) r ≡ (r >>= beside x) >>= in_list
 regroup x (Ok y) = refl

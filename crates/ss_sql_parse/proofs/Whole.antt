@@ -8,11 +8,9 @@ use Rattle.ss_sql_grammar.specs.Exact.{Passed, Exact}
 use Rattle.ss_sql_parse.specs.Terminals.{kind, a_number}
 use Rattle.ss_sql_parse.specs.Nodes.{number_leaf, number_tree}
 use Rattle.ss_sql_parse.specs.Sql.{Nest, InExpr, InNot, InUnary, Sql, sql, inner, deep, Deep, rule}
-use Rattle.ss_sql_parse.specs.Whole.{Spelled, IsTree, Dead, IsUnexpected, ends, whole, Told}
-use Rattle.ss_sql_grammar.proofs.Parts.{ok_is}
+use Rattle.ss_sql_parse.specs.Whole.{Spelled, IsTree, BeginsNone, IsUnexpected, nothing_left, whole, Judges}
+use Rattle.ss_sql_grammar.proofs.CallerLemmas.{ok_is, rules_exact, agree}
 use Rattle.std.proofs.lemmas.Bool.{eqb-true}
-use Rattle.ss_sql_grammar.proofs.Rules.{rules_exact}
-use Rattle.ss_sql_grammar.proofs.Agree.{agree}
 use Rattle.ss_sql_parse.proofs.Nesting.{deep_exact, inner_is}
 
 -- ---- deeper nesting keeps what is spelled
@@ -108,7 +106,7 @@ dead_at g ll ts front rest l parts passed more tree h =
     let c = (exact_at g ll d).part.passes front more rest l tree (raised g (suc (length ts)) (front ++ l ∷ more) tree h) in
     passed (subst (λ r. Passed (length rest) r) (ap (read sql (deep d) g) (sym parts) ∙ at_depth g ll d ts (omega arith)) c)
 
-stuck_dead : {A : Type 0} (g : Sql A) → decides sql g ≡ true → (n : ℕ) (ts front rest : List Lexeme) → ts ≡ front ++ rest → n ≡ length rest → read sql inner g ts ≡ Err n → Dead g front rest
+stuck_dead : {A : Type 0} (g : Sql A) → decides sql g ≡ true → (n : ℕ) (ts front rest : List Lexeme) → ts ≡ front ++ rest → n ≡ length rest → read sql inner g ts ≡ Err n → BeginsNone g front rest
 stuck_dead g ll n ts front [] parts left e = λ tree h. let c = spelled_read g ll ts tree (subst (λ us. Spelled g us tree) (sym (parts ∙ append-nil front)) h) in cc
 stuck_dead g ll n ts front (l ∷ rest) parts left e = λ more tree h. dead_at g ll ts front rest l parts (λ p. let q : n ≤ length rest = rw e at p in omega (arith, left)) more tree h
 
@@ -129,13 +127,13 @@ is_early g ll ts tree l rest e =
       dead = λ more other h. dead_at g ll ts f.front rest l f.parts (λ p. let q : length (l ∷ rest) ≤ length rest = rw e at p in omega arith) more other h;
     }
 
-told_at : {A : Type 0} (g : Sql A) → decides sql g ≡ true → (ts : List Lexeme) (r : Result (A × List Lexeme) ℕ) → read sql inner g ts ≡ r → Told g ts (r >>= ends)
-told_at g ll ts (Ok (tree, [])) e = is_tree g ll ts tree e
-told_at g ll ts (Ok (tree, l ∷ rest)) e = is_early g ll ts tree l rest e
-told_at g ll ts (Err n) e = is_stuck g ll n ts e
+judged_at : {A : Type 0} (g : Sql A) → decides sql g ≡ true → (ts : List Lexeme) (r : Result (A × List Lexeme) ℕ) → read sql inner g ts ≡ r → Judges g ts (r >>= nothing_left)
+judged_at g ll ts (Ok (tree, [])) e = is_tree g ll ts tree e
+judged_at g ll ts (Ok (tree, l ∷ rest)) e = is_early g ll ts tree l rest e
+judged_at g ll ts (Err n) e = is_stuck g ll n ts e
 
-pub told : {A : Type 0} (g : Sql A) → decides sql g ≡ true → (ts : List Lexeme) → Told g ts (whole g ts)
-told g ll ts = told_at g ll ts (read sql inner g ts) refl
+pub judged : {A : Type 0} (g : Sql A) → decides sql g ≡ true → (ts : List Lexeme) → Judges g ts (whole g ts)
+judged g ll ts = judged_at g ll ts (read sql inner g ts) refl
 
 -- a list of tokens has one tree at most
 pub one_tree : {A : Type 0} (g : Sql A) → decides sql g ≡ true → (ts : List Lexeme) (a b : A) → Spelled g ts a → Spelled g ts b → a ≡ b

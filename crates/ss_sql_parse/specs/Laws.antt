@@ -19,6 +19,6 @@ HasOneText {A = A} g = (text : List ℕ) (a b : A) → IsTextOf g text a → IsT
 abbrev pub IsReadOrRefused : {A : Type 0} → Sql A → Type 0
 IsReadOrRefused {A = A} g = (text : List ℕ) (tree : A) (error : ParseError) → IsTextOf g text tree → IsParseError g text error → error ≡ parse.NoMemory
 
--- but for want of memory, a text is refused in one way at most: with one fault, at one place
+-- memory aside, a text is refused in one way at most: with one lexical fault, or at one offset
 abbrev pub HasOneRefusal : {A : Type 0} → Sql A → Type 0
 HasOneRefusal g = (text : List ℕ) (e f : ParseError) → e ≢ parse.NoMemory → f ≢ parse.NoMemory → IsParseError g text e → IsParseError g text f → e ≡ f

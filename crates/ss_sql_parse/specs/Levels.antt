@@ -7,7 +7,7 @@ use Rattle.ss_sql_parse.specs.declared.operators.Level.TheVariants as level
 use Rattle.ss_sql_parse.specs.declared.lexeme.Lexeme.{Lexeme}
 use Rattle.ss_sql_grammar.specs.Grammar.{◌>>=◌, begins, starts, read, many, pair}
 use Rattle.ss_sql_parse.specs.Terminals.{kind}
-use Rattle.ss_sql_parse.specs.Nodes.{grouped}
+use Rattle.ss_sql_parse.specs.Nodes.{left_grouping}
 use Rattle.ss_sql_parse.specs.Sql.{Sql, sql, inner, or_op, and_op, add_op, mul_op, both_rule, not_rule, term, unary}
 
 -- the operators of a level
@@ -17,7 +17,7 @@ operator_rule level.And = and_op
 operator_rule level.Add = add_op
 operator_rule level.Mul = mul_op
 
--- what stands between them
+-- what stands between the operators of a level
 abbrev pub side_rule : Level → Sql ExprTree
 side_rule level.Or = both_rule
 side_rule level.And = not_rule
@@ -28,10 +28,10 @@ side_rule level.Mul = unary
 abbrev pub turns : Sql BinaryOp → Sql ExprTree → ℕ → List Lexeme → Result (List (BinaryOp × ExprTree) × List Lexeme) ℕ
 turns op side n ts = many n (begins kind (starts sql op)) (λ us. pair (read sql inner op) (read sql inner side) us) ts
 
--- what was read of them, on a left side
-abbrev pub chained : ExprTree → Result (List (BinaryOp × ExprTree) × List Lexeme) ℕ → Result (ExprTree × List Lexeme) ℕ
-chained left r = r >>= λ z. Ok (grouped left z.0, z.1)
+-- the tree of a left side and the operators that were read behind it
+abbrev pub chain_tree : ExprTree → Result (List (BinaryOp × ExprTree) × List Lexeme) ℕ → Result (ExprTree × List Lexeme) ℕ
+chain_tree left r = r >>= λ z. Ok (left_grouping left z.0, z.1)
 
--- the operators of a level that stand behind a left side
+-- a left side with the operators of a level that stand behind it
 abbrev pub tail : Level → ExprTree → List Lexeme → Result (ExprTree × List Lexeme) ℕ
-tail l left ts = chained left (turns (operator_rule l) (side_rule l) (length ts) ts)
+tail l left ts = chain_tree left (turns (operator_rule l) (side_rule l) (length ts) ts)

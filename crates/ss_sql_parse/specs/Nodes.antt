@@ -10,7 +10,7 @@ use Rattle.ss_sql_lex.specs.declared.typed.BinaryOp.{BinaryOp}
 use Rattle.ss_sql_lex.specs.declared.typed.BinaryOp.TheVariants as b
 use Rattle.ss_sql_lex.specs.declared.typed.UnaryOp.TheVariants as u
 use Rattle.ss_sql_lex.specs.declared.typed.Cmp.{Cmp}
-use Rattle.ss_sql_lex.specs.Trees.{place_of, moved}
+use Rattle.ss_sql_lex.specs.Trees.{offset_of, with_offset}
 use Rattle.ss_sql_parse.specs.declared.lexeme.Content.{Content}
 use Rattle.ss_sql_parse.specs.declared.lexeme.Content.TheVariants as c
 use Rattle.ss_sql_parse.specs.declared.lexeme.Lexeme.{Lexeme}
@@ -44,49 +44,49 @@ abbrev pub column_tree : NameTree × Option NameTree → ColumnTree
 column_tree (name, None) = record { source = None; name = name }
 column_tree (source, Some name) = record { source = Some source; name = name }
 
--- the place of a column's first token
-abbrev pub first_place : Option NameTree → NameTree → ℕ
-first_place None name = name.at
-first_place (Some source) name = source.at
+-- the offset of a column's first token
+abbrev pub first_offset : Option NameTree → NameTree → ℕ
+first_offset None name = name.at
+first_offset (Some source) name = source.at
 
--- a leaf stands where its first token does
+-- a number as an expression, with the offset of its token
 abbrev pub number_leaf : NumberTree → ExprTree
 number_leaf n = e.Number n.at n
 
--- a text's
+-- a text as an expression, with the offset of its token
 abbrev pub text_leaf : TextTree → ExprTree
 text_leaf x = e.Text x.at x
 
--- a parameter's
+-- a parameter as an expression, with the offset of its token
 abbrev pub param_leaf : NameTree → ExprTree
 param_leaf n = e.Param n.at n
 
--- a column's
+-- a column as an expression, with the offset of its first token
 abbrev pub column_leaf : ColumnTree → ExprTree
-column_leaf x = e.Column (first_place x.source x.name) x
+column_leaf x = e.Column (first_offset x.source x.name) x
 
--- a bracketed expression stands at its opening bracket
+-- a bracketed expression has the offset of its opening bracket
 abbrev pub bracket : Lexeme × (ExprTree × Lexeme) → ExprTree
-bracket x = moved x.0.from x.1.0
+bracket x = with_offset x.0.from x.1.0
 
--- an operator before its side
-abbrev pub negated : Lexeme × ExprTree → ExprTree
-negated x = e.Unary x.0.from u.Negate x.1
+-- a minus sign before its side
+abbrev pub negation : Lexeme × ExprTree → ExprTree
+negation x = e.Unary x.0.from u.Negate x.1
 
 -- NOT before its side
-abbrev pub denied : Lexeme × ExprTree → ExprTree
-denied x = e.Unary x.0.from u.Not x.1
+abbrev pub denial : Lexeme × ExprTree → ExprTree
+denial x = e.Unary x.0.from u.Not x.1
 
--- an operator between its sides stands where the left one does
-abbrev pub joined : ExprTree → BinaryOp × ExprTree → ExprTree
-joined left x = e.Binary (place_of left) x.0 left x.1
+-- an operator between its sides has the offset of the left one
+abbrev pub binary_tree : ExprTree → BinaryOp × ExprTree → ExprTree
+binary_tree left x = e.Binary (offset_of left) x.0 left x.1
 
 -- operators of one level group from the left
-abbrev pub grouped : ExprTree → List (BinaryOp × ExprTree) → ExprTree
-grouped left [] = left
-grouped left (x ∷ xs) = grouped (joined left x) xs
+abbrev pub left_grouping : ExprTree → List (BinaryOp × ExprTree) → ExprTree
+left_grouping left [] = left
+left_grouping left (x ∷ xs) = left_grouping (binary_tree left x) xs
 
 -- a sum, or two of them compared
-abbrev pub compared : ExprTree × Option (Cmp × ExprTree) → ExprTree
-compared (left, None) = left
-compared (left, Some x) = joined left (b.Compare x.0, x.1)
+abbrev pub comparison : ExprTree × Option (Cmp × ExprTree) → ExprTree
+comparison (left, None) = left
+comparison (left, Some x) = binary_tree left (b.Compare x.0, x.1)

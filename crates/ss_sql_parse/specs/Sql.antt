@@ -14,7 +14,7 @@ use Rattle.ss_sql_parse.specs.declared.lexeme.Terminal.TheVariants as t
 use Rattle.ss_sql_parse.specs.declared.lexeme.Lexeme.{Lexeme}
 use Rattle.ss_sql_grammar.specs.Grammar.{Rule, Kinds, one, nested, act, both, or, maybe, some, Reader, Spells, read}
 use Rattle.ss_sql_parse.specs.Terminals.{code, kind, spare, a_name, a_number, a_text, a_param}
-use Rattle.ss_sql_parse.specs.Nodes.{name_tree, number_tree, text_tree, column_tree, number_leaf, text_leaf, param_leaf, column_leaf, bracket, negated, denied, grouped, compared}
+use Rattle.ss_sql_parse.specs.Nodes.{name_tree, number_tree, text_tree, column_tree, number_leaf, text_leaf, param_leaf, column_leaf, bracket, negation, denial, left_grouping, comparison}
 
 -- the rules that contain themselves
 pub data Nest : Type 0 where
@@ -32,7 +32,7 @@ Sql A = Rule Nest Lexeme ExprTree A
 abbrev pub token : Terminal → Sql Lexeme
 token k = one (code k)
 
--- a keyword or a symbol that stands for something
+-- a keyword or a symbol, whose tree is this value
 abbrev pub sign : {A : Type 0} → Terminal → A → Sql A
 sign k a = act (λ _. a) (token k)
 
@@ -89,11 +89,11 @@ primary = or (act number_leaf number) (or (act text_leaf text) (or (act param_le
 
 -- unary = "-" unary | primary
 abbrev pub unary : Sql ExprTree
-unary = or (act negated (both (token t.Minus) (nested InUnary))) primary
+unary = or (act negation (both (token t.Minus) (nested InUnary))) primary
 
 -- side {op side}
 abbrev pub chain : Sql BinaryOp → Sql ExprTree → Sql ExprTree
-chain op side = act (λ x. grouped x.0 x.1) (some side (both op side))
+chain op side = act (λ x. left_grouping x.0 x.1) (some side (both op side))
 
 -- term = unary {("*"|"/"|"%") unary}
 abbrev pub term : Sql ExprTree
@@ -105,11 +105,11 @@ sum = chain add_op term
 
 -- test = sum [cmp sum]
 abbrev pub test : Sql ExprTree
-test = act compared (maybe sum (both cmp sum))
+test = act comparison (maybe sum (both cmp sum))
 
 -- not = NOT not | test
 abbrev pub not_rule : Sql ExprTree
-not_rule = or (act denied (both (token t.Not) (nested InNot))) test
+not_rule = or (act denial (both (token t.Not) (nested InNot))) test
 
 -- both = not {AND not}
 abbrev pub both_rule : Sql ExprTree
@@ -153,11 +153,11 @@ sql = record { kind = kind; first = first_of; last = last_of; spare = spare }
 
 -- ---- nesting
 
--- a number alone, which nests nothing
+-- only a number, which nests nothing
 abbrev pub lone_number : Sql ExprTree
 lone_number = act number_leaf number
 
--- what is nested at most d deep; at 0 a number alone
+-- what is nested at most d deep; at 0 only a number
 abbrev pub Deep : ℕ → Nest → List Lexeme → ExprTree → Type 0
 Deep zero n = Spells kind (λ n ts x. ts ≡ []) lone_number
 Deep (suc d) n = Spells kind (Deep d) (rule n)

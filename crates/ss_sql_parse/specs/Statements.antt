@@ -23,12 +23,12 @@ use Rattle.ss_sql_parse.specs.Sql.{Sql, token, sign, after, name, number, column
 -- ---- lists and brackets
 
 -- the first, and those behind commas
-abbrev pub listed : {A : Type 0} → A × List (Lexeme × A) → List A
-listed x = x.0 ∷ map (λ y. y.1) x.1
+abbrev pub items_of : {A : Type 0} → A × List (Lexeme × A) → List A
+items_of x = x.0 ∷ map (λ y. y.1) x.1
 
 -- g {"," g}
 abbrev pub list : {A : Type 0} → Sql A → Sql (List A)
-list g = act listed (some g (both (token t.Comma) g))
+list g = act items_of (some g (both (token t.Comma) g))
 
 -- "(" g ")"
 abbrev pub in_brackets : {A : Type 0} → Sql A → Sql A
@@ -101,15 +101,15 @@ query = act query_tree (maybe (maybe (maybe (maybe (maybe select join) where_rul
 -- ---- statements
 
 -- what an INSERT puts into its target
-abbrev pub inserted : ℕ → NameTree → List ExprTree ⊎ QueryTree → StatementTree
-inserted at target (inl values) = s.InsertValues at target values
-inserted at target (inr query) = s.InsertQuery at target query
+abbrev pub inserted_rows : ℕ → NameTree → List ExprTree ⊎ QueryTree → StatementTree
+inserted_rows at target (inl values) = s.InsertValues at target values
+inserted_rows at target (inr query) = s.InsertQuery at target query
 
 -- an INSERT with its target and what goes into it
 abbrev pub insert_tree : Lexeme × (Lexeme × (NameTree × (List ExprTree ⊎ QueryTree))) → StatementTree
-insert_tree x = inserted x.0.from x.1.1.0 x.1.1.1
+insert_tree x = inserted_rows x.0.from x.1.1.0 x.1.1.1
 
--- INSERT INTO name VALUES "(" expr {"," expr} ")" | INSERT INTO name query; both share their front, since one token is to decide
+-- INSERT INTO name VALUES "(" expr {"," expr} ")" | INSERT INTO name query; both share their front, since one token has to decide
 abbrev pub insert : Sql StatementTree
 insert = act insert_tree (both (token t.Insert) (both (token t.Into) (both name
     (or (act inl (after t.Values (in_brackets (list expr)))) (act inr query)))))

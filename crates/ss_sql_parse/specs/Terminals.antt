@@ -6,7 +6,7 @@ use Rattle.ss_sql_parse.specs.declared.lexeme.Content.{Content}
 use Rattle.ss_sql_parse.specs.declared.lexeme.Content.TheVariants as c
 use Rattle.ss_sql_parse.specs.declared.lexeme.Lexeme.{Lexeme}
 
--- the number of a keyword or a symbol
+-- the kind of a keyword or a symbol
 abbrev pub code : Terminal → ℕ
 code t.Select = 0
 code t.From = 1
@@ -50,23 +50,23 @@ code t.Slash = 38
 code t.Percent = 39
 code t.Concat = 40
 
--- the numbers of tokens that have a content
+-- the kind of a name
 abbrev pub a_name : ℕ
 a_name = 41
 
--- a number's
+-- the kind of a number
 abbrev pub a_number : ℕ
 a_number = 42
 
--- a text's
+-- the kind of a text
 abbrev pub a_text : ℕ
 a_text = 43
 
--- a parameter's
+-- the kind of a parameter
 abbrev pub a_param : ℕ
 a_param = 44
 
--- the number of what stands at a token
+-- the kind of a token, by its content
 abbrev pub content_kind : Content → ℕ
 content_kind (c.Plain terminal) = code terminal
 content_kind (c.Name name) = a_name
@@ -78,7 +78,7 @@ content_kind (c.Param name) = a_param
 abbrev pub kind : Lexeme → ℕ
 kind l = content_kind l.content
 
--- the keywords and symbols in the order of their numbers
+-- the keywords and symbols, in the order of their kinds
 abbrev pub terminals : List Terminal
 terminals = t.Select ∷ t.From ∷ t.Join ∷ t.On ∷ t.Where ∷ t.Group ∷ t.By ∷ t.Order ∷ t.Asc ∷ t.Desc ∷ t.Limit ∷ t.Count ∷ t.Sum ∷ t.Min ∷ t.Max ∷ t.Insert ∷ t.Into ∷ t.Values ∷ t.Update ∷ t.Set ∷ t.Delete ∷ t.Or ∷ t.And ∷ t.Not ∷ t.OtherWord ∷ t.Open ∷ t.Close ∷ t.Comma ∷ t.Dot ∷ t.Star ∷ t.Equal ∷ t.NotEqual ∷ t.Less ∷ t.AtMost ∷ t.Greater ∷ t.AtLeast ∷ t.Plus ∷ t.Minus ∷ t.Slash ∷ t.Percent ∷ t.Concat ∷ []
 
@@ -86,6 +86,6 @@ terminals = t.Select ∷ t.From ∷ t.Join ∷ t.On ∷ t.Where ∷ t.Group ∷ 
 abbrev pub contents : List Content
 contents = map (λ terminal. c.Plain terminal) terminals ++ (c.Name (97 ∷ []) ∷ c.Number (pos 0) ∷ c.Text [] ∷ c.Param (97 ∷ []) ∷ [])
 
--- a token of a kind
+-- some token of each kind
 abbrev pub spare : ℕ → Lexeme
 spare k = record { from = 0; content = get_or contents k (c.Plain t.Select) }

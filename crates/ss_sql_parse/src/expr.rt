@@ -1,13 +1,13 @@
 //! Reading expressions.
 //!
 //! An operand is read first, and then the operators that stand behind it, level by level. So an
-//! opening bracket costs five calls, however many levels of operators there are.
+//! opening bracket costs five nested calls, and not one for each level of operators.
 
 ghost use Rattle.std.specs.Prelude.{◌≡◌, ◌<◌, ◌≤◌, length, IfOk, IfErr};
 ghost use Rattle.ss_sql_grammar.specs.Grammar.{act, read};
 ghost use Rattle.ss_sql_parse.specs.Gives.{Gives};
-ghost use Rattle.ss_sql_lex.specs.Trees.{moved};
-ghost use Rattle.ss_sql_parse.specs.Nodes.{joined, number_leaf, text_leaf, param_leaf, column_leaf};
+ghost use Rattle.ss_sql_lex.specs.Trees.{with_offset};
+ghost use Rattle.ss_sql_parse.specs.Nodes.{binary_tree, number_leaf, text_leaf, param_leaf, column_leaf};
 ghost use Rattle.ss_sql_lex.specs.declared.tree.ExprTree.TheVariants.{Unary};
 ghost use Rattle.ss_sql_parse.specs.Sql.{sql, inner, number, text, parameter, column, primary, unary, sum, test, not_rule, expr};
 ghost use Rattle.ss_sql_parse.specs.Sql.Nest.{InExpr, InNot, InUnary};
@@ -21,23 +21,22 @@ use crate::reading::{
     token,
 };
 use crate::stop::Stop;
-use ss_sql_lex::tree::{ColumnTree, ExprTree};
-use ss_sql_lex::typed::{BinaryOp, UnaryOp};
-use ss_value::keep::Keep;
+use ss_sql_lex::{BinaryOp, ColumnTree, ExprTree, UnaryOp};
+use ss_value::Boxed;
 use std::alloc::Global;
 
 /// The node of an operator between its sides.
 fn join(
     alloc: Global,
-    left: Keep<ExprTree>,
+    left: Boxed<ExprTree>,
     op: BinaryOp,
-    right: Keep<ExprTree>,
-) -> Result<Keep<ExprTree>, Stop>
-    ensures ok { IfOk result (λ tree. tree ≡ joined left (op, right)) }
-    ensures err { IfErr result (λ e. e ≡ Memory) }
+    right: Boxed<ExprTree>,
+) -> Result<Boxed<ExprTree>, Stop>
+    ensures ok { IfOk result (λ tree. tree ≡ binary_tree left (op, right)) }
+    ensures refused { IfErr result (λ e. e ≡ Memory) }
 {
-    let at = left.get().place();
-    let tree = Keep::new(
+    let at = left.get().offset();
+    let tree = Boxed::new(
         alloc,
         ExprTree::Binary {
             at,
@@ -54,21 +53,21 @@ fn prefix(
     alloc: Global,
     at: usize,
     op: UnaryOp,
-    side: Keep<ExprTree>,
-) -> Result<Keep<ExprTree>, Stop>
+    side: Boxed<ExprTree>,
+) -> Result<Boxed<ExprTree>, Stop>
     ensures ok { IfOk result (λ tree. tree ≡ Unary at op side) }
-    ensures err { IfErr result (λ e. e ≡ Memory) }
+    ensures refused { IfErr result (λ e. e ≡ Memory) }
 {
-    let tree = Keep::new(alloc, ExprTree::Unary { at, op, side })?;
+    let tree = Boxed::new(alloc, ExprTree::Unary { at, op, side })?;
     Ok(tree)
 }
 
-/// The node of a bracketed expression.
-fn bracketed(alloc: Global, at: usize, tree: Keep<ExprTree>) -> Result<Keep<ExprTree>, Stop>
-    ensures ok { IfOk result (λ moved_tree. moved_tree ≡ moved at tree) }
-    ensures err { IfErr result (λ e. e ≡ Memory) }
+/// The node of a bracketed expression, which has the offset of the bracket.
+fn in_brackets(alloc: Global, at: usize, tree: Boxed<ExprTree>) -> Result<Boxed<ExprTree>, Stop>
+    ensures ok { IfOk result (λ moved_tree. moved_tree ≡ with_offset at tree) }
+    ensures refused { IfErr result (λ e. e ≡ Memory) }
 {
-    let tree = Keep::new(alloc, tree.into_inner().with_place(at))?;
+    let tree = Boxed::new(alloc, tree.into_inner().with_offset(at))?;
     Ok(tree)
 }
 
@@ -84,12 +83,12 @@ fn column_leaf(column: ColumnTree) -> ExprTree
 }
 
 /// Reads a number as an expression.
-fn number_expr<'t>(alloc: Global, tokens: Lexemes<'t>) -> Read<'t, Keep<ExprTree>>
+fn number_expr<'t>(alloc: Global, tokens: Lexemes<'t>) -> Read<'t, Boxed<ExprTree>>
     ensures read { Gives (λ x. (x.0, x.1.now)) result (read sql inner (act number_leaf number) tokens.now) }
     ensures shorter { IfOk result (λ x. length x.1.now < length tokens.now) }
 {
     let (number, rest) = number_of(tokens)?;
-    let tree = Keep::new(
+    let tree = Boxed::new(
         alloc,
         ExprTree::Number {
             at: number.at,
@@ -100,22 +99,22 @@ fn number_expr<'t>(alloc: Global, tokens: Lexemes<'t>) -> Read<'t, Keep<ExprTree
 }
 
 /// Reads a text as an expression.
-fn text_expr<'t>(alloc: Global, tokens: Lexemes<'t>) -> Read<'t, Keep<ExprTree>>
+fn text_expr<'t>(alloc: Global, tokens: Lexemes<'t>) -> Read<'t, Boxed<ExprTree>>
     ensures read { Gives (λ x. (x.0, x.1.now)) result (read sql inner (act text_leaf text) tokens.now) }
     ensures shorter { IfOk result (λ x. length x.1.now < length tokens.now) }
 {
     let (text, rest) = text_of(alloc, tokens)?;
-    let tree = Keep::new(alloc, ExprTree::Text { at: text.at, text })?;
+    let tree = Boxed::new(alloc, ExprTree::Text { at: text.at, text })?;
     Ok((tree, rest))
 }
 
 /// Reads a parameter as an expression.
-fn param_expr<'t>(alloc: Global, tokens: Lexemes<'t>) -> Read<'t, Keep<ExprTree>>
+fn param_expr<'t>(alloc: Global, tokens: Lexemes<'t>) -> Read<'t, Boxed<ExprTree>>
     ensures read { Gives (λ x. (x.0, x.1.now)) result (read sql inner (act param_leaf parameter) tokens.now) }
     ensures shorter { IfOk result (λ x. length x.1.now < length tokens.now) }
 {
     let (param, rest) = param_of(alloc, tokens)?;
-    let tree = Keep::new(
+    let tree = Boxed::new(
         alloc,
         ExprTree::Param {
             at: param.at,
@@ -126,17 +125,18 @@ fn param_expr<'t>(alloc: Global, tokens: Lexemes<'t>) -> Read<'t, Keep<ExprTree>
 }
 
 /// Reads a column as an expression.
-fn column_expr<'t>(alloc: Global, tokens: Lexemes<'t>) -> Read<'t, Keep<ExprTree>>
+fn column_expr<'t>(alloc: Global, tokens: Lexemes<'t>) -> Read<'t, Boxed<ExprTree>>
     ensures read { Gives (λ x. (x.0, x.1.now)) result (read sql inner (act column_leaf column) tokens.now) }
     ensures shorter { IfOk result (λ x. length x.1.now < length tokens.now) }
 {
     let (column, rest) = column_of(alloc, tokens)?;
-    let tree = Keep::new(alloc, column_leaf(column))?;
+    let tree = Boxed::new(alloc, column_leaf(column))?;
     Ok((tree, rest))
 }
 
+/// Reads a leaf, or an expression in brackets.
 #[cycle(expression)]
-fn primary_of<'t>(alloc: Global, tokens: Lexemes<'t>) -> Read<'t, Keep<ExprTree>>
+fn primary_of<'t>(alloc: Global, tokens: Lexemes<'t>) -> Read<'t, Boxed<ExprTree>>
     ensures read { Gives (λ x. (x.0, x.1.now)) result (read sql inner primary tokens.now) }
     ensures shorter { IfOk result (λ x. length x.1.now < length tokens.now) }
 {
@@ -153,12 +153,13 @@ fn primary_of<'t>(alloc: Global, tokens: Lexemes<'t>) -> Read<'t, Keep<ExprTree>
         let at = open.from;
         let (tree, rest) = nested_expr(alloc, rest)?;
         let (_, rest) = token(rest, Terminal::Close)?;
-        Ok((bracketed(alloc, at, tree)?, rest))
+        Ok((in_brackets(alloc, at, tree)?, rest))
     }
 }
 
+/// Reads an operand with the minus signs before it.
 #[cycle(expression)]
-fn unary_of<'t>(alloc: Global, tokens: Lexemes<'t>) -> Read<'t, Keep<ExprTree>>
+fn unary_of<'t>(alloc: Global, tokens: Lexemes<'t>) -> Read<'t, Boxed<ExprTree>>
     ensures read { Gives (λ x. (x.0, x.1.now)) result (read sql inner unary tokens.now) }
     ensures shorter { IfOk result (λ x. length x.1.now < length tokens.now) }
 {
@@ -172,8 +173,9 @@ fn unary_of<'t>(alloc: Global, tokens: Lexemes<'t>) -> Read<'t, Keep<ExprTree>>
     }
 }
 
+/// Reads a sum, or a comparison of two.
 #[cycle(expression)]
-fn test_of<'t>(alloc: Global, tokens: Lexemes<'t>) -> Read<'t, Keep<ExprTree>>
+fn test_of<'t>(alloc: Global, tokens: Lexemes<'t>) -> Read<'t, Boxed<ExprTree>>
     ensures read { Gives (λ x. (x.0, x.1.now)) result (read sql inner test tokens.now) }
     ensures shorter { IfOk result (λ x. length x.1.now < length tokens.now) }
 {
@@ -189,8 +191,9 @@ fn test_of<'t>(alloc: Global, tokens: Lexemes<'t>) -> Read<'t, Keep<ExprTree>>
     }
 }
 
+/// Reads a test with the NOTs before it.
 #[cycle(expression)]
-fn not_of<'t>(alloc: Global, tokens: Lexemes<'t>) -> Read<'t, Keep<ExprTree>>
+fn not_of<'t>(alloc: Global, tokens: Lexemes<'t>) -> Read<'t, Boxed<ExprTree>>
     ensures read { Gives (λ x. (x.0, x.1.now)) result (read sql inner not_rule tokens.now) }
     ensures shorter { IfOk result (λ x. length x.1.now < length tokens.now) }
 {
@@ -204,25 +207,28 @@ fn not_of<'t>(alloc: Global, tokens: Lexemes<'t>) -> Read<'t, Keep<ExprTree>>
     }
 }
 
+/// Reads an operand behind a minus sign. A function of its own, as `nested_not` and `nested_expr` are: its contract speaks
+/// of what fills the grammar's hole (`inner`), and that of `unary_of` of the rule.
 #[cycle(expression)]
-fn nested_unary<'t>(alloc: Global, tokens: Lexemes<'t>) -> Read<'t, Keep<ExprTree>>
+fn nested_unary<'t>(alloc: Global, tokens: Lexemes<'t>) -> Read<'t, Boxed<ExprTree>>
     ensures read { Gives (λ x. (x.0, x.1.now)) result (inner InUnary tokens.now) }
     ensures shorter { IfOk result (λ x. length x.1.now < length tokens.now) }
 {
     unary_of(alloc, tokens)
 }
 
+/// Reads what stands behind a NOT.
 #[cycle(expression)]
-fn nested_not<'t>(alloc: Global, tokens: Lexemes<'t>) -> Read<'t, Keep<ExprTree>>
+fn nested_not<'t>(alloc: Global, tokens: Lexemes<'t>) -> Read<'t, Boxed<ExprTree>>
     ensures read { Gives (λ x. (x.0, x.1.now)) result (inner InNot tokens.now) }
     ensures shorter { IfOk result (λ x. length x.1.now < length tokens.now) }
 {
     not_of(alloc, tokens)
 }
 
-/// What stands between the operators of a level.
+/// Reads what stands between the operators of a level.
 #[cycle(expression)]
-fn side_of<'t>(alloc: Global, level: Level, tokens: Lexemes<'t>) -> Read<'t, Keep<ExprTree>>
+fn side_of<'t>(alloc: Global, level: Level, tokens: Lexemes<'t>) -> Read<'t, Boxed<ExprTree>>
     ensures read { Gives (λ x. (x.0, x.1.now)) result (read sql inner (side_rule level) tokens.now) }
     ensures shorter { IfOk result (λ x. length x.1.now < length tokens.now) }
 {
@@ -240,20 +246,21 @@ fn side_of<'t>(alloc: Global, level: Level, tokens: Lexemes<'t>) -> Read<'t, Kee
     }
 }
 
-/// The operators of a level that stand behind a left side, with their right sides.
+/// Reads the operators of a level that stand behind a left side, with their right sides.
 #[cycle(expression)]
 fn tail_of<'t>(
     alloc: Global,
     level: Level,
-    left: Keep<ExprTree>,
+    left: Boxed<ExprTree>,
     tokens: Lexemes<'t>,
-) -> Read<'t, Keep<ExprTree>>
+) -> Read<'t, Boxed<ExprTree>>
     ensures read { Gives (λ x. (x.0, x.1.now)) result (tail level left tokens.now) }
     ensures within { IfOk result (λ x. length x.1.now ≤ length tokens.now) }
 {
     let mut left = left;
     // A slice of its own, which the loop moves on.
     let (_, mut rest) = tokens.split_at(0);
+    // Each turn reads an operator at least, so there are no more turns than tokens.
     for _ in 0..tokens.len() {
         if !begins_operator(rest, level) {
             return Ok((left, rest));
@@ -266,8 +273,9 @@ fn tail_of<'t>(
     Ok((left, rest))
 }
 
+/// Reads a sum, as it stands on the right of a comparison.
 #[cycle(expression)]
-fn nested_sum<'t>(alloc: Global, tokens: Lexemes<'t>) -> Read<'t, Keep<ExprTree>>
+fn nested_sum<'t>(alloc: Global, tokens: Lexemes<'t>) -> Read<'t, Boxed<ExprTree>>
     ensures read { Gives (λ x. (x.0, x.1.now)) result (read sql inner sum tokens.now) }
     ensures shorter { IfOk result (λ x. length x.1.now < length tokens.now) }
 {
@@ -275,8 +283,9 @@ fn nested_sum<'t>(alloc: Global, tokens: Lexemes<'t>) -> Read<'t, Keep<ExprTree>
     tail_of(alloc, Level::Add, left, rest)
 }
 
+/// Reads an expression, as it stands in brackets.
 #[cycle(expression)]
-fn nested_expr<'t>(alloc: Global, tokens: Lexemes<'t>) -> Read<'t, Keep<ExprTree>>
+fn nested_expr<'t>(alloc: Global, tokens: Lexemes<'t>) -> Read<'t, Boxed<ExprTree>>
     ensures read { Gives (λ x. (x.0, x.1.now)) result (inner InExpr tokens.now) }
     ensures shorter { IfOk result (λ x. length x.1.now < length tokens.now) }
 {
@@ -285,7 +294,7 @@ fn nested_expr<'t>(alloc: Global, tokens: Lexemes<'t>) -> Read<'t, Keep<ExprTree
     tail_of(alloc, Level::Or, left, rest)
 }
 
-/// Reads an expression from the front, in the time of its tokens and of the bytes of its leaves.
+/// Reads an expression from the front. Linear in its tokens and the bytes of its leaves.
 pub fn expr_of<'t>(alloc: Global, tokens: Lexemes<'t>) -> Read<'t, ExprTree>
     ensures read { Gives (λ x. (x.0, x.1.now)) result (read sql inner expr tokens.now) }
     ensures shorter { IfOk result (λ x. length x.1.now < length tokens.now) }
@@ -294,7 +303,7 @@ pub fn expr_of<'t>(alloc: Global, tokens: Lexemes<'t>) -> Read<'t, ExprTree>
     Ok((tree.into_inner(), rest))
 }
 
-/// Reads a sum from the front, in the time of its tokens and of the bytes of its leaves.
+/// Reads a sum from the front. Linear in its tokens and the bytes of its leaves.
 pub fn sum_of<'t>(alloc: Global, tokens: Lexemes<'t>) -> Read<'t, ExprTree>
     ensures read { Gives (λ x. (x.0, x.1.now)) result (read sql inner sum tokens.now) }
     ensures shorter { IfOk result (λ x. length x.1.now < length tokens.now) }

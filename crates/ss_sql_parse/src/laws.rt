@@ -1,4 +1,4 @@
-//! Laws of the grammar.
+//! Laws of the grammar, each the contract of a function that does nothing.
 
 ghost use Rattle.ss_sql_parse.specs.Laws.{HasOneTree, HasOneText, IsReadOrRefused, HasOneRefusal};
 ghost use Rattle.ss_sql_parse.specs.Statements.{statement, query, condition};
@@ -11,7 +11,8 @@ pub fn a_list_has_one_tree()
 {}
 
 /// A text has one answer: one tree at most, and a text that has one is refused only because
-/// memory ran out. One that has none is refused in one way: with one lexical fault, or at one place.
+/// memory ran out. Memory aside, a text is refused in one way: with one lexical fault, or at one
+/// offset.
 pub fn a_text_has_one_answer()
     ensures statement { HasOneText statement }
     ensures query { HasOneText query }

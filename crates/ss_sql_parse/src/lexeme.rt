@@ -1,17 +1,15 @@
-//! Tokens with what they stand for.
+//! Tokens with their contents.
 //!
-//! A [`Lexeme`] borrows from the text: what a name or a text stands for is copied where a tree is
-//! made of it, and not before.
+//! A [`Lexeme`] borrows from the text: a name or the value of a text is copied where a tree is made
+//! of it, and not before.
 
 ghost use Rattle.std.specs.Prelude.{◌≡◌, IfOk};
 ghost use Rattle.std.specs.Str.{IsUtf8};
 ghost use Rattle.ss_sql_lex.specs.Content.{text_of};
 ghost use Rattle.ss_sql_lex.specs.Spelling.{IsSpelling};
 
-use ss_sql_lex::content::{name_value, text_value};
-use ss_sql_lex::token::TokenKind;
-use ss_value::NoMemory;
-use ss_value::text::{Name, Text};
+use ss_sql_lex::{TokenKind, name_value, text_value};
+use ss_value::{Name, NoMemory, Text};
 use std::alloc::Global;
 use std::marker::Model;
 
@@ -102,7 +100,7 @@ pub enum Terminal {
     Concat,
 }
 
-/// A name where it stands in a text.
+/// A name, lent from the text in which it stands.
 #[derive(Drop)]
 pub struct Word<'t> {
     own: &'t [u8],
@@ -130,7 +128,7 @@ impl<'t> Word<'t> {
         Word { own }
     }
 
-    /// A copy of the name, in the time of its bytes.
+    /// A copy of the name. Linear in its bytes.
     pub fn name(&self, alloc: Global) -> Result<Name, NoMemory>
         ensures { IfOk result (λ name. name ≡ self.now) }
     {
@@ -139,7 +137,7 @@ impl<'t> Word<'t> {
     }
 }
 
-/// A text's value where it stands between quotes.
+/// A text, lent with its quotes from the SQL text in which it stands. Contracts see its value.
 #[derive(Drop)]
 pub struct Quoted<'t> {
     own: &'t [u8],
@@ -161,7 +159,7 @@ impl<'t> Model for Quoted<'t> {
 }
 
 impl<'t> Quoted<'t> {
-    /// The text that bytes spell, its quotes among them.
+    /// The text that these bytes spell, quotes included.
     pub fn new(own: &'t [u8]) -> Quoted<'t>
         requires spelled { IsSpelling TokenKind.Text own.now }
         requires utf8 { IsUtf8 own.now }
@@ -170,7 +168,7 @@ impl<'t> Quoted<'t> {
         Quoted { own }
     }
 
-    /// A copy of the value, in the time of its bytes.
+    /// A copy of the value. Linear in its bytes.
     pub fn text(&self, alloc: Global) -> Result<Text, NoMemory>
         ensures { IfOk result (λ text. text ≡ self.now) }
     {
@@ -179,7 +177,7 @@ impl<'t> Quoted<'t> {
     }
 }
 
-/// What a token stands for.
+/// The content of a token.
 #[derive(Drop)]
 pub enum Content<'t> {
     /// A keyword or a symbol.
@@ -194,14 +192,14 @@ pub enum Content<'t> {
     Param(Word<'t>),
 }
 
-/// A token with its place and with what it stands for.
+/// A token with its offset and its content.
 #[derive(Drop)]
 pub struct Lexeme<'t> {
     /// The offset of its first byte.
     pub from: usize,
-    /// What it stands for.
+    /// Its content.
     pub content: Content<'t>,
 }
 
-/// Tokens of a text in their order.
+/// Tokens of a text, in order.
 pub type Lexemes<'t> = &'t [Lexeme<'t>];

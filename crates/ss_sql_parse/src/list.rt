@@ -1,4 +1,4 @@
-//! Lists behind commas.
+//! Lists with commas between their items.
 
 ghost use Rattle.std.specs.Prelude.{ℕ, List, Result};
 ghost use Rattle.ss_sql_parse.specs.declared.lexeme.Lexeme.{Lexeme};
@@ -7,26 +7,27 @@ ghost use Rattle.ss_sql_parse.specs.Lists.{list_read};
 
 use crate::lexeme::{Lexemes, Terminal};
 use crate::reading::{Read, begins, token};
-use ss_value::seq::Seq;
+use ss_value::Seq;
 use std::alloc::Global;
 
-/// What stands in a list.
+/// A tree that is read from the front of a list of tokens.
 pub trait Element: Drop {
-    /// How one is read.
+    /// The reader of the grammar that gives such a tree.
     ghost reads: { List Lexeme → Result (Self × List Lexeme) ℕ };
 
-    /// Reads one from the front.
+    /// Reads one tree from the front.
     fn read<'t>(alloc: Global, tokens: Lexemes<'t>) -> Read<'t, Self>
         ensures read { Gives (λ x. (x.0, x.1.now)) result (reads tokens.now) };
 }
 
-/// Reads one from the front, and the others behind commas, in the time of their tokens.
+/// Reads an item from the front, and the others behind commas. Linear in their tokens and the bytes of their leaves.
 pub fn list_of<'t, E: Element>(alloc: Global, tokens: Lexemes<'t>) -> Read<'t, Seq<E>>
     ensures read { Gives (λ x. (x.0, x.1.now)) result (list_read E.reads tokens.now) }
 {
     let mut items = Seq::new(alloc);
     let (first, mut rest) = E::read(alloc, tokens)?;
     items.push(first)?;
+    // Each turn reads a comma at least, so there are no more turns than tokens.
     for _ in 0..rest.len() {
         if !begins(rest, Terminal::Comma) {
             return Ok((items, rest));

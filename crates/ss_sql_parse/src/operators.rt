@@ -9,9 +9,9 @@ ghost use Rattle.ss_sql_parse.specs.Levels.{operator_rule};
 
 use crate::lexeme::{Lexemes, Terminal};
 use crate::reading::{Read, begins, token};
-use ss_sql_lex::typed::{BinaryOp, Cmp};
+use ss_sql_lex::{BinaryOp, Cmp};
 
-/// The levels of operators that repeat, which group from the left, the loosest first.
+/// The levels of operators that may repeat and group from the left. The one that binds least comes first.
 #[derive(Clone, Copy, Debug, PartialEq, Eq)]
 pub enum Level {
     /// `OR`
@@ -44,6 +44,7 @@ pub fn begins_operator(tokens: Lexemes<'_>, level: Level) -> bool
     }
 }
 
+/// Reads `+`, `-` or `||`.
 fn add_of<'t>(tokens: Lexemes<'t>) -> Read<'t, BinaryOp>
     ensures read { Gives (λ x. (x.0, x.1.now)) result (read sql inner (operator_rule Level.Add) tokens.now) }
     ensures shorter { IfOk result (λ x. length x.1.now < length tokens.now) }
@@ -60,6 +61,7 @@ fn add_of<'t>(tokens: Lexemes<'t>) -> Read<'t, BinaryOp>
     }
 }
 
+/// Reads `*`, `/` or `%`.
 fn mul_of<'t>(tokens: Lexemes<'t>) -> Read<'t, BinaryOp>
     ensures read { Gives (λ x. (x.0, x.1.now)) result (read sql inner (operator_rule Level.Mul) tokens.now) }
     ensures shorter { IfOk result (λ x. length x.1.now < length tokens.now) }

@@ -11,10 +11,8 @@ use crate::expr::expr_of;
 use crate::lexeme::{Lexemes, Terminal};
 use crate::list::{Element, list_of};
 use crate::reading::{Read, begins, column_of, name_of, number_of, token};
-use ss_sql_lex::tree::{
-    ColumnTree, ExprTree, ItemTree, JoinTree, NumberTree, OrderTree, QueryTree,
-};
-use ss_value::seq::Seq;
+use ss_sql_lex::{ColumnTree, ExprTree, ItemTree, JoinTree, NumberTree, OrderTree, QueryTree};
+use ss_value::Seq;
 use std::alloc::Global;
 
 /// Reads an expression in brackets.
@@ -126,6 +124,7 @@ fn join_of<'t>(alloc: Global, tokens: Lexemes<'t>) -> Read<'t, JoinTree>
     Ok((JoinTree { name, left, right }, rest))
 }
 
+/// Reads JOIN and what belongs to it, if it comes next.
 fn maybe_join<'t>(alloc: Global, tokens: Lexemes<'t>) -> Read<'t, Option<JoinTree>>
     ensures read { Gives (λ x. (x.0, x.1.now)) result (maybe_read join tokens.now) }
 {
@@ -136,7 +135,7 @@ fn maybe_join<'t>(alloc: Global, tokens: Lexemes<'t>) -> Read<'t, Option<JoinTre
     Ok((Some(tree), rest))
 }
 
-/// Reads WHERE and its expression, where they stand.
+/// Reads WHERE and its expression, if it comes next.
 pub fn maybe_where<'t>(alloc: Global, tokens: Lexemes<'t>) -> Read<'t, Option<ExprTree>>
     ensures read { Gives (λ x. (x.0, x.1.now)) result (maybe_read where_rule tokens.now) }
 {
@@ -148,6 +147,7 @@ pub fn maybe_where<'t>(alloc: Global, tokens: Lexemes<'t>) -> Read<'t, Option<Ex
     Ok((Some(tree), rest))
 }
 
+/// Reads GROUP BY and its columns, if it comes next.
 fn maybe_groups<'t>(alloc: Global, tokens: Lexemes<'t>) -> Read<'t, Option<Seq<ColumnTree>>>
     ensures read { Gives (λ x. (x.0, x.1.now)) result (maybe_read groups tokens.now) }
 {
@@ -160,6 +160,7 @@ fn maybe_groups<'t>(alloc: Global, tokens: Lexemes<'t>) -> Read<'t, Option<Seq<C
     Ok((Some(columns), rest))
 }
 
+/// Reads ORDER BY and its numbers, if it comes next.
 fn maybe_orders<'t>(alloc: Global, tokens: Lexemes<'t>) -> Read<'t, Option<Seq<OrderTree>>>
     ensures read { Gives (λ x. (x.0, x.1.now)) result (maybe_read orders tokens.now) }
 {
@@ -172,6 +173,7 @@ fn maybe_orders<'t>(alloc: Global, tokens: Lexemes<'t>) -> Read<'t, Option<Seq<O
     Ok((Some(orders), rest))
 }
 
+/// Reads LIMIT and its number, if it comes next.
 fn maybe_limit<'t>(tokens: Lexemes<'t>) -> Read<'t, Option<NumberTree>>
     ensures read { Gives (λ x. (x.0, x.1.now)) result (maybe_read limit tokens.now) }
 {
@@ -183,7 +185,7 @@ fn maybe_limit<'t>(tokens: Lexemes<'t>) -> Read<'t, Option<NumberTree>>
     Ok((Some(number), rest))
 }
 
-/// A list that may be left out, as a list.
+/// A list that was left out as the empty one.
 fn or_none<E: Drop>(alloc: Global, items: Option<Seq<E>>) -> Seq<E>
     ensures { result ≡ or_none items }
 {
@@ -193,7 +195,7 @@ fn or_none<E: Drop>(alloc: Global, items: Option<Seq<E>>) -> Seq<E>
     }
 }
 
-/// Reads a query from the front, in the time of its tokens and of the bytes of its leaves.
+/// Reads a query from the front. Linear in its tokens and the bytes of its leaves.
 pub fn query_of<'t>(alloc: Global, tokens: Lexemes<'t>) -> Read<'t, QueryTree>
     ensures read { Gives (λ x. (x.0, x.1.now)) result (read sql inner query tokens.now) }
 {

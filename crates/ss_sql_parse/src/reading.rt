@@ -8,13 +8,13 @@ ghost use Rattle.ss_sql_parse.specs.Sql.{sql, inner, name, number, text, paramet
 
 use crate::lexeme::{Content, Lexeme, Lexemes, Terminal};
 use crate::stop::Stop;
-use ss_sql_lex::tree::{ColumnTree, NameTree, NumberTree, TextTree};
+use ss_sql_lex::{ColumnTree, NameTree, NumberTree, TextTree};
 use std::alloc::Global;
 
 /// What was read from the front, and the tokens behind it; or why reading stops.
 pub type Read<'t, T> = Result<(T, Lexemes<'t>), Stop>;
 
-/// The kind of a name.
+/// The kind of a name. Keywords and symbols have the kinds below it, the numbers of [`Terminal`].
 pub const NAME: u8 = 41;
 /// The kind of a number.
 pub const NUMBER: u8 = 42;
@@ -45,14 +45,14 @@ pub fn begins_kind(tokens: Lexemes<'_>, sort: u8) -> bool
     }
 }
 
-/// Whether the first token is a keyword or a symbol.
+/// Whether the first token is this keyword or symbol.
 pub fn begins(tokens: Lexemes<'_>, terminal: Terminal) -> bool
     ensures { result ≡ begins kind (code terminal ∷ []) tokens.now }
 {
     begins_kind(tokens, terminal as u8)
 }
 
-/// Reads a keyword or a symbol, and gives its place.
+/// Reads this keyword or symbol, and gives its token.
 pub fn token<'t>(tokens: Lexemes<'t>, terminal: Terminal) -> Read<'t, &'t Lexeme<'t>>
     ensures read { Gives (λ x. (x.0.now, x.1.now)) result (token_at kind (code terminal) tokens.now) }
     ensures shorter { IfOk result (λ x. length x.1.now < length tokens.now) }
@@ -127,7 +127,7 @@ pub fn text_of<'t>(alloc: Global, tokens: Lexemes<'t>) -> Read<'t, TextTree>
     }
 }
 
-/// Reads a column.
+/// Reads a column, as `name` or as `source.name`.
 pub fn column_of<'t>(alloc: Global, tokens: Lexemes<'t>) -> Read<'t, ColumnTree>
     ensures read { Gives (λ x. (x.0, x.1.now)) result (read sql inner column tokens.now) }
     ensures shorter { IfOk result (λ x. length x.1.now < length tokens.now) }

@@ -12,8 +12,8 @@ use crate::list::{Element, list_of};
 use crate::operators::cmp_of;
 use crate::query::{maybe_where, query_of};
 use crate::reading::{Read, begins, name_of, token};
-use ss_sql_lex::tree::{ConditionTree, ExprTree, SetTree, StatementTree};
-use ss_value::seq::Seq;
+use ss_sql_lex::{ConditionTree, ExprTree, SetTree, StatementTree};
+use ss_value::Seq;
 use std::alloc::Global;
 
 impl Element for ExprTree {
@@ -66,7 +66,7 @@ fn update_of<'t>(alloc: Global, tokens: Lexemes<'t>) -> Read<'t, StatementTree>
     ))
 }
 
-/// Reads expressions in brackets.
+/// Reads a list of expressions in brackets.
 fn values_of<'t>(alloc: Global, tokens: Lexemes<'t>) -> Read<'t, Seq<ExprTree>>
     ensures read { Gives (λ x. (x.0, x.1.now)) result (read sql inner (in_brackets (list expr)) tokens.now) }
 {
@@ -76,6 +76,7 @@ fn values_of<'t>(alloc: Global, tokens: Lexemes<'t>) -> Read<'t, Seq<ExprTree>>
     Ok((values, rest))
 }
 
+/// Reads either INSERT: which one it is, the token behind the target decides.
 fn insert_of<'t>(alloc: Global, tokens: Lexemes<'t>) -> Read<'t, StatementTree>
     ensures read { Gives (λ x. (x.0, x.1.now)) result (read sql inner insert tokens.now) }
 {
@@ -93,7 +94,7 @@ fn insert_of<'t>(alloc: Global, tokens: Lexemes<'t>) -> Read<'t, StatementTree>
     }
 }
 
-/// Reads a statement from the front, in the time of its tokens and of the bytes of its leaves.
+/// Reads a statement from the front. Linear in its tokens and the bytes of its leaves.
 pub fn statement_of<'t>(alloc: Global, tokens: Lexemes<'t>) -> Read<'t, StatementTree>
     ensures read { Gives (λ x. (x.0, x.1.now)) result (read sql inner statement tokens.now) }
 {
@@ -106,7 +107,7 @@ pub fn statement_of<'t>(alloc: Global, tokens: Lexemes<'t>) -> Read<'t, Statemen
     }
 }
 
-/// Reads a condition from the front, in the time of its tokens and of the bytes of its leaves.
+/// Reads a condition from the front. Linear in its tokens and the bytes of its leaves.
 pub fn condition_of<'t>(alloc: Global, tokens: Lexemes<'t>) -> Read<'t, ConditionTree>
     ensures read { Gives (λ x. (x.0, x.1.now)) result (read sql inner condition tokens.now) }
 {

@@ -5,12 +5,12 @@ ghost use Rattle.ss_sql_parse.specs.declared.stop.Stop.TheVariants.{Memory};
 
 use ss_value::NoMemory;
 
-/// Why reading stops: out of memory, or with so many tokens left.
+/// Why reading stops.
 #[derive(Clone, Copy, Debug, PartialEq, Eq, Drop)]
 pub enum Stop {
     /// Out of memory.
     Memory,
-    /// So many tokens are left from the first that is not expected.
+    /// The first token that is not expected, by how many tokens are left from it on.
     Left(usize),
 }
 

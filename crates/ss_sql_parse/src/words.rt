@@ -1,4 +1,4 @@
-//! From the tokens of a text to tokens with what they stand for.
+//! From the tokens of a text to lexemes: tokens with their contents.
 
 ghost use Rattle.std.specs.Prelude.{◌≡◌, IfOk, All, bytes_eq};
 ghost use Rattle.std.specs.Str.{IsUtf8};
@@ -6,12 +6,11 @@ ghost use Rattle.ss_sql_lex.specs.Spans.{IsTokenOf};
 ghost use Rattle.ss_sql_parse.specs.Keywords.{look_up, clause_words, item_words, statement_words, marks, signs, word_of, symbol_of, lexeme, lexemes};
 
 use crate::lexeme::{Content, Lexeme, Quoted, Terminal, Word};
-use ss_sql_lex::content::{number_value, spelling};
-use ss_sql_lex::token::{Token, TokenKind};
+use ss_sql_lex::{Token, TokenKind, number_value, spelling};
 use ss_value::NoMemory;
 use std::alloc::Global;
 
-/// Whether the bytes are these. A function of its own, since the search gives up on a match over many words.
+/// Whether the bytes are these. A chain of such tests, and no match, since proof search fails on a match over many words.
 fn spells(own: &[u8], word: &[u8]) -> bool
     ensures { result ≡ bytes_eq own.now word.now }
 {
@@ -93,7 +92,7 @@ fn statement_word(own: &[u8]) -> Option<Terminal>
     }
 }
 
-/// A symbol that sets apart, or a comparison.
+/// A symbol that separates parts, or a comparison.
 fn mark(own: &[u8]) -> Option<Terminal>
     ensures { result ≡ look_up marks own.now }
 {
@@ -122,7 +121,7 @@ fn mark(own: &[u8]) -> Option<Terminal>
     }
 }
 
-/// A symbol that calculates.
+/// A symbol of an operator on values, or `*`.
 fn sign(own: &[u8]) -> Option<Terminal>
     ensures { result ≡ look_up signs own.now }
 {
@@ -143,7 +142,7 @@ fn sign(own: &[u8]) -> Option<Terminal>
     }
 }
 
-/// The keyword that a word is.
+/// The keyword that a word is, if it is one.
 fn word_of(own: &[u8]) -> Terminal
     ensures { result ≡ word_of own.now }
 {
@@ -168,11 +167,12 @@ fn symbol_of(own: &[u8]) -> Terminal
     }
     match sign(own) {
         Some(terminal) => terminal,
+        // No symbol of the lexer comes here; the definition has to answer for all bytes.
         None => Terminal::OtherWord,
     }
 }
 
-/// A token of a text with what it stands for, in the time of its bytes. No byte is copied.
+/// A token of a text with its content. Linear in its bytes, of which none is copied.
 fn lexeme_of<'t>(text: &'t [u8], token: &Token) -> Lexeme<'t>
     requires token { IsTokenOf text.now token.now }
     requires utf8 { IsUtf8 text.now }
@@ -196,7 +196,7 @@ fn lexeme_of<'t>(text: &'t [u8], token: &Token) -> Lexeme<'t>
     }
 }
 
-/// The tokens of a text with what they stand for, in the time of the text's bytes. No byte is copied.
+/// The tokens of a text with their contents. Linear in the text's bytes, of which none is copied.
 pub fn lexemes_of<'t>(
     alloc: Global,
     text: &'t [u8],

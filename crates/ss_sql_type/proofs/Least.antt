@@ -1,10 +1,10 @@
--- What is left of all faults is the least.
+-- What is kept of all faults is the least.
 use Rattle.std.proofs.Common.{◌≡◌, zero, suc, refl, sym, ◌∙◌, subst, arith, Bool, true, false, List, [], ◌∷◌, Option, Some, None, ◌⊎◌, inl, inr}
 use Rattle.std.specs.Prelude.{Contains, cond, Result, Ok, Err, IfOk, IfErr}
 use Rattle.std.proofs.lemmas.Bool.Decides.{nat_tests}
 use Rattle.ss_sql_type.specs.declared.scope.TypeError.{TypeError}
 use Rattle.ss_sql_type.specs.declared.scope.TypeError.TheVariants.{NoMemory, UnknownName, WrongType, KeyIsSet, WrongCount, NotAggregated}
-use Rattle.ss_sql_type.specs.Refusals.{is_before, all_noted, IsLeast, IsRefusal}
+use Rattle.ss_sql_type.specs.Refusals.{is_before, least_of, IsLeast, IsRefusal}
 
 -- the front, or one behind it
 contains_cases : (f x : TypeError) (fs : List TypeError) → Contains (f ∷ fs) x → (f ≡ x) ⊎ Contains fs x
@@ -55,21 +55,21 @@ least_behind first f e fs h least = record {
 }
 
 -- one more fault, by whether it is before the first
-noted_step : (b : Bool) (f first e : TypeError) (fs : List TypeError) → is_before f first ≡ b → (all_noted (Some f) fs ≡ Some e → IsLeast (f ∷ fs) e) → (all_noted (Some first) fs ≡ Some e → IsLeast (first ∷ fs) e) → all_noted (Some (cond b f first)) fs ≡ Some e → IsLeast (first ∷ f ∷ fs) e
+noted_step : (b : Bool) (f first e : TypeError) (fs : List TypeError) → is_before f first ≡ b → (least_of (Some f) fs ≡ Some e → IsLeast (f ∷ fs) e) → (least_of (Some first) fs ≡ Some e → IsLeast (first ∷ fs) e) → least_of (Some (cond b f first)) fs ≡ Some e → IsLeast (first ∷ f ∷ fs) e
 noted_step true f first e fs h new old is = least_before first f e fs h (new is)
 noted_step false f first e fs h new old is = least_behind first f e fs h (old is)
 
--- what is noted is the least
-pub noted_least : (fs : List TypeError) (first e : TypeError) → all_noted (Some first) fs ≡ Some e → IsLeast (first ∷ fs) e
+-- what is kept is the least
+pub noted_least : (fs : List TypeError) (first e : TypeError) → least_of (Some first) fs ≡ Some e → IsLeast (first ∷ fs) e
 noted_least [] first e is = least_of_one e first cc
 noted_least (f ∷ fs) first e is = noted_step (is_before f first) f first e fs refl (noted_least fs f e) (noted_least fs first e) is
 
--- what is noted stays noted
-noted_stays : (fs : List TypeError) (first : TypeError) → all_noted (Some first) fs ≡ None → ⊥
+-- once a fault is kept, some fault is
+noted_stays : (fs : List TypeError) (first : TypeError) → least_of (Some first) fs ≡ None → ⊥
 noted_stays [] first is = absurd cc
 noted_stays (f ∷ fs) first is = noted_stays fs (cond (is_before f first) f first) is
 
-pub none_noted : (fs : List TypeError) → all_noted None fs ≡ None → fs ≡ []
+pub none_noted : (fs : List TypeError) → least_of None fs ≡ None → fs ≡ []
 none_noted [] is = refl
 none_noted (f ∷ fs) is = absurd (noted_stays fs f is)
 
@@ -81,17 +81,17 @@ refusal fs (KeyIsSet at) least = least
 refusal fs (WrongCount at) least = least
 refusal fs (NotAggregated at) least = least
 
-pub some_noted : (fs : List TypeError) (e : TypeError) → all_noted None fs ≡ Some e → IsRefusal fs e
+pub some_noted : (fs : List TypeError) (e : TypeError) → least_of None fs ≡ Some e → IsRefusal fs e
 some_noted [] e is = absurd cc
 some_noted (f ∷ fs) e is = refusal (f ∷ fs) e (noted_least fs f e is)
 
--- a tree is given where nothing was noted, and so no rule is broken
-pub answered : {T : Type 0} (r : Result T TypeError) (found : Option TypeError) (fs : List TypeError) (typed t : T) → found ≡ all_noted None fs → typed ≡ t → IfOk r (λ x. (x ≡ typed) × (found ≡ None)) → IfOk r (λ x. (fs ≡ []) × (x ≡ t))
+-- a tree is given where no fault was kept, and so there is none
+pub answered : {T : Type 0} (r : Result T TypeError) (found : Option TypeError) (fs : List TypeError) (typed t : T) → found ≡ least_of None fs → typed ≡ t → IfOk r (λ x. (x ≡ typed) × (found ≡ None)) → IfOk r (λ x. (fs ≡ []) × (x ≡ t))
 answered (Ok x) found fs typed t is same h = (none_noted fs (sym is ∙ h.1), h.0 ∙ same)
 answered (Err e) found fs typed t is same h = tt
 
--- a refusal is what was noted, and so the least fault
-pub refused : {T : Type 0} (r : Result T TypeError) (found : Option TypeError) (fs : List TypeError) → found ≡ all_noted None fs → IfErr r (λ e. found ≡ Some e) → IfErr r (IsRefusal fs)
+-- a refusal is the fault that was kept, and so the least one
+pub refused : {T : Type 0} (r : Result T TypeError) (found : Option TypeError) (fs : List TypeError) → found ≡ least_of None fs → IfErr r (λ e. found ≡ Some e) → IfErr r (IsRefusal fs)
 refused (Ok x) found fs is h = tt
 refused (Err e) found fs is h = some_noted fs e (sym is ∙ h)
 

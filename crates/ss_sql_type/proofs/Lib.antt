@@ -1,7 +1,8 @@
+pub mod CallerLemmas
+pub mod FewColumns
 pub mod Folds
 pub mod Hashed
 pub mod Least
-pub mod FewColumns
 pub mod Noted
 pub mod Once
 pub mod QueryParts

@@ -4,11 +4,11 @@ use Rattle.std.specs.Prelude.{Contains}
 use Rattle.std.proofs.lemmas.Bool.Decides.{nat_tests}
 use Rattle.ss_sql_type.specs.declared.scope.TypeError.{TypeError}
 use Rattle.ss_sql_type.specs.declared.scope.TypeError.TheVariants.{NoMemory, UnknownName, WrongType, KeyIsSet, WrongCount, NotAggregated}
-use Rattle.ss_sql_type.specs.Refusals.{place, number, is_before}
+use Rattle.ss_sql_type.specs.Refusals.{fault_offset, fault_number, is_before}
 use Rattle.ss_sql_type.specs.Laws.{OneRefusal, RefusedOrTyped}
 
--- a place and a number make a fault
-same_fault : (e f : TypeError) → place e ≡ place f → number e ≡ number f → e ≡ f
+-- an offset and a number make a fault
+same_fault : (e f : TypeError) → fault_offset e ≡ fault_offset f → fault_number e ≡ fault_number f → e ≡ f
 same_fault NoMemory NoMemory p q = refl
 same_fault NoMemory (UnknownName n) p q = absurd (omega arith)
 same_fault NoMemory (WrongType n) p q = absurd (omega arith)
@@ -46,17 +46,17 @@ same_fault (NotAggregated m) (KeyIsSet n) p q = absurd (omega arith)
 same_fault (NotAggregated m) (WrongCount n) p q = absurd (omega arith)
 same_fault (NotAggregated m) (NotAggregated n) p q = ap NotAggregated p
 
-same_place : (e f : TypeError) → is_before e f ≡ false → is_before f e ≡ false → place e ≡ place f
-same_place e f h k = grind (arith, nat_tests)
+same_offset : (e f : TypeError) → is_before e f ≡ false → is_before f e ≡ false → fault_offset e ≡ fault_offset f
+same_offset e f h k = grind (arith, nat_tests)
 
-same_number : (e f : TypeError) → is_before e f ≡ false → is_before f e ≡ false → number e ≡ number f
+same_number : (e f : TypeError) → is_before e f ≡ false → is_before f e ≡ false → fault_number e ≡ fault_number f
 same_number e f h k = grind (arith, nat_tests)
 
 pub one_refusal : OneRefusal
 one_refusal faults e f a b =
     let h = b.first e a.among in
     let k = a.first f b.among in
-    same_fault e f (same_place e f h k) (same_number e f h k)
+    same_fault e f (same_offset e f h k) (same_number e f h k)
 
 nothing_among : (e : TypeError) → Contains [] e → ⊥
 nothing_among e (k, h, x) = omega arith

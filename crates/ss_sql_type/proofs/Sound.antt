@@ -1,5 +1,5 @@
 -- An expression without faults is well typed.
-use Rattle.std.proofs.Common.{◌≡◌, ℕ, refl, sym, ap, ◌∙◌, subst, Bool, true, false, List, [], ◌∷◌, ◌++◌, Option, Some, None, get_or, ◌⊎◌, inl, inr}
+use Rattle.std.proofs.Common.{◌≡◌, ℕ, refl, sym, ap, ◌∙◌, subst, Bool, true, false, List, [], ◌++◌, Option, Some, None, get_or, ◌⊎◌, inl, inr}
 use Rattle.std.specs.Prelude.{slice_get, Result, Ok, Err, cond}
 use Rattle.std.specs.Option.{option_map, ok_or}
 use Rattle.ss_value.specs.declared.value.Value.{Value}
@@ -30,20 +30,13 @@ use Rattle.ss_sql_type.specs.declared.kinds.Kind.TheVariants.{Int, Text, Bool as
 use Rattle.ss_sql_type.specs.Refusals.{fault_unless}
 use Rattle.ss_sql_type.specs.Kinds.{kind_of, may_be, may_compare, sign_kind, gives}
 use Rattle.ss_sql_type.specs.declared.scope.TypeError.TheVariants.{UnknownName, WrongType, NotAggregated}
-use Rattle.ss_sql_type.specs.Names.{Reach, one_of, column_in, resolve_name, is_source, column_named, columns_of, resolve, column_of, kind_in, source_columns, column_place}
+use Rattle.ss_sql_type.specs.Names.{Reach, one_of, column_in, resolve_name, is_source, column_named, columns_of, resolve, column_of, kind_in, source_columns, column_offset}
 use Rattle.ss_sql_type.specs.Expressions.{Typed, typed_param, typed_column, is_grouped, side_faults, sides_faults, level, typed_expr}
 use Rattle.std.proofs.lemmas.List.Quantifiers.{position-Some}
 use Rattle.std.proofs.lemmas.Option.{slice_get-get_or}
+use Rattle.ss_lemmas.proofs.Counts.{empty_left, empty_right}
 
 -- ---- lists without faults
-
-pub none_left : {X : Type 0} (xs ys : List X) → xs ++ ys ≡ [] → xs ≡ []
-none_left [] ys e = refl
-none_left (x ∷ xs) ys e = absurd cc
-
-pub none_right : {X : Type 0} (xs ys : List X) → xs ++ ys ≡ [] → ys ≡ []
-none_right [] ys e = e
-none_right (x ∷ xs) ys e = absurd cc
 
 pub no_fault : (b : Bool) (f : TypeError) → fault_unless b f ≡ [] → b ≡ true
 no_fault true f e = refl
@@ -107,7 +100,7 @@ named_kind columns name n e =
     let found = position-Some _ columns n no_column e in
     at_some columns n (get_or columns n no_column) (slice_get-get_or columns n no_column found.0)
 
--- ---- what a name stands for
+-- ---- what a name refers to
 
 ok_is : {E : Type 0} (a b : ColAt) → ◌≡◌ {A = Result ColAt E} (Ok a) (Ok b) → a ≡ b
 ok_is a b e = cc
@@ -218,7 +211,7 @@ module _ (sources : List (List Column)) (reach : Reach) (grouped : Option (List 
   unary_type Negate x e = rw e refl
 
   two_sides : (k : Kind) (op : BinaryOp) (l r : Typed) → gives op ≡ k → Sound sources reach.params grouped l → Sound sources reach.params grouped r → side_faults k l ++ side_faults k r ≡ [] → (expr_type sources reach.params l.expr ≡ Some (type_of k)) × (expr_type sources reach.params r.expr ≡ Some (type_of k))
-  two_sides k op l r g sl sr e = (side_is k l sl (none_left (side_faults k l) (side_faults k r) e), side_is k r sr (none_right (side_faults k l) (side_faults k r) e))
+  two_sides k op l r g sl sr e = (side_is k l sl (empty_left (side_faults k l) (side_faults k r) e), side_is k r sr (empty_right (side_faults k l) (side_faults k r) e))
 
   compare_type : (c : Cmp) (x y : Option ExprType) → are_comparable x y ≡ true → level_type sources reach.params (Expr-F.Binary (Compare c) x y) ≡ Some BoolType
   compare_type c x y e = ap (λ b. typed_when b BoolType) e
@@ -275,7 +268,7 @@ module _ (sources : List (List Column)) (reach : Reach) (grouped : Option (List 
           kind = stands.has.kind;
           known = stands.has.known;
           typed = fold_col (Option ExprType) (level_type sources reach.params) c.source c.column ∙ ap (λ (l : List Column). schema_type l c.column) (covers.source c.source stands.which) ∙ stands.has.typed;
-          all = grouped_col grouped c (no_fault (is_grouped grouped (Some c)) (NotAggregated (column_place tree)) e);
+          all = grouped_col grouped c (no_fault (is_grouped grouped (Some c)) (NotAggregated (column_offset tree)) e);
         }
 
     abbrev IsSound : ExprTree → Type 0
@@ -303,13 +296,13 @@ module _ (sources : List (List Column)) (reach : Reach) (grouped : Option (List 
     node_sound (ExprTree-F.Unary at op side) =
         let t = typed_expr reach grouped side.0 in
         by_level (ExprTree-F.Unary at op side.0) (level reach grouped (ExprTree-F.Unary at op t)) (fold-roll-ExprTree Typed (level reach grouped) (ExprTree-F.Unary at op side.0)) (λ e.
-        unary_sound at op t (side.1 (none_left t.faults (side_faults (sign_kind op) t) e)) (none_right t.faults (side_faults (sign_kind op) t) e))
+        unary_sound at op t (side.1 (empty_left t.faults (side_faults (sign_kind op) t) e)) (empty_right t.faults (side_faults (sign_kind op) t) e))
     node_sound (ExprTree-F.Binary at op left right) =
         let l = typed_expr reach grouped left.0 in
         let r = typed_expr reach grouped right.0 in
         by_level (ExprTree-F.Binary at op left.0 right.0) (level reach grouped (ExprTree-F.Binary at op l r)) (fold-roll-ExprTree Typed (level reach grouped) (ExprTree-F.Binary at op left.0 right.0)) (λ e.
-        let rest = none_right l.faults (r.faults ++ sides_faults op l r) e in
-        binary_sound at op l r (left.1 (none_left l.faults (r.faults ++ sides_faults op l r) e)) (right.1 (none_left r.faults (sides_faults op l r) rest)) (none_right r.faults (sides_faults op l r) rest))
+        let rest = empty_right l.faults (r.faults ++ sides_faults op l r) e in
+        binary_sound at op l r (left.1 (empty_left l.faults (r.faults ++ sides_faults op l r) e)) (right.1 (empty_left r.faults (sides_faults op l r) rest)) (empty_right r.faults (sides_faults op l r) rest))
 
     pub expr_sound : (tree : ExprTree) → IsSound tree
     expr_sound = ind-ExprTree IsSound (λ x y is. subst (λ (z : ExprTree-F ExprTree). IsSound (roll-ExprTree z)) is (node_sound y))

@@ -4,7 +4,8 @@ use Rattle.std.specs.Prelude.{slice_get, find, Contains, ◌&&◌, ◌||◌, ◌
 use Rattle.std.specs.Option.{option_map}
 use Rattle.std.specs.List.{list_any, list_all, flat_map, cons_option}
 use Rattle.std.proofs.lemmas.Bool.Decides.{nat_tests}
-use Rattle.std.proofs.lemmas.Bool.{and_from, or_parts}
+use Rattle.std.proofs.lemmas.Bool.{and_from, or_parts, or_right}
+use Rattle.ss_lemmas.proofs.Counts.{empty_left, empty_right}
 use Rattle.ss_value.specs.declared.schema.Column.{Column}
 use Rattle.ss_value.specs.declared.schema.ColType.{ColType}
 use Rattle.ss_value.specs.declared.schema.ColType.TheVariants as column
@@ -29,16 +30,16 @@ use Rattle.ss_sql_type.specs.declared.kinds.Kind.{Kind}
 use Rattle.ss_sql_type.specs.declared.kinds.Kind.TheVariants.{Int, Text, Bool as Truth}
 use Rattle.ss_sql_type.specs.Refusals.{fault_unless}
 use Rattle.ss_sql_type.specs.Kinds.{kind_of, may_be_value, may_compare, fits, first_needs, others, value_kind}
-use Rattle.ss_sql_type.specs.Names.{Reach, same_name, named, columns_of, resolve, known, name_faults, known_kind, source_columns, column_place}
+use Rattle.ss_sql_type.specs.Names.{Reach, same_name, source_named, columns_of, resolve, column_meant, name_faults, known_kind, source_columns, column_offset}
 use Rattle.ss_sql_type.specs.Expressions.{typed_expr, expr_faults}
 use Rattle.ss_sql_type.specs.Items.{typed_item, given_faults, item_faults, items_faults, item_limit_faults, is_aggregate, typed_value, values_faults, test_faults, typed_groups, groups_faults, nat_of, typed_order, order_faults}
-use Rattle.ss_sql_type.specs.Queries.{joined_source, query_reach, source_id, unknown_faults, column_or_first, typed_join, join_faults, is_aggregated, grouped_columns, count_faults, wanted, faults_within, typed_within}
+use Rattle.ss_sql_type.specs.Queries.{joined_source, query_reach, source_id, unknown_faults, column_or_first, typed_join, join_faults, is_aggregated, grouped_columns, count_faults, wanted_columns, faults_within, typed_within}
 use Rattle.ss_sql_type.specs.Agrees.{Agrees, out_fits}
-use Rattle.ss_sql_type.proofs.Sound.{none_left, none_right, no_fault, type_of, same_kind, compared, HasKind, resolved, Covers, all_grouped, expr_sound}
+use Rattle.ss_sql_type.proofs.Sound.{no_fault, type_of, same_kind, compared, HasKind, resolved, Covers, all_grouped, expr_sound}
 
--- ---- what a place needs
+-- ---- what a context needs
 
--- the type that a place needs
+-- the type that a context needs
 abbrev pub is_needed : Needs → Option ExprType → Bool
 is_needed Value t = is_value_type t
 is_needed (Only k) t = is_type (type_of k) t
@@ -55,7 +56,7 @@ value_needed Truth e = absurd cc
 
 needed : (needs : Needs) (k : Kind) → fits needs (Some k) ≡ true → is_needed needs (Some (type_of k)) ≡ true
 needed Value k e = value_needed k e
-needed (Only wanted) k e = subst (λ (x : Kind). is_type (type_of wanted) (Some (type_of x)) ≡ true) (same_kind wanted k e) (own_type wanted)
+needed (Only wanted_columns) k e = subst (λ (x : Kind). is_type (type_of wanted_columns) (Some (type_of x)) ≡ true) (same_kind wanted_columns k e) (own_type wanted_columns)
 
 -- a type that a column needs is that of a value
 column_needed : (k : ColType) (t : Option ExprType) → is_needed (Only (kind_of k)) t ≡ true → is_type (column_type k) t ≡ true
@@ -63,19 +64,19 @@ column_needed column.Int t e = e
 column_needed column.Text t e = e
 
 module _ (sources : List (List Column)) (reach : Reach) (grouped : Option (List ColAt)) (covers : Covers sources reach) where
-  -- an expression at its place
+  -- an expression at its offset
   pub placed_sound : (needs : Needs) (e : ExprTree) → expr_faults reach grouped needs e ≡ [] → is_needed needs (expr_type sources reach.params (typed_expr reach grouped e).expr) ≡ true
   placed_sound needs e none =
       let t = typed_expr reach grouped e in
-      let s = expr_sound sources reach grouped covers e (none_left t.faults (fault_unless (fits needs t.kind) (WrongType t.at)) none) in
-      let fit : fits needs t.kind ≡ true = no_fault (fits needs t.kind) (WrongType t.at) (none_right t.faults (fault_unless (fits needs t.kind) (WrongType t.at)) none) in
+      let s = expr_sound sources reach grouped covers e (empty_left t.faults (fault_unless (fits needs t.kind) (WrongType t.at)) none) in
+      let fit : fits needs t.kind ≡ true = no_fault (fits needs t.kind) (WrongType t.at) (empty_right t.faults (fault_unless (fits needs t.kind) (WrongType t.at)) none) in
       subst (λ (o : Option ExprType). is_needed needs o ≡ true) (sym s.typed) (needed needs s.kind (subst (λ (o : Option Kind). fits needs o ≡ true) s.known fit))
 
   -- where columns have to be grouped, they are
   placed_grouped : (needs : Needs) (e : ExprTree) → expr_faults reach grouped needs e ≡ [] → all_grouped grouped (typed_expr reach grouped e).expr ≡ true
   placed_grouped needs e none =
       let t = typed_expr reach grouped e in
-      (expr_sound sources reach grouped covers e (none_left t.faults (fault_unless (fits needs t.kind) (WrongType t.at)) none)).all
+      (expr_sound sources reach grouped covers e (empty_left t.faults (fault_unless (fits needs t.kind) (WrongType t.at)) none)).all
 
 module _ (sources : List (List Column)) (reach : Reach) (covers : Covers sources reach) where
   pub test_sound : (test : Option ExprTree) → test_faults reach test ≡ [] → test_typed sources reach.params (option_map (typed_value reach) test) ≡ true
@@ -106,10 +107,10 @@ module _ (sources : List (List Column)) (reach : Reach) (grouped : Option (List 
   side_sound : (needs : Needs) (at : ℕ) (side : ExprTree) → expr_faults reach None Value side ++ given_faults needs (value_kind (typed_expr reach None side).kind) at ≡ [] → is_needed needs (expr_type sources reach.params (typed_expr reach None side).expr) ≡ true
   side_sound needs at side e =
       let t = typed_expr reach None side in
-      let own = none_left (expr_faults reach None Value side) (given_faults needs (value_kind t.kind) at) e in
-      let given = none_right (expr_faults reach None Value side) (given_faults needs (value_kind t.kind) at) e in
-      let s = expr_sound sources reach None covers side (none_left t.faults (fault_unless (fits Value t.kind) (WrongType t.at)) own) in
-      let may : may_be_value t.kind ≡ true = no_fault (fits Value t.kind) (WrongType t.at) (none_right t.faults (fault_unless (fits Value t.kind) (WrongType t.at)) own) in
+      let own = empty_left (expr_faults reach None Value side) (given_faults needs (value_kind t.kind) at) e in
+      let given = empty_right (expr_faults reach None Value side) (given_faults needs (value_kind t.kind) at) e in
+      let s = expr_sound sources reach None covers side (empty_left t.faults (fault_unless (fits Value t.kind) (WrongType t.at)) own) in
+      let may : may_be_value t.kind ≡ true = no_fault (fits Value t.kind) (WrongType t.at) (empty_right t.faults (fault_unless (fits Value t.kind) (WrongType t.at)) own) in
       let fit : fits needs (value_kind t.kind) ≡ true = no_fault (fits needs (value_kind t.kind)) (WrongType at) given in
       let same : value_kind t.kind ≡ Some s.kind = ap value_kind s.known ∙ value_known s.kind (subst (λ (o : Option Kind). may_be_value o ≡ true) s.known may) in
       subst (λ (o : Option ExprType). is_needed needs o ≡ true) (sym s.typed) (needed needs s.kind (subst (λ (o : Option Kind). fits needs o ≡ true) same fit))
@@ -117,8 +118,8 @@ module _ (sources : List (List Column)) (reach : Reach) (grouped : Option (List 
   item_sound : (needs : Needs) (item : ItemTree) → item_faults reach grouped needs item ≡ [] → is_needed needs (item_type sources reach.params (typed_item reach grouped item)) ≡ true
   item_sound needs (tree.Count at) e = given_int sources reach covers needs at e
   item_sound needs (tree.Sum at side) e =
-      let own = none_left (expr_faults reach None (Only Int) side) (given_faults needs (Some Int) at) e in
-      let given = none_right (expr_faults reach None (Only Int) side) (given_faults needs (Some Int) at) e in
+      let own = empty_left (expr_faults reach None (Only Int) side) (given_faults needs (Some Int) at) e in
+      let given = empty_right (expr_faults reach None (Only Int) side) (given_faults needs (Some Int) at) e in
       let int : is_type IntType (expr_type sources reach.params (typed_expr reach None side).expr) ≡ true = placed_sound sources reach None covers (Only Int) side own in
       subst (λ (b : Bool). is_needed needs (typed_when b IntType) ≡ true) (sym int) (given_int sources reach covers needs at given)
   item_sound needs (tree.Min at side) e = side_sound needs at side e
@@ -133,8 +134,8 @@ module _ (sources : List (List Column)) (reach : Reach) (grouped : Option (List 
   items_values columns [] e = refl
   items_values columns (item ∷ items) e =
       and_from (is_value_type (item_type sources reach.params (typed_item reach grouped item))) (list_all is_value_type (types_of items))
-      (needs_value columns _ (item_sound (first_needs columns) item (none_left (item_faults reach grouped (first_needs columns) item) (items_faults reach grouped (others columns) items) e)))
-      (items_values (others columns) items (none_right (item_faults reach grouped (first_needs columns) item) (items_faults reach grouped (others columns) items) e))
+      (needs_value columns _ (item_sound (first_needs columns) item (empty_left (item_faults reach grouped (first_needs columns) item) (items_faults reach grouped (others columns) items) e)))
+      (items_values (others columns) items (empty_right (item_faults reach grouped (first_needs columns) item) (items_faults reach grouped (others columns) items) e))
 
   items_fit : (columns : List Column) (items : List ItemTree) → length items ≡ length columns → items_faults reach grouped columns items ≡ [] → types_fit (types_of items) columns ≡ true
   items_fit [] [] n e = refl
@@ -142,8 +143,8 @@ module _ (sources : List (List Column)) (reach : Reach) (grouped : Option (List 
   items_fit [] (item ∷ items) n e = absurd (omega arith)
   items_fit (c ∷ columns) (item ∷ items) n e =
       and_from (is_type (column_type c.kind) (item_type sources reach.params (typed_item reach grouped item))) (types_fit (types_of items) columns)
-      (column_needed c.kind _ (item_sound (Only (kind_of c.kind)) item (none_left (item_faults reach grouped (Only (kind_of c.kind)) item) (items_faults reach grouped columns items) e)))
-      (items_fit columns items (omega arith) (none_right (item_faults reach grouped (Only (kind_of c.kind)) item) (items_faults reach grouped columns items) e))
+      (column_needed c.kind _ (item_sound (Only (kind_of c.kind)) item (empty_left (item_faults reach grouped (Only (kind_of c.kind)) item) (items_faults reach grouped columns items) e)))
+      (items_fit columns items (omega arith) (empty_right (item_faults reach grouped (Only (kind_of c.kind)) item) (items_faults reach grouped columns items) e))
 
   pub values_fit : (columns : List Column) (values : List ExprTree) → length values ≡ length columns → values_faults reach columns values ≡ [] → types_fit (map (expr_type sources reach.params) (map (typed_value reach) values)) columns ≡ true
   values_fit [] [] n e = refl
@@ -151,8 +152,8 @@ module _ (sources : List (List Column)) (reach : Reach) (grouped : Option (List 
   values_fit [] (x ∷ values) n e = absurd (omega arith)
   values_fit (c ∷ columns) (x ∷ values) n e =
       and_from (is_type (column_type c.kind) (expr_type sources reach.params (typed_value reach x))) (types_fit (map (expr_type sources reach.params) (map (typed_value reach) values)) columns)
-      (column_needed c.kind _ (placed_sound sources reach None covers (Only (kind_of c.kind)) x (none_left (expr_faults reach None (Only (kind_of c.kind)) x) (values_faults reach columns values) e)))
-      (values_fit columns values (omega arith) (none_right (expr_faults reach None (Only (kind_of c.kind)) x) (values_faults reach columns values) e))
+      (column_needed c.kind _ (placed_sound sources reach None covers (Only (kind_of c.kind)) x (empty_left (expr_faults reach None (Only (kind_of c.kind)) x) (values_faults reach columns values) e)))
+      (values_fit columns values (omega arith) (empty_right (expr_faults reach None (Only (kind_of c.kind)) x) (values_faults reach columns values) e))
 
 -- items of an aggregated query
 module _ (sources : List (List Column)) (reach : Reach) (groups : List ColAt) (covers : Covers sources reach) where
@@ -167,8 +168,8 @@ module _ (sources : List (List Column)) (reach : Reach) (groups : List ColAt) (c
   items_grouped columns [] e = refl
   items_grouped columns (item ∷ items) e =
       and_from (item_grouped groups (typed_item reach (Some groups) item)) (list_all (item_grouped groups) (map (typed_item reach (Some groups)) items))
-      (item_is_grouped (first_needs columns) item (none_left (item_faults reach (Some groups) (first_needs columns) item) (items_faults reach (Some groups) (others columns) items) e))
-      (items_grouped (others columns) items (none_right (item_faults reach (Some groups) (first_needs columns) item) (items_faults reach (Some groups) (others columns) items) e))
+      (item_is_grouped (first_needs columns) item (empty_left (item_faults reach (Some groups) (first_needs columns) item) (items_faults reach (Some groups) (others columns) items) e))
+      (items_grouped (others columns) items (empty_right (item_faults reach (Some groups) (first_needs columns) item) (items_faults reach (Some groups) (others columns) items) e))
 
 -- ---- GROUP BY, ORDER BY and the number of items
 
@@ -203,8 +204,8 @@ orders_sound : (count : ℕ) (orders : List OrderTree) → flat_map (order_fault
 orders_sound count [] e = refl
 orders_sound count (o ∷ orders) e =
     and_from (order_typed count (typed_order o)) (list_all (order_typed count) (map typed_order orders))
-    (one_order count o (none_left (order_faults count o) (flat_map (order_faults count) orders) e))
-    (orders_sound count orders (none_right (order_faults count o) (flat_map (order_faults count) orders) e))
+    (one_order count o (empty_left (order_faults count o) (flat_map (order_faults count) orders) e))
+    (orders_sound count orders (empty_right (order_faults count o) (flat_map (order_faults count) orders) e))
 
 not_crowded : {X : Type 0} (n : ℕ) (items : List X) → slice_get items n ≡ None → nat_le (length items) n ≡ true
 not_crowded zero [] e = refl
@@ -241,13 +242,13 @@ pub known_source : (o : Option Named) (at : ℕ) → unknown_faults o at ≡ [] 
 known_source None at e = absurd cc
 known_source (Some n) at e = (n, refl)
 
-source_known : (scope : Scope) (s : Schemas) → Agrees scope s → (name : List ℕ) (at : ℕ) → unknown_faults (named scope.sources name) at ≡ [] → s.sources (source_id (named scope.sources name)) ≡ columns_of (named scope.sources name)
+source_known : (scope : Scope) (s : Schemas) → Agrees scope s → (name : List ℕ) (at : ℕ) → unknown_faults (source_named scope.sources name) at ≡ [] → s.sources (source_id (source_named scope.sources name)) ≡ columns_of (source_named scope.sources name)
 source_known scope s agrees name at e =
-    let k = known_source (named scope.sources name) at e in
+    let k = known_source (source_named scope.sources name) at e in
     let there = found_there scope.sources (λ (n : Named). same_name n.name name) k.0 k.1 in
     ap (λ (o : Option Named). s.sources (source_id o)) k.1 ∙ agrees.sources k.0 there ∙ sym (ap columns_of k.1)
 
--- the columns that a query's sources have are those that its names may stand for
+-- the columns that a query's sources have are those that its names may refer to
 two_covered : (first second : List Column) (reach : Reach) → first ≡ columns_of reach.first → second ≡ columns_of reach.second → Covers (first ∷ second ∷ []) reach
 two_covered first second reach e f = record { source = λ s which. elim which [ inl zero_is ↦ subst (λ (n : ℕ). get_or (first ∷ second ∷ []) n [] ≡ source_columns reach n) (sym zero_is) e | inr one_is ↦ subst (λ (n : ℕ). get_or (first ∷ second ∷ []) n [] ≡ source_columns reach n) (sym one_is) f ] }
 
@@ -263,7 +264,7 @@ column_known reach tree (Err f) is e = absurd cc
 record Column-is (sources : List (List Column)) (reach : Reach) (tree : ColumnTree) : Type 0 where
   kind : Kind
   known_as : known_kind reach (resolve reach tree) ≡ Some kind
-  typed : column_at sources (column_or_first (known (resolve reach tree))) ≡ Some (type_of kind)
+  typed : column_at sources (column_or_first (column_meant (resolve reach tree))) ≡ Some (type_of kind)
 
 column_is : (sources : List (List Column)) (reach : Reach) → Covers sources reach → (tree : ColumnTree) → name_faults (resolve reach tree) ≡ [] → Column-is sources reach tree
 column_is sources reach covers tree e =
@@ -272,7 +273,7 @@ column_is sources reach covers tree e =
     record {
       kind = stands.has.kind;
       known_as = ap (known_kind reach) k.1 ∙ stands.has.known;
-      typed = ap (λ (r : Result ColAt TypeError). column_at sources (column_or_first (known r))) k.1 ∙ ap (λ (l : List Column). schema_type l k.0.column) (covers.source k.0.source stands.which) ∙ stands.has.typed;
+      typed = ap (λ (r : Result ColAt TypeError). column_at sources (column_or_first (column_meant r))) k.1 ∙ ap (λ (l : List Column). schema_type l k.0.column) (covers.source k.0.source stands.which) ∙ stands.has.typed;
     }
 
 join_sound : (sources : List (List Column)) (reach : Reach) → Covers sources reach → (j : JoinTree)
@@ -283,11 +284,11 @@ join_sound sources reach covers j el er may =
     let l = column_is sources reach covers j.left el in
     let r = column_is sources reach covers j.right er in
     let kinds : may_compare (Some l.kind) (Some r.kind) ≡ true = subst (λ (o : Option Kind). may_compare (Some l.kind) o ≡ true) r.known_as (subst (λ (o : Option Kind). may_compare o (known_kind reach (resolve reach j.right)) ≡ true) l.known_as may) in
-    subst (λ (o : Option ExprType). are_comparable o (column_at sources (column_or_first (known (resolve reach j.right)))) ≡ true) (sym l.typed) (subst (λ (o : Option ExprType). are_comparable (Some (type_of l.kind)) o ≡ true) (sym r.typed) (compared l.kind r.kind kinds))
+    subst (λ (o : Option ExprType). are_comparable o (column_at sources (column_or_first (column_meant (resolve reach j.right)))) ≡ true) (sym l.typed) (subst (λ (o : Option ExprType). are_comparable (Some (type_of l.kind)) o ≡ true) (sym r.typed) (compared l.kind r.kind kinds))
 
 -- ---- GROUP BY
 
-column_kind_value : (k : ColType) → is_value_type (Some (column_type k)) ≡ true
+pub column_kind_value : (k : ColType) → is_value_type (Some (column_type k)) ≡ true
 column_kind_value column.Int = refl
 column_kind_value column.Text = refl
 
@@ -299,7 +300,7 @@ value_column (Some c) k e = column_kind_value c.kind
 pub column_value : (c : List Column) (n : ℕ) → HasKind c n → is_value_type (schema_type c n) ≡ true
 column_value c n has = value_column (slice_get c n) has.kind has.known
 
-group_step : (sources : List (List Column)) (reach : Reach) → Covers sources reach → (tree : ColumnTree) (rest : List ColAt) (found : Result ColAt TypeError) → resolve reach tree ≡ found → list_all (λ c. is_value_type (column_at sources c)) rest ≡ true → list_all (λ c. is_value_type (column_at sources c)) (cons_option (known found) rest) ≡ true
+group_step : (sources : List (List Column)) (reach : Reach) → Covers sources reach → (tree : ColumnTree) (rest : List ColAt) (found : Result ColAt TypeError) → resolve reach tree ≡ found → list_all (λ c. is_value_type (column_at sources c)) rest ≡ true → list_all (λ c. is_value_type (column_at sources c)) (cons_option (column_meant found) rest) ≡ true
 group_step sources reach covers tree rest (Err f) is h = h
 group_step sources reach covers tree rest (Ok c) is h =
     let stands = resolved reach tree c is in
@@ -312,10 +313,6 @@ groups_sound sources reach covers (g ∷ groups) = group_step sources reach cove
 
 -- ---- queries
 
-or_true : (a b : Bool) → b ≡ true → (a || b) ≡ true
-or_true true b e = refl
-or_true false b e = e
-
 not_aggregated : (a b c : Bool) → a ≡ false → b ≡ false → (not (a || b) || c) ≡ true
 not_aggregated a b c e f = rw (e, f) refl
 
@@ -324,24 +321,24 @@ items_are_grouped : (sources : List (List Column)) (reach : Reach) → Covers so
     → (list_any is_aggregate items || nat_le 1 (length groups)) ≡ b
     → items_faults reach (cond b (Some (typed_groups reach groups)) None) columns items ≡ []
     → (not (list_any is_typed_aggregate (map (typed_item reach (cond b (Some (typed_groups reach groups)) None)) items) || nat_le 1 (length (typed_groups reach groups))) || list_all (item_grouped (typed_groups reach groups)) (map (typed_item reach (cond b (Some (typed_groups reach groups)) None)) items)) ≡ true
-items_are_grouped sources reach covers columns items groups true is e = or_true _ _ (items_grouped sources reach (typed_groups reach groups) covers columns items e)
+items_are_grouped sources reach covers columns items groups true is e = or_right _ _ (items_grouped sources reach (typed_groups reach groups) covers columns items e)
 items_are_grouped sources reach covers columns items groups false is e =
     let parts = or_parts (list_any is_aggregate items) (nat_le 1 (length groups)) is in
     not_aggregated _ _ _ (same_aggregates reach None items ∙ parts.0) (no_groups reach groups parts.1)
 
 module _ (scope : Scope) (s : Schemas) (agrees : Agrees scope s) where
   abbrev pub reach_with : NameTree → Option JoinTree → Reach
-  reach_with from j = record { first = named scope.sources from.name; second = joined_source scope.sources j; params = scope.params }
+  reach_with from j = record { first = source_named scope.sources from.name; second = joined_source scope.sources j; params = scope.params }
 
   abbrev pub sources_with : NameTree → Option JoinTree → List (List Column)
-  sources_with from j = query_sources s (source_id (named scope.sources from.name)) (option_map (typed_join (reach_with from j)) j)
+  sources_with from j = query_sources s (source_id (source_named scope.sources from.name)) (option_map (typed_join (reach_with from j)) j)
 
-  pub sources_covered : (from : NameTree) (j : Option JoinTree) → unknown_faults (named scope.sources from.name) from.at ≡ [] → join_faults (reach_with from j) from j ≡ [] → Covers (sources_with from j) (reach_with from j)
-  sources_covered from None e f = one_covered (s.sources (source_id (named scope.sources from.name))) (reach_with from None) (source_known scope s agrees from.name from.at e) refl
+  pub sources_covered : (from : NameTree) (j : Option JoinTree) → unknown_faults (source_named scope.sources from.name) from.at ≡ [] → join_faults (reach_with from j) from j ≡ [] → Covers (sources_with from j) (reach_with from j)
+  sources_covered from None e f = one_covered (s.sources (source_id (source_named scope.sources from.name))) (reach_with from None) (source_known scope s agrees from.name from.at e) refl
   sources_covered from (Some j) e f =
-      two_covered (s.sources (source_id (named scope.sources from.name))) (s.sources (source_id (named scope.sources j.name.name))) (reach_with from (Some j))
+      two_covered (s.sources (source_id (source_named scope.sources from.name))) (s.sources (source_id (source_named scope.sources j.name.name))) (reach_with from (Some j))
       (source_known scope s agrees from.name from.at e)
-      (source_known scope s agrees j.name.name j.name.at (none_left (unknown_faults (named scope.sources j.name.name) j.name.at) _ f))
+      (source_known scope s agrees j.name.name j.name.at (empty_left (unknown_faults (source_named scope.sources j.name.name) j.name.at) _ f))
 
   joined_sound : (sources : List (List Column)) (reach : Reach) → Covers sources reach → (from : NameTree) (j : Option JoinTree) → join_faults reach from j ≡ [] → join_typed sources (option_map (typed_join reach) j) ≡ true
   joined_sound sources reach covers from None e = refl
@@ -349,12 +346,12 @@ module _ (scope : Scope) (s : Schemas) (agrees : Agrees scope s) where
       let l = name_faults (resolve reach j.left) in
       let r = name_faults (resolve reach j.right) in
       let may = may_compare (known_kind reach (resolve reach j.left)) (known_kind reach (resolve reach j.right)) in
-      let last = fault_unless may (WrongType (column_place j.right)) in
+      let last = fault_unless may (WrongType (column_offset j.right)) in
       let other = fault_unless (not (same_name from.name j.name.name)) (UnknownName j.name.at) in
-      let e1 = none_right (unknown_faults reach.second j.name.at) (other ++ (l ++ (r ++ last))) e in
-      let e2 = none_right other (l ++ (r ++ last)) e1 in
-      let e3 = none_right l (r ++ last) e2 in
-      join_sound sources reach covers j (none_left l (r ++ last) e2) (none_left r last e3) (no_fault may (WrongType (column_place j.right)) (none_right r last e3))
+      let e1 = empty_right (unknown_faults reach.second j.name.at) (other ++ (l ++ (r ++ last))) e in
+      let e2 = empty_right other (l ++ (r ++ last)) e1 in
+      let e3 = empty_right l (r ++ last) e2 in
+      join_sound sources reach covers j (empty_left l (r ++ last) e2) (empty_left r last e3) (no_fault may (WrongType (column_offset j.right)) (empty_right r last e3))
 
   -- a query that breaks no rule is well typed, and fits the columns that it goes into
   pub query_sound : (columns : Option (List Column)) (at : ℕ) (q : QueryTree) → faults_within (query_reach scope q) columns at q ≡ [] → query_typed s (typed_within (query_reach scope q) q) ≡ true
@@ -366,29 +363,29 @@ module _ (scope : Scope) (s : Schemas) (agrees : Agrees scope s) where
       let f2 = join_faults reach q.from q.joined in
       let f3 = groups_faults reach q.groups in
       let f4 = count_faults columns (length q.items) at in
-      let f5 = items_faults reach g (wanted columns) q.items in
+      let f5 = items_faults reach g (wanted_columns columns) q.items in
       let f6 = item_limit_faults (slice_get q.items 16) in
       let f7 = test_faults reach q.test in
       let f8 = flat_map (order_faults (length q.items)) q.order in
-      let e1 = none_right f1 (f2 ++ (f3 ++ (f4 ++ (f5 ++ (f6 ++ (f7 ++ f8)))))) e in
-      let e2 = none_right f2 (f3 ++ (f4 ++ (f5 ++ (f6 ++ (f7 ++ f8))))) e1 in
-      let e3 = none_right f3 (f4 ++ (f5 ++ (f6 ++ (f7 ++ f8)))) e2 in
-      let e4 = none_right f4 (f5 ++ (f6 ++ (f7 ++ f8))) e3 in
-      let e5 = none_right f5 (f6 ++ (f7 ++ f8)) e4 in
-      let e6 = none_right f6 (f7 ++ f8) e5 in
-      let n1 = none_left f1 (f2 ++ (f3 ++ (f4 ++ (f5 ++ (f6 ++ (f7 ++ f8)))))) e in
-      let n2 = none_left f2 (f3 ++ (f4 ++ (f5 ++ (f6 ++ (f7 ++ f8))))) e1 in
-      let n5 = none_left f5 (f6 ++ (f7 ++ f8)) e4 in
-      let n6 = none_left f6 (f7 ++ f8) e5 in
-      let n7 = none_left f7 f8 e6 in
-      let n8 = none_right f7 f8 e6 in
+      let e1 = empty_right f1 (f2 ++ (f3 ++ (f4 ++ (f5 ++ (f6 ++ (f7 ++ f8)))))) e in
+      let e2 = empty_right f2 (f3 ++ (f4 ++ (f5 ++ (f6 ++ (f7 ++ f8))))) e1 in
+      let e3 = empty_right f3 (f4 ++ (f5 ++ (f6 ++ (f7 ++ f8)))) e2 in
+      let e4 = empty_right f4 (f5 ++ (f6 ++ (f7 ++ f8))) e3 in
+      let e5 = empty_right f5 (f6 ++ (f7 ++ f8)) e4 in
+      let e6 = empty_right f6 (f7 ++ f8) e5 in
+      let n1 = empty_left f1 (f2 ++ (f3 ++ (f4 ++ (f5 ++ (f6 ++ (f7 ++ f8)))))) e in
+      let n2 = empty_left f2 (f3 ++ (f4 ++ (f5 ++ (f6 ++ (f7 ++ f8))))) e1 in
+      let n5 = empty_left f5 (f6 ++ (f7 ++ f8)) e4 in
+      let n6 = empty_left f6 (f7 ++ f8) e5 in
+      let n7 = empty_left f7 f8 e6 in
+      let n8 = empty_right f7 f8 e6 in
       let covers = sources_covered q.from q.joined n1 n2 in
       let t = typed_within reach q in
       let joins : join_typed sources t.joined ≡ true = joined_sound sources reach covers q.from q.joined n2 in
       let tests : test_typed sources s.params t.test ≡ true = subst (λ (p : List Column). test_typed sources p t.test ≡ true) (sym agrees.params) (test_sound sources reach covers q.test n7) in
-      let values : list_all is_value_type (query_types s t) ≡ true = subst (λ (p : List Column). list_all is_value_type (map (item_type sources p) t.items) ≡ true) (sym agrees.params) (items_values sources reach g covers (wanted columns) q.items n5) in
+      let values : list_all is_value_type (query_types s t) ≡ true = subst (λ (p : List Column). list_all is_value_type (map (item_type sources p) t.items) ≡ true) (sym agrees.params) (items_values sources reach g covers (wanted_columns columns) q.items n5) in
       let groups : list_all (λ c. is_value_type (column_at sources c)) t.groups ≡ true = groups_sound sources reach covers q.groups in
-      let grouped : (not (query_aggregated t) || list_all (item_grouped t.groups) t.items) ≡ true = items_are_grouped sources reach covers (wanted columns) q.items q.groups (is_aggregated q) refl n5 in
+      let grouped : (not (query_aggregated t) || list_all (item_grouped t.groups) t.items) ≡ true = items_are_grouped sources reach covers (wanted_columns columns) q.items q.groups (is_aggregated q) refl n5 in
       let orders : list_all (order_typed (length t.items)) t.order ≡ true = subst (λ (n : ℕ). list_all (order_typed n) t.order ≡ true) (sym (long_map (typed_item reach g) q.items)) (orders_sound (length q.items) q.order n8) in
       let few : nat_le (length t.items) 16 ≡ true = subst (λ (n : ℕ). nat_le n 16 ≡ true) (sym (long_map (typed_item reach g) q.items)) (not_crowded 16 q.items (within_item_limit (slice_get q.items 16) n6)) in
       rw (joins, tests, values, groups, grouped, orders, few) refl
@@ -404,13 +401,13 @@ module _ (scope : Scope) (s : Schemas) (agrees : Agrees scope s) where
       let f4 = count_faults (Some cs) (length q.items) at in
       let f5 = items_faults reach g cs q.items in
       let rest = item_limit_faults (slice_get q.items 16) ++ (test_faults reach q.test ++ flat_map (order_faults (length q.items)) q.order) in
-      let e1 = none_right f1 (f2 ++ (f3 ++ (f4 ++ (f5 ++ rest)))) e in
-      let e2 = none_right f2 (f3 ++ (f4 ++ (f5 ++ rest))) e1 in
-      let e3 = none_right f3 (f4 ++ (f5 ++ rest)) e2 in
-      let e4 = none_right f4 (f5 ++ rest) e3 in
-      let covers = sources_covered q.from q.joined (none_left f1 (f2 ++ (f3 ++ (f4 ++ (f5 ++ rest)))) e) (none_left f2 (f3 ++ (f4 ++ (f5 ++ rest))) e1) in
-      let same : length q.items ≡ length cs = eqb-true (length q.items) (length cs) (no_fault (length q.items == length cs) (WrongCount at) (none_left f4 (f5 ++ rest) e3)) in
-      subst (λ (p : List Column). types_fit (map (item_type sources p) (map (typed_item reach g) q.items)) cs ≡ true) (sym agrees.params) (items_fit sources reach g covers cs q.items same (none_left f5 rest e4))
+      let e1 = empty_right f1 (f2 ++ (f3 ++ (f4 ++ (f5 ++ rest)))) e in
+      let e2 = empty_right f2 (f3 ++ (f4 ++ (f5 ++ rest))) e1 in
+      let e3 = empty_right f3 (f4 ++ (f5 ++ rest)) e2 in
+      let e4 = empty_right f4 (f5 ++ rest) e3 in
+      let covers = sources_covered q.from q.joined (empty_left f1 (f2 ++ (f3 ++ (f4 ++ (f5 ++ rest)))) e) (empty_left f2 (f3 ++ (f4 ++ (f5 ++ rest))) e1) in
+      let same : length q.items ≡ length cs = eqb-true (length q.items) (length cs) (no_fault (length q.items == length cs) (WrongCount at) (empty_left f4 (f5 ++ rest) e3)) in
+      subst (λ (p : List Column). types_fit (map (item_type sources p) (map (typed_item reach g) q.items)) cs ≡ true) (sym agrees.params) (items_fit sources reach g covers cs q.items same (empty_left f5 rest e4))
 
   -- the rows fit the columns that they go into
   pub query_out : (columns : Option (List Column)) (at : ℕ) (q : QueryTree) → faults_within (query_reach scope q) columns at q ≡ [] → out_fits s columns (typed_within (query_reach scope q) q) ≡ true

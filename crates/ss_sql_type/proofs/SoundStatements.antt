@@ -3,6 +3,8 @@ use Rattle.std.proofs.Common.{◌≡◌, ℕ, refl, sym, ap, ◌∙◌, subst, B
 use Rattle.std.specs.Prelude.{find, ◌&&◌, ◌==◌, not, cond, is_some, unwrap_or}
 use Rattle.std.specs.Option.{option_map}
 use Rattle.std.proofs.lemmas.Bool.{and_from, and_parts}
+use Rattle.ss_lemmas.proofs.Results.{some_is}
+use Rattle.ss_lemmas.proofs.Counts.{empty_left, empty_right}
 use Rattle.ss_value.specs.declared.schema.Column.{Column}
 use Rattle.ss_sql_lex.specs.declared.tree.ExprTree.{ExprTree}
 use Rattle.ss_sql_lex.specs.declared.tree.SetTree.{SetTree}
@@ -23,10 +25,10 @@ use Rattle.ss_sql_type.specs.Refusals.{fault_unless}
 use Rattle.ss_sql_type.specs.Names.{same_name, columns_of, source_columns}
 use Rattle.ss_sql_type.specs.Expressions.{expr_faults}
 use Rattle.ss_sql_type.specs.Items.{typed_value, values_faults, test_faults}
-use Rattle.ss_sql_type.specs.Queries.{unknown_faults, count_faults, wanted, query_faults, typed_query}
+use Rattle.ss_sql_type.specs.Queries.{unknown_faults, count_faults, wanted_columns, query_faults, typed_query}
 use Rattle.ss_sql_type.specs.Statements.{target_of, table_of, insert_target, table_named, target_or_first, table_or_first, columns_in, key_of, bare, of_table, has, column_faults, kind_needs, set_needs, with_column, set_column, set_faults, sets_faults, typed_set, insert_faults, statement_faults, typed_statement}
 use Rattle.ss_sql_type.specs.Agrees.{Agrees}
-use Rattle.ss_sql_type.proofs.Sound.{none_left, none_right, no_fault, named_kind, Covers}
+use Rattle.ss_sql_type.proofs.Sound.{no_fault, named_kind, Covers}
 use Rattle.ss_sql_type.proofs.SoundQueries.{found_there, known_source, placed_sound, test_sound, values_fit, one_covered, query_sound, query_fits}
 
 -- ---- targets
@@ -40,13 +42,9 @@ found_passes : (list : List Named) (test : Named → Bool) (n : Named) → find 
 found_passes [] test n e = absurd cc
 found_passes (x ∷ list) test n e = passes_step (test x) x n test (find test list) refl (found_passes list test n) e
 
-some_is : {X : Type 0} (o : Option X) → is_some o ≡ true → (x : X) × (o ≡ Some x)
-some_is None e = absurd cc
-some_is (Some x) e = (x, refl)
-
 module _ (scope : Scope) (s : Schemas) (agrees : Agrees scope s) where
   -- the columns of a known target
-  target_known : (name : List ℕ) (at : ℕ) → unknown_faults (insert_target scope name) at ≡ [] → s.targets (target_or_first (insert_target scope name)) ≡ wanted (columns_in (insert_target scope name))
+  target_known : (name : List ℕ) (at : ℕ) → unknown_faults (insert_target scope name) at ≡ [] → s.targets (target_or_first (insert_target scope name)) ≡ wanted_columns (columns_in (insert_target scope name))
   target_known name at e =
       let test = λ (n : Named). same_name n.name name && is_some (target_of n.source) in
       let k = known_source (insert_target scope name) at e in
@@ -55,7 +53,7 @@ module _ (scope : Scope) (s : Schemas) (agrees : Agrees scope s) where
       ap (λ (o : Option Named). s.targets (target_or_first o)) k.1
       ∙ ap (λ (o : Option Target). s.targets (unwrap_or o (target.Table 0))) t.1
       ∙ agrees.targets k.0 t.0 there t.1
-      ∙ ap (λ (o : Option Named). wanted (columns_in o)) (sym k.1)
+      ∙ ap (λ (o : Option Named). wanted_columns (columns_in o)) (sym k.1)
 
   table_is_target : (source : SourceId) (t : ℕ) → table_of source ≡ Some t → target_of source ≡ Some (target.Table t)
   table_is_target (source.Table n) t e = let same : n ≡ t = cc in ap (λ (x : ℕ). Some (target.Table x)) same
@@ -78,15 +76,15 @@ module _ (scope : Scope) (s : Schemas) (agrees : Agrees scope s) where
   pub bare_covered : Covers [] (bare scope)
   bare_covered = record { source = λ n which. elim which [ inl zero_is ↦ subst (λ (m : ℕ). get_or [] m [] ≡ source_columns (bare scope) m) (sym zero_is) refl | inr one_is ↦ subst (λ (m : ℕ). get_or [] m [] ≡ source_columns (bare scope) m) (sym one_is) refl ] }
 
-  insert_sound : (name : List ℕ) (at : ℕ) (values : List ExprTree) (given : Option Named) → insert_target scope name ≡ given → insert_faults scope given at values ≡ [] → types_fit (map (expr_type [] s.params) (map (typed_value (bare scope)) values)) (wanted (columns_in given)) ≡ true
+  insert_sound : (name : List ℕ) (at : ℕ) (values : List ExprTree) (given : Option Named) → insert_target scope name ≡ given → insert_faults scope given at values ≡ [] → types_fit (map (expr_type [] s.params) (map (typed_value (bare scope)) values)) (wanted_columns (columns_in given)) ≡ true
   insert_sound name at values None is e = absurd cc
   insert_sound name at values (Some n) is e =
       let count = fault_unless (length values == length n.schema) (WrongCount at) in
       let rest = values_faults (bare scope) n.schema values in
-      let same : length values ≡ length n.schema = eqb-true (length values) (length n.schema) (no_fault (length values == length n.schema) (WrongCount at) (none_left count rest e)) in
-      subst (λ (p : List Column). types_fit (map (expr_type [] p) (map (typed_value (bare scope)) values)) n.schema ≡ true) (sym agrees.params) (values_fit [] (bare scope) None bare_covered n.schema values same (none_right count rest e))
+      let same : length values ≡ length n.schema = eqb-true (length values) (length n.schema) (no_fault (length values == length n.schema) (WrongCount at) (empty_left count rest e)) in
+      subst (λ (p : List Column). types_fit (map (expr_type [] p) (map (typed_value (bare scope)) values)) n.schema ≡ true) (sym agrees.params) (values_fit [] (bare scope) None bare_covered n.schema values same (empty_right count rest e))
 
-  insert_query_sound : (at : ℕ) (q : QueryTree) (given : Option Named) → unknown_faults given at ≡ [] → query_faults scope (columns_in given) at q ≡ [] → types_fit (query_types s (typed_query scope q)) (wanted (columns_in given)) ≡ true
+  insert_query_sound : (at : ℕ) (q : QueryTree) (given : Option Named) → unknown_faults given at ≡ [] → query_faults scope (columns_in given) at q ≡ [] → types_fit (query_types s (typed_query scope q)) (wanted_columns (columns_in given)) ≡ true
   insert_query_sound at q None u e = absurd cc
   insert_query_sound at q (Some n) u e = query_fits scope s agrees n.schema at q e
 
@@ -107,8 +105,8 @@ module _ (scope : Scope) (s : Schemas) (agrees : Agrees scope s) where
         let faults = subst (λ (n : Option Kind). expr_faults (of_table scope table) None (kind_needs n) set.value ≡ []) k.known f in
         let right = placed_sound (columns_of table ∷ []) (of_table scope table) None covers (Only k.kind) set.value faults in (
           subst (λ (o : Option ExprType). has_type o (expr_type (columns_of table ∷ []) scope.params (typed_value (of_table scope table) set.value)) ≡ true) (sym k.typed) right,
-          no_fault (not (has key c)) (KeyIsSet set.column.at) (none_left first second e),
-          no_fault (not (has earlier c)) (WrongCount set.column.at) (none_right first second e),
+          no_fault (not (has key c)) (KeyIsSet set.column.at) (empty_left first second e),
+          no_fault (not (has earlier c)) (WrongCount set.column.at) (empty_right first second e),
         )
 
     grown : (earlier : List ℕ) (key : List ℕ) (at : ℕ) (c : Option ℕ) → column_faults key earlier at c ≡ [] → with_column earlier c ≡ earlier ++ unwrap_or c 0 ∷ []
@@ -124,9 +122,9 @@ module _ (scope : Scope) (s : Schemas) (agrees : Agrees scope s) where
         let rest = sets_faults reach key (with_column earlier c) sets in
         let column = column_faults key earlier set.column.at c in
         let value = expr_faults reach None (set_needs (columns_of table) c) set.value in
-        let mine = none_left own rest e in
-        let one = one_set key earlier set c refl (none_left column value mine) (none_right column value mine) in
-        let next = subst (λ (l : List ℕ). sets_typed s (columns_of table) key l (map (typed_set reach) sets) ≡ true) (grown earlier key set.column.at c (none_left column value mine)) (sets_sound key (with_column earlier c) sets (none_right own rest e)) in
+        let mine = empty_left own rest e in
+        let one = one_set key earlier set c refl (empty_left column value mine) (empty_right column value mine) in
+        let next = subst (λ (l : List ℕ). sets_typed s (columns_of table) key l (map (typed_set reach) sets) ≡ true) (grown earlier key set.column.at c (empty_left column value mine)) (sets_sound key (with_column earlier c) sets (empty_right own rest e)) in
         let typed : has_type (schema_type (columns_of table) (unwrap_or c 0)) (expr_type (columns_of table ∷ []) s.params (typed_value reach set.value)) ≡ true =
         subst (λ (p : List Column). has_type (schema_type (columns_of table) (unwrap_or c 0)) (expr_type (columns_of table ∷ []) p (typed_value reach set.value)) ≡ true) (sym agrees.params) one.0 in
         rw (typed, one.1, one.2, next) refl
@@ -141,12 +139,12 @@ module _ (scope : Scope) (s : Schemas) (agrees : Agrees scope s) where
   pub statement_sound : (st : StatementTree) → statement_faults scope st ≡ [] → statement_typed s (typed_statement scope st) ≡ true
   statement_sound (tree.InsertValues at t values) e =
       let given = insert_target scope t.name in
-      let known = target_known t.name t.at (none_left (unknown_faults given t.at) (count_faults (columns_in given) (length values) t.at ++ values_faults (bare scope) (wanted (columns_in given)) values) e) in
+      let known = target_known t.name t.at (empty_left (unknown_faults given t.at) (count_faults (columns_in given) (length values) t.at ++ values_faults (bare scope) (wanted_columns (columns_in given)) values) e) in
       subst (λ (l : List Column). types_fit (map (expr_type [] s.params) (map (typed_value (bare scope)) values)) l ≡ true) (sym known) (insert_sound t.name t.at values given refl e)
   statement_sound (tree.InsertQuery at t q) e =
       let given = insert_target scope t.name in
-      let u = none_left (unknown_faults given t.at) (query_faults scope (columns_in given) t.at q) e in
-      let f = none_right (unknown_faults given t.at) (query_faults scope (columns_in given) t.at q) e in
+      let u = empty_left (unknown_faults given t.at) (query_faults scope (columns_in given) t.at q) e in
+      let f = empty_right (unknown_faults given t.at) (query_faults scope (columns_in given) t.at q) e in
       let known = target_known t.name t.at u in
       and_from (query_typed s (typed_query scope q)) (types_fit (query_types s (typed_query scope q)) (s.targets (target_or_first given)))
       (query_sound scope s agrees (columns_in given) t.at q f)
@@ -156,18 +154,18 @@ module _ (scope : Scope) (s : Schemas) (agrees : Agrees scope s) where
       let a = unknown_faults table t.at in
       let b = sets_faults (of_table scope table) (key_of table) [] sets in
       let c = test_faults (of_table scope table) test in
-      let known = table_known t.name t.at (none_left a (b ++ c) e) in
-      let rest = none_right a (b ++ c) e in
+      let known = table_known t.name t.at (empty_left a (b ++ c) e) in
+      let rest = empty_right a (b ++ c) e in
       let sets_typed_on = λ (l : List Column) (k : List ℕ). sets_typed s l k [] (map (typed_set (of_table scope table)) sets) in
       let test_typed_on = λ (l : List Column). test_typed (l ∷ []) s.params (option_map (typed_value (of_table scope table)) test) in
       let columns = s.targets (target.Table (table_or_first table)) in
       let key = s.keys (table_or_first table) in
       and_from (sets_typed_on columns key) (test_typed_on columns)
-      (subst (λ (l : List Column). sets_typed_on l key ≡ true) (sym known.0) (subst (λ (k : List ℕ). sets_typed_on (columns_of table) k ≡ true) (sym known.1) (sets_sound table (key_of table) [] sets (none_left b c rest))))
-      (subst (λ (l : List Column). test_typed_on l ≡ true) (sym known.0) (where_sound table test (none_right b c rest)))
+      (subst (λ (l : List Column). sets_typed_on l key ≡ true) (sym known.0) (subst (λ (k : List ℕ). sets_typed_on (columns_of table) k ≡ true) (sym known.1) (sets_sound table (key_of table) [] sets (empty_left b c rest))))
+      (subst (λ (l : List Column). test_typed_on l ≡ true) (sym known.0) (where_sound table test (empty_right b c rest)))
   statement_sound (tree.Delete at t test) e =
       let table = table_named scope t.name in
       let a = unknown_faults table t.at in
       let c = test_faults (of_table scope table) test in
-      let known = table_known t.name t.at (none_left a c e) in
-      subst (λ (l : List Column). test_typed (l ∷ []) s.params (option_map (typed_value (of_table scope table)) test) ≡ true) (sym known.0) (where_sound table test (none_right a c e))
+      let known = table_known t.name t.at (empty_left a c e) in
+      subst (λ (l : List Column). test_typed (l ∷ []) s.params (option_map (typed_value (of_table scope table)) test) ≡ true) (sym known.0) (where_sound table test (empty_right a c e))

@@ -23,9 +23,9 @@ use Rattle.ss_sql_type.specs.declared.kinds.Kind.{Kind}
 use Rattle.ss_sql_type.specs.declared.kinds.Kind.TheVariants.{Int, Text}
 use Rattle.ss_sql_type.specs.Refusals.{fault_unless}
 use Rattle.ss_sql_type.specs.Kinds.{may_be, may_compare, fits, sign_kind, gives}
-use Rattle.ss_sql_type.specs.Names.{Reach, column_named, resolve, column_place, kind_in, known, name_faults, known_kind}
+use Rattle.ss_sql_type.specs.Names.{Reach, column_named, resolve, column_offset, kind_in, column_meant, name_faults, known_kind}
 
--- an expression: its typed tree, with 0 for what is not known; its type; its place; the rules that it breaks
+-- an expression: its typed tree, with 0 for what is not known; its type; its offset; and its faults
 pub record Typed : Type 0 where
   pub expr : Expr
   pub kind : Option Kind
@@ -44,7 +44,7 @@ abbrev pub column_expr : Option ColAt → Expr
 column_expr (Some c) = Col c.source c.column
 column_expr None = Col 0 0
 
--- grouped, where it has to be: `grouped` are the columns that an item of an aggregated query may use
+-- whether a column is grouped, where it has to be: `grouped` are the columns that an item of an aggregated query may use
 abbrev pub is_grouped : Option (List ColAt) → Option ColAt → Bool
 is_grouped (Some grouped) (Some c) = list_any (λ g. is_column g c.source c.column) grouped
 is_grouped _ _ = true
@@ -52,10 +52,10 @@ is_grouped _ _ = true
 -- a column by its source's number and its position
 abbrev pub typed_column : Reach → Option (List ColAt) → ℕ → ColumnTree → Result ColAt TypeError → Typed
 typed_column reach grouped at tree found = record {
-  expr = column_expr (known found);
+  expr = column_expr (column_meant found);
   kind = known_kind reach found;
   at = at;
-  faults = name_faults found ++ fault_unless (is_grouped grouped (known found)) (NotAggregated (column_place tree));
+  faults = name_faults found ++ fault_unless (is_grouped grouped (column_meant found)) (NotAggregated (column_offset tree));
 }
 
 -- ---- operators
@@ -64,14 +64,14 @@ typed_column reach grouped at tree found = record {
 abbrev pub side_faults : Kind → Typed → List TypeError
 side_faults kind side = fault_unless (may_be kind side.kind) (WrongType side.at)
 
--- both sides are of the type that it takes, and those of a comparison of one type, reported at the right side
+-- an operator's sides are both of the type that it takes; those of a comparison can be compared, which is reported at the right side
 abbrev pub sides_faults : BinaryOp → Typed → Typed → List TypeError
 sides_faults (Compare cmp) left right = fault_unless (may_compare left.kind right.kind) (WrongType right.at)
 sides_faults op left right = side_faults (gives op) left ++ side_faults (gives op) right
 
 -- ---- expressions
 
--- one level, of whose sides all is known
+-- a node, by what its sides are
 abbrev pub level : Reach → Option (List ColAt) → ExprTree-F Typed → Typed
 level reach grouped (ExprTree-F.Number at number) = record { expr = Lit (value.Int number.value); kind = Some Int; at = at; faults = [] }
 level reach grouped (ExprTree-F.Text at text) = record { expr = Lit (value.Text text.value); kind = Some Text; at = at; faults = [] }
@@ -94,22 +94,22 @@ level reach grouped (ExprTree-F.Binary at op left right) = record {
 abbrev pub typed_expr : Reach → Option (List ColAt) → ExprTree → Typed
 typed_expr reach grouped = fold-ExprTree Typed (level reach grouped)
 
--- its own faults, and that it is not what its place needs
-abbrev pub placed_faults : Needs → Typed → List TypeError
-placed_faults needs t = t.faults ++ fault_unless (fits needs t.kind) (WrongType t.at)
+-- the faults of an expression that has to be what its context needs: its own, and that it is not
+abbrev pub faults_at : Needs → Typed → List TypeError
+faults_at needs t = t.faults ++ fault_unless (fits needs t.kind) (WrongType t.at)
 
--- the rules that an expression breaks at a place that needs this
+-- the faults of an expression's tree that has to be what its context needs
 abbrev pub expr_faults : Reach → Option (List ColAt) → Needs → ExprTree → List TypeError
-expr_faults reach grouped needs tree = placed_faults needs (typed_expr reach grouped tree)
+expr_faults reach grouped needs tree = faults_at needs (typed_expr reach grouped tree)
 
--- the columns that the code's reference shows
+-- the grouped columns behind the program's reference, if there is one
 abbrev pub grouping : Option (Bor (List ColAt)) → Option (List ColAt)
 grouping grouped = option_copied grouped
 
--- what the code's struct shows of an expression, its faults being noted elsewhere
-abbrev pub shown : TypedExpr → Typed
-shown typed = record { expr = typed.expr; kind = typed.kind; at = typed.at; faults = [] }
+-- an expression as the program's struct has it; its faults are kept apart
+abbrev pub set_of : TypedExpr → Typed
+set_of typed = record { expr = typed.expr; kind = typed.kind; at = typed.at; faults = [] }
 
--- the code's struct has an expression's tree, type and place
+-- the program's struct has an expression's tree, type and offset
 abbrev pub Shows : TypedExpr → Typed → Type 0
 Shows typed t = (typed.expr ≡ t.expr) × (typed.kind ≡ t.kind) × (typed.at ≡ t.at)

@@ -17,7 +17,7 @@ abbrev pub kind_of : ColType → Kind
 kind_of column.Int = Int
 kind_of column.Text = Text
 
--- no other type than this
+-- whether an expression has this type, or none that is known
 abbrev pub may_be : Kind → Option Kind → Bool
 may_be kind None = true
 may_be Int (Some Int) = true
@@ -25,15 +25,15 @@ may_be Text (Some Text) = true
 may_be Truth (Some Truth) = true
 may_be _ _ = false
 
--- no other type than Int and Text, as items need
+-- whether an expression is an Int or a Text, as items need, or has no type that is known
 abbrev pub may_be_value : Option Kind → Bool
 may_be_value kind = may_be Int kind || may_be Text kind
 
--- two Ints or two Texts, as a comparison takes
+-- whether two sides may be two Ints or two Texts, as a comparison takes
 abbrev pub may_compare : Option Kind → Option Kind → Bool
 may_compare left right = (may_be Int left && may_be Int right) || (may_be Text left && may_be Text right)
 
--- what a place needs: an Int or a Text, or one type alone
+-- whether an expression is what its context needs: an Int or a Text, or one type and no other
 abbrev pub fits : Needs → Option Kind → Bool
 fits Value kind = may_be_value kind
 fits (Only wanted) kind = may_be wanted kind

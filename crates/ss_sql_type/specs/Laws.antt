@@ -1,4 +1,4 @@
--- A tree has one answer: it breaks no rule, or it has one least fault.
+-- A tree has one answer: it has no fault, or it has one least fault.
 use Rattle.std.specs.Prelude.{◌≡◌, List, []}
 use Rattle.ss_sql_type.specs.declared.scope.TypeError.{TypeError}
 use Rattle.ss_sql_type.specs.Refusals.{IsLeast}
@@ -7,6 +7,6 @@ use Rattle.ss_sql_type.specs.Refusals.{IsLeast}
 abbrev pub OneRefusal : Type 0
 OneRefusal = (faults : List TypeError) (e f : TypeError) → IsLeast faults e → IsLeast faults f → e ≡ f
 
--- where no rule is broken there is no least fault
+-- where there is no fault there is no least one
 abbrev pub RefusedOrTyped : Type 0
 RefusedOrTyped = (e : TypeError) → IsLeast [] e → ⊥

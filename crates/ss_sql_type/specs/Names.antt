@@ -1,4 +1,4 @@
--- What names stand for.
+-- What names refer to.
 use Rattle.std.specs.Prelude.{ℕ, nat_eq, ◌==◌, ◌&&◌, Bool, false, List, [], ◌∷◌, Option, Some, None, Result, Ok, Err, find, position, slice_get, unwrap_or, if◌then◌else◌, length, nat_le}
 use Rattle.std.specs.Option.{option_map, ok_or}
 use Rattle.std.specs.Cmp.Lexicographic.{pointwise}
@@ -12,15 +12,15 @@ use Rattle.ss_sql_type.specs.declared.scope.TypeError.TheVariants.{UnknownName}
 use Rattle.ss_sql_type.specs.declared.kinds.Kind.{Kind}
 use Rattle.ss_sql_type.specs.Kinds.{kind_of}
 
--- the same name
+-- whether two names are the same
 abbrev pub same_name : List ℕ → List ℕ → Bool
 same_name a b = pointwise nat_eq a b
 
--- what has that name, the first of several
-abbrev pub named : List Named → List ℕ → Option Named
-named list name = find (λ (n : Named). same_name n.name name) list
+-- the source or target with that name, the first of several
+abbrev pub source_named : List Named → List ℕ → Option Named
+source_named list name = find (λ (n : Named). same_name n.name name) list
 
--- the position of the column of that name, the first of several
+-- the position of the column with that name, the first of several
 abbrev pub column_named : List Column → List ℕ → Option ℕ
 column_named columns name = position (λ (c : Column). same_name c.name name) columns
 
@@ -29,17 +29,17 @@ abbrev pub columns_of : Option Named → List Column
 columns_of None = []
 columns_of (Some source) = source.schema
 
--- what the names in an expression may stand for: columns of FROM or the target, columns of JOIN, and parameters
+-- what the names in an expression may refer to: columns of FROM or of the table that is changed, columns of JOIN, and parameters
 pub record Reach : Type 0 where
   pub first : Option Named
   pub second : Option Named
   pub params : List Column
 
--- its columns are numbered by one byte
+-- whether the position of each column and parameter fits a byte
 abbrev pub is_narrow : Reach → Bool
 is_narrow reach = nat_le (length (columns_of reach.first)) 256 && nat_le (length (columns_of reach.second)) 256 && nat_le (length reach.params) 256
 
--- the source has that name
+-- whether the source has that name
 abbrev pub is_source : Option Named → List ℕ → Bool
 is_source None name = false
 is_source (Some source) name = same_name source.name name
@@ -48,35 +48,35 @@ is_source (Some source) name = same_name source.name name
 abbrev pub column_of : ℕ → ℕ → ColAt
 column_of source column = record { source = source; column = column }
 
--- a name that is a column of one of two sources, and not of both
+-- the column that a name without a dot refers to, which has to be in one source and not in both
 abbrev pub one_of : ℕ → Option ℕ → Option ℕ → Result ColAt TypeError
 one_of at (Some column) None = Ok (column_of 0 column)
 one_of at None (Some column) = Ok (column_of 1 column)
 one_of at _ _ = Err (UnknownName at)
 
--- a name that is a column of the source with that number
+-- the column of the source with that number that a name refers to
 abbrev pub column_in : ℕ → List Column → NameTree → Result ColAt TypeError
 column_in source columns name = ok_or (option_map (column_of source) (column_named columns name.name)) (UnknownName name.at)
 
--- a column behind the name of a source
-abbrev pub dotted : Reach → NameTree → NameTree → Result ColAt TypeError
-dotted reach source name =
+-- the column that a name behind a source's name and a dot refers to
+abbrev pub column_behind : Reach → NameTree → NameTree → Result ColAt TypeError
+column_behind reach source name =
     if is_source reach.first source.name then column_in 0 (columns_of reach.first) name
     else if is_source reach.second source.name then column_in 1 (columns_of reach.second) name
     else Err (UnknownName source.at)
 
--- which column a name stands for, or the fault in it
+-- which column a name refers to, behind a source's name or alone, or the fault in it
 abbrev pub resolve_name : Reach → Option NameTree → NameTree → Result ColAt TypeError
 resolve_name reach None name = one_of name.at (column_named (columns_of reach.first) name.name) (column_named (columns_of reach.second) name.name)
-resolve_name reach (Some source) name = dotted reach source name
+resolve_name reach (Some source) name = column_behind reach source name
 
--- which column a tree stands for, or the fault in it
+-- which column a tree refers to, or the fault in it
 abbrev pub resolve : Reach → ColumnTree → Result ColAt TypeError
 resolve reach c = resolve_name reach c.source c.name
 
--- the place of a column's first token
-abbrev pub column_place : ColumnTree → ℕ
-column_place c = unwrap_or (option_map (λ (s : NameTree). s.at) c.source) c.name.at
+-- the offset of a column's first token
+abbrev pub column_offset : ColumnTree → ℕ
+column_offset c = unwrap_or (option_map (λ (s : NameTree). s.at) c.source) c.name.at
 
 -- the columns of the source with that number
 abbrev pub source_columns : Reach → ℕ → List Column
@@ -91,9 +91,9 @@ abbrev pub kind_at : Reach → ColAt → Option Kind
 kind_at reach at = kind_in (source_columns reach at.source) at.column
 
 -- the column that was meant, where there is one
-abbrev pub known : Result ColAt TypeError → Option ColAt
-known (Ok at) = Some at
-known (Err fault) = None
+abbrev pub column_meant : Result ColAt TypeError → Option ColAt
+column_meant (Ok at) = Some at
+column_meant (Err fault) = None
 
 -- the fault in a name, where there is one
 abbrev pub name_faults : Result ColAt TypeError → List TypeError

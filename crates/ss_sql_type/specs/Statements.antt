@@ -31,11 +31,11 @@ use Rattle.ss_sql_type.specs.Kinds.{may_compare}
 use Rattle.ss_sql_type.specs.Names.{Reach, same_name, column_named, columns_of, kind_in}
 use Rattle.ss_sql_type.specs.Expressions.{Typed, typed_expr, expr_faults}
 use Rattle.ss_sql_type.specs.Items.{item_kind, typed_value, values_faults, test_faults}
-use Rattle.ss_sql_type.specs.Queries.{query_reach, unknown_faults, count_faults, wanted, query_faults, typed_query}
+use Rattle.ss_sql_type.specs.Queries.{query_reach, unknown_faults, count_faults, wanted_columns, query_faults, typed_query}
 
 -- ---- targets
 
--- rows go into tables and windows
+-- the target that a source is: rows can go into tables and windows
 abbrev pub target_of : SourceId → Option Target
 target_of (source.Table t) = Some (target.Table t)
 target_of (source.Window w) = Some (target.Window w)
@@ -47,11 +47,11 @@ abbrev pub table_of : SourceId → Option ℕ
 table_of (source.Table t) = Some t
 table_of _ = None
 
--- the table or window of that name
+-- the table or window with that name
 abbrev pub insert_target : Scope → List ℕ → Option Named
 insert_target scope name = find (λ (n : Named). same_name n.name name && is_some (target_of n.source)) scope.targets
 
--- the table of that name
+-- the table with that name
 abbrev pub table_named : Scope → List ℕ → Option Named
 table_named scope name = find (λ (n : Named). same_name n.name name && is_some (table_of n.source)) scope.targets
 
@@ -63,45 +63,45 @@ target_or_first given = unwrap_or (option_and_then (λ (n : Named). target_of n.
 abbrev pub table_or_first : Option Named → ℕ
 table_or_first given = unwrap_or (option_and_then (λ (n : Named). table_of n.source) given) 0
 
--- its columns, where it is known
+-- the columns of a target, where it is known
 abbrev pub columns_in : Option Named → Option (List Column)
 columns_in given = option_map (λ (n : Named). n.schema) given
 
--- its key columns
+-- the key columns of a table, and none where it is not known
 abbrev pub key_of : Option Named → List ℕ
 key_of None = []
 key_of (Some n) = n.key
 
--- parameters alone may be named
+-- what names may refer to: only parameters
 abbrev pub bare : Scope → Reach
 bare scope = record { first = None; second = None; params = scope.params }
 
--- the columns of one table and the parameters may be named
+-- what names may refer to: the columns of one table, and the parameters
 abbrev pub of_table : Scope → Option Named → Reach
 of_table scope table = record { first = table; second = None; params = scope.params }
 
 -- ---- SET
 
--- the column is one of these
+-- whether the column is one of these
 abbrev pub has : List ℕ → ℕ → Bool
 has columns column = list_any (λ c. c == column) columns
 
--- a column that is there, no key column, and none that was set before
+-- a column that is set is known, is no key column, and was not set before
 abbrev pub column_faults : List ℕ → List ℕ → ℕ → Option ℕ → List TypeError
 column_faults key earlier at None = UnknownName at ∷ []
 column_faults key earlier at (Some c) = fault_unless (not (has key c)) (KeyIsSet at) ++ fault_unless (not (has earlier c)) (WrongCount at)
 
--- a value of this type, where it is known
+-- a value of this type is needed, and any value where the type is not known
 abbrev pub kind_needs : Option Kind → Needs
 kind_needs None = Value
 kind_needs (Some kind) = Only kind
 
--- a value of the type of the column that is set
+-- a value of the type of the column that is set is needed, and any value where that is not known
 abbrev pub set_needs : List Column → Option ℕ → Needs
 set_needs columns None = Value
 set_needs columns (Some c) = kind_needs (kind_in columns c)
 
--- the columns that are set, one further
+-- the columns that were set, and this one, if it is known
 abbrev pub with_column : List ℕ → Option ℕ → List ℕ
 with_column earlier None = earlier
 with_column earlier (Some c) = earlier ++ c ∷ []
@@ -110,13 +110,13 @@ with_column earlier (Some c) = earlier ++ c ∷ []
 abbrev pub set_column : Reach → SetTree → Option ℕ
 set_column reach s = column_named (columns_of reach.first) s.column.name
 
--- the rules that one SET breaks: in its column, and in its value
+-- the faults of one SET: in its column, and in its value
 abbrev pub set_faults : Reach → List ℕ → List ℕ → SetTree → List TypeError
 set_faults reach key earlier s =
     column_faults key earlier s.column.at (set_column reach s)
     ++ expr_faults reach None (set_needs (columns_of reach.first) (set_column reach s)) s.value
 
--- one SET after the other: `earlier` are the columns set before
+-- the faults of all SETs, one after another: `earlier` are the columns set before
 abbrev pub sets_faults : Reach → List ℕ → List ℕ → List SetTree → List TypeError
 sets_faults reach key earlier [] = []
 sets_faults reach key earlier (s ∷ sets) = set_faults reach key earlier s ++ sets_faults reach key (with_column earlier (set_column reach s)) sets
@@ -127,29 +127,29 @@ typed_set reach s = record { column = unwrap_or (set_column reach s) 0; value = 
 
 -- ---- statements
 
--- the rules that an UPDATE of this table breaks
+-- the faults of an UPDATE of this table
 abbrev pub update_faults : Scope → NameTree → List SetTree → Option ExprTree → List TypeError
 update_faults scope table sets test =
     unknown_faults (table_named scope table.name) table.at
     ++ (sets_faults (of_table scope (table_named scope table.name)) (key_of (table_named scope table.name)) [] sets
     ++ test_faults (of_table scope (table_named scope table.name)) test)
 
--- the rules that a DELETE from this table breaks
+-- the faults of a DELETE from this table
 abbrev pub delete_faults : Scope → NameTree → Option ExprTree → List TypeError
 delete_faults scope table test = unknown_faults (table_named scope table.name) table.at ++ test_faults (of_table scope (table_named scope table.name)) test
 
--- the rules that an INSERT of values into this target breaks
+-- the faults of an INSERT of values into this target
 abbrev pub insert_faults : Scope → Option Named → ℕ → List ExprTree → List TypeError
 insert_faults scope given at values =
     unknown_faults given at
     ++ (count_faults (columns_in given) (length values) at
-    ++ values_faults (bare scope) (wanted (columns_in given)) values)
+    ++ values_faults (bare scope) (wanted_columns (columns_in given)) values)
 
--- the rules that an INSERT of a query's rows into this target breaks
+-- the faults of an INSERT of a query's rows into this target
 abbrev pub insert_query_faults : Scope → Option Named → ℕ → QueryTree → List TypeError
 insert_query_faults scope given at q = unknown_faults given at ++ query_faults scope (columns_in given) at q
 
--- the rules that a statement breaks
+-- the faults of a statement
 abbrev pub statement_faults : Scope → StatementTree → List TypeError
 statement_faults scope (tree.InsertValues at target values) = insert_faults scope (insert_target scope target.name) target.at values
 statement_faults scope (tree.InsertQuery at target q) = insert_query_faults scope (insert_target scope target.name) target.at q
@@ -177,11 +177,11 @@ typed_statement scope (tree.Delete at table test) = typed_delete scope (table_na
 abbrev pub first_kind : Reach → List ItemTree → Option Kind
 first_kind reach items = option_and_then (item_kind reach) (slice_get items 0)
 
--- the right side is of the type of the one item
+-- the faults of a right side, which has to be comparable with the first item
 abbrev pub right_faults : Option Kind → Typed → List TypeError
 right_faults kind t = t.faults ++ fault_unless (may_compare kind t.kind) (WrongType t.at)
 
--- the rules that a condition breaks
+-- the faults of a condition
 abbrev pub condition_faults : Scope → ConditionTree → List TypeError
 condition_faults scope c =
     query_faults scope None 0 c.query

@@ -1,12 +1,10 @@
-//! Columns whose names are hashed.
+//! Columns, sought by their names.
 
 ghost use Rattle.std.specs.Prelude.{◌≡◌, IfOk};
 ghost use Rattle.ss_sql_type.specs.Names.{column_named};
 
 use ss_names::NameIndex;
-use ss_value::NoMemory;
-use ss_value::schema::Column;
-use ss_value::text::Name;
+use ss_value::{Column, Name, NoMemory};
 use std::alloc::Global;
 use std::marker::Model;
 
@@ -30,7 +28,7 @@ impl<'a> Model for Columns<'a> {
 }
 
 impl<'a> Columns<'a> {
-    /// The columns with their index, in time linear in them.
+    /// The columns with an index of their names, in time and memory linear in them.
     pub fn new(alloc: Global, list: &'a [Column]) -> Result<Columns<'a>, NoMemory>
         ensures { IfOk result (λ columns. columns ≡ list.now) }
     {
@@ -45,7 +43,7 @@ impl<'a> Columns<'a> {
         self.list
     }
 
-    /// The position of the column of a name, the first of several. Takes the time of a hash.
+    /// The position of the column with a name, the first of several. Takes the time of a hash.
     #[tactic(auto, using(crate::proofs::Hashed::column_named_is))]
     pub fn position(&self, name: &Name) -> Option<usize>
         ensures { result ≡ column_named self.now name.now }

@@ -3,39 +3,35 @@
 ghost use Rattle.std.specs.Prelude.{◌≡◌, IsTrue, IfOk, OnOk, Some, None};
 ghost use Rattle.ss_sql_lex.specs.declared.typed.Expr.TheVariants.{Unary, Binary};
 ghost use Rattle.ss_sql_type.specs.Kinds.{sign_kind, gives};
-ghost use Rattle.ss_sql_type.specs.Refusals.{all_noted};
+ghost use Rattle.ss_sql_type.specs.Refusals.{least_of};
 ghost use Rattle.ss_sql_type.specs.Names.{is_narrow, resolve, column_named};
-ghost use Rattle.ss_sql_type.specs.Expressions.{typed_param, typed_column, typed_expr, is_grouped, side_faults, sides_faults, grouping, shown, Shows, expr_faults};
+ghost use Rattle.ss_sql_type.specs.Expressions.{typed_param, typed_column, typed_expr, is_grouped, side_faults, sides_faults, grouping, set_of, Shows, expr_faults};
 
-use crate::first_fault::{check, note};
+use crate::first_fault::{check, record_fault};
 use crate::grouped::Grouped;
 use crate::kinds::{Kind, Needs, fits, gives, may_be, may_compare, sign_kind};
-use crate::names::{Names, column_place, kind_at, kind_in, resolve};
+use crate::names::{Names, column_offset, kind_at, kind_in, resolve};
 use crate::scope::TypeError;
-use ss_sql_lex::tree::{ColumnTree, ExprTree, NameTree};
-use ss_sql_lex::typed::{BinaryOp, ColAt, Expr, UnaryOp};
-use ss_value::NoMemory;
-use ss_value::copies::Copies;
-use ss_value::keep::Keep;
-use ss_value::value::Value;
+use ss_sql_lex::{BinaryOp, ColAt, ColumnTree, Expr, ExprTree, NameTree, UnaryOp};
+use ss_value::{Boxed, Copies, NoMemory, Value};
 use std::alloc::Global;
 
-/// A typed expression, with its type and its place.
+/// A typed expression, with its type and its offset.
 #[derive(Drop)]
 pub struct TypedExpr {
-    /// The expression, with 0 for what is not known.
+    /// The expression. A name that is not known is number 0 in it: its fault refuses the whole tree.
     pub expr: Expr,
     /// Its type; None where its name is not known.
     pub kind: Option<Kind>,
-    /// The place of its first token.
+    /// The offset of its first token.
     pub at: usize,
 }
 
-/// A parameter. Takes the time of a hash.
+/// Types a parameter. Takes the time of a hash.
 fn param_of(names: &Names, at: usize, name: &NameTree, found: &mut Option<TypeError>) -> TypedExpr
     requires { IsTrue (is_narrow names.now) }
     ensures expr { Shows result (typed_param names.now at name.now (column_named names.now.params name.now.name)) }
-    ensures faults { found.new ≡ all_noted found.old (typed_param names.now at name.now (column_named names.now.params name.now.name)).faults }
+    ensures faults { found.new ≡ least_of found.old (typed_param names.now at name.now (column_named names.now.params name.now.name)).faults }
 {
     match names.in_params(&name.name) {
         Some(number) => TypedExpr {
@@ -44,7 +40,7 @@ fn param_of(names: &Names, at: usize, name: &NameTree, found: &mut Option<TypeEr
             at,
         },
         None => {
-            note(found, TypeError::UnknownName(name.at));
+            record_fault(found, TypeError::UnknownName(name.at));
             TypedExpr {
                 expr: Expr::Param(0),
                 kind: None,
@@ -64,7 +60,7 @@ fn is_grouped(grouped: Option<&Grouped>, column: ColAt) -> bool
     }
 }
 
-/// A column. Takes the time of two hashes, and of one more where it has to be grouped.
+/// Types a column. Takes the time of two hashes, and of one more where it has to be grouped.
 fn column_of(
     names: &Names,
     grouped: Option<&Grouped>,
@@ -74,12 +70,12 @@ fn column_of(
 ) -> TypedExpr
     requires { IsTrue (is_narrow names.now) }
     ensures expr { Shows result (typed_column names.now (grouping grouped.entry) at tree.now (resolve names.now tree.now)) }
-    ensures faults { found.new ≡ all_noted found.old (typed_column names.now (grouping grouped.entry) at tree.now (resolve names.now tree.now)).faults }
+    ensures faults { found.new ≡ least_of found.old (typed_column names.now (grouping grouped.entry) at tree.now (resolve names.now tree.now)).faults }
 {
     match resolve(names, tree) {
         Ok(column) => {
             let right = is_grouped(grouped, column);
-            check(found, right, TypeError::NotAggregated(column_place(tree)));
+            check(found, right, TypeError::NotAggregated(column_offset(tree)));
             TypedExpr {
                 expr: Expr::Col {
                     source: column.source,
@@ -90,7 +86,7 @@ fn column_of(
             }
         }
         Err(fault) => {
-            note(found, fault);
+            record_fault(found, fault);
             TypedExpr {
                 expr: Expr::Col {
                     source: 0,
@@ -105,7 +101,7 @@ fn column_of(
 
 /// Checks a side of an operator against the type that the operator takes.
 fn check_side(found: &mut Option<TypeError>, kind: Kind, side: &TypedExpr)
-    ensures { found.new ≡ all_noted found.old (side_faults kind (shown side.now)) }
+    ensures { found.new ≡ least_of found.old (side_faults kind (set_of side.now)) }
 {
     check(
         found,
@@ -116,8 +112,9 @@ fn check_side(found: &mut Option<TypeError>, kind: Kind, side: &TypedExpr)
 
 /// Checks both sides of an operator.
 fn check_sides(found: &mut Option<TypeError>, op: BinaryOp, left: &TypedExpr, right: &TypedExpr)
-    ensures { found.new ≡ all_noted found.old (sides_faults op (shown left.now) (shown right.now)) }
+    ensures { found.new ≡ least_of found.old (sides_faults op (set_of left.now) (set_of right.now)) }
 {
+    // A comparison takes either type, so neither side is wrong by itself, and the fault is the right one's.
     if let BinaryOp::Compare(_) = op {
         check(
             found,
@@ -130,9 +127,9 @@ fn check_sides(found: &mut Option<TypeError>, op: BinaryOp, left: &TypedExpr, ri
     }
 }
 
-/// An expression, in time linear in its nodes.
+/// Types an expression. Linear in its nodes and the bytes of its texts.
 ///
-/// Where `grouped` is given, each column has to be one of those.
+/// Where `grouped` is given, each column of the expression has to be one of these.
 pub fn expr_of(
     alloc: Global,
     names: &Names,
@@ -141,8 +138,8 @@ pub fn expr_of(
     found: &mut Option<TypeError>,
 ) -> Result<TypedExpr, NoMemory>
     requires { IsTrue (is_narrow names.now) }
-    ensures expr { IfOk result (λ typed. Shows typed (typed_expr names.now (grouping grouped.entry) tree.now)) }
-    ensures faults { OnOk result (found.new ≡ all_noted found.old (typed_expr names.now (grouping grouped.entry) tree.now).faults) }
+    ensures ok { IfOk result (λ typed. Shows typed (typed_expr names.now (grouping grouped.entry) tree.now)) }
+    ensures faults { OnOk result (found.new ≡ least_of found.old (typed_expr names.now (grouping grouped.entry) tree.now).faults) }
 {
     match tree {
         ExprTree::Number { at, number } => Ok(TypedExpr {
@@ -160,7 +157,7 @@ pub fn expr_of(
         ExprTree::Unary { at, op, side } => {
             let side = expr_of(alloc, names, grouped, side.get(), found)?;
             check_side(found, sign_kind(*op), &side);
-            signed(alloc, *at, *op, side)
+            unary_of(alloc, *at, *op, side)
         }
         ExprTree::Binary {
             at,
@@ -171,16 +168,16 @@ pub fn expr_of(
             let left = expr_of(alloc, names, grouped, left.get(), found)?;
             let right = expr_of(alloc, names, grouped, right.get(), found)?;
             check_sides(found, *op, &left, &right);
-            joined(alloc, *at, *op, left, right)
+            binary_of(alloc, *at, *op, left, right)
         }
     }
 }
 
 /// An operator before its side.
-fn signed(alloc: Global, at: usize, op: UnaryOp, side: TypedExpr) -> Result<TypedExpr, NoMemory>
+fn unary_of(alloc: Global, at: usize, op: UnaryOp, side: TypedExpr) -> Result<TypedExpr, NoMemory>
     ensures { IfOk result (λ typed. (typed.expr ≡ Unary op side.expr) × (typed.kind ≡ Some (sign_kind op)) × (typed.at ≡ at)) }
 {
-    let side = Keep::new(alloc, side.expr)?;
+    let side = Boxed::new(alloc, side.expr)?;
     Ok(TypedExpr {
         expr: Expr::Unary { op, side },
         kind: Some(sign_kind(op)),
@@ -189,7 +186,7 @@ fn signed(alloc: Global, at: usize, op: UnaryOp, side: TypedExpr) -> Result<Type
 }
 
 /// An operator between its sides.
-fn joined(
+fn binary_of(
     alloc: Global,
     at: usize,
     op: BinaryOp,
@@ -198,8 +195,8 @@ fn joined(
 ) -> Result<TypedExpr, NoMemory>
     ensures { IfOk result (λ typed. (typed.expr ≡ Binary op left.expr right.expr) × (typed.kind ≡ Some (gives op)) × (typed.at ≡ at)) }
 {
-    let left = Keep::new(alloc, left.expr)?;
-    let right = Keep::new(alloc, right.expr)?;
+    let left = Boxed::new(alloc, left.expr)?;
+    let right = Boxed::new(alloc, right.expr)?;
     Ok(TypedExpr {
         expr: Expr::Binary { op, left, right },
         kind: Some(gives(op)),
@@ -207,7 +204,7 @@ fn joined(
     })
 }
 
-/// An expression that has to be what its place needs.
+/// Types an expression that has to be what its context needs.
 pub fn expr_at(
     alloc: Global,
     names: &Names,
@@ -217,8 +214,8 @@ pub fn expr_at(
     found: &mut Option<TypeError>,
 ) -> Result<TypedExpr, NoMemory>
     requires { IsTrue (is_narrow names.now) }
-    ensures expr { IfOk result (λ typed. Shows typed (typed_expr names.now (grouping grouped.entry) tree.now)) }
-    ensures faults { OnOk result (found.new ≡ all_noted found.old (expr_faults names.now (grouping grouped.entry) needs tree.now)) }
+    ensures ok { IfOk result (λ typed. Shows typed (typed_expr names.now (grouping grouped.entry) tree.now)) }
+    ensures faults { OnOk result (found.new ≡ least_of found.old (expr_faults names.now (grouping grouped.entry) needs tree.now)) }
 {
     let typed = expr_of(alloc, names, grouped, tree, found)?;
     check(
@@ -229,7 +226,7 @@ pub fn expr_at(
     Ok(typed)
 }
 
-/// The type of an expression, by its outermost node alone: in constant time.
+/// The type of an expression, which its outermost node decides. Takes the time of two hashes at most.
 pub fn kind_of_expr(names: &Names, tree: &ExprTree) -> Option<Kind>
     requires { IsTrue (is_narrow names.now) }
     ensures { result ≡ (typed_expr names.now None tree.now).kind }

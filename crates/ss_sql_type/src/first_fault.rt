@@ -1,12 +1,13 @@
 //! The least fault so far.
 
 ghost use Rattle.std.specs.Prelude.{◌≡◌};
-ghost use Rattle.ss_sql_type.specs.Refusals.{place, number, is_before, noted, all_noted, fault_unless};
+ghost use Rattle.ss_sql_type.specs.Refusals.{fault_offset, fault_number, is_before, least_with, least_of, fault_unless};
 
 use crate::scope::TypeError;
 
-fn place(fault: TypeError) -> usize
-    ensures { result ≡ place fault }
+/// The offset of a fault.
+fn fault_offset(fault: TypeError) -> usize
+    ensures { result ≡ fault_offset fault }
 {
     match fault {
         TypeError::NoMemory => 0,
@@ -18,8 +19,9 @@ fn place(fault: TypeError) -> usize
     }
 }
 
-fn number(fault: TypeError) -> u8
-    ensures { result ≡ number fault }
+/// The number of a fault, as of the codes S5 to S9. Of two faults at one offset the lesser number is reported.
+fn fault_number(fault: TypeError) -> u8
+    ensures { result ≡ fault_number fault }
 {
     match fault {
         TypeError::NoMemory => 0,
@@ -31,16 +33,17 @@ fn number(fault: TypeError) -> u8
     }
 }
 
+/// Whether a fault is less than another, by offset and then by number.
 fn is_before(fault: TypeError, other: TypeError) -> bool
     ensures { result ≡ is_before fault other }
 {
-    let (at, other_at) = (place(fault), place(other));
-    at < other_at || (at == other_at && number(fault) < number(other))
+    let (at, other_at) = (fault_offset(fault), fault_offset(other));
+    at < other_at || (at == other_at && fault_number(fault) < fault_number(other))
 }
 
-/// Keeps the lesser of what was found and this fault.
-pub fn note(found: &mut Option<TypeError>, fault: TypeError)
-    ensures { found.new ≡ noted found.old fault }
+/// Keeps the lesser of the fault found so far and this one.
+pub fn record_fault(found: &mut Option<TypeError>, fault: TypeError)
+    ensures { found.new ≡ least_with found.old fault }
 {
     match *found {
         None => *found = Some(fault),
@@ -52,11 +55,11 @@ pub fn note(found: &mut Option<TypeError>, fault: TypeError)
     }
 }
 
-/// Notes a fault where its rule is broken.
+/// Finds this fault, where its rule is broken.
 pub fn check(found: &mut Option<TypeError>, right: bool, fault: TypeError)
-    ensures { found.new ≡ all_noted found.old (fault_unless right fault) }
+    ensures { found.new ≡ least_of found.old (fault_unless right fault) }
 {
     if !right {
-        note(found, fault);
+        record_fault(found, fault);
     }
 }

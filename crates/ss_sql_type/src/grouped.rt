@@ -6,7 +6,7 @@ ghost use Rattle.ss_sql_lex.specs.WellTyped.{is_column};
 ghost use Rattle.ss_sql_type.specs.Hashed.{IsSetOf};
 
 use indexmap::IndexSet;
-use ss_sql_lex::typed::ColAt;
+use ss_sql_lex::ColAt;
 use ss_value::NoMemory;
 use std::alloc::Global;
 use std::marker::Model;
@@ -31,8 +31,8 @@ impl<'a> Model for Grouped<'a> {
     ghost invariant = { λ g. IsSetOf g.list.now g.places };
 }
 
-/// The source and the position of each column, in time linear in the columns.
-fn places_of(alloc: Global, columns: &[ColAt]) -> Result<IndexSet<(u8, u8)>, NoMemory>
+/// The source and the position of each column.
+fn positions_of(alloc: Global, columns: &[ColAt]) -> Result<IndexSet<(u8, u8)>, NoMemory>
     ensures { IfOk result (IsSetOf columns.now) }
 {
     let mut places = IndexSet::new(alloc);
@@ -43,11 +43,11 @@ fn places_of(alloc: Global, columns: &[ColAt]) -> Result<IndexSet<(u8, u8)>, NoM
 }
 
 impl<'a> Grouped<'a> {
-    /// The columns with their set, in time linear in them.
+    /// The columns with a set of them, in time and memory linear in them.
     pub fn new(alloc: Global, list: &'a [ColAt]) -> Result<Grouped<'a>, NoMemory>
         ensures { IfOk result (λ columns. columns ≡ list.now) }
     {
-        let places = places_of(alloc, list)?;
+        let places = positions_of(alloc, list)?;
         Ok(Grouped { list, places })
     }
 

@@ -3,39 +3,36 @@
 ghost use Rattle.std.specs.Prelude.{◌≡◌, IsTrue, IfOk, OnOk, None, map, slice_get};
 ghost use Rattle.std.specs.List.{flat_map, list_any};
 ghost use Rattle.std.specs.Option.{option_map};
-ghost use Rattle.ss_sql_type.specs.Refusals.{all_noted};
+ghost use Rattle.ss_sql_type.specs.Refusals.{least_of};
 ghost use Rattle.ss_sql_type.specs.Names.{is_narrow};
 ghost use Rattle.ss_sql_type.specs.Expressions.{grouping};
 ghost use Rattle.ss_sql_lex.specs.declared.tree.ItemTree.TheVariants.{Sum, Min};
-ghost use Rattle.ss_sql_type.specs.Items.{item_place, item_kind, typed_item, item_faults, items_faults, item_limit_faults, is_aggregate, typed_value, values_faults, test_faults, typed_groups, groups_faults, nat_of, typed_order, order_faults};
+ghost use Rattle.ss_sql_type.specs.Items.{item_offset, item_kind, typed_item, item_faults, items_faults, item_limit_faults, is_aggregate, typed_value, values_faults, test_faults, typed_groups, groups_faults, nat_of, typed_order, order_faults};
 
 use crate::expr::{expr_at, kind_of_expr};
-use crate::first_fault::{check, note};
+use crate::first_fault::{check, record_fault};
 use crate::grouped::Grouped;
 use crate::kinds::{Kind, Needs, first_needs, fits, value_kind};
 use crate::names::{Names, resolve};
 use crate::scope::TypeError;
-use ss_sql_lex::tree::{ColumnTree, ExprTree, ItemTree, OrderTree};
-use ss_sql_lex::typed::{ColAt, Expr, Item, OrderBy};
-use ss_value::NoMemory;
-use ss_value::schema::Column;
-use ss_value::seq::Seq;
+use ss_sql_lex::{ColAt, ColumnTree, Expr, ExprTree, Item, ItemTree, OrderBy, OrderTree};
+use ss_value::{Column, NoMemory, Seq};
 use std::alloc::Global;
 
-/// The place of an item's first token.
-fn item_place(item: &ItemTree) -> usize
-    ensures { result ≡ item_place item.now }
+/// The offset of an item's first token.
+fn item_offset(item: &ItemTree) -> usize
+    ensures { result ≡ item_offset item.now }
 {
     match item {
         ItemTree::Count { at } => *at,
         ItemTree::Sum { at, .. } => *at,
         ItemTree::Min { at, .. } => *at,
         ItemTree::Max { at, .. } => *at,
-        ItemTree::Plain(expr) => expr.place(),
+        ItemTree::Plain(expr) => expr.offset(),
     }
 }
 
-/// The type that an item gives, in constant time.
+/// The type that an item gives. Takes the time of two hashes at most.
 pub fn item_kind(names: &Names, item: &ItemTree) -> Option<Kind>
     requires { IsTrue (is_narrow names.now) }
     ensures { result ≡ item_kind names.now item.now }
@@ -49,7 +46,7 @@ pub fn item_kind(names: &Names, item: &ItemTree) -> Option<Kind>
     }
 }
 
-/// What MIN or MAX works on.
+/// Types what MIN or MAX works on, of an item that has to be what its context needs.
 fn value_side(
     alloc: Global,
     names: &Names,
@@ -59,8 +56,8 @@ fn value_side(
     found: &mut Option<TypeError>,
 ) -> Result<Expr, NoMemory>
     requires { IsTrue (is_narrow names.now) }
-    ensures expr { IfOk result (λ expr. expr ≡ typed_value names.now side.now) }
-    ensures faults { OnOk result (found.new ≡ all_noted found.old (item_faults names.now None needs (Min at side.now))) }
+    ensures ok { IfOk result (λ expr. expr ≡ typed_value names.now side.now) }
+    ensures faults { OnOk result (found.new ≡ least_of found.old (item_faults names.now None needs (Min at side.now))) }
 {
     let typed = expr_at(alloc, names, None, Needs::Value, side, found)?;
     check(
@@ -71,7 +68,7 @@ fn value_side(
     Ok(typed.expr)
 }
 
-/// What SUM works on.
+/// Types what SUM works on, of an item that has to be what its context needs.
 fn sum_side(
     alloc: Global,
     names: &Names,
@@ -81,8 +78,8 @@ fn sum_side(
     found: &mut Option<TypeError>,
 ) -> Result<Expr, NoMemory>
     requires { IsTrue (is_narrow names.now) }
-    ensures expr { IfOk result (λ expr. expr ≡ typed_value names.now side.now) }
-    ensures faults { OnOk result (found.new ≡ all_noted found.old (item_faults names.now None needs (Sum at side.now))) }
+    ensures ok { IfOk result (λ expr. expr ≡ typed_value names.now side.now) }
+    ensures faults { OnOk result (found.new ≡ least_of found.old (item_faults names.now None needs (Sum at side.now))) }
 {
     let typed = expr_at(alloc, names, None, Needs::Only(Kind::Int), side, found)?;
     check(
@@ -93,7 +90,8 @@ fn sum_side(
     Ok(typed.expr)
 }
 
-/// An item, as its place needs it.
+/// Types an item that has to be what its context needs. Columns inside an aggregate need not be grouped, so its side is
+/// typed without `grouped`.
 fn item_of(
     alloc: Global,
     names: &Names,
@@ -103,8 +101,8 @@ fn item_of(
     found: &mut Option<TypeError>,
 ) -> Result<Item, NoMemory>
     requires { IsTrue (is_narrow names.now) }
-    ensures item { IfOk result (λ typed. typed ≡ typed_item names.now (grouping grouped.entry) item.now) }
-    ensures faults { OnOk result (found.new ≡ all_noted found.old (item_faults names.now (grouping grouped.entry) needs item.now)) }
+    ensures ok { IfOk result (λ typed. typed ≡ typed_item names.now (grouping grouped.entry) item.now) }
+    ensures faults { OnOk result (found.new ≡ least_of found.old (item_faults names.now (grouping grouped.entry) needs item.now)) }
 {
     match item {
         ItemTree::Count { at } => {
@@ -134,7 +132,7 @@ fn item_of(
     }
 }
 
-/// The items of a query, each for its column.
+/// Types the items of a query, each for the column that it goes into, where there is one.
 pub fn items_of(
     alloc: Global,
     names: &Names,
@@ -144,8 +142,8 @@ pub fn items_of(
     found: &mut Option<TypeError>,
 ) -> Result<Seq<Item>, NoMemory>
     requires { IsTrue (is_narrow names.now) }
-    ensures items { IfOk result (λ typed. typed ≡ map (typed_item names.now (grouping grouped.entry)) items.now) }
-    ensures faults { OnOk result (found.new ≡ all_noted found.old (items_faults names.now (grouping grouped.entry) columns.now items.now)) }
+    ensures ok { IfOk result (λ typed. typed ≡ map (typed_item names.now (grouping grouped.entry)) items.now) }
+    ensures faults { OnOk result (found.new ≡ least_of found.old (items_faults names.now (grouping grouped.entry) columns.now items.now)) }
 {
     let mut typed = Seq::new(alloc);
     let mut rest = columns;
@@ -158,12 +156,12 @@ pub fn items_of(
     Ok(typed)
 }
 
-/// Notes a 17th item.
+/// Finds a 17th item, which is one too many.
 pub fn check_item_limit(items: &[ItemTree], found: &mut Option<TypeError>)
-    ensures { found.new ≡ all_noted found.old (item_limit_faults (slice_get items.now 16)) }
+    ensures { found.new ≡ least_of found.old (item_limit_faults (slice_get items.now 16)) }
 {
     match items.get(16) {
-        Some(item) => note(found, TypeError::WrongCount(item_place(item))),
+        Some(item) => record_fault(found, TypeError::WrongCount(item_offset(item))),
         None => {}
     }
 }
@@ -185,7 +183,7 @@ pub fn has_aggregate(items: &[ItemTree]) -> bool
     items.iter().any(|item| is_aggregate(item))
 }
 
-/// The values of an INSERT, each for its column.
+/// Types the values of an INSERT, each for the column that it goes into, where there is one.
 pub fn values_of(
     alloc: Global,
     names: &Names,
@@ -194,8 +192,8 @@ pub fn values_of(
     found: &mut Option<TypeError>,
 ) -> Result<Seq<Expr>, NoMemory>
     requires { IsTrue (is_narrow names.now) }
-    ensures values { IfOk result (λ typed. typed ≡ map (typed_value names.now) values.now) }
-    ensures faults { OnOk result (found.new ≡ all_noted found.old (values_faults names.now columns.now values.now)) }
+    ensures ok { IfOk result (λ typed. typed ≡ map (typed_value names.now) values.now) }
+    ensures faults { OnOk result (found.new ≡ least_of found.old (values_faults names.now columns.now values.now)) }
 {
     let mut typed = Seq::new(alloc);
     let mut rest = columns;
@@ -208,7 +206,7 @@ pub fn values_of(
     Ok(typed)
 }
 
-/// A condition behind WHERE.
+/// Types the condition behind WHERE, if there is one.
 pub fn test_of(
     alloc: Global,
     names: &Names,
@@ -216,8 +214,8 @@ pub fn test_of(
     found: &mut Option<TypeError>,
 ) -> Result<Option<Expr>, NoMemory>
     requires { IsTrue (is_narrow names.now) }
-    ensures test { IfOk result (λ typed. typed ≡ option_map (typed_value names.now) test.now) }
-    ensures faults { OnOk result (found.new ≡ all_noted found.old (test_faults names.now test.now)) }
+    ensures ok { IfOk result (λ typed. typed ≡ option_map (typed_value names.now) test.now) }
+    ensures faults { OnOk result (found.new ≡ least_of found.old (test_faults names.now test.now)) }
 {
     match test {
         Some(test) => {
@@ -228,7 +226,7 @@ pub fn test_of(
     }
 }
 
-/// The columns of GROUP BY that are known.
+/// Resolves the columns of GROUP BY. Those that are not known are left out.
 pub fn groups_of(
     alloc: Global,
     names: &Names,
@@ -236,8 +234,8 @@ pub fn groups_of(
     found: &mut Option<TypeError>,
 ) -> Result<Seq<ColAt>, NoMemory>
     requires { IsTrue (is_narrow names.now) }
-    ensures groups { IfOk result (λ typed. typed ≡ typed_groups names.now groups.now) }
-    ensures faults { OnOk result (found.new ≡ all_noted found.old (groups_faults names.now groups.now)) }
+    ensures ok { IfOk result (λ typed. typed ≡ typed_groups names.now groups.now) }
+    ensures faults { OnOk result (found.new ≡ least_of found.old (groups_faults names.now groups.now)) }
 {
     let mut typed = Seq::new(alloc);
     for group in groups {
@@ -245,13 +243,13 @@ pub fn groups_of(
             Ok(column) => {
                 typed.push(column)?;
             }
-            Err(fault) => note(found, fault),
+            Err(fault) => record_fault(found, fault),
         }
     }
     Ok(typed)
 }
 
-/// A number that is not less than 0.
+/// A number, and 0 where it is less than 0.
 pub fn nat_of(value: i64) -> u64
     ensures { result ≡ nat_of value }
 {
@@ -263,20 +261,21 @@ fn order_by(order: &OrderTree) -> OrderBy
     ensures { result ≡ typed_order order.now }
 {
     OrderBy {
+        // A number over 255 doesn't fit a byte. It is a fault, since there are 16 items at most.
         item: nat_of(order.number.value).min(255) as u8,
         descending: order.descending,
     }
 }
 
-/// ORDER BY, of a query with so many items.
+/// Types ORDER BY of a query with `count` items.
 pub fn order_of(
     alloc: Global,
     count: usize,
     orders: &[OrderTree],
     found: &mut Option<TypeError>,
 ) -> Result<Seq<OrderBy>, NoMemory>
-    ensures order { IfOk result (λ typed. typed ≡ map typed_order orders.now) }
-    ensures faults { OnOk result (found.new ≡ all_noted found.old (flat_map (order_faults count) orders.now)) }
+    ensures ok { IfOk result (λ typed. typed ≡ map typed_order orders.now) }
+    ensures faults { OnOk result (found.new ≡ least_of found.old (flat_map (order_faults count) orders.now)) }
 {
     let mut typed = Seq::new(alloc);
     for order in orders {

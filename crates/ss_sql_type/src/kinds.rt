@@ -3,8 +3,8 @@
 ghost use Rattle.std.specs.Prelude.{◌≡◌};
 ghost use Rattle.ss_sql_type.specs.Kinds.{kind_of, may_be, may_be_value, may_compare, fits, first_needs, others, sign_kind, gives, value_kind};
 
-use ss_sql_lex::typed::{BinaryOp, UnaryOp};
-use ss_value::schema::{ColType, Column};
+use ss_sql_lex::{BinaryOp, UnaryOp};
+use ss_value::{ColType, Column};
 
 /// The type of an expression.
 #[derive(Clone, Copy, Debug, PartialEq, Eq, Drop)]
@@ -27,7 +27,7 @@ pub fn kind_of(column: ColType) -> Kind
     }
 }
 
-/// Whether an expression has no other type than this.
+/// Whether an expression has this type, or none that is known.
 pub fn may_be(kind: Kind, found: Option<Kind>) -> bool
     ensures { result ≡ may_be kind found }
 {
@@ -40,14 +40,14 @@ pub fn may_be(kind: Kind, found: Option<Kind>) -> bool
     }
 }
 
-/// Whether an expression has no other type than Int and Text.
+/// Whether an expression is an Int or a Text, or has no type that is known.
 pub fn may_be_value(found: Option<Kind>) -> bool
     ensures { result ≡ may_be_value found }
 {
     may_be(Kind::Int, found) || may_be(Kind::Text, found)
 }
 
-/// Whether two sides may be compared.
+/// Whether two sides can be compared: both are Ints, or both Texts, as far as their types are known.
 pub fn may_compare(left: Option<Kind>, right: Option<Kind>) -> bool
     ensures { result ≡ may_compare left right }
 {
@@ -56,16 +56,16 @@ pub fn may_compare(left: Option<Kind>, right: Option<Kind>) -> bool
     ints || texts
 }
 
-/// What the place of an expression needs.
+/// What the context of an expression needs.
 #[derive(Clone, Copy, Debug, PartialEq, Eq, Drop)]
 pub enum Needs {
     /// An Int or a Text.
     Value,
-    /// This type alone.
+    /// This type and no other.
     Only(Kind),
 }
 
-/// Whether an expression has what its place needs.
+/// Whether an expression has what its context needs.
 pub fn fits(needs: Needs, found: Option<Kind>) -> bool
     ensures { result ≡ fits needs found }
 {
@@ -75,7 +75,7 @@ pub fn fits(needs: Needs, found: Option<Kind>) -> bool
     }
 }
 
-/// What the first of these columns needs, and the columns behind it.
+/// What the first of these columns needs, any value where there is none, and the columns behind it.
 pub fn first_needs(columns: &[Column]) -> (Needs, &[Column])
     ensures first { result.0 ≡ first_needs columns.now }
     ensures others { result.1.now ≡ others columns.now }
@@ -86,7 +86,7 @@ pub fn first_needs(columns: &[Column]) -> (Needs, &[Column])
     }
 }
 
-/// What an operator before its side takes and gives.
+/// The type that an operator before its side takes and gives.
 pub fn sign_kind(op: UnaryOp) -> Kind
     ensures { result ≡ sign_kind op }
 {
@@ -96,7 +96,7 @@ pub fn sign_kind(op: UnaryOp) -> Kind
     }
 }
 
-/// What an operator between its sides gives, and takes unless it compares.
+/// The type that an operator between its sides gives, and takes unless it compares.
 pub fn gives(op: BinaryOp) -> Kind
     ensures { result ≡ gives op }
 {
@@ -107,7 +107,8 @@ pub fn gives(op: BinaryOp) -> Kind
     }
 }
 
-/// What MIN and MAX give over an expression of this type.
+/// The type that MIN and MAX give over an expression of this type. Of a Bool they have none, which is reported as the
+/// expression's fault already.
 pub fn value_kind(kind: Option<Kind>) -> Option<Kind>
     ensures { result ≡ value_kind kind }
 {

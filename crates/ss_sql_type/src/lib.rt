@@ -1,32 +1,63 @@
 //! From plain trees to typed trees: names become numbers, and every expression has its type.
 //!
 //! [`typing`] has the three calls. Each walks its tree once and keeps the least fault that it meets,
-//! by place and then by number; a tree without faults has become its typed tree by then. `specs/`
-//! states the rules apart from that walk: which faults a tree has, rule by rule (`statement_faults`,
-//! `query_faults`, `condition_faults`), and which typed tree it stands for (`typed_statement` and the
-//! like). What is given is well typed for all schemas that agree with the scope (`Agrees`).
+//! by offset and then by number; a tree without faults is a typed tree by the end of that walk. `specs/`
+//! states the rules apart from the walk: which faults a tree has, rule by rule (`statement_faults`,
+//! `query_faults`, `condition_faults`), and its typed tree (`typed_statement` and the
+//! like). A tree that is given is well typed for all schemas that agree with the scope (`Agrees`).
+//!
+//! - [`scope`]: what may be named, and why a tree is refused; [`column_limit`]: the bound on its columns
+//! - [`names`]: what names refer to; [`columns`], [`grouped`]: columns by hash
+//! - [`kinds`]: the types of expressions, and what a context needs
+//! - [`expr`], [`items`], [`query`], [`statement`]: the walk
+//! - [`first_fault`]: the least fault so far; [`laws`]: a tree has one answer
+//!
+//! A name that is not known has no type (None), so that it is reported once, and never again as a wrong
+//! type of whatever holds it.
 //!
 //! Columns and parameters are looked up by hash: each list of them that a tree may name gets an index,
-//! once a tree, from a name to the first position of it ([`columns`], [`names`]). The columns of GROUP BY
-//! are a set for the items that have to be grouped ([`grouped`]), and so are the columns set before a SET.
-//! So typing takes time linear in the tree, in the sources and targets, and in the columns of those that
-//! are named, as far as hashes spread the names. The hasher's seed is fixed. Walked are what is looked up
-//! a few times: the sources at most twice a tree, the targets once, and at each SET the key of its table.
-//! Any call that allocates may instead return `NoMemory`.
+//! once for each tree, from a name to its first position. The columns of GROUP BY are a set, in which the
+//! columns of items are sought, and so are the columns that earlier SETs set. So typing takes time linear
+//! in the tree, in the sources and targets, and in the columns of those that are named, as far as hashes
+//! spread the names; the hasher's seed is fixed. What is looked up a few times only is walked: the sources
+//! at most twice for each tree, the targets once, and at each SET the key of its table. Every call that
+//! allocates may answer `NoMemory` instead.
 //!
 //! The tests are cases of `ss_cases`: texts with the types or faults that a person reads off the rules.
 #![tactic(auto)]
 
-pub mod column_limit;
-pub mod columns;
-pub mod expr;
-pub mod first_fault;
-pub mod grouped;
-pub mod items;
-pub mod kinds;
-pub mod laws;
-pub mod names;
-pub mod query;
-pub mod scope;
-pub mod statement;
-pub mod typing;
+mod column_limit;
+mod columns;
+mod expr;
+mod first_fault;
+mod grouped;
+mod items;
+mod kinds;
+mod laws;
+mod names;
+mod query;
+mod scope;
+mod statement;
+mod typing;
+
+pub use column_limit::is_narrow;
+pub use columns::Columns;
+pub use expr::{TypedExpr, expr_at, expr_of, kind_of_expr};
+pub use first_fault::{check, record_fault};
+pub use grouped::Grouped;
+pub use items::{
+    check_item_limit, groups_of, has_aggregate, is_aggregate, item_kind, items_of, nat_of,
+    order_of, test_of, values_of,
+};
+pub use kinds::{
+    Kind, Needs, first_needs, fits, gives, kind_of, may_be, may_be_value, may_compare, sign_kind,
+    value_kind,
+};
+pub use laws::a_tree_has_one_answer;
+pub use names::{
+    Names, column_offset, columns_of, kind_at, kind_in, resolve, same_name, source_named,
+};
+pub use query::{check_count, check_known, query_names, query_of, query_within, wanted_columns};
+pub use scope::{Named, Scope, TypeError};
+pub use statement::{condition_of, statement_of};
+pub use typing::{type_condition, type_query, type_statement};

@@ -1,25 +1,22 @@
-//! What names stand for.
+//! What names refer to.
 
 ghost use Rattle.std.specs.Prelude.{◌≡◌, ◌≤◌, length, IsTrue, IfOk};
 ghost use Rattle.std.specs.Option.{option_copied, option_map, ok_or};
 ghost use Rattle.ss_sql_type.specs.declared.scope.TypeError.TheVariants.{UnknownName};
-ghost use Rattle.ss_sql_type.specs.Names.{same_name, named, column_named, columns_of, is_narrow, is_source, one_of, column_of, dotted, resolve, column_place, kind_in, kind_at};
+ghost use Rattle.ss_sql_type.specs.Names.{same_name, source_named, column_named, columns_of, is_narrow, is_source, one_of, column_of, column_behind, resolve, column_offset, kind_in, kind_at};
 
 use crate::columns::Columns;
 use crate::kinds::{Kind, kind_of};
 use crate::scope::{Named, TypeError};
-use ss_sql_lex::tree::{ColumnTree, NameTree};
-use ss_sql_lex::typed::ColAt;
-use ss_value::NoMemory;
-use ss_value::schema::Column;
-use ss_value::text::Name;
+use ss_sql_lex::{ColAt, ColumnTree, NameTree};
+use ss_value::{Column, Name, NoMemory};
 use std::alloc::Global;
 use std::marker::Model;
 
-/// What the names in an expression may stand for, with each list of columns hashed.
+/// What the names in an expression may refer to, with each list of columns hashed.
 #[derive(Drop)]
 pub struct Names<'a> {
-    /// Source 0: FROM, or what a statement writes; None where it is not known, or there is none.
+    /// Source 0: FROM, or the table that a statement changes; None where it is not known, or there is none.
     first: Option<&'a Named>,
     /// Source 1: JOIN.
     second: Option<&'a Named>,
@@ -46,7 +43,7 @@ impl<'a> Model for Names<'a> {
 impl<'a> Names<'a> {
     /// The names of at most two sources and of the parameters, in time linear in their columns.
     ///
-    /// Takes a table of hashes for each of these lists.
+    /// Takes a hash table for each of these lists.
     pub fn new(
         alloc: Global,
         first: Option<&'a Named>,
@@ -88,7 +85,7 @@ impl<'a> Names<'a> {
         self.params.as_slice()
     }
 
-    /// The position of the column of a name in source 0.
+    /// The position of the column with a name in source 0.
     pub fn in_first(&self, name: &Name) -> Option<u8>
         requires { IsTrue (is_narrow self.now) }
         ensures { result ≡ column_named (columns_of self.now.first) name.now }
@@ -96,7 +93,7 @@ impl<'a> Names<'a> {
         column_named(&self.first_columns, name)
     }
 
-    /// The position of the column of a name in source 1.
+    /// The position of the column with a name in source 1.
     pub fn in_second(&self, name: &Name) -> Option<u8>
         requires { IsTrue (is_narrow self.now) }
         ensures { result ≡ column_named (columns_of self.now.second) name.now }
@@ -104,7 +101,7 @@ impl<'a> Names<'a> {
         column_named(&self.second_columns, name)
     }
 
-    /// The position of the parameter of a name.
+    /// The position of the parameter with a name.
     pub fn in_params(&self, name: &Name) -> Option<u8>
         requires { IsTrue (is_narrow self.now) }
         ensures { result ≡ column_named self.now.params name.now }
@@ -120,25 +117,26 @@ pub fn same_name(a: &Name, b: &Name) -> bool
     a.as_bytes() == b.as_bytes()
 }
 
-/// What has a name, in time linear in the list.
-pub fn named<'a>(list: &'a [Named], name: &Name) -> Option<&'a Named>
-    ensures { option_copied result ≡ named list.now name.now }
+/// The source or target with a name, the first of several. Linear in the list.
+pub fn source_named<'a>(list: &'a [Named], name: &Name) -> Option<&'a Named>
+    ensures { option_copied result ≡ source_named list.now name.now }
 {
     list.iter().find(|named| same_name(&named.name, name))
 }
 
-/// The position of the column of a name, as one byte.
+/// The position of the column with a name, as one byte.
 fn column_named(columns: &Columns, name: &Name) -> Option<u8>
     requires { length columns.now ≤ 256 }
     ensures { result ≡ column_named columns.now name.now }
 {
     match columns.position(name) {
+        // There are 256 columns at most, so the position fits a byte.
         Some(position) => Some(position as u8),
         None => None,
     }
 }
 
-/// The columns of a source.
+/// The columns of a source, and none where it is not known.
 pub fn columns_of<'a>(source: Option<&'a Named>) -> &'a [Column]
     ensures { result.now ≡ columns_of (option_copied source.entry) }
 {
@@ -158,7 +156,7 @@ fn is_source(source: Option<&Named>, name: &Name) -> bool
     }
 }
 
-/// The column that a name without a dot stands for, of one source and not of both.
+/// The column that a name without a dot refers to, which has to be in one source and not in both.
 fn one_of(at: usize, first: Option<u8>, second: Option<u8>) -> Result<ColAt, TypeError>
     ensures { result ≡ one_of at first second }
 {
@@ -169,7 +167,7 @@ fn one_of(at: usize, first: Option<u8>, second: Option<u8>) -> Result<ColAt, Typ
     }
 }
 
-/// The column at a position of a source, or the fault in the name that stands for none.
+/// The column at a position of a source, or the fault of a name that refers to no column.
 fn column_in(source: u8, position: Option<u8>, name: &NameTree) -> Result<ColAt, TypeError>
     ensures { result ≡ ok_or (option_map (column_of source) position) (UnknownName name.now.at) }
 {
@@ -179,10 +177,10 @@ fn column_in(source: u8, position: Option<u8>, name: &NameTree) -> Result<ColAt,
     }
 }
 
-/// The column that a name behind a source's name stands for.
-fn dotted(names: &Names, source: &NameTree, name: &NameTree) -> Result<ColAt, TypeError>
+/// The column that a name behind a source's name and a dot refers to.
+fn column_behind(names: &Names, source: &NameTree, name: &NameTree) -> Result<ColAt, TypeError>
     requires { IsTrue (is_narrow names.now) }
-    ensures { result ≡ dotted names.now source.now name.now }
+    ensures { result ≡ column_behind names.now source.now name.now }
 {
     if is_source(names.first(), &source.name) {
         column_in(0, names.in_first(&name.name), name)
@@ -193,13 +191,13 @@ fn dotted(names: &Names, source: &NameTree, name: &NameTree) -> Result<ColAt, Ty
     }
 }
 
-/// The column that a tree stands for, or the fault in its name. Takes the time of two hashes.
+/// The column that a tree refers to, or the fault in its name. Takes the time of two hashes at most.
 pub fn resolve(names: &Names, tree: &ColumnTree) -> Result<ColAt, TypeError>
     requires { IsTrue (is_narrow names.now) }
     ensures { result ≡ resolve names.now tree.now }
 {
     match &tree.source {
-        Some(source) => dotted(names, source, &tree.name),
+        Some(source) => column_behind(names, source, &tree.name),
         None => one_of(
             tree.name.at,
             names.in_first(&tree.name.name),
@@ -208,9 +206,9 @@ pub fn resolve(names: &Names, tree: &ColumnTree) -> Result<ColAt, TypeError>
     }
 }
 
-/// The place of a column's first token.
-pub fn column_place(tree: &ColumnTree) -> usize
-    ensures { result ≡ column_place tree.now }
+/// The offset of a column's first token.
+pub fn column_offset(tree: &ColumnTree) -> usize
+    ensures { result ≡ column_offset tree.now }
 {
     match &tree.source {
         Some(source) => source.at,
@@ -218,7 +216,7 @@ pub fn column_place(tree: &ColumnTree) -> usize
     }
 }
 
-/// The type of a column of a list, where it is there.
+/// The type of the column at a position of a list, if there is one.
 pub fn kind_in(columns: &[Column], column: u8) -> Option<Kind>
     ensures { result ≡ kind_in columns.now column }
 {

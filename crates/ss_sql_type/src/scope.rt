@@ -1,17 +1,14 @@
-//! What the names of a SQL text may stand for, and why a tree is refused.
+//! What the names of a SQL text may refer to, and why a tree is refused.
 
-use ss_sql_lex::typed::SourceId;
-use ss_value::NoMemory;
-use ss_value::schema::Schema;
-use ss_value::seq::Seq;
-use ss_value::text::Name;
+use ss_sql_lex::SourceId;
+use ss_value::{Name, NoMemory, Schema, Seq};
 
 /// The names in scope of a SQL text.
 #[derive(Drop)]
 pub struct Scope {
     /// What queries may read.
     pub sources: Seq<Named>,
-    /// What statements may write: INSERT into tables and windows, UPDATE and DELETE tables alone.
+    /// What statements may change: INSERT tables and windows, UPDATE and DELETE only tables.
     pub targets: Seq<Named>,
     /// The parameters, by position.
     pub params: Schema,
@@ -32,18 +29,20 @@ pub struct Named {
     pub key: Seq<u8>,
 }
 
-/// Why a tree is refused. All but `NoMemory` have the place of the fault.
+/// Why a tree is refused. All but `NoMemory` have the offset of the fault. S5 to S9 are the codes by which refusals are
+/// reported.
 #[derive(Clone, Copy, Debug, PartialEq, Eq, Drop)]
 pub enum TypeError {
-    /// There was no memory for the typed tree.
+    /// Out of memory for the typed tree.
     NoMemory,
-    /// S5: a name that stands for nothing in scope, or for two columns.
+    /// S5: a name that refers to nothing in scope, or to two columns.
     UnknownName(usize),
-    /// S6: an expression of another type than its place needs.
+    /// S6: an expression of another type than its context needs.
     WrongType(usize),
     /// S7: SET of a key column.
     KeyIsSet(usize),
-    /// S8: another number of values, items or SETs than there may be.
+    /// S8: a number of values or items that is not allowed, a second SET of one column, or a number behind ORDER BY that is
+    /// no item's.
     WrongCount(usize),
     /// S9: a column that is not grouped, in an item that is no aggregate.
     NotAggregated(usize),
@@ -51,9 +50,9 @@ pub enum TypeError {
 
 impl From<NoMemory> for TypeError {
     ghost use Rattle.std.specs.Prelude.{◌≡◌};
-    ghost use Rattle.ss_sql_type.specs.declared.scope.TypeError.TheVariants.{NoMemory as WantOfMemory};
+    ghost use Rattle.ss_sql_type.specs.declared.scope.TypeError.TheVariants.{NoMemory as OutOfMemory};
 
-    ghost from_gives = { λ _ e. e ≡ WantOfMemory };
+    ghost from_gives = { λ _ e. e ≡ OutOfMemory };
 
     fn from(_: NoMemory) -> TypeError {
         TypeError::NoMemory

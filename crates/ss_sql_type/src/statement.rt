@@ -2,7 +2,7 @@
 
 ghost use Rattle.std.specs.Prelude.{◌≡◌, ℕ, ◌≤◌, ◌++◌, [], IsTrue, IfOk, OnOk, None, map, length};
 ghost use Rattle.std.specs.Option.{option_map, option_copied};
-ghost use Rattle.ss_sql_type.specs.Refusals.{all_noted};
+ghost use Rattle.ss_sql_type.specs.Refusals.{least_of};
 ghost use Rattle.ss_sql_type.specs.Names.{is_narrow, kind_in};
 ghost use Rattle.ss_sql_type.specs.Expressions.{typed_expr};
 ghost use Rattle.ss_sql_type.specs.Items.{typed_value, test_faults};
@@ -10,24 +10,21 @@ ghost use Rattle.ss_sql_type.specs.Queries.{scope_narrow, query_reach, columns_s
 ghost use Rattle.ss_sql_type.specs.Statements.{target_of, table_of, insert_target, table_named, target_or_first, table_or_first, columns_in, key_of, bare, of_table, has, column_faults, set_needs, kind_needs, with_column, set_column, set_faults, sets_faults, typed_set, update_faults, delete_faults, typed_update, typed_delete, insert_faults, insert_query_faults, statement_faults, typed_statement, first_kind, right_faults, condition_faults, typed_condition};
 
 use crate::expr::{expr_at, expr_of};
-use crate::first_fault::{check, note};
+use crate::first_fault::{check, record_fault};
 use crate::items::{item_kind, test_of, values_of};
 use crate::kinds::{Kind, Needs, may_compare};
 use crate::names::{Names, columns_of, kind_in, same_name};
-use crate::query::{check_count, check_known, query_names, query_of, query_within, wanted};
+use crate::query::{check_count, check_known, query_names, query_of, query_within, wanted_columns};
 use crate::scope::{Named, Scope, TypeError};
 use indexmap::IndexSet;
-use ss_sql_lex::tree::{
-    ConditionTree, ExprTree, ItemTree, NameTree, QueryTree, SetTree, StatementTree,
+use ss_sql_lex::{
+    Condition, ConditionTree, Expr, ExprTree, ItemTree, NameTree, Query, QueryTree, SetTo, SetTree,
+    SourceId, Statement, StatementTree, Target,
 };
-use ss_sql_lex::typed::{Condition, Expr, Query, SetTo, SourceId, Statement, Target};
-use ss_value::NoMemory;
-use ss_value::schema::Column;
-use ss_value::seq::Seq;
-use ss_value::text::Name;
+use ss_value::{Column, Name, NoMemory, Seq};
 use std::alloc::Global;
 
-/// What a source is as a target.
+/// The target that a source is, if rows can go into it.
 fn target_of(source: SourceId) -> Option<Target>
     ensures { result ≡ target_of source }
 {
@@ -39,7 +36,7 @@ fn target_of(source: SourceId) -> Option<Target>
     }
 }
 
-/// The position of a table.
+/// The position of a table, if the source is one.
 fn table_of(source: SourceId) -> Option<u16>
     ensures { result ≡ table_of source }
 {
@@ -49,7 +46,7 @@ fn table_of(source: SourceId) -> Option<u16>
     }
 }
 
-/// The table or window of a name, in time linear in the targets.
+/// The table or window with a name. Linear in the targets.
 fn insert_target<'a>(scope: &'a Scope, name: &Name) -> Option<&'a Named>
     ensures { option_copied result ≡ insert_target scope.now name.now }
 {
@@ -57,7 +54,7 @@ fn insert_target<'a>(scope: &'a Scope, name: &Name) -> Option<&'a Named>
         && target_of(named.source).is_some())
 }
 
-/// The table of a name, in time linear in the targets.
+/// The table with a name. Linear in the targets.
 fn table_named<'a>(scope: &'a Scope, name: &Name) -> Option<&'a Named>
     ensures { option_copied result ≡ table_named scope.now name.now }
 {
@@ -65,7 +62,7 @@ fn table_named<'a>(scope: &'a Scope, name: &Name) -> Option<&'a Named>
         && table_of(named.source).is_some())
 }
 
-/// Which target it is.
+/// Which target it is, and the first table where it is not known, which is a fault.
 fn target_or_first(given: Option<&Named>) -> Target
     ensures { result ≡ target_or_first (option_copied given.entry) }
 {
@@ -75,7 +72,7 @@ fn target_or_first(given: Option<&Named>) -> Target
     }
 }
 
-/// Which table it is.
+/// Which table it is, and the first where it is not known, which is a fault.
 fn table_or_first(given: Option<&Named>) -> u16
     ensures { result ≡ table_or_first (option_copied given.entry) }
 {
@@ -85,7 +82,7 @@ fn table_or_first(given: Option<&Named>) -> u16
     }
 }
 
-/// The columns of what is given.
+/// The columns of a target, if it is known.
 fn columns_in<'a>(given: Option<&'a Named>) -> Option<&'a [Column]>
     ensures { columns_shown result ≡ columns_in (option_copied given.entry) }
 {
@@ -95,7 +92,7 @@ fn columns_in<'a>(given: Option<&'a Named>) -> Option<&'a [Column]>
     }
 }
 
-/// The key columns of a table.
+/// The key columns of a table, and none where it is not known.
 fn key_of<'a>(given: Option<&'a Named>) -> &'a [u8]
     ensures { result.now ≡ key_of (option_copied given.entry) }
 {
@@ -112,14 +109,15 @@ fn has(columns: &[u8], column: u8) -> bool
     columns.iter().any(|c| *c == column)
 }
 
-/// Whether a column was set before. Takes the time of a hash. A function of its own, since the check needs the step.
+/// Whether a column was set before. Takes the time of a hash. A function of its own, since the proof of `check_column`
+/// needs this contract.
 fn was_set(earlier: &IndexSet<u8>, column: u8) -> bool
     ensures { result ≡ has earlier.now.keys column }
 {
     earlier.contains(&column)
 }
 
-/// Notes what is wrong with a column that is set, in time linear in the key.
+/// Finds what is wrong with a column that is set. Linear in the key.
 fn check_column(
     key: &[u8],
     earlier: &IndexSet<u8>,
@@ -127,18 +125,18 @@ fn check_column(
     column: Option<u8>,
     found: &mut Option<TypeError>,
 )
-    ensures { found.new ≡ all_noted found.old (column_faults key.now earlier.now.keys at column) }
+    ensures { found.new ≡ least_of found.old (column_faults key.now earlier.now.keys at column) }
 {
     match column {
         Some(column) => {
             check(found, !has(key, column), TypeError::KeyIsSet(at));
             check(found, !was_set(earlier, column), TypeError::WrongCount(at));
         }
-        None => note(found, TypeError::UnknownName(at)),
+        None => record_fault(found, TypeError::UnknownName(at)),
     }
 }
 
-/// What the value of a column has to be.
+/// What the value has to be to which a column is set.
 fn set_needs(columns: &[Column], column: Option<u8>) -> Needs
     ensures { result ≡ set_needs columns.now column }
 {
@@ -151,7 +149,7 @@ fn set_needs(columns: &[Column], column: Option<u8>) -> Needs
     }
 }
 
-/// Puts a column to those that are set.
+/// Adds a column to those that were set, if it is known.
 fn add_column(earlier: &mut IndexSet<u8>, column: Option<u8>) -> Result<(), NoMemory>
     ensures { OnOk result ((c : ℕ) → has earlier.new.keys c ≡ has (with_column earlier.old.keys column) c) }
 {
@@ -164,7 +162,7 @@ fn add_column(earlier: &mut IndexSet<u8>, column: Option<u8>) -> Result<(), NoMe
     }
 }
 
-/// The position of the column that is set.
+/// The position of the column that is set, if it is known.
 fn set_column(names: &Names, set: &SetTree) -> Option<u8>
     requires { IsTrue (is_narrow names.now) }
     ensures { result ≡ set_column names.now set.now }
@@ -172,7 +170,7 @@ fn set_column(names: &Names, set: &SetTree) -> Option<u8>
     names.in_first(&set.column.name)
 }
 
-/// One SET, of which the column is known.
+/// Types one SET: `earlier` are the columns set before.
 fn set_of(
     alloc: Global,
     names: &Names,
@@ -182,8 +180,8 @@ fn set_of(
     found: &mut Option<TypeError>,
 ) -> Result<SetTo, NoMemory>
     requires { IsTrue (is_narrow names.now) }
-    ensures set { IfOk result (λ typed. typed ≡ typed_set names.now set.now) }
-    ensures faults { OnOk result (found.new ≡ all_noted found.old (set_faults names.now key.now earlier.now.keys set.now)) }
+    ensures ok { IfOk result (λ typed. typed ≡ typed_set names.now set.now) }
+    ensures faults { OnOk result (found.new ≡ least_of found.old (set_faults names.now key.now earlier.now.keys set.now)) }
 {
     let column = set_column(names, set);
     check_column(key, earlier, set.column.at, column, found);
@@ -195,7 +193,7 @@ fn set_of(
     })
 }
 
-/// All SETs of an UPDATE, each in time linear in the key and in its value.
+/// Types all SETs of an UPDATE, each in time linear in the key and in its value.
 fn sets_of(
     alloc: Global,
     names: &Names,
@@ -204,8 +202,8 @@ fn sets_of(
     found: &mut Option<TypeError>,
 ) -> Result<Seq<SetTo>, NoMemory>
     requires { IsTrue (is_narrow names.now) }
-    ensures sets { IfOk result (λ typed. typed ≡ map (typed_set names.now) sets.now) }
-    ensures faults { OnOk result (found.new ≡ all_noted found.old (sets_faults names.now key.now [] sets.now)) }
+    ensures ok { IfOk result (λ typed. typed ≡ map (typed_set names.now) sets.now) }
+    ensures faults { OnOk result (found.new ≡ least_of found.old (sets_faults names.now key.now [] sets.now)) }
 {
     let mut typed = Seq::new(alloc);
     let mut earlier = IndexSet::new(alloc);
@@ -217,26 +215,26 @@ fn sets_of(
     Ok(typed)
 }
 
-/// Parameters alone may be named.
+/// What names may refer to in the values of an INSERT and on the right of a condition: only parameters.
 fn bare_names<'a>(alloc: Global, scope: &'a Scope) -> Result<Names<'a>, NoMemory>
     requires { IsTrue (scope_narrow scope.now) }
-    ensures reach { IfOk result (λ names. names ≡ bare scope.now) }
+    ensures ok { IfOk result (λ names. names ≡ bare scope.now) }
     ensures narrow { IsTrue (is_narrow (bare scope.now)) }
 {
     Names::new(alloc, None, None, scope.params.as_slice())
 }
 
-/// The columns of a table and the parameters may be named.
+/// What names may refer to in an UPDATE and a DELETE: columns of the table, and parameters.
 fn table_names<'a>(alloc: Global, scope: &'a Scope, name: &Name) -> Result<Names<'a>, NoMemory>
     requires { IsTrue (scope_narrow scope.now) }
-    ensures reach { IfOk result (λ names. names ≡ of_table scope.now (table_named scope.now name.now)) }
+    ensures ok { IfOk result (λ names. names ≡ of_table scope.now (table_named scope.now name.now)) }
     ensures narrow { IsTrue (is_narrow (of_table scope.now (table_named scope.now name.now))) }
 {
     let table = table_named(scope, name);
     Names::new(alloc, table, None, scope.params.as_slice())
 }
 
-/// INSERT of values.
+/// Types an INSERT of values.
 fn insert_values(
     alloc: Global,
     scope: &Scope,
@@ -246,16 +244,22 @@ fn insert_values(
     found: &mut Option<TypeError>,
 ) -> Result<Seq<Expr>, NoMemory>
     requires { IsTrue (scope_narrow scope.now) }
-    ensures values { IfOk result (λ typed. typed ≡ map (typed_value (bare scope.now)) values.now) }
-    ensures faults { OnOk result (found.new ≡ all_noted found.old (insert_faults scope.now (option_copied given.entry) at values.now)) }
+    ensures ok { IfOk result (λ typed. typed ≡ map (typed_value (bare scope.now)) values.now) }
+    ensures faults { OnOk result (found.new ≡ least_of found.old (insert_faults scope.now (option_copied given.entry) at values.now)) }
 {
     let names = bare_names(alloc, scope)?;
     check_known(given, at, found);
     check_count(columns_in(given), values.len(), at, found);
-    values_of(alloc, &names, wanted(columns_in(given)), values, found)
+    values_of(
+        alloc,
+        &names,
+        wanted_columns(columns_in(given)),
+        values,
+        found,
+    )
 }
 
-/// INSERT of a query's rows.
+/// Types an INSERT of a query's rows.
 fn insert_query(
     alloc: Global,
     scope: &Scope,
@@ -265,14 +269,14 @@ fn insert_query(
     found: &mut Option<TypeError>,
 ) -> Result<Query, NoMemory>
     requires { IsTrue (scope_narrow scope.now) }
-    ensures query { IfOk result (λ typed. typed ≡ typed_query scope.now query.now) }
-    ensures faults { OnOk result (found.new ≡ all_noted found.old (insert_query_faults scope.now (option_copied given.entry) at query.now)) }
+    ensures ok { IfOk result (λ typed. typed ≡ typed_query scope.now query.now) }
+    ensures faults { OnOk result (found.new ≡ least_of found.old (insert_query_faults scope.now (option_copied given.entry) at query.now)) }
 {
     check_known(given, at, found);
     query_of(alloc, scope, columns_in(given), at, query, found)
 }
 
-/// The SETs and the condition of an UPDATE.
+/// Types the SETs and the condition of an UPDATE.
 fn update_of(
     alloc: Global,
     scope: &Scope,
@@ -282,8 +286,8 @@ fn update_of(
     found: &mut Option<TypeError>,
 ) -> Result<Statement, NoMemory>
     requires { IsTrue (scope_narrow scope.now) }
-    ensures update { IfOk result (λ typed. typed ≡ typed_update scope.now (table_named scope.now table.now.name) sets.now test.now) }
-    ensures faults { OnOk result (found.new ≡ all_noted found.old (update_faults scope.now table.now sets.now test.now)) }
+    ensures ok { IfOk result (λ typed. typed ≡ typed_update scope.now (table_named scope.now table.now.name) sets.now test.now) }
+    ensures faults { OnOk result (found.new ≡ least_of found.old (update_faults scope.now table.now sets.now test.now)) }
 {
     let names = table_names(alloc, scope, &table.name)?;
     let given = names.first();
@@ -297,7 +301,7 @@ fn update_of(
     })
 }
 
-/// The condition of a DELETE.
+/// Types the condition of a DELETE.
 fn delete_of(
     alloc: Global,
     scope: &Scope,
@@ -306,8 +310,8 @@ fn delete_of(
     found: &mut Option<TypeError>,
 ) -> Result<Statement, NoMemory>
     requires { IsTrue (scope_narrow scope.now) }
-    ensures delete { IfOk result (λ typed. typed ≡ typed_delete scope.now (table_named scope.now table.now.name) test.now) }
-    ensures faults { OnOk result (found.new ≡ all_noted found.old (delete_faults scope.now table.now test.now)) }
+    ensures ok { IfOk result (λ typed. typed ≡ typed_delete scope.now (table_named scope.now table.now.name) test.now) }
+    ensures faults { OnOk result (found.new ≡ least_of found.old (delete_faults scope.now table.now test.now)) }
 {
     let names = table_names(alloc, scope, &table.name)?;
     let given = names.first();
@@ -319,7 +323,7 @@ fn delete_of(
     })
 }
 
-/// A statement.
+/// Types a statement.
 pub fn statement_of(
     alloc: Global,
     scope: &Scope,
@@ -327,8 +331,8 @@ pub fn statement_of(
     found: &mut Option<TypeError>,
 ) -> Result<Statement, NoMemory>
     requires { IsTrue (scope_narrow scope.now) }
-    ensures statement { IfOk result (λ typed. typed ≡ typed_statement scope.now tree.now) }
-    ensures faults { OnOk result (found.new ≡ all_noted found.old (statement_faults scope.now tree.now)) }
+    ensures ok { IfOk result (λ typed. typed ≡ typed_statement scope.now tree.now) }
+    ensures faults { OnOk result (found.new ≡ least_of found.old (statement_faults scope.now tree.now)) }
 {
     match tree {
         StatementTree::InsertValues { target, values, .. } => {
@@ -368,7 +372,7 @@ fn first_kind(names: &Names, items: &[ItemTree]) -> Option<Kind>
     }
 }
 
-/// The right side of a condition whose query gives this type.
+/// Types the right side of a condition whose query gives this type.
 fn right_of(
     alloc: Global,
     scope: &Scope,
@@ -377,8 +381,8 @@ fn right_of(
     found: &mut Option<TypeError>,
 ) -> Result<Expr, NoMemory>
     requires { IsTrue (scope_narrow scope.now) }
-    ensures right { IfOk result (λ typed. typed ≡ typed_value (bare scope.now) right.now) }
-    ensures faults { OnOk result (found.new ≡ all_noted found.old (right_faults kind (typed_expr (bare scope.now) None right.now))) }
+    ensures ok { IfOk result (λ typed. typed ≡ typed_value (bare scope.now) right.now) }
+    ensures faults { OnOk result (found.new ≡ least_of found.old (right_faults kind (typed_expr (bare scope.now) None right.now))) }
 {
     let names = bare_names(alloc, scope)?;
     let typed = expr_of(alloc, &names, None, right, found)?;
@@ -390,7 +394,7 @@ fn right_of(
     Ok(typed.expr)
 }
 
-/// A condition.
+/// Types a condition.
 pub fn condition_of(
     alloc: Global,
     scope: &Scope,
@@ -398,10 +402,11 @@ pub fn condition_of(
     found: &mut Option<TypeError>,
 ) -> Result<Condition, NoMemory>
     requires { IsTrue (scope_narrow scope.now) }
-    ensures condition { IfOk result (λ typed. typed ≡ typed_condition scope.now tree.now) }
-    ensures faults { OnOk result (found.new ≡ all_noted found.old (condition_faults scope.now tree.now)) }
+    ensures ok { IfOk result (λ typed. typed ≡ typed_condition scope.now tree.now) }
+    ensures faults { OnOk result (found.new ≡ least_of found.old (condition_faults scope.now tree.now)) }
 {
     let names = query_names(alloc, scope, &tree.query)?;
+    // The query's row goes into no columns, so nothing is reported at the offset 0.
     let query = query_within(alloc, &names, None, 0, &tree.query, found)?;
     let one = tree.query.items.len() == 1;
     check(found, one, TypeError::WrongCount(tree.query.at));

@@ -1,5 +1,5 @@
+pub mod CallerLemmas
 pub mod Least
-pub mod Mapped
 pub mod OneStream
 pub mod Opening
 pub mod Premises

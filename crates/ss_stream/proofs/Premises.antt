@@ -3,7 +3,7 @@ use Rattle.std.proofs.Common.{◌≡◌, ◌≤◌, ◌<◌, ◌+◌, ◌-◌, �
 use Rattle.std.specs.List.{AllByRecursion}
 use Rattle.ss_value.specs.Rows.{Rows}
 use Rattle.ss_stream.specs.declared.cursor.Cursor.{Cursor}
-use Rattle.ss_stream.specs.Pending.{CanResume, HasNext, cursor_at, least_passed, pending_from, resumed}
+use Rattle.ss_stream.specs.Pending.{CanResume, HasNext, cursor_at, least_passed, pending_from, resume}
 use Rattle.ss_stream.specs.Streams.{CanResumeAll, cursors_at, resumed_streams}
 use Rattle.ss_stream.proofs.Resumed.{least-of_some}
 
@@ -32,7 +32,7 @@ has_next = ((λ e. omega arith), tt)
 
 -- the batches from the least cursor on make the stream again
 kept_again : (batches : List Rows) (cursors : List Cursor) → 0 < length cursors → AllByRecursion (λ c. c.passed ≤ length batches) cursors
-    → resumed (drop (least_passed (length batches) cursors) batches) cursors ≡ pending_from 0 batches cursors
+    → resume (drop (least_passed (length batches) cursors) batches) cursors ≡ pending_from 0 batches cursors
 kept_again batches cursors some within =
     let none : 0 + length batches ≡ length batches = omega arith in
     let least = least-of_some (length batches) cursors some within in

@@ -6,7 +6,7 @@ use Rattle.std.proofs.lemmas.Option.{get_or_from_slice_get}
 use Rattle.std.specs.List.{AllByRecursion, range_with_len}
 use Rattle.ss_value.specs.Rows.{Rows}
 use Rattle.ss_stream.specs.declared.cursor.Cursor.{Cursor}
-use Rattle.ss_stream.specs.Pending.{CanResume, IsPending, Pending, ReservedStream, least_cursor, least_passed, resumed}
+use Rattle.ss_stream.specs.Pending.{CanResume, IsPending, Pending, ReservedStream, least_cursor, least_passed, resume}
 use Rattle.ss_stream.specs.Streams.{CanResumeAll, cursors_at, resumed_streams}
 use Rattle.ss_stream.proofs.Least.{least-min, within-more}
 use Rattle.ss_stream.proofs.Opening.{same_maps}
@@ -19,7 +19,7 @@ least-of_some n (c ∷ cs) some within =
     let e : min n c.passed ≡ c.passed = omega arith in
     sym (least-min n c.passed cs) ∙ ap (λ k. least_passed k cs) e
 
-pub resumed-pending : (batches : List Rows) (cursors : List Cursor) → CanResume batches cursors → IsPending (resumed batches cursors)
+pub resumed-pending : (batches : List Rows) (cursors : List Cursor) → CanResume batches cursors → IsPending (resume batches cursors)
 resumed-pending batches cursors ok = record {
   within = ok.within;
   least = sym (least-of_some (least_cursor cursors + length batches) cursors ok.some ok.within);
@@ -31,11 +31,11 @@ least-from_far n batches cursors ok far = least-of_some n cursors ok.some (withi
 
 -- ---- all streams
 
--- what is taken out at a place that has not been reached before
+-- what is taken out at a position that has not been reached before
 pub taken_out : {A : Type 0} (now was : List A) (i : ℕ) (d x : A) → slice_get now i ≡ Some x → get_or now i d ≡ get_or was i d → x ≡ get_or was i d
 taken_out now was i d x is same = sym (get_or_from_slice_get now i x d is) ∙ same
 
--- behind that place nothing has changed
+-- behind that position nothing has changed
 pub rest_stays : {A : Type 0} (old new was : List A) (i : ℕ) (d x : A) → new ≡ set old i x → ((s : ℕ) → i ≤ s → get_or old s d ≡ get_or was s d) → (s : ℕ) → i + 1 ≤ s → get_or new s d ≡ get_or was s d
 rest_stays old new was i d x is same s le = ap (λ xs. get_or xs s d) is ∙ get_or-set_other old i s x d (λ e. let h : s ≡ i = e in absurd (omega arith)) ∙ same s (omega arith)
 
@@ -59,9 +59,9 @@ lists_can counts consumers kept lists can is s lt =
     subst (λ (cs : List Cursor). CanResume (get_or kept s []) cs) (sym (ap (λ (ls : List (List Cursor)). get_or ls s []) is ∙ cursors_of_list counts consumers s)) (can.each s (omega arith))
 
 pub lists_make : (counts : List ℕ) (consumers : List (List ℕ)) (kept : List (List Rows)) (lists : List (List Cursor)) → lists ≡ map (cursors_at counts) consumers
-    → map (λ s. resumed (get_or kept s []) (get_or lists s [])) (range_with_len 0 (length lists)) ≡ resumed_streams counts consumers kept
+    → map (λ s. resume (get_or kept s []) (get_or lists s [])) (range_with_len 0 (length lists)) ≡ resumed_streams counts consumers kept
 lists_make counts consumers kept lists is =
     let long : length lists ≡ length consumers = ap length is ∙ length-map consumers (cursors_at counts) in
-    ap (λ n. map (λ s. resumed (get_or kept s []) (get_or lists s [])) (range_with_len 0 n)) long
-    ∙ same_maps (λ s. resumed (get_or kept s []) (get_or lists s [])) (λ s. resumed (get_or kept s []) (cursors_at counts (get_or consumers s []))) (range_with_len 0 (length consumers))
-    (λ s. ap (resumed (get_or kept s [])) (ap (λ (ls : List (List Cursor)). get_or ls s []) is ∙ cursors_of_list counts consumers s))
+    ap (λ n. map (λ s. resume (get_or kept s []) (get_or lists s [])) (range_with_len 0 n)) long
+    ∙ same_maps (λ s. resume (get_or kept s []) (get_or lists s [])) (λ s. resume (get_or kept s []) (cursors_at counts (get_or consumers s []))) (range_with_len 0 (length consumers))
+    (λ s. ap (resume (get_or kept s [])) (ap (λ (ls : List (List Cursor)). get_or ls s []) is ∙ cursors_of_list counts consumers s))

@@ -4,12 +4,10 @@ ghost use Rattle.std.specs.Prelude.{◌≡◌, ◌≤◌, ◌<◌, ◌+◌, ◌-
 ghost use Rattle.std.specs.Option.{option_copied};
 ghost use Rattle.std.specs.List.{AllByRecursion};
 ghost use Rattle.std.specs.VecDeque.{deque_capacity};
-ghost use Rattle.ss_stream.specs.Pending.{emitted_count, least_passed, pending_at_first, pending_from, with_batch, moved_cursor, passed_by, pending_batch, HasNext, CanResume, resumed};
+ghost use Rattle.ss_stream.specs.Pending.{emitted_count, least_passed, pending_at_first, pending_from, with_batch, moved_cursor, passed_by, pending_batch, HasNext, CanResume, resume};
 
 use crate::cursor::Cursor;
-use ss_value::NoMemory;
-use ss_value::seq::Seq;
-use ss_value::value::Rows;
+use ss_value::{NoMemory, Rows, Seq};
 use std::alloc::Global;
 use std::collections::VecDeque;
 use std::marker::Model;
@@ -40,7 +38,8 @@ impl Model for Stream {
     ghost invariant = { λ s. IsPending (record { first = s.first; batches = s.batches.items; cursors = s.cursors.items }) };
 }
 
-/// The least of these cursors, and of the number of batches ever. A look at each cursor.
+/// The least of these cursors, and of `ever`, the number of batches ever emitted. So without a cursor all batches count as
+/// passed, and none is kept.
 fn least_passed(ever: u64, cursors: &[Cursor]) -> u64
     ensures { result ≡ least_passed ever cursors.now }
 {
@@ -51,8 +50,8 @@ fn least_passed(ever: u64, cursors: &[Cursor]) -> u64
     least
 }
 
-/// A cursor after a batch that this consumer passed.
-fn moved(cursor: Cursor, consumer: u16) -> Cursor
+/// A cursor, one batch further if it is this consumer's.
+fn move_cursor(cursor: Cursor, consumer: u16) -> Cursor
     requires { cursor.consumer ≡ consumer → cursor.passed < 2 ^ 62 }
     ensures { result ≡ moved_cursor consumer cursor }
 {
@@ -65,18 +64,21 @@ fn moved(cursor: Cursor, consumer: u16) -> Cursor
     }
 }
 
-/// Moves the cursors of this consumer by one further. A look at each cursor.
+/// Moves the cursor of this consumer one batch further.
 fn move_cursors(cursors: &mut Vec<Cursor>, consumer: u16)
     requires { AllByRecursion (λ c. c.consumer ≡ consumer → c.passed < 2 ^ 62) cursors.old.items }
     ensures { cursors.new.items ≡ map (moved_cursor consumer) cursors.old.items }
 {
     for cursor in cursors.iter_mut() {
-        *cursor = moved(*cursor, consumer);
+        *cursor = move_cursor(*cursor, consumer);
     }
 }
 
-/// Gives up the batches before this number, the oldest first. Constant for each, and takes no memory.
-fn give_up(first: u64, batches: &mut VecDeque<Rows>, least: u64)
+/// Drops the batches before the number `least`, of batches of which the first has the number `first`. Takes no memory.
+///
+/// It has the batches alone, and not the stream: while the cursors have moved and the first number hasn't, the invariant of
+/// `Stream` doesn't hold.
+fn drop_taken(first: u64, batches: &mut VecDeque<Rows>, least: u64)
     requires rises { first ≤ least }
     requires within { least ≤ first + length batches.old.items }
     ensures items { batches.new.items ≡ drop (least - first) batches.old.items }
@@ -90,7 +92,7 @@ fn give_up(first: u64, batches: &mut VecDeque<Rows>, least: u64)
 }
 
 impl Stream {
-    /// The stream of these consumers before its first batch. Takes no memory.
+    /// The stream with these cursors, before its first batch. Takes no memory.
     pub fn new(alloc: Global, cursors: Vec<Cursor>) -> Stream
         requires { AllByRecursion (λ c. c.passed ≡ 0) cursors.items }
         ensures { result.pending ≡ record { first = 0; batches = []; cursors = cursors.items } }
@@ -102,12 +104,14 @@ impl Stream {
         }
     }
 
-    /// The stream with these cursors of which these batches are kept, from the least cursor on. Takes no memory.
+    /// The stream with these cursors and these batches, whose first is the one that the least cursor has still to pass. Both
+    /// are moved. Takes no memory.
     pub fn resume(cursors: Seq<Cursor>, kept: Seq<Rows>) -> Stream
         requires { CanResume kept cursors }
-        ensures { result.pending ≡ resumed kept cursors }
+        ensures { result.pending ≡ resume kept cursors }
     {
         Stream {
+            // There is a cursor, so the least one decides, and not this greatest number.
             first: least_passed(u64::MAX, cursors.as_slice()),
             batches: VecDeque::from(kept.into_vec()),
             cursors: cursors.into_vec(),
@@ -115,15 +119,15 @@ impl Stream {
     }
 
     /// How many batches were ever emitted.
-    pub fn emitted(&self) -> u64
+    pub fn emitted_count(&self) -> u64
         ensures { result ≡ emitted_count self.now.pending }
     {
         self.first + self.batches.len() as u64
     }
 
-    /// Makes room for one emit.
+    /// Makes room for one emit. Out of memory leaves the stream. Constant on average over many calls.
     pub fn reserve(&mut self) -> Result<(), NoMemory>
-        ensures pending { self.new.pending ≡ self.old.pending }
+        ensures unchanged { self.new.pending ≡ self.old.pending }
         ensures room { self.old.spare ≤ self.new.spare }
         ensures ok { OnOk result (1 ≤ self.new.spare) }
     {
@@ -133,18 +137,19 @@ impl Stream {
         }
     }
 
-    /// Puts a batch behind the others, and answers its number.
+    /// Puts a batch behind the others, and answers its number. Where there is room it can't fail. Out of memory hands the
+    /// rows back. Constant on average over many calls.
     pub fn emit(&mut self, rows: Rows) -> Result<u64, (NoMemory, Rows)>
         requires { emitted_count self.old.pending < 2 ^ 62 }
-        ensures number { IfOk result (λ r. r ≡ emitted_count self.old.pending) }
+        ensures ok { IfOk result (λ r. r ≡ emitted_count self.old.pending) }
         ensures joined { OnOk result (self.new.pending ≡ with_batch self.old.pending rows) }
-        ensures kept { IfErr result (λ e. (self.new.pending ≡ self.old.pending) × (e.1 ≡ rows)) }
+        ensures refused { IfErr result (λ e. (self.new.pending ≡ self.old.pending) × (e.1 ≡ rows)) }
         ensures room { self.old.spare ≤ self.new.spare + 1 }
         ensures free { 1 ≤ self.old.spare → IsOk result }
     {
         let number = self.first + self.batches.len() as u64;
         if self.cursors.is_empty() {
-            // nobody has to take it
+            // Nobody will take it, so it is counted and dropped.
             self.first = number + 1;
             return Ok(number);
         }
@@ -154,7 +159,7 @@ impl Stream {
         }
     }
 
-    /// The batch of a number, and None exactly where all consumers passed it or it isn't emitted.
+    /// The batch of a number, and None exactly where all consumers have passed it or it isn't emitted yet. Constant.
     pub fn batch(&self, r: u64) -> Option<&Rows>
         ensures { option_copied result ≡ pending_batch self.now.pending r }
     {
@@ -167,7 +172,7 @@ impl Stream {
         self.batches.get(at)
     }
 
-    /// Moves a consumer by one batch further, and gives up what all consumers have then passed.
+    /// Moves a consumer one batch further, and drops what all consumers have then passed. Linear in the cursors.
     pub fn pass(&mut self, consumer: u16)
         requires { HasNext self.old.pending consumer }
         ensures passed { self.new.pending ≡ passed_by self.old.pending consumer }
@@ -176,7 +181,7 @@ impl Stream {
         let ever = self.first + self.batches.len() as u64;
         move_cursors(&mut self.cursors, consumer);
         let least = least_passed(ever, self.cursors.as_slice());
-        give_up(self.first, &mut self.batches, least);
+        drop_taken(self.first, &mut self.batches, least);
         self.first = least;
     }
 }

@@ -3,25 +3,22 @@
 ghost use Rattle.std.specs.Prelude.{◌≡◌, ◌≤◌, ◌<◌, ◌+◌, ◌^◌, ℕ, [], map, length, get_or, slice_set, IsOk, IfOk, OnOk, IfErr};
 ghost use Rattle.std.specs.List.{range_with_len};
 ghost use Rattle.std.specs.Option.{option_copied};
-ghost use Rattle.ss_stream.specs.Pending.{emitted_count, pending_at_first, with_batch, passed_by, pending_batch, HasNext, CanResume, cursor_at, resumed};
+ghost use Rattle.ss_stream.specs.Pending.{emitted_count, pending_at_first, with_batch, passed_by, pending_batch, HasNext, CanResume, cursor_at, resume};
 ghost use Rattle.ss_stream.specs.Streams.{stream_at, spare_at, SparesElsewhere, cursors_at, resumed_streams, CanResumeAll};
 
 use crate::cursor::Cursor;
 use crate::stream::Stream;
-use ss_value::NoMemory;
-use ss_value::reserved::Reserved;
-use ss_value::seq::Seq;
-use ss_value::value::Rows;
+use ss_value::{NoMemory, Reserved, Rows, Seq};
 use std::alloc::Global;
 use std::marker::Model;
 
-/// The streams of a catalogue, by number: of each the number of batches ever, those that some consumer has still to
-/// take, and how far each consumer is.
+/// The streams of a catalogue, by number: of each the number of batches ever emitted, the batches that some consumer has
+/// still to take, and how far each consumer has come.
 ///
 /// Contracts see the list of them, and beside it the room of each: how many emits to it can't fail. A batch is moved in,
-/// lent, and dropped where its last consumer has passed it. No call copies a row. What calls cost:
+/// lent, and dropped when its last consumer has passed it. No call copies a row. What calls cost:
 ///
-/// - `emit`, `batch`, `emitted`, `reserve`: constant, on average over many where room is made.
+/// - `emit`, `batch`, `emitted_count`, `reserve`: constant, on average over many calls where room is made.
 /// - `pass`: a look at each consumer of the stream; a batch that all of them have passed is dropped.
 #[derive(Drop)]
 pub struct Streams {
@@ -36,7 +33,7 @@ impl Model for Streams {
     ghost view = { λ s. reserved_streams s.streams };
 }
 
-/// The cursors of these consumers before the first batch. Linear in them.
+/// The cursors of these consumers before the first batch.
 fn first_cursors(alloc: Global, consumers: &[u16]) -> Result<Vec<Cursor>, NoMemory>
     ensures { IfOk result (λ cursors. cursors.items ≡ map (cursor_at 0) consumers.now) }
 {
@@ -50,7 +47,7 @@ fn first_cursors(alloc: Global, consumers: &[u16]) -> Result<Vec<Cursor>, NoMemo
     Ok(cursors)
 }
 
-/// The cursors of these consumers, each at its count. Linear in them.
+/// The cursors of these consumers, each at its count, and at 0 where it has none.
 fn cursors_at(alloc: Global, counts: &[u64], consumers: &[u16]) -> Result<Seq<Cursor>, NoMemory>
     ensures { IfOk result (λ cursors. cursors ≡ cursors_at counts.now consumers.now) }
 {
@@ -68,7 +65,7 @@ fn cursors_at(alloc: Global, counts: &[u64], consumers: &[u16]) -> Result<Seq<Cu
     Ok(cursors)
 }
 
-/// Of each stream the cursors of its consumers. Linear in them.
+/// Of each stream the cursors of its consumers.
 fn all_cursors(
     alloc: Global,
     counts: &[u64],
@@ -84,7 +81,9 @@ fn all_cursors(
     Ok(lists)
 }
 
-/// The streams of these cursors and kept batches, put into the room that is there. Both are moved; takes no memory.
+/// The streams with these cursors and kept batches, put into `room`. Both are moved; takes no memory.
+///
+/// The room is made before, so that `resume` can hand `kept` back whole if there is none.
 fn resumed_streams(
     alloc: Global,
     lists: Seq<Seq<Cursor>>,
@@ -95,12 +94,13 @@ fn resumed_streams(
     requires room { length lists ≤ room.spare }
     requires lists { length kept ≡ length lists }
     requires each { (s : ℕ) → s < length lists → CanResume (get_or kept s []) (get_or lists s []) }
-    ensures { result.streams ≡ map (λ s. resumed (get_or kept s []) (get_or lists s [])) (range_with_len 0 (length lists)) }
+    ensures { result.streams ≡ map (λ s. resume (get_or kept s []) (get_or lists s [])) (range_with_len 0 (length lists)) }
 {
     let mut lists = lists;
     let mut kept = kept;
     let mut streams = room;
     for stream in 0..lists.len() {
+        // Each list is moved out of its position, where an empty one is left.
         let cursors = lists.put(stream, Seq::new(alloc));
         let batches = kept.put(stream, Seq::new(alloc));
         streams.add(Stream::resume(cursors, batches));
@@ -126,10 +126,10 @@ impl Streams {
         })
     }
 
-    /// The streams with these consumers, each at its procedure's count in `cursors` (0 where there is none), of which
-    /// these batches are kept: of each stream those from its least cursor on.
+    /// The streams with these consumers, each at its procedure's count in `cursors` (0 where it has none), of which these
+    /// batches are kept: of each stream those from its least cursor on.
     ///
-    /// Linear in the consumers. The batches are moved, and want of memory hands them back.
+    /// Linear in the consumers. The batches are moved; out of memory hands them back.
     pub fn resume(
         alloc: Global,
         consumers: &[Seq<u16>],
@@ -137,8 +137,8 @@ impl Streams {
         kept: Seq<Seq<Rows>>,
     ) -> Result<Streams, (NoMemory, Seq<Seq<Rows>>)>
         requires { CanResumeAll cursors.now consumers.now kept }
-        ensures made { IfOk result (λ made. made.streams ≡ resumed_streams cursors.now consumers.now kept) }
-        ensures back { IfErr result (λ e. e.1 ≡ kept) }
+        ensures ok { IfOk result (λ made. made.streams ≡ resumed_streams cursors.now consumers.now kept) }
+        ensures refused { IfErr result (λ e. e.1 ≡ kept) }
     {
         let Ok(lists) = all_cursors(alloc, cursors, consumers) else {
             return Err((NoMemory, kept));
@@ -158,17 +158,17 @@ impl Streams {
     }
 
     /// How many batches of a stream were ever emitted.
-    pub fn emitted(&self, stream: u16) -> u64
+    pub fn emitted_count(&self, stream: u16) -> u64
         requires { stream < length self.now.streams }
         ensures { result ≡ emitted_count (stream_at self.now stream) }
     {
         let Some(found) = self.streams.get(usize::from(stream)) else {
             unreachable!()
         };
-        found.emitted()
+        found.emitted_count()
     }
 
-    /// The batch of a number of a stream, and None exactly where it isn't emitted or all consumers passed it.
+    /// The batch of a number of a stream, and None exactly where all consumers have passed it or it isn't emitted yet.
     pub fn batch(&self, stream: u16, r: u64) -> Option<&Rows>
         requires { stream < length self.now.streams }
         ensures { option_copied result ≡ pending_batch (stream_at self.now stream) r }
@@ -179,10 +179,10 @@ impl Streams {
         found.batch(r)
     }
 
-    /// Makes room for one emit to a stream. Want of memory leaves the streams.
+    /// Makes room for one emit to a stream. Out of memory leaves the streams.
     pub fn reserve(&mut self, stream: u16) -> Result<(), NoMemory>
         requires { stream < length self.old.streams }
-        ensures same { self.new.streams ≡ self.old.streams }
+        ensures unchanged { self.new.streams ≡ self.old.streams }
         ensures ok { OnOk result (1 ≤ spare_at self.new stream) }
         ensures room { spare_at self.old stream ≤ spare_at self.new stream }
         ensures elsewhere { SparesElsewhere self.old self.new stream }
@@ -193,14 +193,14 @@ impl Streams {
         found.reserve()
     }
 
-    /// Puts a batch behind the others of a stream, and answers its number. Where there is room it can't fail, and takes
-    /// one from it at most. Want of memory hands the rows back and leaves the streams.
+    /// Puts a batch behind the others of a stream, and answers its number. Where there is room it can't fail, and uses up
+    /// the room of one emit at most. Out of memory hands the rows back and leaves the streams.
     pub fn emit(&mut self, stream: u16, rows: Rows) -> Result<u64, (NoMemory, Rows)>
         requires there { stream < length self.old.streams }
         requires few { emitted_count (stream_at self.old stream) < 2 ^ 62 }
-        ensures number { IfOk result (λ r. r ≡ emitted_count (stream_at self.old stream)) }
+        ensures ok { IfOk result (λ r. r ≡ emitted_count (stream_at self.old stream)) }
         ensures joined { OnOk result (self.new.streams ≡ slice_set self.old.streams stream (with_batch (stream_at self.old stream) rows)) }
-        ensures kept { IfErr result (λ e. (self.new.streams ≡ self.old.streams) × (e.1 ≡ rows)) }
+        ensures refused { IfErr result (λ e. (self.new.streams ≡ self.old.streams) × (e.1 ≡ rows)) }
         ensures free { 1 ≤ spare_at self.old stream → IsOk result }
         ensures room { spare_at self.old stream ≤ spare_at self.new stream + 1 }
         ensures elsewhere { SparesElsewhere self.old self.new stream }
@@ -211,9 +211,8 @@ impl Streams {
         found.emit(rows)
     }
 
-    /// Moves a consumer of a stream by one batch further. Takes no memory.
-    ///
-    /// A batch that all consumers have then passed is given up.
+    /// Moves a consumer of a stream one batch further. A batch that all consumers have then passed is dropped. Takes no
+    /// memory.
     pub fn pass(&mut self, consumer: u16, stream: u16)
         requires there { stream < length self.old.streams }
         requires next { HasNext (stream_at self.old stream) consumer }

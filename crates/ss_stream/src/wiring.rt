@@ -1,4 +1,4 @@
-//! Who takes the streams of a catalogue.
+//! Which procedures take the streams of a catalogue.
 
 ghost use Rattle.std.specs.Prelude.{◌≡◌, ◌≤◌, map, length, IfOk};
 ghost use Rattle.std.specs.List.{range_with_len};
@@ -7,12 +7,11 @@ ghost use Rattle.ss_model.specs.Orders.{procedure_takes};
 ghost use Rattle.ss_stream.specs.OfDatabase.{AreStreamsOf, consumers_of};
 
 use crate::streams::Streams;
-use ss_model::catalog::Catalog;
-use ss_value::NoMemory;
-use ss_value::seq::Seq;
+use ss_model::Catalog;
+use ss_value::{NoMemory, Seq};
 use std::alloc::Global;
 
-/// Whether a procedure takes a stream. A look at each of its inputs.
+/// Whether a procedure takes a stream, and false where there is none of this number.
 fn takes(catalog: &Catalog, procedure: usize, stream: usize) -> bool
     ensures { result ≡ procedure_takes catalog.now procedure stream }
 {
@@ -22,7 +21,7 @@ fn takes(catalog: &Catalog, procedure: usize, stream: usize) -> bool
     }
 }
 
-/// The procedures that take a stream, in rising order. A look at each input of the catalogue.
+/// The procedures that take a stream, in rising order.
 fn consumers_of(alloc: Global, catalog: &Catalog, stream: usize) -> Result<Seq<u16>, NoMemory>
     requires { length catalog.now.procedures ≤ 64 }
     ensures { IfOk result (λ consumers. consumers ≡ consumers_of catalog.now stream) }
@@ -36,9 +35,10 @@ fn consumers_of(alloc: Global, catalog: &Catalog, stream: usize) -> Result<Seq<u
     Ok(consumers)
 }
 
-/// Of each stream the procedures that take it, in rising order. Needs no more procedures than a catalogue may have.
+/// Of each stream the procedures that take it, in rising order.
 ///
-/// A look at each input of the catalogue for each stream. Fails only for want of memory.
+/// Needs no more procedures than a catalogue may have, so that each number fits in 16 bits. A look at each input of the
+/// catalogue for each stream.
 pub fn consumers(alloc: Global, catalog: &Catalog) -> Result<Seq<Seq<u16>>, NoMemory>
     requires { length catalog.now.procedures ≤ 64 }
     ensures { IfOk result (λ consumers. consumers ≡ map (consumers_of catalog.now) (range_with_len 0 (length catalog.now.streams))) }

@@ -6,9 +6,9 @@ use Rattle.ss_table.specs.declared.cell.Cell.{Cell}
 use Rattle.ss_table.specs.declared.mark.Mark.{Mark}
 use Rattle.ss_value.specs.Rows.{Row}
 use Rattle.ss_table.specs.declared.cell.Cell.TheVariants.{Free, Live, Dead}
-use Rattle.ss_table.specs.Held.{row_at, after_in}
-use Rattle.ss_table.specs.Kept.{IsTable, live_list}
-use Rattle.ss_table.specs.Places.{live_row}
+use Rattle.ss_table.specs.TableValue.{row_at, after_in}
+use Rattle.ss_table.specs.Invariant.{IsTable, live_list}
+use Rattle.ss_table.specs.Cells.{live_row}
 use Rattle.ss_table.proofs.Answered.{row_at_is, after_here}
 use Rattle.ss_table.specs.Chunks.{slots_of}
 use Rattle.ss_table.specs.Near.{IsBehind}

@@ -6,11 +6,11 @@ use Rattle.std.specs.Cmp.{IsTotalOrder}
 use Rattle.std.proofs.lemmas.Cmp.{tied_itself}
 use Rattle.std.specs.FinMap as finite
 use Rattle.std.specs.FinMap.{IsAntisymmetric}
-use Rattle.ss_table.proofs.Maps.{ties}
+use Rattle.ss_lemmas.proofs.Orderings.{equal_test}
 
 module _ {K X : Type 0} {R : K → K → Ordering} (o : IsTotalOrder R) (same : IsAntisymmetric R) (m : finite.FinMap R X) (k : K) where
   at_tie : (q : K) → eq_by_cmp R q k ≡ true → finite.get m k ≡ finite.get m q
-  at_tie q e = finite.get_tied o m q k (ties _ e)
+  at_tie q e = finite.get_tied o m q k (equal_test _ e)
 
   pub remove_insert : (v : X) → finite.get m k ≡ None → finite.remove (finite.insert m k v) k ≡ m
   remove_insert v none = finite.same_map o same _ _ (λ q. finite.get-remove o (finite.insert m k v) k q ∙ ap (cond (eq_by_cmp R q k) None) (finite.get-insert o m k v q)

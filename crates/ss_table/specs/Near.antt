@@ -1,4 +1,4 @@
--- Slots, and where they are thought to stand.
+-- The live slot behind a slot. Of a hint nothing is said.
 use Rattle.std.specs.Prelude.{◌≡◌, ℕ, List, ◌∷◌, ◌++◌, Option}
 use Rattle.std.specs.Option.{option_map}
 use Rattle.std.specs.List.{find}
@@ -6,11 +6,11 @@ use Rattle.ss_chunks.specs.declared.rest.Hint.{Hint}
 use Rattle.ss_table.specs.declared.cell.Cell.{Cell}
 use Rattle.ss_table.specs.declared.mark.Mark.{Mark}
 use Rattle.ss_table.specs.Chunks.{slots_of}
-use Rattle.ss_table.specs.Places.{is_live}
+use Rattle.ss_table.specs.Cells.{is_live}
 
 -- the slot that is found, without its hint
-abbrev pub slot_found : Option (ℕ × Hint) → Option ℕ
-slot_found found = option_map (λ p. p.0) found
+abbrev pub without_hint : Option (ℕ × Hint) → Option ℕ
+without_hint found = option_map (λ p. p.0) found
 
 -- a slot has one of these marks, and this is the first live slot behind it
 abbrev pub IsBehind : List Mark → ℕ → List Cell → Option ℕ → Type 0

@@ -4,80 +4,80 @@ use Rattle.std.specs.Prelude.{Result, Ok, Err, IfOk, IfErr, OnErr}
 use Rattle.std.specs.FinMap as finite
 use Rattle.ss_value.specs.Rows.{Row}
 use Rattle.ss_table.specs.declared.table.TableError.{TableError}
-use Rattle.ss_table.specs.Held.{Held}
+use Rattle.ss_table.specs.TableValue.{TableValue}
 use Rattle.ss_table.specs.Steps.{WasInserted, WasDeleted, WasReplaced}
 use Rattle.ss_undo.specs.declared.change.Change.{Change}
 use Rattle.ss_undo.specs.declared.change.Change.TheVariants.{Inserted, Deleted, Replaced}
-use Rattle.ss_undo.specs.Came.{Came, Step, AreFinal, all_final}
-use Rattle.ss_undo.specs.Laws.{OneTableChanged, FinalAtFirst}
-use Rattle.ss_undo.specs.Windows.{WindowsCame}
-use Rattle.ss_window.specs.Held.{HeldWindow, settled}
-use Rattle.ss_undo.proofs.Back.{set_same}
+use Rattle.ss_undo.specs.ResultsFrom.{ResultsFrom, Step, AreCommitted, all_committed}
+use Rattle.ss_undo.specs.Laws.{OneTableChanged, CommittedAtFirst}
+use Rattle.ss_undo.specs.Windows.{WindowsResultFrom}
+use Rattle.ss_window.specs.WindowValue.{WindowValue, commit}
+use Rattle.ss_undo.proofs.CallerLemmas.{set_same}
 use Rattle.ss_table_tests.specs.Runs.{AreKeyed, Runs}
 
 -- ---- one of the tables changed
 
 -- a table with the key of the one in its place
-pub keyed_on : (key : List ℕ) (tables : List Held) (at : ℕ) (old new : Held) → AreKeyed key tables → slice_get tables at ≡ Some old → new.key ≡ old.key → AreKeyed key (slice_set tables at new)
+pub keyed_on : (key : List ℕ) (tables : List TableValue) (at : ℕ) (old new : TableValue) → AreKeyed key tables → slice_get tables at ≡ Some old → new.key ≡ old.key → AreKeyed key (slice_set tables at new)
 keyed_on key [] at old new k g e = tt
-keyed_on key (h ∷ hs) zero old new k g e = let one : h ≡ old = cc in (e ∙ ap (λ (x : Held). x.key) (sym one) ∙ k.0, k.1)
+keyed_on key (h ∷ hs) zero old new k g e = let one : h ≡ old = cc in (e ∙ ap (λ (x : TableValue). x.key) (sym one) ∙ k.0, k.1)
 keyed_on key (h ∷ hs) (suc at) old new k g e = (k.0, keyed_on key hs at old new k.1 g e)
 
--- a table in a place that has two names
-pub deleted_at : OneTableChanged → (tables : List Held) (at place slot : ℕ) (old new : Held) → place ≡ at → slice_get tables place ≡ Some old → WasDeleted old new slot → Step tables (Deleted at slot) (slice_set tables place new)
+-- a table at an index that has two names
+pub deleted_at : OneTableChanged → (tables : List TableValue) (at place slot : ℕ) (old new : TableValue) → place ≡ at → slice_get tables place ≡ Some old → WasDeleted old new slot → Step tables (Deleted at slot) (slice_set tables place new)
 deleted_at law tables at place slot old new e g w =
     let here : slice_get tables at ≡ Some old = subst (λ p. slice_get tables p ≡ Some old) e g in
     subst (λ p. Step tables (Deleted at slot) (slice_set tables p new)) (sym e) ((law tables at slot old new [] here).1 w)
 
-pub replaced_at : OneTableChanged → (tables : List Held) (at place slot : ℕ) (old new : Held) (was : Row) → place ≡ at → slice_get tables place ≡ Some old → WasReplaced old new slot was → Step tables (Replaced at slot was) (slice_set tables place new)
+pub replaced_at : OneTableChanged → (tables : List TableValue) (at place slot : ℕ) (old new : TableValue) (was : Row) → place ≡ at → slice_get tables place ≡ Some old → WasReplaced old new slot was → Step tables (Replaced at slot was) (slice_set tables place new)
 replaced_at law tables at place slot old new was e g w =
     let here : slice_get tables at ≡ Some old = subst (λ p. slice_get tables p ≡ Some old) e g in
     subst (λ p. Step tables (Replaced at slot was) (slice_set tables p new)) (sym e) ((law tables at slot old new was here).2 w)
 
-inserted_at : OneTableChanged → (tables : List Held) (at place slot : ℕ) (old new : Held) → place ≡ at → slice_get tables place ≡ Some old → WasInserted old new slot → Step tables (Inserted at slot) (slice_set tables place new)
+inserted_at : OneTableChanged → (tables : List TableValue) (at place slot : ℕ) (old new : TableValue) → place ≡ at → slice_get tables place ≡ Some old → WasInserted old new slot → Step tables (Inserted at slot) (slice_set tables place new)
 inserted_at law tables at place slot old new e g w =
     let here : slice_get tables at ≡ Some old = subst (λ p. slice_get tables p ≡ Some old) e g in
     subst (λ p. Step tables (Inserted at slot) (slice_set tables p new)) (sym e) ((law tables at slot old new [] here).0 w)
 
 -- what an insert leaves, made or refused
-pub insert_leaves : OneTableChanged → (key : List ℕ) (tables : List Held) (at place : ℕ) (old new : Held) (row : Row) (r : Result ℕ (TableError × Row)) → place ≡ at → AreKeyed key tables → slice_get tables place ≡ Some old
+pub insert_leaves : OneTableChanged → (key : List ℕ) (tables : List TableValue) (at place : ℕ) (old new : TableValue) (row : Row) (r : Result ℕ (TableError × Row)) → place ≡ at → AreKeyed key tables → slice_get tables place ≡ Some old
     → IfOk r (λ slot. WasInserted old new slot) → IfErr r (λ e. (new ≡ old) × (e.1 ≡ row))
     → IfOk r (λ slot. Step tables (Inserted at slot) (slice_set tables place new)) × OnErr r (slice_set tables place new ≡ tables) × AreKeyed key (slice_set tables place new)
-insert_leaves law key tables at place old new row (Ok slot) e k g ok err = (inserted_at law tables at place slot old new e g ok, tt, keyed_on key tables place old new k g (ap (λ (h : Held). h.key) ok.is))
-insert_leaves law key tables at place old new row (Err x) e k g ok err = (tt, ap (slice_set tables place) err.0 ∙ set_same tables place old g, keyed_on key tables place old new k g (ap (λ (h : Held). h.key) err.0))
+insert_leaves law key tables at place old new row (Ok slot) e k g ok err = (inserted_at law tables at place slot old new e g ok, tt, keyed_on key tables place old new k g (ap (λ (h : TableValue). h.key) ok.is))
+insert_leaves law key tables at place old new row (Err x) e k g ok err = (tt, ap (slice_set tables place) err.0 ∙ set_same tables place old g, keyed_on key tables place old new k g (ap (λ (h : TableValue). h.key) err.0))
 
 -- ---- all tables and their changes
 
 -- two tables without a row
-pub started : (key : List ℕ) (first second : Held) (none one two : List Held) (windows : List HeldWindow) (changes : List Change) → windows ≡ [] → none ≡ [] → one ≡ none ++ first ∷ [] → two ≡ one ++ second ∷ [] → changes ≡ []
+pub started : (key : List ℕ) (first second : TableValue) (none one two : List TableValue) (windows : List WindowValue) (changes : List Change) → windows ≡ [] → none ≡ [] → one ≡ none ++ first ∷ [] → two ≡ one ++ second ∷ [] → changes ≡ []
     → first.key ≡ key → second.key ≡ key → first.dead ≡ finite.empty → second.dead ≡ finite.empty → Runs key two windows changes
 started key first second none one two windows changes w n o t c k l d e =
     let both : first ∷ second ∷ [] ≡ two = sym (t ∙ ap (λ ts. ts ++ second ∷ []) (o ∙ ap (λ ts. ts ++ first ∷ []) n)) in
     let keyed : AreKeyed key two = subst (AreKeyed key) both (k, (l, tt)) in
     record {
       before = two;
-      final = subst AreFinal both (d, (e, tt));
-      came = subst (λ cs. Came two cs two) (sym c) refl;
+      final = subst AreCommitted both (d, (e, tt));
+      came = subst (λ cs. ResultsFrom two cs two) (sym c) refl;
       no_window = w;
-      staged = subst (λ (cs : List Change). WindowsCame [] cs []) (sym c) refl;
+      staged = subst (λ (cs : List Change). WindowsResultFrom [] cs []) (sym c) refl;
       was_keyed = keyed;
       keyed = keyed;
     }
 
-keyed_final : (key : List ℕ) (tables : List Held) → AreKeyed key tables → AreKeyed key (all_final tables)
+keyed_final : (key : List ℕ) (tables : List TableValue) → AreKeyed key tables → AreKeyed key (all_committed tables)
 keyed_final key [] k = tt
 keyed_final key (h ∷ hs) k = (k.0, keyed_final key hs k.1)
 
--- changes made final
-pub committed : FinalAtFirst → (key : List ℕ) (tables now : List Held) (was windows : List HeldWindow) (changes : List Change) → AreKeyed key tables → now ≡ all_final tables → was ≡ [] → windows ≡ map settled was → changes ≡ [] → Runs key now windows changes
+-- changes that are committed
+pub committed : CommittedAtFirst → (key : List ℕ) (tables now : List TableValue) (was windows : List WindowValue) (changes : List Change) → AreKeyed key tables → now ≡ all_committed tables → was ≡ [] → windows ≡ map commit was → changes ≡ [] → Runs key now windows changes
 committed law key tables now was windows changes k is none stay empty =
     let keyed : AreKeyed key now = subst (AreKeyed key) (sym is) (keyed_final key tables k) in
     record {
       before = now;
-      final = subst AreFinal (sym is) (law tables).1;
-      came = subst (λ cs. Came now cs now) (sym empty) refl;
-      no_window = stay ∙ ap (map settled) none;
-      staged = subst (λ (cs : List Change). WindowsCame [] cs []) (sym empty) refl;
+      final = subst AreCommitted (sym is) (law tables).1;
+      came = subst (λ cs. ResultsFrom now cs now) (sym empty) refl;
+      no_window = stay ∙ ap (map commit) none;
+      staged = subst (λ (cs : List Change). WindowsResultFrom [] cs []) (sym empty) refl;
       was_keyed = keyed;
       keyed = keyed;
     }

@@ -8,7 +8,7 @@
 //! The crate has tests alone:
 //!
 //! - `words`: rows and steps from text
-//! - `real`: tables with the changes noted that made them; `plain`: maps, each with a copy of what it was before
+//! - `real`: tables with notes of the changes that made them; `plain`: maps, each with a copy of what it was before
 //! - `compare`: whether a table and a map hold the same, by every call that looks
 //! - `sequences`: runs lines of steps on both
 #![tactic(auto)]

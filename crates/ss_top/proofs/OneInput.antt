@@ -1,6 +1,7 @@
 -- An input has one answer: what its lines say is compared line by line.
 use Rattle.std.proofs.Common.{◌≡◌, ◌⊎◌, ◌∙◌, ◌≤◌, ◌<◌, ◌==◌, ℕ, Bool, true, false, List, [], ◌∷◌, ◌++◌, length, Result, Ok, Err, refl, sym, ap, subst, inl, inr, arith}
 use Rattle.std.proofs.lemmas.Bool.{false≢true}
+use Rattle.ss_catalog.proofs.CallerLemmas.{ok_same, err_same, ok_or_err}
 use Rattle.serde_json.specs.Data.{Data}
 use Rattle.ss_lines.specs.declared.line.Line.{Line}
 use Rattle.ss_lines.specs.declared.line.LineError.{LineError}
@@ -31,15 +32,6 @@ pub record InputLaws : Type 0 where
 
 -- ---- results
 
-one_ok : {A E : Type 0} (r : Result A E) (a b : A) → r ≡ Ok a → r ≡ Ok b → a ≡ b
-one_ok r a b h k = cc
-
-one_err : {A E : Type 0} (r : Result A E) (e f : E) → r ≡ Err e → r ≡ Err f → e ≡ f
-one_err r e f h k = cc
-
-ok_or_err : {A E : Type 0} (r : Result A E) (a : A) (e : E) → r ≡ Ok a → r ≡ Err e → ⊥
-ok_or_err r a e h k = cc
-
 -- ---- what says nothing
 
 -- a refusal doesn't both say something and say nothing
@@ -62,7 +54,7 @@ request_means r (request.UnknownTarget n) says h = h
 request_means r (request.Arguments n) says h = h
 request_means r (request.TooManyRows n) says h = h
 
--- a refusal of a catalogue that says something isn't want of memory
+-- a refusal of a catalogue that says something isn't out of memory
 catalog_means : (n : ℕ) (e : CatalogError) → says_nothing (OfCatalog n e) ≡ false → e ≡ catalog.NoMemory → ⊥
 catalog_means n e says is = says_both (OfCatalog n catalog.NoMemory) refl (subst (λ (x : CatalogError). says_nothing (OfCatalog n x) ≡ false) is says)
 
@@ -74,7 +66,7 @@ silent false h = absurd (h refl)
 -- ---- one line
 
 one_value : (l : Line) (d e : Data) → value_at l ≡ Ok d → value_at l ≡ Ok e → d ≡ e
-one_value l d e h k = one_ok (value_at l) d e h k
+one_value l d e h k = ok_same (value_at l) d e h k
 
 -- a line's bytes that have a value aren't refused
 has_value : (l : Line) (d : Data) (e : LineError) → value_at l ≡ Ok d → says_nothing (OfLine e) ≡ false → RefusesAs (value_at l) e → ⊥
@@ -82,7 +74,7 @@ has_value l d e json says h = ok_or_err (value_at l) d e json (line_means (value
 
 -- and have one refusal
 one_of_bytes : (l : Line) (e f : LineError) → says_nothing (OfLine e) ≡ false → says_nothing (OfLine f) ≡ false → RefusesAs (value_at l) e → RefusesAs (value_at l) f → OfLine e ≡ OfLine f
-one_of_bytes l e f p q h k = ap OfLine (one_err (value_at l) e f (line_means (value_at l) e p h) (line_means (value_at l) f q k))
+one_of_bytes l e f p q h k = ap OfLine (err_same (value_at l) e f (line_means (value_at l) e p h) (line_means (value_at l) f q k))
 
 -- ---- the catalogue's line
 
@@ -127,7 +119,7 @@ one_first laws l (OfRequest e) f p q h k = absurd h
 -- a line asks for one request
 one_asked : (c : Catalog) (l : Line) (r s : Request) → AsksFor c l r → AsksFor c l s → r ≡ s
 one_asked c l r s h k =
-    one_ok (request_of c l.number k.value) r s (subst (λ (d : Data). request_of c l.number d ≡ Ok r) (one_value l h.value k.value h.json k.json) h.asks) k.asks
+    ok_same (request_of c l.number k.value) r s (subst (λ (d : Data). request_of c l.number d ≡ Ok r) (one_value l h.value k.value h.json k.json) h.asks) k.asks
 
 -- which isn't refused
 asked_or_refused : (c : Catalog) (l : Line) (r : Request) (e : RequestError) → AsksFor c l r → says_nothing (OfRequest e) ≡ false → RefusesRequest c l e → ⊥
@@ -146,7 +138,7 @@ later_is_fine c l r (OfCatalog n e) asks p h = h
 one_of_request : (c : Catalog) (l : Line) (e f : RequestError) → says_nothing (OfRequest e) ≡ false → says_nothing (OfRequest f) ≡ false → RefusesRequest c l e → RefusesRequest c l f → OfRequest e ≡ OfRequest f
 one_of_request c l e f p q h k =
     let means : request_of c l.number k.value ≡ Err e = subst (λ (d : Data). request_of c l.number d ≡ Err e) (one_value l h.value k.value h.json k.json) (request_means (request_of c l.number h.value) e p h.refused) in
-    ap OfRequest (one_err (request_of c l.number k.value) e f means (request_means (request_of c l.number k.value) f q k.refused))
+    ap OfRequest (err_same (request_of c l.number k.value) e f means (request_means (request_of c l.number k.value) f q k.refused))
 
 -- a request's line has one refusal
 one_later : (c : Catalog) (l : Line) (e f : ReadError) → says_nothing e ≡ false → says_nothing f ≡ false → RefusesLater c l e → RefusesLater c l f → e ≡ f

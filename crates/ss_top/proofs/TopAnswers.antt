@@ -12,11 +12,11 @@ use Rattle.ss_top.specs.declared.status.Status.{Status}
 use Rattle.ss_top.specs.declared.status.Status.TheVariants.{NoMemory}
 use Rattle.ss_top.specs.Refused.{IsRefusedBy}
 use Rattle.ss_top.specs.Statuses.{refusal_status}
-use Rattle.ss_top.specs.Top.{Sunk, EndsRefused, LeavesAt}
-use Rattle.ss_top.specs.Inputs.{says_nothing, StartsOrRefused, HasOneRefusal, Stayed, EndsAsRefused, EndsAsStarted}
+use Rattle.ss_top.specs.Top.{SinkChange, ExitsRefused, LeavesOfRefusedSource}
+use Rattle.ss_top.specs.Inputs.{says_nothing, StartsOrRefused, HasOneRefusal, DidNotRise, ExitsAsRefused, ExitsAsStarted}
 
--- a refusal that says nothing ends as want of memory, unless the source failed
-silent_ends : (e : ReadError) (faults now : ℕ) (left rest : Option (List ℕ)) → says_nothing e ≡ true → LeavesAt e faults now left rest → Stayed faults now → refusal_status e ≡ NoMemory
+-- a refusal that says nothing ends as out of memory, unless the source failed
+silent_ends : (e : ReadError) (faults now : ℕ) (left rest : Option (List ℕ)) → says_nothing e ≡ true → LeavesOfRefusedSource e faults now left rest → DidNotRise faults now → refusal_status e ≡ NoMemory
 silent_ends (OfLine cause.NoMemory) faults now left rest says leaves stayed = refl
 silent_ends (OfLine cause.ReadFault) faults now left rest says leaves stayed = absurd (stayed leaves)
 silent_ends (OfLine (cause.LineTooLong n)) faults now left rest says leaves stayed = absurd (false≢true says)
@@ -28,34 +28,34 @@ silent_ends (OfCatalog n e) faults now left rest says leaves stayed = absurd (fa
 silent_ends (OfRequest request.NoMemory) faults now left rest says leaves stayed = refl
 silent_ends (OfRequest e) faults now left rest says leaves stayed = absurd (false≢true says)
 
--- the refusal says something and has this status, or memory was wanting
+-- the refusal says something and has this status, or the end is out of memory
 abbrev EndsSo : ReadError → Status → Type 0
 EndsSo e ended = ((says_nothing e ≡ false) × (ended ≡ refusal_status e)) ⊎ (ended ≡ NoMemory)
 
-ends_by_saying : (b : Bool) (e : ReadError) (ended : Status) (faults now : ℕ) (left rest : Option (List ℕ)) → says_nothing e ≡ b → LeavesAt e faults now left rest → Stayed faults now → ended ≡ refusal_status e → EndsSo e ended
+ends_by_saying : (b : Bool) (e : ReadError) (ended : Status) (faults now : ℕ) (left rest : Option (List ℕ)) → says_nothing e ≡ b → LeavesOfRefusedSource e faults now left rest → DidNotRise faults now → ended ≡ refusal_status e → EndsSo e ended
 ends_by_saying true e ended faults now left rest says leaves stayed is = inr (is ∙ silent_ends e faults now left rest says leaves stayed)
 ends_by_saying false e ended faults now left rest says leaves stayed is = inl (says, is)
 
-ends_so : (e : ReadError) (ended : Status) (w : Sunk) (faults now : ℕ) (left rest : Option (List ℕ)) → LeavesAt e faults now left rest → Stayed faults now → EndsRefused e ended w → EndsSo e ended
-ends_so e ended w faults now left rest leaves stayed (inl told) = ends_by_saying (says_nothing e) e ended faults now left rest refl leaves stayed told.is
-ends_so e ended w faults now left rest leaves stayed (inr told) = inr told.is
+ends_so : (e : ReadError) (ended : Status) (w : SinkChange) (faults now : ℕ) (left rest : Option (List ℕ)) → LeavesOfRefusedSource e faults now left rest → DidNotRise faults now → ExitsRefused e ended w → EndsSo e ended
+ends_so e ended w faults now left rest leaves stayed (inl reported) = ends_by_saying (says_nothing e) e ended faults now left rest refl leaves stayed reported.is
+ends_so e ended w faults now left rest leaves stayed (inr reported) = inr reported.is
 
-ends_as_refused : HasOneRefusal → (input : List ℕ) (e : ReadError) (ended : Status) → IsRefusedBy input e → EndsSo e ended → EndsAsRefused input ended
+ends_as_refused : HasOneRefusal → (input : List ℕ) (e : ReadError) (ended : Status) → IsRefusedBy input e → EndsSo e ended → ExitsAsRefused input ended
 ends_as_refused one input e ended first (inl so) f other = inl (so.1 ∙ ap refusal_status (one input e f (record { first = first; says = so.0 }) other))
 ends_as_refused one input e ended first (inr memory) f other = inr memory
 
-ends_as_started : StartsOrRefused → (input : List ℕ) (e : ReadError) (ended : Status) → IsRefusedBy input e → EndsSo e ended → EndsAsStarted input ended
+ends_as_started : StartsOrRefused → (input : List ℕ) (e : ReadError) (ended : Status) → IsRefusedBy input e → EndsSo e ended → ExitsAsStarted input ended
 ends_as_started either input e ended first (inl so) c rs start = absurd (false≢true (sym so.0 ∙ either input c rs e start first))
 ends_as_started either input e ended first (inr memory) c rs start = inr memory
 
--- a told refusal is the input's
-pub refused_ends_refused : HasOneRefusal → (left rest : Option (List ℕ)) (e : ReadError) (ended : Status) (w : Sunk) (faults now : ℕ)
-    → IfSome left (λ input. IsRefusedBy input e) → LeavesAt e faults now left rest → EndsRefused e ended w → Stayed faults now → IfSome left (λ input. EndsAsRefused input ended)
+-- a refusal that is reported is the input's
+pub refused_ends_refused : HasOneRefusal → (left rest : Option (List ℕ)) (e : ReadError) (ended : Status) (w : SinkChange) (faults now : ℕ)
+    → IfSome left (λ input. IsRefusedBy input e) → LeavesOfRefusedSource e faults now left rest → ExitsRefused e ended w → DidNotRise faults now → IfSome left (λ input. ExitsAsRefused input ended)
 refused_ends_refused one left rest e ended w faults now refused leaves ends stayed =
     IfSome_then left refused (λ input first. ends_as_refused one input e ended first (ends_so e ended w faults now left rest leaves stayed ends))
 
 -- and then the input doesn't start
-pub refused_ends_started : StartsOrRefused → (left rest : Option (List ℕ)) (e : ReadError) (ended : Status) (w : Sunk) (faults now : ℕ)
-    → IfSome left (λ input. IsRefusedBy input e) → LeavesAt e faults now left rest → EndsRefused e ended w → Stayed faults now → IfSome left (λ input. EndsAsStarted input ended)
+pub refused_ends_started : StartsOrRefused → (left rest : Option (List ℕ)) (e : ReadError) (ended : Status) (w : SinkChange) (faults now : ℕ)
+    → IfSome left (λ input. IsRefusedBy input e) → LeavesOfRefusedSource e faults now left rest → ExitsRefused e ended w → DidNotRise faults now → IfSome left (λ input. ExitsAsStarted input ended)
 refused_ends_started either left rest e ended w faults now refused leaves ends stayed =
     IfSome_then left refused (λ input first. ends_as_started either input e ended first (ends_so e ended w faults now left rest leaves stayed ends))

@@ -1,4 +1,4 @@
--- How a refusal is told.
+-- How a refusal is reported.
 use Rattle.std.proofs.Common.{◌≡◌, inl, refl, sym, subst}
 use Rattle.ss_lines.specs.declared.line.LineError.TheVariants as cause
 use Rattle.ss_catalog.specs.declared.error.CatalogError.TheVariants as catalog
@@ -7,7 +7,7 @@ use Rattle.ss_top.specs.declared.input.ReadError.{ReadError}
 use Rattle.ss_top.specs.declared.input.ReadError.TheVariants.{Line as OfLine, NoCatalog, Catalog as OfCatalog, Request as OfRequest}
 use Rattle.ss_top.specs.declared.status.Status.TheVariants.{ReadFault}
 use Rattle.ss_top.specs.Statuses.{read_fault_text, refusal_text, refusal_status}
-use Rattle.ss_top.specs.Top.{Sunk, Tells, EndsRefused}
+use Rattle.ss_top.specs.Top.{SinkChange, Writes, ExitsRefused}
 
 -- only a fault of the source has its status, and so its text
 read_fault_text_is : (e : ReadError) → refusal_status e ≡ ReadFault → refusal_text e ≡ read_fault_text
@@ -22,6 +22,6 @@ read_fault_text_is (OfCatalog line e) is = cc
 read_fault_text_is (OfRequest request.NoMemory) is = cc
 read_fault_text_is (OfRequest e) is = cc
 
--- a fault of the source, told as such, is told as its refusal
-pub read_fault_ends : (e : ReadError) (w : Sunk) → ReadFault ≡ refusal_status e → Tells read_fault_text w → EndsRefused e ReadFault w
-read_fault_ends e w is told = inl (record { is = is; told = subst (λ text. Tells text w) (sym (read_fault_text_is e (sym is))) told })
+-- a fault of the source, written as such, is reported as its refusal
+pub read_fault_ends : (e : ReadError) (w : SinkChange) → ReadFault ≡ refusal_status e → Writes read_fault_text w → ExitsRefused e ReadFault w
+read_fault_ends e w is reported = inl (record { is = is; reported = subst (λ text. Writes text w) (sym (read_fault_text_is e (sym is))) reported })

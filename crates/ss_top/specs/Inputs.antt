@@ -14,7 +14,7 @@ use Rattle.ss_top.specs.Refused.{IsRefusedBy}
 use Rattle.ss_top.specs.Starts.{Starts}
 use Rattle.ss_top.specs.Statuses.{refusal_status}
 
--- whether a refusal says nothing of the input: want of memory, wherever it came, and a fault of the source
+-- whether a refusal says nothing of the input: out of memory, wherever it came, and a fault of the source
 abbrev pub says_nothing : ReadError → Bool
 says_nothing (OfLine cause.NoMemory) = true
 says_nothing (OfLine cause.ReadFault) = true
@@ -44,13 +44,13 @@ HasOneRefusal = (input : List ℕ) (e f : ReadError) → HasRefusal input e → 
 -- ---- how an input ends
 
 -- a count of faults didn't rise, and is below the greatest number of 64 bits
-abbrev pub Stayed : ℕ → ℕ → Type 0
-Stayed before now = Rose before now → ⊥
+abbrev pub DidNotRise : ℕ → ℕ → Type 0
+DidNotRise before now = Rose before now → ⊥
 
--- an input with a refusal ends with the status of the refusal, unless memory was wanting
-abbrev pub EndsAsRefused : List ℕ → Status → Type 0
-EndsAsRefused input ended = (e : ReadError) → HasRefusal input e → (ended ≡ refusal_status e) ⊎ (ended ≡ NoMemory)
+-- an input with a refusal ends with the status of the refusal, or at out of memory
+abbrev pub ExitsAsRefused : List ℕ → Status → Type 0
+ExitsAsRefused input ended = (e : ReadError) → HasRefusal input e → (ended ≡ refusal_status e) ⊎ (ended ≡ NoMemory)
 
--- an input that starts is done, unless memory was wanting
-abbrev pub EndsAsStarted : List ℕ → Status → Type 0
-EndsAsStarted input ended = (c : Catalog) (rs : List Request) → Starts input c rs → (ended ≡ Done) ⊎ (ended ≡ NoMemory)
+-- an input that starts ends as done, or at out of memory
+abbrev pub ExitsAsStarted : List ℕ → Status → Type 0
+ExitsAsStarted input ended = (c : Catalog) (rs : List Request) → Starts input c rs → (ended ≡ Done) ⊎ (ended ≡ NoMemory)

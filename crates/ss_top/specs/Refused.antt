@@ -18,7 +18,7 @@ use Rattle.ss_top.specs.Starts.{SaysCatalog, AskInOrder}
 
 -- ---- the catalogue's line
 
--- its value is refused as a catalogue
+-- the line's value is refused as a catalogue, by the line's number
 pub record RefusesCatalog (l : Line) (line : ℕ) (e : CatalogError) : Type 0 where
   pub here : line ≡ l.number
   pub value : Data
@@ -34,7 +34,7 @@ RefusesFirst l (OfRequest e) = ⊥
 
 -- ---- requests
 
--- its value is refused as a request of the catalogue
+-- the line's value is refused as a request of the catalogue
 pub record RefusesRequest (catalog : Catalog) (l : Line) (e : RequestError) : Type 0 where
   pub value : Data
   pub json : value_at l ≡ Ok value
@@ -47,7 +47,7 @@ RefusesLater catalog l (OfRequest e) = RefusesRequest catalog l e
 RefusesLater catalog l NoCatalog = ⊥
 RefusesLater catalog l (OfCatalog line e) = ⊥
 
--- the lines before this one are fine, and it is refused so
+-- one of the lines is refused so, and all lines before it ask for requests
 pub record RefusesAmong (catalog : Catalog) (lines : List Line) (e : ReadError) : Type 0 where
   pub before : List Line
   pub line : Line
@@ -70,14 +70,14 @@ abbrev pub RefusesLines : List Line → ReadError → Type 0
 RefusesLines [] e = e ≡ NoCatalog
 RefusesLines (l ∷ ls) e = RefusesFirst l e ⊎ RefusesBehind l ls e
 
--- the first refusal of the bytes, the length of all before their lines; want of memory and a fault of the source say nothing of them
+-- the first refusal of the bytes: of their length, and then of their lines; out of memory and a fault of the source say nothing of them
 abbrev pub IsRefusedBy : List ℕ → ReadError → Type 0
 IsRefusedBy input (OfLine cause.NoMemory) = Unit {0}
 IsRefusedBy input (OfLine cause.ReadFault) = Unit {0}
 IsRefusedBy input (OfLine cause.InputTooLong) = max_input < length input
 IsRefusedBy input e = (length input ≤ max_input) × RefusesLines (lines_of input) e
 
--- the refusals that come of lines, once they are there
+-- the refusals that lines can have once they are there
 abbrev pub ComesOfLines : ReadError → Type 0
 ComesOfLines (OfLine cause.ReadFault) = ⊥
 ComesOfLines (OfLine cause.InputTooLong) = ⊥

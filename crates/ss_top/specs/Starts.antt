@@ -15,19 +15,19 @@ pub record SaysCatalog (l : Line) (catalog : Catalog) : Type 0 where
   pub json : value_at l ≡ Ok value
   pub reads : Reads value catalog
 
--- the line's value asks this of the catalogue
+-- the line's value is this request of the catalogue
 pub record AsksFor (catalog : Catalog) (l : Line) (r : Request) : Type 0 where
   pub value : Data
   pub json : value_at l ≡ Ok value
   pub asks : request_of catalog l.number value ≡ Ok r
 
--- each line asks for its request
+-- each line asks for its request, and there are as many of both
 abbrev pub AskInOrder : Catalog → List Line → List Request → Type 0
 AskInOrder catalog [] [] = Unit {0}
 AskInOrder catalog (l ∷ ls) (r ∷ rs) = AsksFor catalog l r × AskInOrder catalog ls rs
 AskInOrder catalog _ _ = ⊥
 
--- the first line says the catalogue, and the others ask for the requests
+-- the first line is read as the catalogue, and the others ask for the requests
 abbrev pub StartLines : List Line → Catalog → List Request → Type 0
 StartLines [] catalog requests = ⊥
 StartLines (l ∷ ls) catalog requests = SaysCatalog l catalog × AskInOrder catalog ls requests

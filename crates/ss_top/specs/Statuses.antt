@@ -54,7 +54,7 @@ sql_fault name step code at = string name ∷ count step ∷ string code ∷ cou
 abbrev pub fault_code : ℕ → List ℕ
 fault_code code = codes "S" ++ decimal code
 
--- what there is too much of
+-- the word for what there are too many of
 abbrev pub counted_word : Counted → List ℕ
 counted_word Tables = codes "tables"
 counted_word Streams = codes "streams"
@@ -66,7 +66,7 @@ counted_word Inputs = codes "inputs"
 counted_word Statements = codes "statements"
 counted_word Steps = codes "steps"
 
--- of a line's bytes, or of all of them
+-- the bytes of a refusal of one line's bytes, or of all bytes
 abbrev pub bytes_refusal : LineError → List ℕ
 bytes_refusal cause.NoMemory = no_memory_text
 bytes_refusal cause.ReadFault = read_fault_text
@@ -74,7 +74,7 @@ bytes_refusal (cause.LineTooLong line) = input_text line (codes "L2") []
 bytes_refusal cause.InputTooLong = input_text 0 (codes "L3") []
 bytes_refusal (cause.NotJson line) = input_text line (codes "L4") []
 
--- of the catalogue on this line
+-- the bytes of a refusal of the catalogue on this line
 abbrev pub catalog_refusal : ℕ → CatalogError → List ℕ
 catalog_refusal line catalog.NoMemory = no_memory_text
 catalog_refusal line (catalog.Shape path) = input_text line (codes "C1") (string path ∷ [])
@@ -88,7 +88,7 @@ catalog_refusal line (catalog.StreamEnds name) = input_text line (codes "C8") (s
 catalog_refusal line (catalog.WindowOwner name) = input_text line (codes "C9") (string name ∷ [])
 catalog_refusal line (catalog.Limit counted) = input_text line (codes "C10") (string (counted_word counted) ∷ [])
 
--- of a request
+-- the bytes of a refusal of a request
 abbrev pub request_refusal : RequestError → List ℕ
 request_refusal request.NoMemory = no_memory_text
 request_refusal (request.Shape line) = input_text line (codes "C11") []
@@ -96,7 +96,7 @@ request_refusal (request.UnknownTarget line) = input_text line (codes "C12") []
 request_refusal (request.Arguments line) = input_text line (codes "C13") []
 request_refusal (request.TooManyRows line) = input_text line (codes "C14") []
 
--- the bytes of a refusal; a catalogue that isn't there is missing on line 1, as a whole
+-- the bytes of a refusal; where there is no catalogue, that is refused as a whole, on line 1
 abbrev pub refusal_text : ReadError → List ℕ
 refusal_text (OfLine e) = bytes_refusal e
 refusal_text NoCatalog = input_text 1 (codes "C1") (string (codes "$") ∷ [])
@@ -105,18 +105,18 @@ refusal_text (OfRequest e) = request_refusal e
 
 -- ---- the statuses of refusals
 
--- of a line's bytes, or of all of them
+-- the status of a refusal of one line's bytes, or of all bytes
 abbrev pub bytes_status : LineError → Status
 bytes_status cause.NoMemory = NoMemory
 bytes_status cause.ReadFault = ReadFault
 bytes_status _ = Input
 
--- of the catalogue
+-- the status of a refusal of the catalogue
 abbrev pub catalog_status : CatalogError → Status
 catalog_status catalog.NoMemory = NoMemory
 catalog_status _ = Input
 
--- of a request
+-- the status of a refusal of a request
 abbrev pub request_status : RequestError → Status
 request_status request.NoMemory = NoMemory
 request_status _ = Input
@@ -130,7 +130,7 @@ refusal_status (OfRequest e) = request_status e
 
 -- ---- the words of the command line
 
--- the status where the words can't be had: want of memory, or a faulty command line
+-- the status where the words can't be had: out of memory, or a faulty command line
 abbrev pub words_status : ErrorKind → Status
 words_status OutOfMemory = NoMemory
 words_status _ = Usage

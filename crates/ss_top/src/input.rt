@@ -8,42 +8,40 @@ ghost use Rattle.ss_run.specs.RunAnswers.{all_fit};
 ghost use Rattle.ss_top.specs.Starts.{SaysCatalog, AsksFor, AskInOrder, StartLines};
 ghost use Rattle.ss_top.specs.Refused.{RefusesFirst, RefusesLater, RefusesAmong, RefusesLines, ComesOfLines};
 
-use ss_catalog::error::CatalogError;
-use ss_catalog::read::read_catalog;
-use ss_catalog_requests::request::{RequestError, request_of};
+use ss_catalog::{CatalogError, read_catalog};
+use ss_catalog_requests::{RequestError, request_of};
 use ss_lines::{Line, LineError, line_value};
-use ss_model::catalog::Catalog;
-use ss_model::entry::Request;
-use ss_value::seq::Seq;
+use ss_model::{Catalog, Request};
+use ss_value::Seq;
 use std::alloc::Global;
 
 /// Why an input isn't read.
 #[derive(Drop)]
 pub enum ReadError {
-    /// A line, or the whole input, is refused before a value is looked at. Or the source failed, or memory is wanting.
+    /// A line, or the whole input, is refused before a value is looked at; or the source failed; or out of memory.
     Line(LineError),
-    /// No line is there, and so no catalogue.
+    /// There is no line, and so no catalogue.
     NoCatalog,
-    /// The value of the first line isn't a catalogue, or memory is wanting.
+    /// The value of the first line isn't a catalogue; or out of memory.
     Catalog {
         /// The line's number.
         line: u64,
         error: CatalogError,
     },
-    /// The value of a later line isn't a request of the catalogue, or memory is wanting.
+    /// The value of a later line isn't a request of the catalogue; or out of memory.
     Request(RequestError),
 }
 
 /// What an input asks for: a catalogue, and requests in order.
 #[derive(Drop)]
-pub struct Plan {
+pub struct ParsedInput {
     pub catalog: Catalog,
     pub requests: Seq<Request>,
 }
 
 /// The catalogue of the first line, or the line's first refusal.
 fn catalog_at(alloc: Global, line: &Line) -> Result<Catalog, ReadError>
-    ensures says { IfOk result (SaysCatalog line.now) }
+    ensures ok { IfOk result (SaysCatalog line.now) }
     ensures accepted { IfOk result Accepted }
     ensures refused { IfErr result (RefusesFirst line.now) }
     ensures others { IfErr result ComesOfLines }
@@ -60,7 +58,7 @@ fn catalog_at(alloc: Global, line: &Line) -> Result<Catalog, ReadError>
 
 /// The request that a later line asks for, or the line's first refusal.
 fn request_at(alloc: Global, catalog: &Catalog, line: &Line) -> Result<Request, ReadError>
-    ensures asks { IfOk result (AsksFor catalog.now line.now) }
+    ensures ok { IfOk result (AsksFor catalog.now line.now) }
     ensures fits { IfOk result (λ r. fits_entry catalog.now (asked_entry r.client 0 r.what) ≡ true) }
     ensures refused { IfErr result (RefusesLater catalog.now line.now) }
     ensures others { IfErr result ComesOfLines }
@@ -74,7 +72,7 @@ fn request_at(alloc: Global, catalog: &Catalog, line: &Line) -> Result<Request, 
 
 /// The requests of all later lines, or the first refusal.
 fn requests_at(alloc: Global, catalog: &Catalog, lines: &[Line]) -> Result<Seq<Request>, ReadError>
-    ensures asks { IfOk result (AskInOrder catalog.now lines.now) }
+    ensures ok { IfOk result (AskInOrder catalog.now lines.now) }
     ensures fit { IfOk result (λ rs. all_fit catalog.now rs ≡ true) }
     ensures refused { IfErr result (RefusesAmong catalog.now lines.now) }
     ensures others { IfErr result ComesOfLines }
@@ -82,6 +80,7 @@ fn requests_at(alloc: Global, catalog: &Catalog, lines: &[Line]) -> Result<Seq<R
     let mut requests = Seq::new(alloc);
     for line in lines {
         let request = request_at(alloc, catalog, line)?;
+        // Out of memory is reported alike by each kind of `ReadError` that has it.
         if requests.push(request).is_err() {
             return Err(ReadError::Line(LineError::NoMemory));
         }
@@ -93,12 +92,12 @@ fn requests_at(alloc: Global, catalog: &Catalog, lines: &[Line]) -> Result<Seq<R
 ///
 /// The lines are read in order: the first is the catalogue's, each other a request's. The first refusal of all is the
 /// answer. Of one line it is that it is too long, then that it is no JSON, then that its value is refused as a
-/// catalogue or a request; nothing is said of a later line. Of the refusals of an input as a whole none comes but want
-/// of memory.
+/// catalogue or a request; nothing is said of a later line. The lines are there already, so neither a fault of the source
+/// nor an input that is too long is answered here.
 ///
-/// Linear in the bytes of the lines beside what `read_catalog` and `request_of` take.
-pub fn read_plan(alloc: Global, lines: &[Line]) -> Result<Plan, ReadError>
-    ensures starts { IfOk result (λ p. StartLines lines.now p.catalog p.requests) }
+/// Costs what `read_catalog` and `request_of` cost, and time linear in the bytes of the lines.
+pub fn parse_input(alloc: Global, lines: &[Line]) -> Result<ParsedInput, ReadError>
+    ensures ok { IfOk result (λ p. StartLines lines.now p.catalog p.requests) }
     ensures accepted { IfOk result (λ p. Accepted p.catalog) }
     ensures fit { IfOk result (λ p. all_fit p.catalog p.requests ≡ true) }
     ensures refused { IfErr result (RefusesLines lines.now) }
@@ -109,5 +108,5 @@ pub fn read_plan(alloc: Global, lines: &[Line]) -> Result<Plan, ReadError>
     };
     let catalog = catalog_at(alloc, first)?;
     let requests = requests_at(alloc, &catalog, rest)?;
-    Ok(Plan { catalog, requests })
+    Ok(ParsedInput { catalog, requests })
 }

@@ -1,14 +1,14 @@
 //! An input has one answer: it starts, or it has one refusal.
 //!
-//! What an input says is said by relations, since that of its catalogue is. The laws here say that they exclude each
-//! other, and that there is one answer at most. They are the contract of a function that does nothing: it only calls
-//! the laws of a catalogue's value, which are such a function too.
+//! Relations say what an input's answer is, since one says what a catalogue's value is read as. The laws here say that
+//! these relations exclude each other and that each gives one answer at most. They are the contract of a function that
+//! does nothing: it only calls the laws of a catalogue's value, which are such a function too.
 
 ghost use Rattle.ss_top.specs.Inputs.{HasOneStart, StartsOrRefused, HasOneRefusal};
 
-use ss_catalog::laws::a_value_has_one_answer;
+use ss_catalog::a_value_has_one_answer;
 
-/// An input starts with one catalogue and one list of requests, or it is refused and has one refusal; want of memory
+/// An input starts with one catalogue and one list of requests, or it is refused and has one refusal; out of memory
 /// and a fault of the source say nothing of it.
 pub fn an_input_has_one_answer()
     ensures start { HasOneStart }

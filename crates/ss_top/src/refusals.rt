@@ -1,4 +1,4 @@
-//! What is written where nothing ran.
+//! What is written where nothing ran, and with which status.
 
 ghost use Rattle.std.specs.Prelude.{◌≡◌, ◌≤◌, false, [], ◌∷◌, IfOk, codes, string_bytes};
 ghost use Rattle.serde_json.specs.Data.{string};
@@ -6,30 +6,31 @@ ghost use Rattle.serde_json.specs.View.{view};
 ghost use Rattle.serde_json.specs.Written.{has_float};
 ghost use Rattle.ss_model.specs.ReportLines.{array_of, count, line_text};
 ghost use Rattle.ss_top.specs.Statuses.{input_text, sql_fault, fault_code, counted_word, bytes_refusal, catalog_refusal, request_refusal, refusal_text, bytes_status, catalog_status, request_status, refusal_status};
-ghost use Rattle.ss_top.specs.Top.{sunk, Tells, EndsRefused};
+ghost use Rattle.ss_top.specs.Top.{sink_of, Writes, ExitsRefused};
 
 use crate::input::ReadError;
 use crate::status::Status;
 use serde_json::{Value as Json, json};
-use ss_catalog::error::{CatalogError, Counted, SqlFault};
-use ss_catalog_requests::request::RequestError;
+use ss_catalog::{CatalogError, Counted, SqlFault};
+use ss_catalog_requests::RequestError;
 use ss_lines::{LineError, Sink, write_all};
 use std::alloc::{AllocError, Global};
 
-/// The text at status 1.
+/// The text at status 1, of a faulty command line.
 pub const USAGE: &str = "[\"usage\"]\n";
 
-/// The text at status 3.
+/// The text at status 3, of a fault of the source.
 pub const READ_FAULT: &str = "[\"read_fault\"]\n";
 
-/// The text at status 6.
+/// The text at status 6, of out of memory.
 pub const NO_MEMORY: &str = "[\"no_memory\"]\n";
 
 /// Writes a text, as far as the sink takes it. Takes no memory.
-pub fn tell<K: Sink>(sink: &mut K, text: &str)
-    ensures told { Tells text.now (sunk (K.written sink.old) (K.written sink.new) (K.faults sink.old) (K.faults sink.new)) }
+pub fn write_line<K: Sink>(sink: &mut K, text: &str)
+    ensures written { Writes text.now (sink_of (K.written sink.old) (K.written sink.new) (K.faults sink.old) (K.faults sink.new)) }
     ensures counts { K.faults sink.old ≤ K.faults sink.new }
 {
+    // Where the sink fails the status stays what it is: status 4 comes only in place of 0.
     let _ = write_all(sink, text.as_bytes());
 }
 
@@ -45,6 +46,7 @@ fn line_text(alloc: Global, value: &Json) -> Result<String, AllocError>
     Ok(text)
 }
 
+/// A refused line with its code.
 fn input_line(alloc: Global, line: u64, code: &str) -> Result<String, AllocError>
     ensures { IfOk result (λ text. string_bytes text ≡ input_text line code.now []) }
 {
@@ -52,7 +54,7 @@ fn input_line(alloc: Global, line: u64, code: &str) -> Result<String, AllocError
     line_text(alloc, &value)
 }
 
-/// A refused line, and a word of what it is refused for.
+/// A refused line with its code, and a word for what it is refused for.
 fn word_line(alloc: Global, line: u64, code: &str, word: &str) -> Result<String, AllocError>
     ensures { IfOk result (λ text. string_bytes text ≡ input_text line code.now (string word.now ∷ [])) }
 {
@@ -60,7 +62,7 @@ fn word_line(alloc: Global, line: u64, code: &str, word: &str) -> Result<String,
     line_text(alloc, &value)
 }
 
-/// A refused line, and the step of the procedure or trigger for which it is.
+/// A refused line with its code, and the step of the procedure or trigger for which it is refused.
 fn step_line(
     alloc: Global,
     line: u64,
@@ -74,7 +76,7 @@ fn step_line(
     line_text(alloc, &value)
 }
 
-/// A line that is refused for a fault of a SQL text, of this code.
+/// A line that is refused for a SQL text: the step that has the text, the fault's code, and its offset in bytes.
 fn fault_json(
     alloc: Global,
     line: u64,
@@ -88,7 +90,7 @@ fn fault_json(
     json!(in alloc; ["input", line, "C4", name, step, code, at])
 }
 
-/// The same, as a line.
+/// The same, as a text with its line feed.
 fn fault_line(
     alloc: Global,
     line: u64,
@@ -244,35 +246,36 @@ fn status_of(error: &ReadError) -> Status
     }
 }
 
-/// Tells a refusal by a text of its own, or that even for this there was no memory.
+/// Writes a refusal by a text of its own, or that there was no memory for this text, and answers the status.
 fn refuse_line<K: Sink>(alloc: Global, sink: &mut K, error: &ReadError) -> Status
-    ensures ends { EndsRefused error.now result (sunk (K.written sink.old) (K.written sink.new) (K.faults sink.old) (K.faults sink.new)) }
+    ensures refused { ExitsRefused error.now result (sink_of (K.written sink.old) (K.written sink.new) (K.faults sink.old) (K.faults sink.new)) }
     ensures counts { K.faults sink.old ≤ K.faults sink.new }
 {
     match refusal_line(alloc, error) {
         Ok(text) => {
-            tell(sink, text.as_str());
+            write_line(sink, text.as_str());
             status_of(error)
         }
         Err(_) => {
-            tell(sink, NO_MEMORY);
+            write_line(sink, NO_MEMORY);
             Status::NoMemory
         }
     }
 }
 
-/// Tells why nothing ran, and answers the status. Want of memory and a fault of the source are told without memory.
+/// Writes why nothing ran, and answers the status.
 pub fn refuse<K: Sink>(alloc: Global, sink: &mut K, error: &ReadError) -> Status
-    ensures ends { EndsRefused error.now result (sunk (K.written sink.old) (K.written sink.new) (K.faults sink.old) (K.faults sink.new)) }
+    ensures refused { ExitsRefused error.now result (sink_of (K.written sink.old) (K.written sink.new) (K.faults sink.old) (K.faults sink.new)) }
     ensures counts { K.faults sink.old ≤ K.faults sink.new }
 {
+    // Out of memory and a fault of the source are written by constant texts, which take no memory.
     match status_of(error) {
         Status::NoMemory => {
-            tell(sink, NO_MEMORY);
+            write_line(sink, NO_MEMORY);
             Status::NoMemory
         }
         Status::ReadFault => {
-            tell(sink, READ_FAULT);
+            write_line(sink, READ_FAULT);
             Status::ReadFault
         }
         _ => refuse_line(alloc, sink, error),

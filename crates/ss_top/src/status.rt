@@ -6,9 +6,9 @@ ghost use Rattle.ss_top.specs.Statuses.{status_number};
 /// How a run ended; the program's exit status is its number.
 #[derive(Clone, Copy, Debug, PartialEq, Eq, Drop)]
 pub enum Status {
-    /// 0: all requests were taken, and the whole report was written.
+    /// 0: all requests were answered, and the whole report was written.
     Done,
-    /// 1: the words of the command line are no command.
+    /// 1: the words of the command line are no command, or can't be had.
     Usage,
     /// 2: the input is refused, and nothing ran.
     Input,
@@ -16,7 +16,7 @@ pub enum Status {
     ReadFault,
     /// 4: all is as at 0, but writing the report failed.
     WriteFault,
-    /// 6: the run as a whole found no memory.
+    /// 6: the run as a whole is out of memory.
     NoMemory,
 }
 

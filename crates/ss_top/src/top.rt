@@ -14,19 +14,18 @@ ghost use Rattle.ss_run.specs.RunAnswers.{all_fit, AnswersInOrder};
 ghost use Rattle.ss_top.specs.Starts.{Starts};
 ghost use Rattle.ss_top.specs.Refused.{IsRefusedBy};
 ghost use Rattle.ss_top.specs.Statuses.{usage_text, read_fault_text, no_memory_text};
-ghost use Rattle.ss_top.specs.Inputs.{Stayed, EndsAsRefused, EndsAsStarted};
-ghost use Rattle.ss_top.specs.Top.{is_run, sunk, Tells, LeavesAt, IsRefused, IsToldRun, IsCutRun, Empties};
+ghost use Rattle.ss_top.specs.Inputs.{DidNotRise, ExitsAsRefused, ExitsAsStarted};
+ghost use Rattle.ss_top.specs.Top.{is_run, sink_of, Writes, LeavesOfRefusedSource, IsRefused, RunIsReported, RunIsCut, LeavesOfSource};
 
-use crate::input::{Plan, ReadError, read_plan};
+use crate::input::{ParsedInput, ReadError, parse_input};
 use crate::laws::an_input_has_one_answer;
-use crate::refusals::{NO_MEMORY, USAGE, refuse, tell};
+use crate::refusals::{NO_MEMORY, USAGE, refuse, write_line};
 use crate::status::Status;
 use ss_lines::{Sink, Source, read_lines, write_all};
-use ss_model::entry::Listed;
+use ss_model::Listed;
 use ss_report::{End, write_report};
-use ss_run::session::{Session, run_requests};
-use ss_value::NoMemory;
-use ss_value::seq::Seq;
+use ss_run::{Session, run_requests};
+use ss_value::{NoMemory, Seq};
 use std::alloc::Global;
 
 /// Whether the words are a command: the one word `run`.
@@ -39,33 +38,33 @@ fn is_run(words: &[String]) -> bool
     }
 }
 
-/// Reads all of a source, and says what its bytes ask for. The lines are let go on the way.
-fn read_input<S: Source>(alloc: Global, source: &mut S) -> Result<Plan, ReadError>
+/// Reads a source to its end, and answers what its bytes ask for. The lines are freed when it returns, before the run.
+fn read_input<S: Source>(alloc: Global, source: &mut S) -> Result<ParsedInput, ReadError>
     ensures taken { TakesAtMost (max_input + 1) (S.left source.old) (S.left source.new) }
     ensures counts { S.faults source.old ≤ S.faults source.new }
     ensures end { OnOk result (IsAtEnd (S.left source.new)) }
-    ensures starts { IfOk result (λ p. IfSome (S.left source.old) (λ input. Starts input p.catalog p.requests)) }
+    ensures ok { IfOk result (λ p. IfSome (S.left source.old) (λ input. Starts input p.catalog p.requests)) }
     ensures accepted { IfOk result (λ p. Accepted p.catalog) }
     ensures fit { IfOk result (λ p. all_fit p.catalog p.requests ≡ true) }
     ensures refused { IfErr result (λ e. IfSome (S.left source.old) (λ input. IsRefusedBy input e)) }
-    ensures leaves { IfErr result (λ e. LeavesAt e (S.faults source.old) (S.faults source.new) (S.left source.old) (S.left source.new)) }
+    ensures leaves { IfErr result (λ e. LeavesOfRefusedSource e (S.faults source.old) (S.faults source.new) (S.left source.old) (S.left source.new)) }
 {
     let lines = match read_lines(alloc, source) {
         Ok(lines) => lines,
         Err(e) => return Err(ReadError::Line(e)),
     };
-    read_plan(alloc, lines.as_slice())
+    parse_input(alloc, lines.as_slice())
 }
 
-/// The text of a run's report, and the list that it tells.
+/// A run's list, and the text of the report on it.
 #[derive(Drop)]
-struct ToldRun {
+struct ReportedRun {
     list: Seq<Listed>,
     text: Seq<u8>,
 }
 
-/// Runs what was asked for, and makes the report. Fails only for want of memory of the run as a whole.
-fn run_plan(alloc: Global, plan: &Plan) -> Result<ToldRun, NoMemory>
+/// Runs what was asked for, and makes the report. Fails only where the run as a whole is out of memory.
+fn run_and_report(alloc: Global, plan: &ParsedInput) -> Result<ReportedRun, NoMemory>
     requires accepted { Accepted plan.now.catalog }
     requires fit { all_fit plan.now.catalog plan.now.requests ≡ true }
     ensures replays { IfOk result (λ t. Replays plan.now.catalog (empty_database plan.now.catalog) t.list) }
@@ -88,12 +87,12 @@ fn run_plan(alloc: Global, plan: &Plan) -> Result<ToldRun, NoMemory>
         &list,
         &End::Tables(database),
     )?;
-    Ok(ToldRun { list, text })
+    Ok(ReportedRun { list, text })
 }
 
 /// Does all that the program does: reads a catalogue and requests, runs them, and reports.
 ///
-/// Linear in the input's bytes and the report's, and beside that what the executions cost. Memory is that of the
+/// Costs time linear in the bytes of the input and of the report, and what the executions cost. Takes the memory of the
 /// input's lines, or of its values with the tables and the report, whichever is more.
 pub fn sstore<S: Source, K: Sink>(
     alloc: Global,
@@ -101,54 +100,55 @@ pub fn sstore<S: Source, K: Sink>(
     source: &mut S,
     sink: &mut K,
 ) -> Status
-    // The words alone tell whether it is a command.
+    // The words alone decide whether they are a command.
     ensures usage { (result ≡ Status.Usage) ↔ (is_run words.now ≡ false) }
-    ensures usage_told { result ≡ Status.Usage → Tells usage_text (sunk (K.written sink.old) (K.written sink.new) (K.faults sink.old) (K.faults sink.new)) }
+    ensures usage_line { result ≡ Status.Usage → Writes usage_text (sink_of (K.written sink.old) (K.written sink.new) (K.faults sink.old) (K.faults sink.new)) }
 
-    // Faults come only where they were counted, and counts never fall.
+    // A fault is answered only where it was counted, and counts never fall.
     ensures counts { (S.faults source.old ≤ S.faults source.new) × (K.faults sink.old ≤ K.faults sink.new) }
     ensures read_fault { result ≡ Status.ReadFault → Rose (S.faults source.old) (S.faults source.new) }
-    ensures read_fault_told { result ≡ Status.ReadFault → Tells read_fault_text
-        (sunk (K.written sink.old) (K.written sink.new) (K.faults sink.old) (K.faults sink.new)) }
+    ensures read_fault_line { result ≡ Status.ReadFault → Writes read_fault_text
+        (sink_of (K.written sink.old) (K.written sink.new) (K.faults sink.old) (K.faults sink.new)) }
     ensures write_fault { result ≡ Status.WriteFault → Rose (K.faults sink.old) (K.faults sink.new) }
-    ensures memory_told { result ≡ Status.NoMemory → Tells no_memory_text
-        (sunk (K.written sink.old) (K.written sink.new) (K.faults sink.old) (K.faults sink.new)) }
+    ensures memory_line { result ≡ Status.NoMemory → Writes no_memory_text
+        (sink_of (K.written sink.old) (K.written sink.new) (K.faults sink.old) (K.faults sink.new)) }
 
-    // What is taken of the source.
+    // How much of the source is taken.
     ensures taken { TakesAtMost (max_input + 1) (S.left source.old) (S.left source.new) }
-    ensures empties { Empties result (S.left source.old) (S.left source.new) }
+    ensures empties { LeavesOfSource result (S.left source.old) (S.left source.new) }
 
-    // A refusal is the first that the bytes have.
+    // A refusal that is written is the first that the bytes have.
     ensures input { result ≡ Status.Input → IfSome (S.left source.old) (λ input.
-        IsRefused input Status.Input (sunk (K.written sink.old) (K.written sink.new) (K.faults sink.old) (K.faults sink.new))) }
+        IsRefused input Status.Input (sink_of (K.written sink.old) (K.written sink.new) (K.faults sink.old) (K.faults sink.new))) }
 
-    // An input has one answer, and gets it, unless a fault was counted or memory was wanting.
-    ensures refused { is_run words.now ≡ true → Stayed (S.faults source.old) (S.faults source.new)
-        → IfSome (S.left source.old) (λ input. EndsAsRefused input result) }
-    ensures started { is_run words.now ≡ true → Stayed (S.faults source.old) (S.faults source.new) → Stayed (K.faults sink.old) (K.faults sink.new)
-        → IfSome (S.left source.old) (λ input. EndsAsStarted input result) }
+    // An input has one answer, and gets it, unless a fault was counted or at out of memory.
+    ensures refused { is_run words.now ≡ true → DidNotRise (S.faults source.old) (S.faults source.new)
+        → IfSome (S.left source.old) (λ input. ExitsAsRefused input result) }
+    ensures started { is_run words.now ≡ true → DidNotRise (S.faults source.old) (S.faults source.new) → DidNotRise (K.faults sink.old) (K.faults sink.new)
+        → IfSome (S.left source.old) (λ input. ExitsAsStarted input result) }
 
     // The headline: the catalogue is accepted, the replies and tables are those of one list that replays, has the
-    // orders and leaves no batch untaken, and the bytes are its report.
+    // orders and leaves no batch pending, and the bytes are its report.
     ensures done { result ≡ Status.Done → IfSome (S.left source.old) (λ input.
-        IsToldRun input (sunk (K.written sink.old) (K.written sink.new) (K.faults sink.old) (K.faults sink.new))) }
+        RunIsReported input (sink_of (K.written sink.old) (K.written sink.new) (K.faults sink.old) (K.faults sink.new))) }
     ensures cut { result ≡ Status.WriteFault → IfSome (S.left source.old) (λ input.
-        IsCutRun input (sunk (K.written sink.old) (K.written sink.new) (K.faults sink.old) (K.faults sink.new))) }
+        RunIsCut input (sink_of (K.written sink.old) (K.written sink.new) (K.faults sink.old) (K.faults sink.new))) }
 {
+    // Does nothing: it states the laws by which the one answer of an input is the one given here.
     an_input_has_one_answer();
     if !is_run(words) {
-        tell(sink, USAGE);
+        write_line(sink, USAGE);
         return Status::Usage;
     }
     let plan = match read_input(alloc, source) {
         Ok(plan) => plan,
         Err(error) => return refuse(alloc, sink, &error),
     };
-    let Ok(told) = run_plan(alloc, &plan) else {
-        tell(sink, NO_MEMORY);
+    let Ok(reported) = run_and_report(alloc, &plan) else {
+        write_line(sink, NO_MEMORY);
         return Status::NoMemory;
     };
-    match write_all(sink, told.text.as_slice()) {
+    match write_all(sink, reported.text.as_slice()) {
         Ok(()) => Status::Done,
         Err(_) => Status::WriteFault,
     }

@@ -1,13 +1,11 @@
-//! Runs through the top call, over ends in memory. Every expected answer is decided by hand.
+//! Runs of `sstore` on a source and a sink in memory. Every expected answer is decided by hand.
 
 mod edges;
 mod faults;
 
 use ss_lines::{MemorySink, MemorySource};
-use ss_top::status::Status;
-use ss_top::top::sstore;
-use ss_value::NoMemory;
-use ss_value::seq::Seq;
+use ss_top::{Status, sstore};
+use ss_value::{NoMemory, Seq};
 use std::alloc::{AllocError, Global};
 
 /// Accounts by number, with `put`, `all`, and `twice`, which always aborts.
@@ -18,13 +16,13 @@ const ACCOUNTS: &str =
 #[derive(Drop)]
 struct Ended {
     status: Status,
-    told: Vec<u8>,
+    written: Vec<u8>,
 }
 
 impl Ended {
     /// Whether it ended so, and wrote this.
-    fn is(&self, status: Status, told: &str) -> bool {
-        self.status == status && self.told.as_slice() == told.as_bytes()
+    fn is(&self, status: Status, written: &str) -> bool {
+        self.status == status && self.written.as_slice() == written.as_bytes()
     }
 }
 
@@ -37,12 +35,12 @@ fn words_of(alloc: Global, words: &[&str]) -> Result<Vec<String>, AllocError> {
     Ok(owned)
 }
 
-/// Runs `run` on an input, with a sink of this room.
+/// Runs the command `run` on an input, with a sink that has room for this many bytes.
 fn run_within(alloc: Global, input: Vec<u8>, room: usize) -> Result<Ended, NoMemory> {
     let words = words_of(alloc, &["run"])?;
     let mut source = MemorySource::new(Seq::from_vec(input));
     let mut sink = MemorySink::new(alloc, room)?;
     let status = sstore(alloc, &words, &mut source, &mut sink);
-    let told = Vec::from_slice(alloc, sink.written())?;
-    Ok(Ended { status, told })
+    let written = Vec::from_slice(alloc, sink.as_bytes())?;
+    Ok(Ended { status, written })
 }

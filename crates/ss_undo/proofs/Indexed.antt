@@ -1,30 +1,29 @@
--- What the indexes of several tables hold, where one change is noted or is no longer.
+-- What the indexes of several tables hold, where a note is added or taken off.
 use Rattle.std.proofs.Common.{◌≡◌, ℕ, zero, suc, ◌<◌, length, ◌==◌, Bool, true, false, cond, List, [], ◌∷◌, ◌++◌, map, refl, sym, ap, subst, ◌∙◌, arith, Option, Some, None, option_map, slice_get, slice_set, inl, inr, append_assoc}
 use Rattle.std.specs.Option.{IfSome, IsSome, IsSomeAnd}
 use Rattle.std.specs.FinMap as finite
 use Rattle.std.proofs.lemmas.List.{append-nil}
 use Rattle.std.proofs.lemmas.Bool.Decides.{nat_tests}
 use Rattle.ss_value.specs.Rows.{Row}
-use Rattle.ss_table.specs.Held.{Held as Table, key_of, row_at, removed, unmarked, replaced, purged}
+use Rattle.ss_table.specs.TableValue.{TableValue as Table, key_of, row_at, remove_fresh, unmark, replace, purge}
 use Rattle.ss_table.specs.Keyed.{AreKeyed}
 use Rattle.ss_table.specs.Steps.{WasInserted, WasDeleted, WasReplaced}
-use Rattle.ss_table.proofs.Answered.{is_same}
-use Rattle.ss_table.proofs.Cells.{get_set_other, get_set_same}
+use Rattle.ss_table.proofs.CallerLemmas.{is_same, get_set_other, get_set_same}
 use Rattle.ss_index.specs.Indexes.{with_rows, without_rows, HavePair}
-use Rattle.ss_index.specs.Holding.{Noted, HoldAll}
-use Rattle.ss_index.specs.Laws.{DropsTo}
-use Rattle.ss_index.proofs.Holding.{insert_adds, delete_leaves, replace_adds_and_notes, insert_goes_back, delete_goes_back, replace_goes_back, purge_drops, note_drops}
+use Rattle.ss_undo.specs.Holding.{Noted, HoldAll}
+use Rattle.ss_undo.specs.IndexLaws.{DropsTo}
+use Rattle.ss_undo.proofs.Holding.{insert_adds, delete_leaves, replace_adds_and_notes, insert_goes_back, delete_goes_back, replace_goes_back, purge_drops, note_drops}
 use Rattle.ss_undo.specs.declared.change.Change.{Change}
 use Rattle.ss_undo.specs.declared.change.Change.TheVariants.{Inserted, Deleted, Replaced, Staged}
-use Rattle.ss_undo.specs.Ends.{with_one}
-use Rattle.ss_undo.specs.Indexed.{Group, noted_by, noted, AreIndexed, columns_in, columns_of, with_row_of, without_row_of}
+use Rattle.ss_undo.specs.Completion.{with_one}
+use Rattle.ss_undo.specs.Indexed.{Group, noted_row, noted_rows, AreIndexed, columns_in, columns_of, with_row_of, without_row_of}
 use Rattle.ss_undo.proofs.Back.{set_same}
 
 -- ---- one more note
 
-noted_more : (t : ℕ) (cs : List Change) (c : Change) → noted t (cs ++ c ∷ []) ≡ noted t cs ++ noted_by t c
-noted_more t [] c = append-nil (noted_by t c)
-noted_more t (d ∷ ds) c = ap (λ ns. noted_by t d ++ ns) (noted_more t ds c) ∙ sym (append_assoc (noted_by t d) (noted t ds) (noted_by t c))
+noted_more : (t : ℕ) (cs : List Change) (c : Change) → noted_rows t (cs ++ c ∷ []) ≡ noted_rows t cs ++ noted_row t c
+noted_more t [] c = append-nil (noted_row t c)
+noted_more t (d ∷ ds) c = ap (λ ns. noted_row t d ++ ns) (noted_more t ds c) ∙ sym (append_assoc (noted_row t d) (noted_rows t ds) (noted_row t c))
 
 -- the table of a change, and any number where it is of none
 abbrev pub table_of : Change → ℕ
@@ -33,7 +32,7 @@ table_of (Deleted table slot) = table
 table_of (Replaced table slot row) = table
 table_of (Staged window) = window
 
-none_by : (t : ℕ) (c : Change) → (t ≡ table_of c → ⊥) → noted_by t c ≡ []
+none_by : (t : ℕ) (c : Change) → (t ≡ table_of c → ⊥) → noted_row t c ≡ []
 none_by t (Inserted table slot) n = refl
 none_by t (Deleted table slot) n = refl
 none_by t (Replaced table slot row) n = by (table == t) refl
@@ -44,22 +43,22 @@ none_by t (Replaced table slot row) n = by (table == t) refl
 none_by t (Staged window) n = refl
 
 -- no other table's old row is noted
-elsewhere : (t : ℕ) (cs : List Change) (c : Change) → (t ≡ table_of c → ⊥) → noted t (cs ++ c ∷ []) ≡ noted t cs
-elsewhere t cs c n = noted_more t cs c ∙ ap (λ ns. noted t cs ++ ns) (none_by t c n) ∙ append-nil (noted t cs)
+elsewhere : (t : ℕ) (cs : List Change) (c : Change) → (t ≡ table_of c → ⊥) → noted_rows t (cs ++ c ∷ []) ≡ noted_rows t cs
+elsewhere t cs c n = noted_more t cs c ∙ ap (λ ns. noted_rows t cs ++ ns) (none_by t c n) ∙ append-nil (noted_rows t cs)
 
-insert_notes : (t u slot : ℕ) (cs : List Change) → noted t (cs ++ Inserted u slot ∷ []) ≡ noted t cs
-insert_notes t u slot cs = noted_more t cs (Inserted u slot) ∙ append-nil (noted t cs)
+insert_notes : (t u slot : ℕ) (cs : List Change) → noted_rows t (cs ++ Inserted u slot ∷ []) ≡ noted_rows t cs
+insert_notes t u slot cs = noted_more t cs (Inserted u slot) ∙ append-nil (noted_rows t cs)
 
-delete_notes : (t u slot : ℕ) (cs : List Change) → noted t (cs ++ Deleted u slot ∷ []) ≡ noted t cs
-delete_notes t u slot cs = noted_more t cs (Deleted u slot) ∙ append-nil (noted t cs)
+delete_notes : (t u slot : ℕ) (cs : List Change) → noted_rows t (cs ++ Deleted u slot ∷ []) ≡ noted_rows t cs
+delete_notes t u slot cs = noted_more t cs (Deleted u slot) ∙ append-nil (noted_rows t cs)
 
-unit_notes : (t window : ℕ) (cs : List Change) → noted t (cs ++ Staged window ∷ []) ≡ noted t cs
-unit_notes t window cs = noted_more t cs (Staged window) ∙ append-nil (noted t cs)
+unit_notes : (t window : ℕ) (cs : List Change) → noted_rows t (cs ++ Staged window ∷ []) ≡ noted_rows t cs
+unit_notes t window cs = noted_more t cs (Staged window) ∙ append-nil (noted_rows t cs)
 
-replace_notes : (t slot : ℕ) (row : Row) (cs : List Change) → noted t (cs ++ Replaced t slot row ∷ []) ≡ noted t cs ++ (row, slot) ∷ []
+replace_notes : (t slot : ℕ) (row : Row) (cs : List Change) → noted_rows t (cs ++ Replaced t slot row ∷ []) ≡ noted_rows t cs ++ (row, slot) ∷ []
 replace_notes t slot row cs =
     let same : (t == t) ≡ true = grind (arith, nat_tests) in
-    noted_more t cs (Replaced t slot row) ∙ ap (λ b. noted t cs ++ cond {A = Noted} b ((row, slot) ∷ []) []) same
+    noted_more t cs (Replaced t slot row) ∙ ap (λ b. noted_rows t cs ++ cond {A = Noted} b ((row, slot) ∷ []) []) same
 
 -- ---- one item of a list changed
 
@@ -102,8 +101,8 @@ columns_dropped indexes t slot row = map_one (without_rows row slot) columns_in 
 
 -- ---- one table and its indexes changed
 
-module _ (tables : List Table) (indexes : List Group) (t : ℕ) (was now : Table) (here : slice_get tables t ≡ Some was) (before after : List Change) (others : (u : ℕ) → (u ≡ t → ⊥) → noted u before ≡ noted u after) where
-  one_indexed : (f : Group → Group) → ((group : Group) → HoldAll was (noted t before) group → HoldAll now (noted t after) (f group)) → AreIndexed tables before indexes → AreIndexed (slice_set tables t now) after (with_one indexes t f (slice_get indexes t))
+module _ (tables : List Table) (indexes : List Group) (t : ℕ) (was now : Table) (here : slice_get tables t ≡ Some was) (before after : List Change) (others : (u : ℕ) → (u ≡ t → ⊥) → noted_rows u before ≡ noted_rows u after) where
+  one_indexed : (f : Group → Group) → ((group : Group) → HoldAll was (noted_rows t before) group → HoldAll now (noted_rows t after) (f group)) → AreIndexed tables before indexes → AreIndexed (slice_set tables t now) after (with_one indexes t f (slice_get indexes t))
   one_indexed f step all u h group there has =
       elim (is_same u t) [
         | inl q ↦
@@ -111,7 +110,7 @@ module _ (tables : List Table) (indexes : List Group) (t : ℕ) (was now : Table
             let has2 : option_map f (slice_get indexes t) ≡ Some group = sym (one_itself f indexes t (slice_get indexes t) refl) ∙ ap (slice_get (with_one indexes t f (slice_get indexes t))) (sym q) ∙ has in
             let old = was_there f (slice_get indexes t) group has2 in
             let same : now ≡ h = cc in
-            subst (λ n. HoldAll h (noted n after) group) (sym q) (subst (λ x. HoldAll x (noted t after) group) same (subst (λ x. HoldAll now (noted t after) x) old.2 (step old.0 (all t was old.0 here old.1))))
+            subst (λ n. HoldAll h (noted_rows n after) group) (sym q) (subst (λ x. HoldAll x (noted_rows t after) group) same (subst (λ x. HoldAll now (noted_rows t after) x) old.2 (step old.0 (all t was old.0 here old.1))))
         | inr n ↦ subst (λ ns. HoldAll h ns group) (others u n) (all u h group (sym (get_set_other tables t u now n) ∙ there) (sym (one_other f indexes t u (slice_get indexes t) n) ∙ has))
       ]
 
@@ -120,11 +119,11 @@ module _ (tables : List Table) (indexes : List Group) (t : ℕ) (was now : Table
   all_same group (Some g) e = set_same indexes t g e
 
   -- where the pairs stay
-  table_indexed : ((group : Group) → HoldAll was (noted t before) group → HoldAll now (noted t after) group) → AreIndexed tables before indexes → AreIndexed (slice_set tables t now) after indexes
+  table_indexed : ((group : Group) → HoldAll was (noted_rows t before) group → HoldAll now (noted_rows t after) group) → AreIndexed tables before indexes → AreIndexed (slice_set tables t now) after indexes
   table_indexed step all = subst (AreIndexed (slice_set tables t now) after) (all_same [] (slice_get indexes t) refl) (one_indexed (λ g. g) step all)
 
   -- where a row's pairs are dropped
-  row_dropped : (row : Row) (slot : ℕ) → ((group : Group) → HoldAll was (noted t before) group → DropsTo row slot now (noted t after) group) → AreIndexed tables before indexes
+  row_dropped : (row : Row) (slot : ℕ) → ((group : Group) → HoldAll was (noted_rows t before) group → DropsTo row slot now (noted_rows t after) group) → AreIndexed tables before indexes
       → IfSome (slice_get indexes t) (λ group. HavePair row slot group) × AreIndexed (slice_set tables t now) after (without_row_of indexes t row slot)
   row_dropped row slot drops all = (stands (slice_get indexes t) refl, one_indexed (without_rows row slot) (λ group held. (drops group held).1) all)
     where
@@ -138,17 +137,17 @@ module _ (tables : List Table) (indexes : List Group) (t slot : ℕ) (was now : 
   pub inserted_indexed : (w : WasInserted was now slot) → AreIndexed (slice_set tables t now) (cs ++ Inserted t slot ∷ []) (with_row_of indexes t w.row slot)
   inserted_indexed w =
       one_indexed tables indexes t was now here cs (cs ++ Inserted t slot ∷ []) (λ u n. sym (insert_notes u t slot cs)) (with_rows w.row slot)
-      (λ group held. subst (λ ns. HoldAll now ns (with_rows w.row slot group)) (sym (insert_notes t t slot cs)) (insert_adds was now slot (noted t cs) group w held)) all
+      (λ group held. subst (λ ns. HoldAll now ns (with_rows w.row slot group)) (sym (insert_notes t t slot cs)) (insert_adds was now slot (noted_rows t cs) group w held)) all
 
   pub deleted_indexed : WasDeleted was now slot → AreIndexed (slice_set tables t now) (cs ++ Deleted t slot ∷ []) indexes
   deleted_indexed w =
       table_indexed tables indexes t was now here cs (cs ++ Deleted t slot ∷ []) (λ u n. sym (delete_notes u t slot cs))
-      (λ group held. subst (λ ns. HoldAll now ns group) (sym (delete_notes t t slot cs)) (delete_leaves was now slot (noted t cs) group w held)) all
+      (λ group held. subst (λ ns. HoldAll now ns group) (sym (delete_notes t t slot cs)) (delete_leaves was now slot (noted_rows t cs) group w held)) all
 
   pub replaced_indexed : (before : Row) (w : WasReplaced was now slot before) → AreIndexed (slice_set tables t now) (cs ++ Replaced t slot before ∷ []) (with_row_of indexes t w.row slot)
   replaced_indexed before w =
       one_indexed tables indexes t was now here cs (cs ++ Replaced t slot before ∷ []) (λ u n. sym (elsewhere u cs (Replaced t slot before) n)) (with_rows w.row slot)
-      (λ group held. subst (λ ns. HoldAll now ns (with_rows w.row slot group)) (sym (replace_notes t slot before cs)) (replace_adds_and_notes was now slot before (noted t cs) group w held)) all
+      (λ group held. subst (λ ns. HoldAll now ns (with_rows w.row slot group)) (sym (replace_notes t slot before cs)) (replace_adds_and_notes was now slot before (noted_rows t cs) group w held)) all
 
 -- ---- changes that are noted no longer
 
@@ -157,30 +156,30 @@ module _ (tables : List Table) (indexes : List Group) (t slot : ℕ) (was : Tabl
   abbrev pub Dropped : Table → Row → Type 0
   Dropped now row = IfSome (slice_get indexes t) (λ group. HavePair row slot group) × AreIndexed (slice_set tables t now) cs (without_row_of indexes t row slot)
 
-  pub removed_indexed : (row : Row) → AreKeyed was → row_at was.live slot ≡ Some row → AreIndexed tables (cs ++ Inserted t slot ∷ []) indexes → Dropped (removed was slot) row
+  pub removed_indexed : (row : Row) → AreKeyed was → row_at was.live slot ≡ Some row → AreIndexed tables (cs ++ Inserted t slot ∷ []) indexes → Dropped (remove_fresh was slot) row
   removed_indexed row keyed at =
-      row_dropped tables indexes t was (removed was slot) here (cs ++ Inserted t slot ∷ []) cs (λ u n. insert_notes u t slot cs) row slot
-      (λ group held. insert_goes_back was slot row (noted t cs) group keyed at (subst (λ ns. HoldAll was ns group) (insert_notes t t slot cs) held))
+      row_dropped tables indexes t was (remove_fresh was slot) here (cs ++ Inserted t slot ∷ []) cs (λ u n. insert_notes u t slot cs) row slot
+      (λ group held. insert_goes_back was slot row (noted_rows t cs) group keyed at (subst (λ ns. HoldAll was ns group) (insert_notes t t slot cs) held))
 
-  pub unmarked_indexed : (row : Row) → finite.get was.dead slot ≡ Some row → finite.get was.live (key_of was.key row) ≡ None → AreIndexed tables (cs ++ Deleted t slot ∷ []) indexes → AreIndexed (slice_set tables t (unmarked was slot)) cs indexes
+  pub unmarked_indexed : (row : Row) → finite.get was.dead slot ≡ Some row → finite.get was.live (key_of was.key row) ≡ None → AreIndexed tables (cs ++ Deleted t slot ∷ []) indexes → AreIndexed (slice_set tables t (unmark was slot)) cs indexes
   unmarked_indexed row dead free =
-      table_indexed tables indexes t was (unmarked was slot) here (cs ++ Deleted t slot ∷ []) cs (λ u n. delete_notes u t slot cs)
-      (λ group held. delete_goes_back was slot row (noted t cs) group dead free (subst (λ ns. HoldAll was ns group) (delete_notes t t slot cs) held))
+      table_indexed tables indexes t was (unmark was slot) here (cs ++ Deleted t slot ∷ []) cs (λ u n. delete_notes u t slot cs)
+      (λ group held. delete_goes_back was slot row (noted_rows t cs) group dead free (subst (λ ns. HoldAll was ns group) (delete_notes t t slot cs) held))
 
-  pub put_back_indexed : (row before : Row) → AreKeyed was → row_at was.live slot ≡ Some row → key_of was.key before ≡ key_of was.key row → AreIndexed tables (cs ++ Replaced t slot before ∷ []) indexes → Dropped (replaced was slot before) row
+  pub put_back_indexed : (row before : Row) → AreKeyed was → row_at was.live slot ≡ Some row → key_of was.key before ≡ key_of was.key row → AreIndexed tables (cs ++ Replaced t slot before ∷ []) indexes → Dropped (replace was slot before) row
   put_back_indexed row before keyed at alike =
-      row_dropped tables indexes t was (replaced was slot before) here (cs ++ Replaced t slot before ∷ []) cs (λ u n. elsewhere u cs (Replaced t slot before) n) row slot
-      (λ group held. replace_goes_back was slot row before (noted t cs) group keyed at alike (subst (λ ns. HoldAll was ns group) (replace_notes t slot before cs) held))
+      row_dropped tables indexes t was (replace was slot before) here (cs ++ Replaced t slot before ∷ []) cs (λ u n. elsewhere u cs (Replaced t slot before) n) row slot
+      (λ group held. replace_goes_back was slot row before (noted_rows t cs) group keyed at alike (subst (λ ns. HoldAll was ns group) (replace_notes t slot before cs) held))
 
-  pub purged_indexed : (row : Row) → finite.get was.dead slot ≡ Some row → AreIndexed tables (cs ++ Deleted t slot ∷ []) indexes → Dropped (purged was slot) row
+  pub purged_indexed : (row : Row) → finite.get was.dead slot ≡ Some row → AreIndexed tables (cs ++ Deleted t slot ∷ []) indexes → Dropped (purge was slot) row
   purged_indexed row dead =
-      row_dropped tables indexes t was (purged was slot) here (cs ++ Deleted t slot ∷ []) cs (λ u n. delete_notes u t slot cs) row slot
-      (λ group held. purge_drops was slot row (noted t cs) group dead (subst (λ ns. HoldAll was ns group) (delete_notes t t slot cs) held))
+      row_dropped tables indexes t was (purge was slot) here (cs ++ Deleted t slot ∷ []) cs (λ u n. delete_notes u t slot cs) row slot
+      (λ group held. purge_drops was slot row (noted_rows t cs) group dead (subst (λ ns. HoldAll was ns group) (delete_notes t t slot cs) held))
 
   pub note_indexed : (row : Row) → AreIndexed tables (cs ++ Replaced t slot row ∷ []) indexes → IfSome (slice_get indexes t) (λ group. HavePair row slot group) × AreIndexed tables cs (without_row_of indexes t row slot)
   note_indexed row all =
       let d = row_dropped tables indexes t was was here (cs ++ Replaced t slot row ∷ []) cs (λ u n. elsewhere u cs (Replaced t slot row) n) row slot
-      (λ group held. note_drops was slot row (noted t cs) group (subst (λ ns. HoldAll was ns group) (replace_notes t slot row cs) held)) all in
+      (λ group held. note_drops was slot row (noted_rows t cs) group (subst (λ ns. HoldAll was ns group) (replace_notes t slot row cs) held)) all in
       (d.0, subst (λ ts. AreIndexed ts cs (without_row_of indexes t row slot)) (set_same tables t was here) d.1)
 
 -- an insert's note keeps no row
@@ -194,7 +193,7 @@ unit_noted tables indexes window cs all u h group there has = subst (λ ns. Hold
 pub unit_indexed : (tables : List Table) (indexes : List Group) (window : ℕ) (cs : List Change) → AreIndexed tables (cs ++ Staged window ∷ []) indexes → AreIndexed tables cs indexes
 unit_indexed tables indexes window cs all u h group there has = subst (λ ns. HoldAll h ns group) (unit_notes u window cs) (all u h group there has)
 
--- ---- as calls tell it
+-- ---- by what the calls promise
 
 pub is_within : {A : Type 0} (xs : List A) (t u : ℕ) (P : A → Type 0) → u ≡ t → IsSomeAnd (slice_get xs t) P → u < length xs
 is_within {A = A} xs t u P same h = subst (λ n. n < length xs) (sym same) (by xs t h)
@@ -208,8 +207,8 @@ is_within {A = A} xs t u P same h = subst (λ n. n < length xs) (sym same) (by x
 pub found_as : (tables : List Table) (t u : ℕ) (was : Table) → u ≡ t → slice_get tables u ≡ Some was → slice_get tables t ≡ Some was
 found_as tables t u was same here = ap (slice_get tables) (sym same) ∙ here
 
-pub told_as : (tables : List Table) (t u : ℕ) (now is : Table) (cs : List Change) (left given : List Group) → u ≡ t → is ≡ now → given ≡ left → AreIndexed (slice_set tables t now) cs left → AreIndexed (slice_set tables u is) cs given
-told_as tables t u now is cs left given same e f all = subst (λ g. AreIndexed (slice_set tables u is) cs g) (sym f) (subst (λ ts. AreIndexed ts cs left) (λ i. slice_set tables (sym same i) (sym e i)) all)
+pub reported_as : (tables : List Table) (t u : ℕ) (now is : Table) (cs : List Change) (left given : List Group) → u ≡ t → is ≡ now → given ≡ left → AreIndexed (slice_set tables t now) cs left → AreIndexed (slice_set tables u is) cs given
+reported_as tables t u now is cs left given same e f all = subst (λ g. AreIndexed (slice_set tables u is) cs g) (sym f) (subst (λ ts. AreIndexed ts cs left) (λ i. slice_set tables (sym same i) (sym e i)) all)
 
 pub there_is : {A : Type 0} (xs : List A) (t : ℕ) → IsSome (slice_get xs t) → (x : A) × (slice_get xs t ≡ Some x)
 there_is {A = A} xs t h = by (slice_get xs t) h

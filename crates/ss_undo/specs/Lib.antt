@@ -1,5 +1,7 @@
-pub mod Came
-pub mod Ends
+pub mod ResultsFrom
+pub mod Completion
 pub mod Laws
 pub mod Indexed
 pub mod Windows
+pub mod Holding
+pub mod IndexLaws

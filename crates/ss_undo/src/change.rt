@@ -1,16 +1,15 @@
-//! A change of a table or a window, as it is noted.
+//! The note of one change.
 
-use ss_table::table::Slot;
-use ss_value::value::Row;
+use ss_value::{Row, Slot};
 
-/// A change of one table or window of several, as it is noted.
+/// The note of a change of one table or window, which is named by its number. It has what a rollback needs.
 #[derive(Drop)]
 pub enum Change {
     /// A row was inserted in a slot.
     Inserted { table: u16, slot: Slot },
     /// A live slot was made dead.
     Deleted { table: u16, slot: Slot },
-    /// A live slot's row was replaced by another of its key. The old row is kept here.
+    /// A live slot's row was replaced by another of its key. The old row is moved here.
     Replaced { table: u16, slot: Slot, old: Row },
     /// A unit was staged in a window.
     Staged { window: u16 },

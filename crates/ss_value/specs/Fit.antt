@@ -13,6 +13,7 @@ fits_kind kind.Int (value.Text t) = false
 fits_kind kind.Text (value.Int n) = false
 fits_kind kind.Text (value.Text t) = true
 
--- one value of the right type for each column
+-- whether a value is of a type
+-- whether a row has one value of the right type for each column, and no other
 abbrev pub fits_schema : List Column → List Value → Bool
 fits_schema cs vs = (length cs == length vs) && list_all (λ p. fits_kind p.0.kind p.1) (zip cs vs)

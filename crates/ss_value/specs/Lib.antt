@@ -7,3 +7,4 @@ pub mod Order
 pub mod Fit
 pub mod ValueOrder
 pub mod Refusals
+pub mod RowCodes

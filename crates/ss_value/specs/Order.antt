@@ -18,6 +18,6 @@ value_cmp (Text s) (Text t) = slice_cmp nat_cmp s t
 abbrev pub values_equal : Value → Value → Bool
 values_equal = eq_by_cmp value_cmp
 
--- rows by their values, from the first on
+-- rows by the first value in which they differ, a proper prefix of a row before the row
 abbrev pub row_cmp : Row → Row → Ordering
 row_cmp = slice_cmp value_cmp

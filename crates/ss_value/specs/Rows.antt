@@ -9,10 +9,10 @@ Row = List Value
 abbrev pub Rows : Type 0
 Rows = List Row
 
--- the value of a column, and 0 past the end
+-- the value of a row in a column, and 0 past the row's end
 abbrev pub column_value : Row → ℕ → Value
 column_value row column = get_or row column (Int (pos 0))
 
--- the values of these columns
+-- the values of a row in these columns
 abbrev pub column_values : List ℕ → Row → Row
 column_values columns row = map (column_value row) columns

@@ -1,2 +1,2 @@
-pub mod keep
+pub mod boxed
 pub mod seq

@@ -1,6 +1,7 @@
 //! Exact copies of values that own memory, at any depth.
 //!
-//! A derived `clone` says that it equals its source one level deep alone; here the trait says it of any type.
+//! The contract of a derived `clone` says only one level deep that the copy equals its source. This trait promises it
+//! at every depth.
 
 ghost use Rattle.std.specs.Prelude.{◌≡◌, IfOk};
 
@@ -11,9 +12,9 @@ use crate::text::{Name, Text};
 use crate::value::Value;
 use std::alloc::Global;
 
-/// A value that can be copied exactly, where there is memory for it.
+/// A value of which an equal one can be made, where there is memory for it.
 pub trait Copies {
-    /// The same value again: linear in its size. Fails only for want of memory.
+    /// An equal value, in time linear in its size.
     fn duplicate(&self, alloc: Global) -> Result<Self, NoMemory>
         ensures { IfOk result (λ copy. copy ≡ self.now) };
 }

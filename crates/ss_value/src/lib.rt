@@ -1,31 +1,44 @@
 //! Values, rows and the lists that hold them: the types on which every other crate stands.
 //!
 //! Contracts see each type here as the plain mathematical value that a reader has in mind: a `Seq` as its
-//! list, a `Keep` as what it holds, a `Text` or a `Name` as its bytes, a `PartSet` as the number whose bits
-//! it is. So the types of the program are the types of the definitions, and "equal" means equal.
+//! list, a `Boxed` as what it holds, a `Text` or a `Name` as its bytes, a `PartSet` as the number with its
+//! bits. So the types of the program are the types of the definitions, and "equal" means equal.
 //!
 //! - `seq`, `reserved`: lists, and lists whose spare room a contract can speak of
-//! - `keep`: a box, for types that hold themselves
+//! - `boxed`: a box, for types that hold themselves
 //! - `text`, `value`, `schema`: texts and names, values and rows, columns
 //! - `order`: the order of values and rows; `laws`: what holds of it
 //! - `copies`: exact copies at any depth
 //! - `sets`: small sets of partitions and of procedures
+//!
+//! Every call that takes `alloc` may answer `NoMemory` in place of its answer. A call is constant in time unless its
+//! comment says otherwise.
 #![tactic(auto)]
 
-pub mod copies;
-pub mod keep;
-pub mod laws;
-pub mod order;
-pub mod reserved;
-pub mod schema;
-pub mod seq;
-pub mod sets;
-pub mod text;
-pub mod value;
+mod boxed;
+mod copies;
+mod laws;
+mod order;
+mod reserved;
+mod schema;
+mod seq;
+mod sets;
+mod text;
+mod value;
 
+pub use boxed::Boxed;
+pub use copies::Copies;
+pub use laws::{row_order_is_total, value_order_is_total};
+pub use order::{compare, compare_rows};
+pub use reserved::Reserved;
+pub use schema::{ColType, Column, Schema, fits, is_of};
+pub use seq::Seq;
+pub use sets::{PartSet, ProcSet};
 use std::alloc::{AllocError, AllocFailed};
+pub use text::{Name, Text, ValueError, name_of, text_of};
+pub use value::{Row, Rows, Slot, Value, copy_row};
 
-/// Want of memory: the one answer that may come in place of any other.
+/// Out of memory: the one answer that may come in place of any other.
 #[derive(Clone, Copy, Debug, PartialEq, Eq, Drop)]
 pub struct NoMemory;
 
@@ -47,7 +60,7 @@ impl<T: Drop> From<(NoMemory, T)> for NoMemory {
     }
 }
 
-/// A call on the outside (input, output or disk) that failed.
+/// A call to the outside (input, output or disk) that failed.
 #[derive(Clone, Copy, Debug, PartialEq, Eq, Drop)]
 pub struct Failed;
 

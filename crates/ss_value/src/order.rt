@@ -1,7 +1,7 @@
 //! The order of values and of rows, as std's traits.
 //!
-//! Ints are ordered by size, Texts by bytes, and an Int stands before a Text. Lists are ordered by their first
-//! difference, a front of a list before the list. Only equal values tie, so these orders can be keys of a map.
+//! Ints are ordered by size, Texts by bytes, and an Int comes before a Text. Lists are ordered by their first
+//! difference, a proper prefix of a list before the list. Only equal values tie, so values and rows can be keys of a map.
 
 ghost use Rattle.std.specs.Prelude.{◌≡◌, Some};
 ghost use Rattle.std.proofs.Common.{refl};
@@ -15,7 +15,7 @@ use crate::seq::Seq;
 use crate::value::Value;
 use std::cmp::Ordering;
 
-/// Which of two values comes first: linear in the shorter text, constant for Ints.
+/// Which of two values comes first. Linear in the shorter text, constant for Ints.
 pub fn compare(a: &Value, b: &Value) -> Ordering
     ensures { result ≡ value_cmp a.now b.now }
 {
@@ -27,7 +27,7 @@ pub fn compare(a: &Value, b: &Value) -> Ordering
     }
 }
 
-/// Which of two rows comes first, by the first value in which they differ: linear in the shorter row.
+/// Which of two rows comes first, by the first value in which they differ. Linear in the shorter row.
 pub fn compare_rows(a: &[Value], b: &[Value]) -> Ordering
     ensures { result ≡ row_cmp a.now b.now }
 {

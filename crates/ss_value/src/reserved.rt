@@ -1,4 +1,4 @@
-//! A list with its spare room, for the few places that promise a push without memory.
+//! A list with its spare room, for the few callers that need a push that takes no memory.
 
 ghost use Rattle.std.specs.Prelude.{◌≡◌, ◌<◌, ◌≤◌, ◌+◌, ◌-◌, [], ◌∷◌, ◌++◌, length, take, IsOk, IfOk, OnOk, IfErr, OnErr, IfSome, IfNone, IsSome, Some, ◌↔◌, slice_get};
 
@@ -23,7 +23,7 @@ impl<T> Model for Reserved<T> {
 }
 
 impl<T> Reserved<T> {
-    /// The list of nothing. Takes no memory.
+    /// The empty list. Takes no memory.
     pub fn new(alloc: Global) -> Reserved<T>
         ensures { result.items ≡ [] }
     {
@@ -32,7 +32,7 @@ impl<T> Reserved<T> {
         }
     }
 
-    /// The list with the room that it has: moved, not copied.
+    /// A `Seq` with the spare room that it has, which is moved and not copied.
     pub fn from_seq(items: Seq<T>) -> Reserved<T>
         ensures { result.items ≡ items }
     {
@@ -41,7 +41,7 @@ impl<T> Reserved<T> {
         }
     }
 
-    /// The list alone: moved, not copied.
+    /// The list as a `Seq`, which is moved and not copied.
     pub fn into_seq(self) -> Seq<T>
         ensures { result ≡ self.items }
     {
@@ -56,7 +56,7 @@ impl<T> Reserved<T> {
         self.items.len()
     }
 
-    /// The item at a place, and None exactly where the list ends before it.
+    /// The item at a position, and None exactly where the list ends before it.
     pub fn get(&self, at: usize) -> Option<&T>
         ensures within { IsSome result ↔ (at < length self.now.items) }
         ensures item { IfSome result (λ x. slice_get self.now.items at ≡ Some x.now) }
@@ -71,9 +71,10 @@ impl<T> Reserved<T> {
         self.items.as_slice()
     }
 
-    /// Makes the spare room at least this much. The list stays, also where memory is short.
+    /// Makes the spare room at least `more` items. The items are unchanged, also when out of memory. Linear in them where
+    /// they have to move.
     pub fn reserve(&mut self, more: usize) -> Result<(), NoMemory>
-        ensures items { self.new.items ≡ self.old.items }
+        ensures unchanged { self.new.items ≡ self.old.items }
         ensures ok { OnOk result (more ≤ self.new.spare) }
     {
         match self.items.reserve(more) {
@@ -82,14 +83,15 @@ impl<T> Reserved<T> {
         }
     }
 
-    /// Adds an item at the end. Where there is spare room it can't fail and takes one from it.
+    /// Adds an item at the end. Where there is spare room it can't fail, and uses one item's room.
     ///
-    /// Want of memory hands the item back and leaves the list.
+    /// Out of memory hands the item back and changes nothing. Constant on average over many.
     pub fn push(&mut self, item: T) -> Result<(), (NoMemory, T)>
         ensures ok { OnOk result (self.new.items ≡ self.old.items ++ item ∷ []) }
         ensures err { IfErr result (λ e. (self.new.items ≡ self.old.items) × (e.1 ≡ item)) }
         ensures room { 1 ≤ self.old.spare → IsOk result × (self.new.spare + 1 ≡ self.old.spare) }
     {
+        // A push into spare room can't fail, as the clause `room` promises.
         if self.items.len() < self.items.capacity() {
             self.items.push_reserved(item);
             return Ok(());
@@ -109,7 +111,7 @@ impl<T> Reserved<T> {
         self.items.push_reserved(item)
     }
 
-    /// Takes the last item off, which gives its room back. None exactly where there is none.
+    /// Takes the last item off, whose room is then spare. None exactly where the list is empty.
     pub fn pop(&mut self) -> Option<T>
         ensures some { IfSome result (λ x. (self.old.items ≡ self.new.items ++ x ∷ []) × (self.new.spare ≡ self.old.spare + 1)) }
         ensures none { IfNone result ((self.old.items ≡ []) × (self.new ≡ self.old)) }

@@ -8,7 +8,7 @@ use crate::seq::Seq;
 use crate::text::Name;
 use crate::value::{Row, Value};
 
-/// What a column holds.
+/// The type of a column's values.
 #[derive(Clone, Copy, Debug, PartialEq, Eq, Drop)]
 pub enum ColType {
     Int,
@@ -45,9 +45,10 @@ fn each_fits(schema: &[Column], row: &[Value]) -> bool
         .all(|(column, value)| is_of(column.kind, value))
 }
 
-/// Whether the row has a value of the right type for each column, and no other. Linear in the columns.
+/// Whether a row has one value of the right type for each column, and no other. Linear in the columns.
 pub fn fits(schema: &Schema, row: &Row) -> bool
     ensures { result ≡ fits_schema schema.now row.now }
 {
+    // A zip ends with the shorter list, so the lengths are compared too.
     schema.len() == row.len() && each_fits(schema.as_slice(), row.as_slice())
 }

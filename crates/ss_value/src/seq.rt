@@ -1,8 +1,8 @@
 //! A list, which contracts see as the list and nothing else.
 //!
-//! So a `Seq` of rows *is* a list of lists of values to a definition. The room behind a list is no part of
-//! that value: two equal lists with other room would differ. Where a contract has to speak of room, there is
-//! `Reserved`.
+//! So a `Seq` of rows *is* a list of lists of values to a definition. The spare room behind the items is no part
+//! of that value: else two lists of equal items with different room would differ. Where a contract has to speak of
+//! room, there is `Reserved`.
 
 ghost use Rattle.std.specs.Prelude.{◌≡◌, ◌<◌, ◌≤◌, ◌+◌, List, [], ◌∷◌, ◌++◌, length, IfOk, OnOk, IfErr, OnErr, IfSome, IfNone, OnSome, IsSome, IsOk, slice_get, slice_set, take, ◌-◌, ◌↔◌};
 ghost use Rattle.std.specs.Option.{option_copied};
@@ -11,8 +11,8 @@ use crate::NoMemory;
 use std::alloc::{AllocFailed, Global};
 use std::marker::Model;
 
-/// Items in a row, over a `Vec`: a look at any place is constant, a push is constant on average over many,
-/// and the memory is that of the items and at most as much again behind them.
+/// A list of items, over a `Vec`: access by position is constant, a push is constant on average over many,
+/// and the memory is that of the items and at most as much again as spare room.
 #[derive(Drop)]
 pub struct Seq<T> {
     items: Vec<T>,
@@ -30,7 +30,7 @@ impl<T> Model for Seq<T> {
 }
 
 impl<T> Seq<T> {
-    /// The list of nothing. Takes no memory.
+    /// The empty list. Takes no memory.
     pub fn new(alloc: Global) -> Seq<T>
         ensures { result ≡ [] }
     {
@@ -61,7 +61,7 @@ impl<T> Seq<T> {
         self.items.len()
     }
 
-    /// The item at a place, and None exactly where the list ends before it.
+    /// The item at a position, and None exactly where the list ends before it.
     pub fn get(&self, at: usize) -> Option<&T>
         ensures value { option_copied result ≡ slice_get self.now at }
         ensures within { IsSome result ↔ (at < length self.now) }
@@ -77,7 +77,7 @@ impl<T> Seq<T> {
         self.items.as_slice()
     }
 
-    /// Adds an item at the end. Want of memory hands it back and changes nothing.
+    /// Adds an item at the end. Out of memory hands it back and changes nothing.
     pub fn push(&mut self, item: T) -> Result<(), (NoMemory, T)>
         ensures ok { OnOk result (self.new ≡ self.old ++ item ∷ []) }
         ensures err { IfErr result (λ e. (self.new ≡ self.old) × (e.1 ≡ item)) }
@@ -88,7 +88,7 @@ impl<T> Seq<T> {
         }
     }
 
-    /// Takes the last item off, and answers None exactly where there is none. Takes no memory.
+    /// Takes the last item off. None exactly where the list is empty. Takes no memory.
     pub fn pop(&mut self) -> Option<T>
         ensures some { IfSome result (λ x. self.old ≡ self.new ++ x ∷ []) }
         ensures none { IfNone result ((self.old ≡ []) × (self.new ≡ [])) }
@@ -101,7 +101,8 @@ impl<T> Seq<T> {
     ghost use Rattle.std.specs.Borrow.{sem};
     ghost use Rattle.ss_value.specs.Lending.{LendsItem};
 
-    /// Lends the item at a place: what is written through it is the item there, and all else stays.
+    /// Lends the item at a position: what is written through the loan is then the item there, and the others are
+    /// unchanged. None exactly where the list ends before it.
     pub fn get_mut(&mut self, at: usize) -> Option<&mut T>
         ensures* writes_back { sem 𝓛 (LendsItem T.row self.entry at result) }
         ensures within { IsSome result ↔ (at < length self.old) }
@@ -110,7 +111,7 @@ impl<T> Seq<T> {
         self.items.get_mut(at)
     }
 
-    /// Replaces the item at a place and gives back the old one. Constant, and takes no memory.
+    /// Replaces the item at a position and gives back the old one. Takes no memory.
     pub fn put(&mut self, at: usize, item: T) -> T
         requires { at < length self.old }
         ensures old { slice_get self.old at ≡ Some result }
@@ -119,9 +120,10 @@ impl<T> Seq<T> {
         std::mem::replace(&mut self.items[at], item)
     }
 
-    /// Makes room for this many more items, so that fewer later pushes move the list. The list stays.
+    /// Makes room for this many more items, so that fewer later pushes move the list. The items are unchanged. Linear in
+    /// them where they have to move.
     ///
-    /// That a push then can't fail is no part of what contracts see here: `Reserved` has it.
+    /// That a push then can't fail is no part of what contracts see of a `Seq`; of a `Reserved` it is.
     pub fn reserve(&mut self, more: usize) -> Result<(), NoMemory>
         ensures { self.new ≡ self.old }
     {

@@ -1,7 +1,6 @@
-//! Sets of small numbers, one bit a member.
+//! Sets of small numbers, one bit for each possible member.
 //!
-//! Each is a number to contracts, whose bit n says whether n is a member. Every call is constant in time and
-//! takes no memory.
+//! Contracts see a set as a number, whose bit n says whether n is a member. No call takes memory.
 
 ghost use Rattle.std.specs.Prelude.{◌≡◌, ◌<◌, ◌↔◌, ◌⊎◌, ℕ, IsTrue};
 ghost use Rattle.std.specs.Int.{IsBitSet};
@@ -25,7 +24,7 @@ impl Model for PartSet {
 }
 
 impl PartSet {
-    /// The set of none.
+    /// The empty set.
     pub fn empty() -> PartSet
         ensures { result ≡ 0 }
     {
@@ -40,7 +39,7 @@ impl PartSet {
         self.bits & (1 << n) != 0
     }
 
-    /// Makes n a member. All else stays.
+    /// Makes n a member. The others are unchanged.
     pub fn insert(&mut self, n: u8)
         requires { n < 8 }
         ensures { (i : ℕ) → IsBitSet self.new i ↔ ((i ≡ n) ⊎ IsBitSet self.old i) }
@@ -66,7 +65,7 @@ impl Model for ProcSet {
 }
 
 impl ProcSet {
-    /// The set of none.
+    /// The empty set.
     pub fn empty() -> ProcSet
         ensures { result ≡ 0 }
     {
@@ -81,7 +80,7 @@ impl ProcSet {
         self.bits & (1 << n) != 0
     }
 
-    /// Makes n a member. All else stays.
+    /// Makes n a member. The others are unchanged.
     pub fn insert(&mut self, n: u8)
         requires { n < 64 }
         ensures { (i : ℕ) → IsBitSet self.new i ↔ ((i ≡ n) ⊎ IsBitSet self.old i) }

@@ -1,4 +1,4 @@
-//! Texts and names, both seen by contracts as their bytes.
+//! Texts and names. Contracts see both as their bytes.
 
 ghost use Rattle.std.specs.Prelude.{◌≡◌, ◌<◌, ◌≤◌, ◌+◌, List, length, IfOk, OnOk, IfErr, OnErr, IsErrOf, IsTrue, ◌↔◌};
 ghost use Rattle.std.specs.Prelude.{◌⊎◌, false, ◌++◌, IfSome, IsSome};
@@ -11,7 +11,7 @@ use crate::NoMemory;
 use std::alloc::Global;
 use std::marker::Model;
 
-/// A text: UTF-8 of at most 255 bytes, kept by its type. Takes its bytes and three words.
+/// A text: UTF-8 of at most 255 bytes, which its type's invariant says. Takes its bytes and three words.
 #[derive(Drop)]
 pub struct Text {
     bytes: Vec<u8>,
@@ -29,30 +29,31 @@ impl Model for Text {
     ghost invariant = { λ t. IsText t.bytes.items };
 }
 
-/// Why a spelling is refused.
+/// Why bytes are refused as a text, a name or a row.
 #[derive(Clone, Copy, Debug, PartialEq, Eq, Drop)]
 pub enum ValueError {
-    /// Want of memory.
+    /// Out of memory.
     NoMemory,
     /// The bytes end inside a row.
     Truncated,
     /// A value's kind is neither that of an Int nor that of a Text.
     BadKind,
-    /// The bytes are no UTF-8.
+    /// The bytes are not UTF-8.
     NotUtf8,
     /// The text has more than 255 bytes.
     TextTooLong,
-    /// The bytes are no name, or a row has more than 16 values.
+    /// The bytes are not a name, or a row has more than 16 values.
     WrongShape,
 }
 
 impl Text {
-    /// The text: linear in its bytes, since it is checked to be UTF-8 again.
+    /// The text as a `str`. Linear in its bytes, since they are checked to be UTF-8 again.
     pub fn as_str(&self) -> &str
         ensures { result.now ≡ self.now }
     {
         match std::str::from_utf8(self.bytes.as_slice()) {
             Ok(text) => text,
+            // The type's invariant: the bytes are UTF-8.
             Err(_) => unreachable!(),
         }
     }
@@ -72,9 +73,9 @@ impl Text {
         self.bytes.len()
     }
 
-    /// Both texts as one, and None exactly where that is over 255 bytes. Linear in the bytes of both.
+    /// This text and another as one, and None exactly where that has over 255 bytes. Linear in the bytes of both.
     pub fn concat(&self, alloc: Global, other: &Text) -> Result<Option<Text>, NoMemory>
-        ensures text { IfOk result (λ joined. IfSome joined (λ text. text ≡ self.now ++ other.now)) }
+        ensures ok { IfOk result (λ joined. IfSome joined (λ text. text ≡ self.now ++ other.now)) }
         ensures within { IfOk result (λ joined. IsSome joined ↔ (length (self.now ++ other.now) ≤ 255)) }
     {
         if self.bytes.len() + other.bytes.len() > 255 {
@@ -85,7 +86,7 @@ impl Text {
         Ok(Some(Text { bytes }))
     }
 
-    /// The same text again: linear in its bytes. Fails only for want of memory.
+    /// An equal text. Linear in its bytes.
     pub fn copy(&self, alloc: Global) -> Result<Text, NoMemory>
         ensures { IfOk result (λ copy. copy ≡ self.now) }
     {
@@ -96,9 +97,10 @@ impl Text {
     }
 }
 
-/// The text of these bytes: linear in them.
+/// The text with these bytes. Linear in them.
 ///
-/// Refuses `TextTooLong` exactly over 255 bytes, then `NotUtf8` exactly where they are no UTF-8.
+/// Refuses with `TextTooLong` exactly where there are over 255 bytes, and else with `NotUtf8` only where they are not
+/// UTF-8.
 pub fn text_of(alloc: Global, bytes: &[u8]) -> Result<Text, ValueError>
     ensures ok { IfOk result (λ text. (text ≡ bytes.now) × (length bytes.now ≤ 255) × IsUtf8 bytes.now) }
     ensures too_long { IsErrOf result ValueError.TextTooLong ↔ (255 < length bytes.now) }
@@ -117,7 +119,7 @@ pub fn text_of(alloc: Global, bytes: &[u8]) -> Result<Text, ValueError>
     }
 }
 
-/// A name: 1 to 32 characters of `a` to `z`, `0` to `9` and `_`, the first a letter. Its type keeps that.
+/// A name: 1 to 32 characters of `a` to `z`, `0` to `9` and `_`, the first a letter, which its type's invariant says.
 #[derive(Drop)]
 pub struct Name {
     bytes: Vec<u8>,
@@ -136,12 +138,13 @@ impl Model for Name {
 }
 
 impl Name {
-    /// The name: linear in its bytes.
+    /// The name as a `str`. Linear in its bytes.
     pub fn as_str(&self) -> &str
         ensures { result.now ≡ self.now }
     {
         match std::str::from_utf8(self.bytes.as_slice()) {
             Ok(text) => text,
+            // The characters of a name are ASCII, so its bytes are UTF-8.
             Err(_) => unreachable!(),
         }
     }
@@ -154,7 +157,7 @@ impl Name {
         self.bytes.as_slice()
     }
 
-    /// The same name again: linear in its bytes. Fails only for want of memory.
+    /// An equal name. Linear in its bytes.
     pub fn copy(&self, alloc: Global) -> Result<Name, NoMemory>
         ensures { IfOk result (λ copy. copy ≡ self.now) }
     {
@@ -192,7 +195,7 @@ fn is_name(bytes: &[u8]) -> bool
     }
 }
 
-/// The name of these bytes: linear in them. Refuses `WrongShape` exactly where they are no name.
+/// The name with these bytes. Linear in them. Refuses with `WrongShape` exactly where they are not a name.
 pub fn name_of(alloc: Global, bytes: &[u8]) -> Result<Name, ValueError>
     ensures ok { IfOk result (λ name. (name ≡ bytes.now) × IsTrue (is_name bytes.now)) }
     ensures wrong { IsErrOf result ValueError.WrongShape ↔ (is_name bytes.now ≡ false) }

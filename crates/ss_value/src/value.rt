@@ -8,7 +8,7 @@ use crate::seq::Seq;
 use crate::text::Text;
 use std::alloc::Global;
 
-/// A value of a column: a number of 64 bits, or a text of at most 255 bytes.
+/// A value of a column: a signed number of 64 bits, or a text of at most 255 bytes.
 ///
 /// An Int takes no memory of its own, a Text its bytes.
 #[derive(Drop)]
@@ -17,14 +17,17 @@ pub enum Value {
     Text(Text),
 }
 
-/// The values of a row, one a column.
+/// The values of a row, one for each column.
 pub type Row = Seq<Value>;
 
 /// Rows in order.
 pub type Rows = Seq<Row>;
 
+/// Where a row of a table stands in memory. A row keeps its slot until it is purged or removed.
+pub type Slot = usize;
+
 impl Value {
-    /// The same value again: linear in a text's bytes. Fails only for want of memory.
+    /// An equal value. Linear in a text's bytes.
     pub fn copy(&self, alloc: Global) -> Result<Value, NoMemory>
         ensures { IfOk result (λ copy. copy ≡ self.now) }
     {
@@ -38,7 +41,7 @@ impl Value {
     }
 }
 
-/// The same row again: linear in the bytes of its texts and the number of its values.
+/// An equal row. Linear in the bytes of its texts and the number of its values.
 pub fn copy_row(alloc: Global, row: &Row) -> Result<Row, NoMemory>
     ensures { IfOk result (λ copy. copy ≡ row.now) }
 {

@@ -1,3 +1,4 @@
-pub mod Rises
-pub mod Numbered
 mod Worked
+pub mod CallerLemmas
+pub mod Numbered
+pub mod Rises

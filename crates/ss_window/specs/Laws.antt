@@ -1,22 +1,23 @@
 -- What holds of every window.
 use Rattle.std.specs.Prelude.{◌≡◌, ◌<◌, ◌^◌, false, length}
 use Rattle.ss_value.specs.Rows.{Rows}
-use Rattle.ss_window.specs.Held.{HeldWindow, unit_count, staged, settled, shown, moves_end, IsHeld}
+use Rattle.ss_window.specs.WindowValue.{WindowValue, unit_count, stage, commit, shown_rows, moves_end, WindowInvariant}
 
--- where a window is settled, it has had as many units, shows the same rows, and is settled for good
-pub record StaysSettled (h : HeldWindow) : Type 0 where
-  pub held : IsHeld (settled h)
-  pub counts : unit_count (settled h) ≡ unit_count h
-  pub shows : shown (settled h) ≡ shown h
-  pub again : settled (settled h) ≡ settled h
+-- a committed window has had as many units as before, shows the same rows, and is as it is when committed again
+pub record StaysCommitted (h : WindowValue) : Type 0 where
+  pub held : WindowInvariant (commit h)
+  pub counts : unit_count (commit h) ≡ unit_count h
+  pub shows : shown_rows (commit h) ≡ shown_rows h
+  pub again : commit (commit h) ≡ commit h
 
-abbrev pub SettlesForGood : Type 0
-SettlesForGood = (h : HeldWindow) → IsHeld h → StaysSettled h
+-- a commit of any window changes nothing that is seen of it, and a second one nothing at all
+abbrev pub CommitsForGood : Type 0
+CommitsForGood = (h : WindowValue) → WindowInvariant h → StaysCommitted h
 
--- no row of a staged unit is shown, and none is lost, before the end of what is visible moves
+-- where a staged unit doesn't move the end of what is visible, the same rows are shown as before
 abbrev pub ShowsWhenItMoves : Type 0
-ShowsWhenItMoves = (h : HeldWindow) (unit : Rows) → IsHeld h → moves_end h ≡ false → shown (staged h unit) ≡ shown h
+ShowsWhenItMoves = (h : WindowValue) (unit : Rows) → WindowInvariant h → moves_end h ≡ false → shown_rows (stage h unit) ≡ shown_rows h
 
 -- the rows that are shown have numbers of 64 bits
 abbrev pub ShowsFew : Type 0
-ShowsFew = (h : HeldWindow) → IsHeld h → length (shown h) < 2 ^ 64
+ShowsFew = (h : WindowValue) → WindowInvariant h → length (shown_rows h) < 2 ^ 64

@@ -1,4 +1,4 @@
 pub mod Slides
-pub mod Held
+pub mod WindowValue
 pub mod Numbers
 pub mod Laws

@@ -7,7 +7,7 @@ use ss_lines::{
     Line, LineError, MAX_LINE, MemorySink, MemorySource, ReadSource, WriteFault, WriteSink,
     line_value, read_lines, write_all,
 };
-use ss_value::seq::Seq;
+use ss_value::Seq;
 use std::alloc::Global;
 use std::process::Abort;
 use std::test::Fail;
@@ -36,7 +36,7 @@ fn written_by_writer(alloc: Global, bytes: &[u8]) -> Result<Vec<u8>, WriteFault>
     Ok(sink.into_inner())
 }
 
-/// Blank lines are left out, and counted.
+/// Blank lines are left out, but count where lines are numbered.
 fn check_lines(rt: &impl Abort, lines: &Seq<Line>) {
     let lines = lines.as_slice();
     assert_eq!(rt; lines.len(), 3);
@@ -87,12 +87,12 @@ fn lines_have_values(rt: HostRuntime) -> Result<(), Fail> {
 fn sinks_have_what_is_written(rt: HostRuntime) -> Result<(), Fail> {
     let mut sink = MemorySink::new(rt.alloc(), 8)?;
     write_all(&mut sink, b"first")?;
-    assert_eq!(rt; sink.written(), b"first".as_slice());
+    assert_eq!(rt; sink.as_bytes(), b"first".as_slice());
     assert_eq!(rt;
         write_all(&mut sink, b"second"),
         Err(WriteFault::WriteFault)
     );
-    assert_eq!(rt; sink.written(), b"firstsec".as_slice());
+    assert_eq!(rt; sink.as_bytes(), b"firstsec".as_slice());
     let bytes = written_by_writer(rt.alloc(), TEXT)?;
     assert_eq!(rt; bytes.as_slice(), TEXT);
     Ok(())

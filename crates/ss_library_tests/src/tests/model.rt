@@ -1,10 +1,7 @@
 //! Copies of requests and of entries with their outcomes.
 
-use ss_model::copies::{copy_listed, copy_request};
-use ss_model::entry::{Asked, Entry, Listed, Outcome, Reason, Request};
-use ss_value::seq::Seq;
-use ss_value::text::name_of;
-use ss_value::value::Value;
+use ss_model::{Asked, Entry, Listed, Outcome, Reason, Request, copy_listed, copy_request};
+use ss_value::{Seq, Value, name_of};
 use std::test::Fail;
 
 #[test]

@@ -1,14 +1,11 @@
 //! Expressions and queries, evaluated by their definitions.
 
 use super::number_row;
-use ss_model::entry::Reason;
-use ss_operators::run_error::RunError;
-use ss_plain_sql::expressions::{evaluate, holds};
-use ss_plain_sql::queries::{column_value, query_rows, where_passes};
-use ss_sql_lex::typed::{BinaryOp, Cmp, ColAt, Expr, Item, Joined, OrderBy, Query, SourceId};
-use ss_value::keep::Keep;
-use ss_value::seq::Seq;
-use ss_value::value::{Rows, Value};
+use ss_model::{Reason, RunError};
+use ss_model_computed_sql::queries::column_value;
+use ss_model_computed_sql::{evaluate, holds, query_rows, where_passes};
+use ss_sql_lex::{BinaryOp, Cmp, ColAt, Expr, Item, Joined, OrderBy, Query, SourceId};
+use ss_value::{Boxed, Rows, Seq, Value};
 use std::alloc::{AllocError, Global};
 use std::test::Fail;
 
@@ -28,8 +25,8 @@ fn col(source: u8, column: u8) -> Expr {
 
 /// An operator between two sides.
 fn binary(alloc: Global, op: BinaryOp, left: Expr, right: Expr) -> Result<Expr, Fail> {
-    let left = Keep::new(alloc, left)?;
-    let right = Keep::new(alloc, right)?;
+    let left = Boxed::new(alloc, left)?;
+    let right = Boxed::new(alloc, right)?;
     Ok(Expr::Binary { op, left, right })
 }
 

@@ -1,14 +1,14 @@
 //! Reports that no case makes: of a stop, and of votes. Their lines are decided by hand.
 
 ghost use Rattle.std.specs.Prelude.{◌≡◌, ◌<◌, IfOk, length};
-ghost use Rattle.ss_report.specs.Told.{HasEndTables};
+ghost use Rattle.ss_report.specs.Reported.{HasEndTables};
 
 use super::number_row;
-use ss_model::catalog::{Catalog, Place, TableDef};
-use ss_model::entry::{Answer, Asked, Entry, Listed, Outcome, Reason, Request};
+use ss_model::{
+    Answer, Asked, Catalog, Entry, Listed, Outcome, Placement, Reason, Request, TableDef,
+};
 use ss_report::{End, write_report};
-use ss_value::seq::Seq;
-use ss_value::text::name_of;
+use ss_value::{Seq, name_of};
 use std::alloc::Global;
 use std::test::Fail;
 
@@ -18,7 +18,7 @@ fn table_of(alloc: Global, name: &[u8]) -> Result<TableDef, Fail> {
         name: name_of(alloc, name)?,
         schema: Seq::new(alloc),
         key: Seq::from_vec(vec![in alloc; 0]?),
-        place: Place::Part(0),
+        placement: Placement::Part(0),
         indexes: Seq::new(alloc),
     })
 }
@@ -74,8 +74,8 @@ fn done(alloc: Global) -> Result<Outcome, Fail> {
     Ok(Outcome::Done(Seq::from_vec(rows)))
 }
 
-/// The second call of client 0 found no memory, and the second one of client 1 has no answer. The first ones stand at
-/// this place and behind it.
+/// The second call of client 0 found no memory, and the second one of client 1 has no answer. The first calls are in the
+/// list, at this place and the next.
 fn answers(alloc: Global, first: u64) -> Result<Seq<Seq<Answer>>, Fail>
     requires { first < 100 }
 {
@@ -101,7 +101,7 @@ fn list(alloc: Global) -> Result<Seq<Listed>, Fail>
     Ok(Seq::from_vec(vec![in alloc; done, aborted]?))
 }
 
-/// The report of the run that begins at this place and ends so.
+/// The report of a run whose first entry has this place, and which ends so.
 fn report(alloc: Global, catalog: &Catalog, first: u64, end: &End) -> Result<Seq<u8>, Fail>
     requires first { first < 100 }
     requires tables { HasEndTables catalog.now end.now }
@@ -112,7 +112,7 @@ fn report(alloc: Global, catalog: &Catalog, first: u64, end: &End) -> Result<Seq
     Ok(write_report(alloc, catalog, &requests, &answers, first, &list, end)?)
 }
 
-/// Places go on from the first one, and a request that never ran tells the disk's count of faults.
+/// Places count on from the first one, and the reply to a request that never ran has the disk's count of faults.
 #[test]
 fn report_of_a_stop(rt: HostRuntime) -> Result<(), Fail> {
     let catalog = catalog(rt.alloc())?;

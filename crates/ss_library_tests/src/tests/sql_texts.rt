@@ -1,15 +1,10 @@
 //! Texts and their tokens, as a person reads them off the rules; what tokens stand for; copies of trees.
 
-use ss_sql_lex::content::{Content, content_of, number_value};
-use ss_sql_lex::copies::copy_expr;
-use ss_sql_lex::lexer::tokens;
-use ss_sql_lex::token::{LexError, TokenKind};
-use ss_sql_lex::tree::{ExprTree, NameTree, NumberTree, SetTree};
-use ss_sql_lex::typed::{BinaryOp, Expr};
-use ss_value::copies::Copies;
-use ss_value::keep::Keep;
-use ss_value::text::name_of;
-use ss_value::value::Value;
+use ss_sql_lex::{
+    BinaryOp, Content, Expr, ExprTree, LexError, NameTree, NumberTree, SetTree, TokenKind,
+    content_of, copy_expr, number_value, tokens,
+};
+use ss_value::{Boxed, Copies, Value, name_of};
 use std::alloc::{AllocError, Global};
 use std::test::Fail;
 
@@ -190,7 +185,7 @@ fn what_tokens_stand_for(rt: HostRuntime) -> Result<(), Fail> {
     Ok(())
 }
 
-/// A number as an expression, at a place.
+/// A number as an expression, at an offset.
 fn number_at(at: usize, value: i64) -> ExprTree {
     let number = NumberTree { at, value };
     ExprTree::Number { at, number }
@@ -201,8 +196,8 @@ fn copies_are_equal(rt: HostRuntime) -> Result<(), Fail> {
     let alloc = rt.alloc();
     let copy = copy_expr(alloc, &Expr::Lit(Value::Int(7)))?;
     assert!(rt; matches!(copy, Expr::Lit(Value::Int(7))));
-    let left = Keep::new(alloc, number_at(0, 7))?;
-    let right = Keep::new(alloc, number_at(4, 8))?;
+    let left = Boxed::new(alloc, number_at(0, 7))?;
+    let right = Boxed::new(alloc, number_at(4, 8))?;
     let value = ExprTree::Binary {
         at: 0,
         op: BinaryOp::Sub,
@@ -216,7 +211,7 @@ fn copies_are_equal(rt: HostRuntime) -> Result<(), Fail> {
     let SetTree { column, value } = SetTree { column, value }.duplicate(alloc)?;
     assert!(rt; column.at == 9 && column.name.as_str() == "n");
     assert!(rt;
-        value.place() == 0
+        value.offset() == 0
             && matches!(
                 value,
                 ExprTree::Binary {

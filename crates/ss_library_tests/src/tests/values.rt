@@ -1,14 +1,9 @@
 //! Values and rows, and the lists, boxes and sets that hold them.
 
-use ss_value::copies::Copies;
-use ss_value::keep::Keep;
-use ss_value::order::{compare, compare_rows};
-use ss_value::reserved::Reserved;
-use ss_value::schema::{ColType, Column, fits};
-use ss_value::seq::Seq;
-use ss_value::sets::{PartSet, ProcSet};
-use ss_value::text::{ValueError, name_of, text_of};
-use ss_value::value::{Row, Value, copy_row};
+use ss_value::{
+    Boxed, ColType, Column, Copies, PartSet, ProcSet, Reserved, Row, Seq, Value, ValueError,
+    compare, compare_rows, copy_row, fits, name_of, text_of,
+};
 use std::alloc::Global;
 use std::cmp::Ordering;
 use std::test::Fail;
@@ -86,7 +81,7 @@ fn rows(rt: HostRuntime) -> Result<(), Fail> {
 
 #[test]
 fn boxes_and_sets(rt: HostRuntime) -> Result<(), Fail> {
-    let kept = Keep::new(rt.alloc(), 4u8)?;
+    let kept = Boxed::new(rt.alloc(), 4u8)?;
     assert!(rt; *kept.get() == 4 && kept.into_inner() == 4);
     let mut parts = PartSet::empty();
     parts.insert(7);

@@ -2,9 +2,8 @@
 
 use crate::tests::plain::Plain;
 use crate::tests::words::add;
-use ss_table::table::{Hint, Slot, Table};
-use ss_value::seq::Seq;
-use ss_value::value::{Row, Value, copy_row};
+use ss_table::{Hint, Table};
+use ss_value::{Row, Seq, Slot, Value, copy_row};
 use std::alloc::Global;
 use std::test::Fail;
 
@@ -47,7 +46,10 @@ fn near(table: &Table, slot: Slot, hint: Hint) -> Option<(Slot, Hint)> {
     if table.row(slot).is_none() {
         return None;
     }
-    let far = Hint { chunk: 1, place: 2 };
+    let far = Hint {
+        chunk: 1,
+        position: 2,
+    };
     let found = table.after_near(slot, hint);
     if found.map(|p| p.0) == table.after_near(slot, far).map(|p| p.0) {
         found
@@ -103,7 +105,7 @@ pub fn live_below(table: &Table, slots: usize) -> usize {
     (0..slots).filter(|slot| table.row(*slot).is_some()).count()
 }
 
-/// What a table and a map differ in, asked for these keys and among so many slots. The empty text where they hold
+/// What a table and a map differ in, asked for these keys and among the first `slots` slots. The empty text where they hold
 /// the same.
 pub fn difference(
     alloc: Global,

@@ -1,12 +1,11 @@
 //! Tables as plain maps of std, each with a copy of what it was before.
 
 ghost use Rattle.std.specs.Prelude.{◌≡◌, IfOk};
-ghost use Rattle.ss_table.specs.Held.{key_of};
+ghost use Rattle.ss_table.specs.TableValue.{key_of};
 
 use crate::tests::words::add;
-use ss_table::table::TableError;
-use ss_value::seq::Seq;
-use ss_value::value::{Row, copy_row};
+use ss_table::TableError;
+use ss_value::{Row, Seq, copy_row};
 use std::alloc::Global;
 use std::collections::BTreeMap;
 use std::test::Fail;
@@ -55,7 +54,7 @@ fn copies(alloc: Global, maps: &Seq<Plain>) -> Result<Seq<Plain>, Fail> {
     Ok(copied)
 }
 
-/// Tables of one key and one limit, as they are and as they were when they were last final.
+/// Tables of one key and one limit, as they are and as they were at the last commit.
 #[derive(Drop)]
 pub struct Plains {
     pub key: Seq<u8>,
@@ -87,7 +86,7 @@ impl Plains {
         }
     }
 
-    /// Inserts a row, or tells why not.
+    /// Inserts a row, or answers why not.
     pub fn insert(
         &mut self,
         alloc: Global,
@@ -129,13 +128,13 @@ impl Plains {
         Ok(true)
     }
 
-    /// Makes all changes final.
+    /// Commits all changes.
     pub fn commit(&mut self, alloc: Global) -> Result<(), Fail> {
         self.before = copies(alloc, &self.now)?;
         Ok(())
     }
 
-    /// Takes all changes back.
+    /// Rolls all changes back.
     pub fn rollback(&mut self, alloc: Global) -> Result<(), Fail> {
         self.now = copies(alloc, &self.before)?;
         Ok(())

@@ -1,30 +1,24 @@
-//! Tables, with the changes noted that made them.
+//! Tables, with notes of the changes that made them.
 
 ghost use Rattle.std.specs.Prelude.{◌≡◌, ◌<◌, length, slice_get, Some, IsTrue, IfOk, OnErr};
-ghost use Rattle.ss_table.specs.Held.{HasKey, key_of};
+ghost use Rattle.ss_table.specs.TableValue.{HasKey, key_of};
 ghost use Rattle.ss_undo.specs.declared.change.Change.TheVariants.{Inserted, Deleted, Replaced};
-ghost use Rattle.ss_undo.specs.Came.{Step};
+ghost use Rattle.ss_undo.specs.ResultsFrom.{Step};
 ghost use Rattle.ss_table_tests.specs.Runs.{AreKeyed, IsLive, CanReplace};
 
 use crate::tests::plain::key_of;
 use crate::tests::words::add;
-use ss_table::table::{Slot, Table, TableError};
-use ss_undo::change::Change;
-use ss_undo::laws::{a_note_more, a_staging_more, final_at_first, one_table_changed};
-use ss_undo::undo::Undo;
-use ss_value::copies::Copies;
-use ss_value::laws::row_order_is_total;
-use ss_value::order::compare_rows;
-use ss_value::seq::Seq;
-use ss_value::value::Row;
-use ss_window::window::Window;
+use ss_table::{Table, TableError};
+use ss_undo::{Change, Undo, a_note_more, a_staging_more, committed_at_first, one_table_changed};
+use ss_value::{Copies, Row, Seq, Slot, compare_rows, row_order_is_total};
+use ss_window::Window;
 use std::alloc::Global;
 use std::marker::Model;
 use std::test::Fail;
 
-/// Two tables of one key and one limit, no window, and the changes since they were last final.
+/// Two tables of one key and one limit, no window, and the changes since the last commit or rollback.
 ///
-/// Contracts see the columns of the key alone. That the noted changes are those that were made is kept by the
+/// Contracts see the columns of the key alone. That the noted changes are those that were made is an invariant of the
 /// type.
 #[derive(Drop)]
 pub struct Real {
@@ -175,7 +169,7 @@ impl Real {
         table_in(&self.tables, at)
     }
 
-    /// Inserts a row, or tells why not, with the row.
+    /// Inserts a row, or answers why not, with the row.
     pub fn insert(&mut self, at: u16, row: Row) -> Result<Option<(TableError, Row)>, Fail> {
         if !has_key(self.key.as_slice(), &row) || usize::from(at) >= self.tables.len() {
             return Err("no such table or row".into());
@@ -239,15 +233,15 @@ impl Real {
         }
     }
 
-    /// Makes all changes final.
+    /// Commits all changes.
     pub fn commit(&mut self, alloc: Global) {
-        final_at_first();
+        committed_at_first();
         let mut indexes = Seq::new(alloc);
         self.undo
             .commit(&mut self.tables, &mut indexes, &mut self.windows);
     }
 
-    /// Takes all changes back.
+    /// Rolls all changes back.
     pub fn rollback(&mut self, alloc: Global) {
         let mut indexes = Seq::new(alloc);
         self.undo

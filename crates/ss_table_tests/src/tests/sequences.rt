@@ -1,7 +1,7 @@
 //! Runs sequences of steps on tables and on plain maps side by side.
 //!
-//! Lines with two spaces in front are steps, and go on with what the lines before them left. Another line begins a
-//! sequence on two tables without a row: its name, the columns of the key, and maybe the limit.
+//! Lines with two spaces in front are steps, and go on with what the lines before them left. Any other line begins a
+//! sequence on two tables without a row: it has the sequence's name, the columns of the key, and maybe the limit.
 //!
 //! ```text
 //! a deleted row comes back: key 0 limit 5
@@ -13,14 +13,12 @@ use crate::tests::compare::{difference, live_below};
 use crate::tests::plain::{Plains, key_of};
 use crate::tests::real::Real;
 use crate::tests::words::{Step, add, read_step};
-use ss_table::table::TableError;
-use ss_value::copies::Copies;
-use ss_value::seq::Seq;
-use ss_value::value::{Row, Rows, copy_row};
+use ss_table::TableError;
+use ss_value::{Copies, Row, Rows, Seq, copy_row};
 use std::alloc::Global;
 use std::test::Fail;
 
-/// Tables and plain maps that are to hold the same.
+/// Tables and plain maps that have to hold the same.
 #[derive(Drop)]
 struct Sides {
     /// The first line of the sequence.
@@ -29,7 +27,7 @@ struct Sides {
     plain: Plains,
     /// The keys that any step named.
     keys: Seq<Row>,
-    /// The table of which the next steps are.
+    /// The table that the next steps are on.
     at: u16,
 }
 
@@ -61,7 +59,7 @@ fn empty(alloc: Global, line: &str) -> Result<Sides, Fail> {
 }
 
 impl Sides {
-    /// Inserts a row on both sides, and tells whether both refuse it for this reason, or neither where there is
+    /// Inserts a row on both sides, and answers whether both refuse it for this reason, or neither where there is
     /// none. A refused row comes back as it was.
     fn insert(&mut self, alloc: Global, row: &Row, want: Option<TableError>) -> Result<bool, Fail> {
         let key = key_of(alloc, self.plain.key.as_slice(), row)?;
@@ -73,7 +71,7 @@ impl Sides {
         })
     }
 
-    /// Inserts rows on both sides, and tells whether none is refused.
+    /// Inserts rows on both sides, and answers whether none is refused.
     fn fill(&mut self, alloc: Global, rows: &Rows) -> Result<bool, Fail> {
         for row in rows.as_slice() {
             if !self.insert(alloc, row, None)? {
@@ -83,14 +81,14 @@ impl Sides {
         Ok(true)
     }
 
-    /// Deletes the row of a key on both sides, and tells whether both had one.
+    /// Deletes the row of a key on both sides, and answers whether both had one.
     fn delete(&mut self, key: &Row) -> Result<bool, Fail> {
         let plain = self.plain.delete(self.at, key)?;
         let real = self.real.delete(self.at, key)?;
         Ok(plain && real)
     }
 
-    /// The keys of each so many rows.
+    /// The keys of every `step`th row, from the first on, in the order of the keys.
     fn each(&self, alloc: Global, step: usize) -> Result<Seq<Row>, Fail> {
         let mut keys = Seq::new(alloc);
         for (place, key) in self.plain.table(self.at)?.keys().enumerate() {
@@ -101,7 +99,7 @@ impl Sides {
         Ok(keys)
     }
 
-    /// Deletes each so many rows on both sides, and tells whether both had them.
+    /// Deletes every `step`th row on both sides, and answers whether both had them.
     fn thin(&mut self, alloc: Global, step: usize) -> Result<bool, Fail> {
         for key in self.each(alloc, step)?.as_slice() {
             if !self.delete(key)? {
@@ -111,14 +109,14 @@ impl Sides {
         Ok(true)
     }
 
-    /// Puts a row in place of the one with its key on both sides, and tells whether both had one.
+    /// Puts a row in place of the one with its key on both sides, and answers whether both had one.
     fn replace(&mut self, alloc: Global, row: &Row) -> Result<bool, Fail> {
         let plain = self.plain.replace(alloc, self.at, row)?;
         let real = self.real.replace(alloc, self.at, copy_row(alloc, row)?)?;
         Ok(plain && real)
     }
 
-    /// So many times, deletes the row with a row's key and inserts the row on both sides.
+    /// Deletes the row with a row's key and inserts the row, `count` times, on both sides.
     fn again(&mut self, alloc: Global, count: usize, row: &Row) -> Result<bool, Fail> {
         let key = key_of(alloc, self.plain.key.as_slice(), row)?;
         for _ in 0..count {
@@ -141,21 +139,21 @@ impl Sides {
         Ok(live == self.plain.table(self.at)?.len())
     }
 
-    /// Makes all changes final on both sides.
+    /// Commits all changes on both sides.
     fn commit(&mut self, alloc: Global) -> Result<bool, Fail> {
         self.real.commit(alloc);
         self.plain.commit(alloc)?;
         Ok(true)
     }
 
-    /// Takes all changes back on both sides.
+    /// Rolls all changes back on both sides.
     fn rollback(&mut self, alloc: Global) -> Result<bool, Fail> {
         self.real.rollback(alloc);
         self.plain.rollback(alloc)?;
         Ok(true)
     }
 
-    /// Runs a step on both sides, and tells whether both answer as it says.
+    /// Runs a step on both sides, and answers whether both answer as the step says.
     fn run(&mut self, alloc: Global, step: &Step) -> Result<bool, Fail> {
         match step {
             Step::On(table) => {
@@ -189,8 +187,8 @@ impl Sides {
         )
     }
 
-    /// Runs a step, and tells what is wrong behind it; the empty text where nothing is.
-    fn told(&mut self, alloc: Global, step: &Step) -> Result<&'static str, Fail> {
+    /// Runs a step, and answers what is wrong behind it; the empty text where nothing is.
+    fn wrong_after(&mut self, alloc: Global, step: &Step) -> Result<&'static str, Fail> {
         if !self.run(alloc, step)? {
             return Ok("it is answered otherwise");
         }
@@ -205,7 +203,7 @@ impl Sides {
     fn first_wrong(&mut self, alloc: Global, line: &str) -> Result<String, Fail> {
         for text in line.split(',') {
             let text = text.trim();
-            let wrong = self.told(alloc, &read_step(alloc, text)?)?;
+            let wrong = self.wrong_after(alloc, &read_step(alloc, text)?)?;
             if !wrong.is_empty() {
                 return Ok(format!(in alloc; "{text}: {wrong}")?);
             }

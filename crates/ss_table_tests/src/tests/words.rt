@@ -5,24 +5,22 @@
 
 ghost use Rattle.std.specs.Prelude.{◌≡◌, [], ◌∷◌, ◌++◌, OnOk};
 
-use ss_value::seq::Seq;
-use ss_value::text::text_of;
-use ss_value::value::{Row, Rows, Value};
+use ss_value::{Row, Rows, Seq, Value, text_of};
 use std::alloc::Global;
 use std::test::Fail;
 
 /// A step of a sequence.
 #[derive(Drop)]
 pub enum Step {
-    /// `on 1`: the steps from here on are of that table.
+    /// `on 1`: the steps from here on are on that table.
     On(u16),
-    /// `insert 1 'a'`: it is inserted.
+    /// `insert 1 'a'`: the row is inserted.
     Insert(Row),
     /// `fill 600 7 # 'a'`: 600 rows are inserted, with numbers from 0 on for `#`, in an order that skips by 7.
     Fill(Rows),
-    /// `taken 1 'a'`: it is refused, since its key is taken.
+    /// `taken 1 'a'`: the row is refused, since its key is taken.
     Taken(Row),
-    /// `full 1 'a'`: it is refused, since the table is full.
+    /// `full 1 'a'`: the row is refused, since the table is full.
     Full(Row),
     /// `delete 1`: the row of that key is deleted.
     Delete(Row),
@@ -30,15 +28,15 @@ pub enum Step {
     Thin(usize),
     /// `absent 1`: no row has that key.
     Absent(Row),
-    /// `replace 1 'b'`: it is put in place of the row of its key.
+    /// `replace 1 'b'`: the row is put in place of the one with its key.
     Replace(Row),
-    /// `again 300 1 'a'`: so many times the row of its key is deleted, and it is inserted.
+    /// `again 300 1 'a'`: 300 times the row with its key is deleted, and the row is inserted.
     Again(usize, Row),
     /// `slots 3`: no row stands in another slot than the first three.
     Slots(usize),
-    /// `commit`: all changes are final.
+    /// `commit`: all changes are committed.
     Commit,
-    /// `rollback`: all changes are taken back.
+    /// `rollback`: all changes are rolled back.
     Rollback,
 }
 
@@ -96,7 +94,7 @@ pub fn row(alloc: Global, words: &str) -> Result<Row, Fail> {
     numbered_row(alloc, words, 0)
 }
 
-/// So many rows, with each number below for `#`, each time some further on than the last, round and round.
+/// `count` rows, with numbers below `count` for `#`: from 0 on, each `skip` further than the last, and around at the end.
 fn fill(alloc: Global, count: usize, skip: usize, words: &str) -> Result<Rows, Fail> {
     let mut rows = Seq::new(alloc);
     let mut number = 0usize;

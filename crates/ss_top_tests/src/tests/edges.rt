@@ -2,14 +2,12 @@
 
 use super::{ACCOUNTS, Ended, run_within, words_of};
 use ss_lines::{MAX_INPUT, MAX_LINE, MemorySink, MemorySource, Source};
-use ss_top::status::Status;
-use ss_top::top::sstore;
-use ss_value::seq::Seq;
-use ss_value::{Failed, NoMemory};
+use ss_top::{Status, sstore};
+use ss_value::{Failed, NoMemory, Seq};
 use std::alloc::{AllocError, Global};
 use std::test::Fail;
 
-/// The catalogue of accounts, and behind it a JSON text in quotes that makes its line this long.
+/// The catalogue of accounts, and behind it a line that is a JSON string and this many bytes long.
 fn with_line_of(alloc: Global, len: usize) -> Result<Vec<u8>, AllocError> {
     let mut input = Vec::from_slice(alloc, ACCOUNTS.as_bytes())?;
     input.extend_from_slice(b"\n\"")?;
@@ -20,7 +18,7 @@ fn with_line_of(alloc: Global, len: usize) -> Result<Vec<u8>, AllocError> {
     Ok(input)
 }
 
-/// Arrays that nest so deep, on a line alone.
+/// Runs on one line of arrays that nest this deep.
 fn nested(alloc: Global, depth: usize) -> Result<Ended, NoMemory> {
     let mut input = Vec::new(alloc);
     for _ in 0..depth {
@@ -32,10 +30,10 @@ fn nested(alloc: Global, depth: usize) -> Result<Ended, NoMemory> {
     run_within(alloc, input, 64)
 }
 
-/// What a source of letters gives at a time.
+/// The most that a source of letters gives at a time.
 static LETTERS: [u8; 4096] = [b'x'; 4096];
 
-/// A source of so many letters, which stand nowhere in memory.
+/// A source of this many letters, so that a long input takes no memory.
 #[derive(Drop)]
 struct Letters {
     left: usize,
@@ -58,14 +56,14 @@ impl Source for Letters {
     }
 }
 
-/// Runs `run` on so many letters.
+/// Runs the command `run` on this many letters.
 fn run_letters(alloc: Global, count: usize) -> Result<Ended, NoMemory> {
     let words = words_of(alloc, &["run"])?;
     let mut source = Letters { left: count };
     let mut sink = MemorySink::new(alloc, 64)?;
     let status = sstore(alloc, &words, &mut source, &mut sink);
-    let told = Vec::from_slice(alloc, sink.written())?;
-    Ok(Ended { status, told })
+    let written = Vec::from_slice(alloc, sink.as_bytes())?;
+    Ok(Ended { status, written })
 }
 
 /// How a command line ends on the empty input.
@@ -87,7 +85,7 @@ fn long_lines(rt: HostRuntime) -> Result<(), Fail> {
     Ok(())
 }
 
-// An input that is within its limit is refused for its one line.
+// An input of one line that is within the limit of an input is refused for the length of that line.
 #[test]
 fn long_inputs(rt: HostRuntime) -> Result<(), Fail> {
     let ended = run_letters(rt.alloc(), MAX_INPUT)?;
@@ -134,8 +132,8 @@ fn a_reply_of_1024_rows(rt: HostRuntime) -> Result<(), Fail> {
     let mut input = Vec::from_slice(rt.alloc(), front.as_bytes())?;
     input.extend_from_slice(requests.as_bytes())?;
     let ended = run_within(rt.alloc(), input, 1 << 20)?;
-    let told = std::str::from_utf8(&ended.told)?;
-    assert!(rt; told.contains("[\"reply\",1026,1024,[\"done\",[[0,0],"));
-    assert!(rt; told.contains("[\"reply\",1028,1026,[\"aborted\",\"reply_full\"]]\n"));
+    let written = std::str::from_utf8(&ended.written)?;
+    assert!(rt; written.contains("[\"reply\",1026,1024,[\"done\",[[0,0],"));
+    assert!(rt; written.contains("[\"reply\",1028,1026,[\"aborted\",\"reply_full\"]]\n"));
     Ok(())
 }

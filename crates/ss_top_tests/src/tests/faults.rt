@@ -1,9 +1,8 @@
-//! Ends that fail.
+//! A source that fails, and sinks that are full.
 
 use super::{ACCOUNTS, run_within, words_of};
 use ss_lines::{MemorySink, Source};
-use ss_top::status::Status;
-use ss_top::top::sstore;
+use ss_top::{Status, sstore};
 use ss_value::Failed;
 use std::test::Fail;
 
@@ -33,7 +32,7 @@ fn a_source_that_fails(rt: HostRuntime) -> Result<(), Fail> {
     let mut sink = MemorySink::new(rt.alloc(), 64)?;
     let status = sstore(rt.alloc(), &words, &mut source, &mut sink);
     assert!(rt; status == Status::ReadFault);
-    assert!(rt; sink.written() == b"[\"read_fault\"]\n".as_slice());
+    assert!(rt; sink.as_bytes() == b"[\"read_fault\"]\n".as_slice());
     Ok(())
 }
 
@@ -44,8 +43,8 @@ fn sinks_that_are_full(rt: HostRuntime) -> Result<(), Fail> {
         let input = Vec::from_slice(rt.alloc(), ACCOUNTS.as_bytes())?;
         let ended = run_within(rt.alloc(), input, room)?;
         assert!(rt; ended.status == Status::WriteFault);
-        assert!(rt; whole.as_bytes().starts_with(&ended.told));
-        assert!(rt; ended.told.len() == room);
+        assert!(rt; whole.as_bytes().starts_with(&ended.written));
+        assert!(rt; ended.written.len() == room);
     }
     let input = Vec::from_slice(rt.alloc(), b"{")?;
     assert!(rt; run_within(rt.alloc(), input, 3)?.is(Status::Input, "[\"i"));

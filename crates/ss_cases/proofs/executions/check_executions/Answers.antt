@@ -1,5 +1,5 @@
-use Rattle.ss_sched.proofs.Counts.{few_procedures}
-use Rattle.ss_run.proofs.Opening.{sound_windows}
+use Rattle.ss_sched.proofs.CallerLemmas.{few_procedures}
+use Rattle.ss_run.proofs.CallerLemmas.{sound_windows}
 use Rattle.ss_cases.proofs.executions.check_executions.Goals as goal
 
 pub opening-requires-clause-sound : goal.opening-requires-clause-sound

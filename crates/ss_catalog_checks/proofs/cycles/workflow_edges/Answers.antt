@@ -1,7 +1,7 @@
 use Rattle.std.proofs.Common.{◌++◌, ◌-◌, ◌+◌, ℕ, length, slice_get, append_assoc, ap, sym, ◌∙◌}
 use Rattle.std.specs.List.{flat_map, range_with_len}
 use Rattle.ss_catalog_checks.specs.Workflows.{procedure_edges}
-use Rattle.ss_catalog_checks.proofs.Firsts.{range_on}
+use Rattle.ss_lemmas.proofs.Firsts.{range_on}
 use Rattle.ss_catalog_checks.proofs.cycles.workflow_edges.Goals as goal
 
 pub loop-procedure-preserved : goal.loop-procedure-preserved

@@ -10,8 +10,8 @@ on_ok (Err e) P Q f p = tt
 
 pub returns : goal.returns
 returns c = λ edges g.
-    let first = same_graph edges c.args.graph.now c.add_rows.new.graph g c.in_ok-add_rows.ensures.rows c.in_ok-add_rows.ensures.grown in
-    let second = same_graph edges c.add_rows.new.graph c.add_rows-2.new.graph first c.in_ok-add_rows-2.ensures.rows c.in_ok-add_rows-2.ensures.grown in
+    let first = same_graph edges c.args.graph.now c.add_rows.new.graph g c.in_ok-add_rows.ensures.ok c.in_ok-add_rows.ensures.grown in
+    let second = same_graph edges c.add_rows.new.graph c.add_rows-2.new.graph first c.in_ok-add_rows-2.ensures.ok c.in_ok-add_rows-2.ensures.grown in
     let from = c.in_ok-add_rows.ensures.there in let grown = c.in_ok-add_rows-2.ensures.grown in
     on_ok c.add_to_row.result _ _
     (λ e. subst (IsGraphOf (edges ++ c.args.edge ∷ [])) (sym e) (graph_grows edges c.args.edge c.add_rows-2.new.graph second (omega arith) c.in_ok-add_rows-2.ensures.there))

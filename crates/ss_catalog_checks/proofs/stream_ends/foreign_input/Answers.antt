@@ -1,7 +1,7 @@
 use Rattle.std.proofs.Common.{◌==◌, not, slice_get, ap, sym, ◌∙◌}
 use Rattle.std.specs.List.{find}
 use Rattle.ss_catalog_checks.specs.StreamEnds.{workflow_of, is_foreign, foreign_among}
-use Rattle.ss_catalog_checks.proofs.Firsts.{found_is_first}
+use Rattle.ss_lemmas.proofs.Firsts.{found_is_first}
 use Rattle.ss_catalog_checks.proofs.stream_ends.foreign_input.Goals as goal
 
 pub returns-in-Some : goal.returns-in-Some

@@ -1,6 +1,6 @@
 use Rattle.std.proofs.Common.{slice_get, length, arith, ap, sym, ◌∙◌}
 use Rattle.ss_catalog_checks.specs.StreamEnds.{foreign_inputs}
-use Rattle.ss_catalog_checks.proofs.Firsts.{flat_goes_on, empty_from_none}
+use Rattle.ss_lemmas.proofs.Firsts.{flat_goes_on, empty_from_none}
 use Rattle.ss_catalog_checks.proofs.stream_ends.input_of_other_workflow.Goals as goal
 
 pub loop-procedure-preserved : goal.loop-procedure-preserved

@@ -1,6 +1,6 @@
 use Rattle.std.proofs.Common.{sym, ◌∙◌}
 use Rattle.ss_catalog_checks.specs.StreamEnds.{ends_badly, refuses_triggers}
-use Rattle.ss_catalog_checks.proofs.Firsts.{found_is_first, first_of_three, second_of_three, third_of_three}
+use Rattle.ss_lemmas.proofs.Firsts.{found_is_first, first_of_three, second_of_three, third_of_three}
 use Rattle.ss_catalog_checks.proofs.stream_ends.refused_stream.Goals as goal
 
 pub returns-in-Some : goal.returns-in-Some

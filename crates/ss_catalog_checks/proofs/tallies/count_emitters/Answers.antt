@@ -11,12 +11,12 @@ loop-procedure-preserved c =
     let n = length c.args.catalog.now.procedures in
     let h : p < n = omega arith in
     let before = c.loop-procedure.tallies in
-    let after = c.note_emits.new.tallies in
+    let after = c.count_emits.new.tallies in
     let invariant = c.loop-procedure.invariant in
-    let told = c.in_ok-note_emits.ensures in (
-      stay_below (λ s. procedure_emits c.args.catalog.now p s) (suc p) before after invariant.0 told,
-      (λ s. below_on (λ (q : ℕ). procedure_emits c.args.catalog.now q s) n p (emitters c.args.catalog.now s) h (count_at before s) (count_at after s) (told s) (invariant.1 s)),
-      (λ s. count_on (λ (q : ℕ). procedure_emits c.args.catalog.now q s) n p (emitters c.args.catalog.now s) h (count_at before s) (count_at after s) (told s) (invariant.1 s) (invariant.2 s)),
+    let reported = c.in_ok-count_emits.ensures in (
+      stay_below (λ s. procedure_emits c.args.catalog.now p s) (suc p) before after invariant.0 reported,
+      (λ s. below_on (λ (q : ℕ). procedure_emits c.args.catalog.now q s) n p (emitters c.args.catalog.now s) h (count_at before s) (count_at after s) (reported s) (invariant.1 s)),
+      (λ s. count_on (λ (q : ℕ). procedure_emits c.args.catalog.now q s) n p (emitters c.args.catalog.now s) h (count_at before s) (count_at after s) (reported s) (invariant.1 s) (invariant.2 s)),
     )
 
 pub returns : goal.returns

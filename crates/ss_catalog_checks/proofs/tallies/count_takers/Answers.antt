@@ -12,12 +12,12 @@ loop-procedure-preserved c =
     let n = length c.args.catalog.now.procedures in
     let h : p < n = omega arith in
     let before = c.loop-procedure.tallies in
-    let after = c.note_takes.new.tallies in
+    let after = c.count_takes.new.tallies in
     let invariant = c.loop-procedure.invariant in
-    let told = c.in_ok-note_takes.ensures in (
-      stay_below (λ s. procedure_has (λ d. is_counted c.args.kinds d.kind && takes_stream s d) (slice_get c.args.catalog.now.procedures p)) (suc p) before after invariant.0 told,
-      (λ s. below_on (λ (q : ℕ). procedure_has (λ d. is_counted c.args.kinds d.kind && takes_stream s d) (slice_get c.args.catalog.now.procedures q)) n p (takers c.args.kinds c.args.catalog.now s) h (count_at before s) (count_at after s) (told s) (invariant.1 s)),
-      (λ s. count_on (λ (q : ℕ). procedure_has (λ d. is_counted c.args.kinds d.kind && takes_stream s d) (slice_get c.args.catalog.now.procedures q)) n p (takers c.args.kinds c.args.catalog.now s) h (count_at before s) (count_at after s) (told s) (invariant.1 s) (invariant.2 s)),
+    let reported = c.in_ok-count_takes.ensures in (
+      stay_below (λ s. procedure_has (λ d. is_counted c.args.kinds d.kind && takes_stream s d) (slice_get c.args.catalog.now.procedures p)) (suc p) before after invariant.0 reported,
+      (λ s. below_on (λ (q : ℕ). procedure_has (λ d. is_counted c.args.kinds d.kind && takes_stream s d) (slice_get c.args.catalog.now.procedures q)) n p (takers c.args.kinds c.args.catalog.now s) h (count_at before s) (count_at after s) (reported s) (invariant.1 s)),
+      (λ s. count_on (λ (q : ℕ). procedure_has (λ d. is_counted c.args.kinds d.kind && takes_stream s d) (slice_get c.args.catalog.now.procedures q)) n p (takers c.args.kinds c.args.catalog.now s) h (count_at before s) (count_at after s) (reported s) (invariant.1 s) (invariant.2 s)),
     )
 
 pub returns : goal.returns

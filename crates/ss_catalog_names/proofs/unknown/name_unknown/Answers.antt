@@ -1,10 +1,10 @@
 use Rattle.std.proofs.Common.{◌≡◌, ◌∙◌, sym, ap, ℕ, List, Option, ◌++◌}
 use Rattle.std.specs.List.{flat_map}
+use Rattle.ss_lemmas.proofs.Results.{if_ok}
 use Rattle.ss_catalog_outline.specs.declared.types.TableOutline.{TableOutline}
 use Rattle.ss_catalog_outline.specs.Unknown.{own_table_uses, windows_uses, triggers_uses, procedures_uses, first_unknown, name_unknown}
 use Rattle.ss_catalog_names.proofs.Firsts.{found, not_found}
-use Rattle.ss_catalog_names.proofs.FirstTwice.{if_ok}
-use Rattle.ss_catalog_outline.proofs.FirstUnknown.{first_unknown_append}
+use Rattle.ss_catalog_outline.proofs.CallerLemmas.{first_unknown_append}
 use Rattle.ss_catalog_names.proofs.unknown.name_unknown.Goals as goal
 
 pub returns-in-Some : goal.returns-in-Some

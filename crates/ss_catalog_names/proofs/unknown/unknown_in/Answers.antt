@@ -1,4 +1,4 @@
-use Rattle.ss_catalog_outline.proofs.FirstUnknown.{used_itself}
+use Rattle.ss_catalog_outline.proofs.CallerLemmas.{used_itself}
 use Rattle.ss_catalog_names.proofs.unknown.unknown_in.Goals as goal
 
 pub returns : goal.returns

@@ -1,9 +1,9 @@
 use Rattle.std.proofs.Common.{◌≡◌, ◌∙◌, ap, refl, ℕ, List, map, Option}
 use Rattle.std.specs.Option.{option_copied}
+use Rattle.ss_lemmas.proofs.Results.{if_ok}
 use Rattle.ss_value.specs.declared.schema.Column.{Column}
 use Rattle.ss_names.specs.Names.{is_among, itself, column_name}
 use Rattle.ss_catalog_outline.specs.Unknown.{Scope, own_scope, own_procedure_uses, first_unknown}
-use Rattle.ss_catalog_names.proofs.FirstTwice.{if_ok}
 use Rattle.ss_catalog_names.proofs.Same.{map_itself, procedure_same}
 use Rattle.ss_catalog_names.proofs.unknown.unknown_in_procedure.Goals as goal
 

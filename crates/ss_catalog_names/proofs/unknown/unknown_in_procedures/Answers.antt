@@ -1,13 +1,13 @@
 use Rattle.std.proofs.Common.{◌≡◌, ◌∙◌, ap, refl, ℕ, List, map, Option}
 use Rattle.std.specs.List.{flat_map}
+use Rattle.ss_lemmas.proofs.Results.{if_ok}
 use Rattle.ss_catalog_outline.specs.declared.types.TableOutline.{TableOutline}
 use Rattle.ss_catalog_outline.specs.declared.types.StreamOutline.{StreamOutline}
 use Rattle.ss_catalog_outline.specs.declared.types.ProcedureOutline.{ProcedureOutline}
 use Rattle.ss_names.specs.Names.{is_among}
 use Rattle.ss_catalog_outline.specs.Names.{table_name, stream_name}
 use Rattle.ss_catalog_outline.specs.Unknown.{own_scope, own_procedure_uses, procedures_uses, first_unknown}
-use Rattle.ss_catalog_names.proofs.FirstTwice.{if_ok}
-use Rattle.ss_catalog_outline.proofs.FirstUnknown.{uses_same}
+use Rattle.ss_catalog_outline.proofs.CallerLemmas.{uses_same}
 use Rattle.ss_catalog_names.proofs.Same.{procedure_same}
 use Rattle.ss_catalog_names.proofs.unknown.unknown_in_procedures.Goals as goal
 

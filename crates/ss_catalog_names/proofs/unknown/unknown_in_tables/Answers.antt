@@ -1,7 +1,7 @@
 use Rattle.std.proofs.Common.{◌∙◌, sym}
 use Rattle.ss_catalog_outline.specs.Unknown.{own_table_uses, first_unknown}
 use Rattle.ss_catalog_names.proofs.Firsts.{found_here, not_found_here}
-use Rattle.ss_catalog_outline.proofs.FirstUnknown.{first_unknown_append}
+use Rattle.ss_catalog_outline.proofs.CallerLemmas.{first_unknown_append}
 use Rattle.ss_catalog_names.proofs.unknown.unknown_in_tables.Goals as goal
 
 pub returns-in-Some : goal.returns-in-Some

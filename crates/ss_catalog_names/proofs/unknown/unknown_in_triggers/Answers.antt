@@ -2,14 +2,14 @@ use Rattle.std.proofs.Common.{◌≡◌, ◌∙◌, ap, ◌++◌, ◌||◌, sym,
 use Rattle.std.specs.Option.{option_copied}
 use Rattle.std.specs.Str.{bytes_eq}
 use Rattle.std.proofs.lemmas.List.Folds.{list_any-append}
+use Rattle.ss_lemmas.proofs.Results.{if_ok}
 use Rattle.ss_catalog_outline.specs.declared.types.StreamOutline.{StreamOutline}
 use Rattle.ss_catalog_outline.specs.declared.types.WindowOutline.{WindowOutline}
 use Rattle.ss_catalog_outline.specs.declared.types.TriggerOutline.{TriggerOutline}
 use Rattle.ss_names.specs.Names.{is_among}
 use Rattle.ss_catalog_outline.specs.Names.{stream_name, window_name}
-use Rattle.ss_catalog_outline.specs.Unknown.{used, waits_on, triggers_uses, first_unknown}
-use Rattle.ss_catalog_names.proofs.FirstTwice.{if_ok}
-use Rattle.ss_catalog_outline.proofs.FirstUnknown.{used_same}
+use Rattle.ss_catalog_outline.specs.Unknown.{names_in, waits_on, triggers_uses, first_unknown}
+use Rattle.ss_catalog_outline.proofs.CallerLemmas.{used_same}
 use Rattle.ss_catalog_names.proofs.unknown.unknown_in_triggers.Goals as goal
 
 pub returns : goal.returns
@@ -19,7 +19,7 @@ returns c =
     let windows = map window_name o.windows in
     if_ok (λ (r : Option (List ℕ)). r ≡ option_copied c.unknown_source.result) (λ (r : Option (List ℕ)). r ≡ first_unknown (triggers_uses o))
     (λ r e. e ∙ c.unknown_source.ensures
-    ∙ ap (λ (l : List TriggerOutline). first_unknown (used waits_on c.add_all.new.names l)) c.as_slice-3.ensures
+    ∙ ap (λ (l : List TriggerOutline). first_unknown (names_in waits_on c.add_all.new.names l)) c.as_slice-3.ensures
     ∙ used_same waits_on c.add_all.new.names (streams ++ windows)
     (λ name. c.in_ok-add_all.ensures name
     ∙ list_any-append (bytes_eq name) c.in_ok-sources.sources (map window_name c.as_slice-2.result.now)

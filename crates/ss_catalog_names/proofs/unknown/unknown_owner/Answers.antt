@@ -1,7 +1,7 @@
 use Rattle.std.proofs.Common.{◌∙◌, sym, ap}
 use Rattle.std.specs.Option.{option_copied, option_map}
 use Rattle.ss_catalog_outline.specs.Unknown.{owner}
-use Rattle.ss_catalog_outline.proofs.FirstUnknown.{used_mapped}
+use Rattle.ss_catalog_outline.proofs.CallerLemmas.{used_mapped}
 use Rattle.ss_catalog_names.proofs.unknown.unknown_owner.Goals as goal
 
 pub returns-in-Some : goal.returns-in-Some

@@ -10,7 +10,7 @@ returns-in_err-read-clause-read g c =
 
 pub loop-item-preserved : goal.loop-item-preserved
 loop-item-preserved g c = record {
-  stays = c.in_ok-read.ensures.stays ∙ c.loop-item.invariant.stays;
+  stays = c.in_ok-read.ensures.unchanged ∙ c.loop-item.invariant.stays;
   begun = one_more g.R.ItemReader.size (g.R.ItemReader.reads c.args.reads.now) c.args.first c.args.items.now c.loop-item.all c.loop-item.number c.loop-item.item-index c.item-item.result c.loop-item-test.true c.item-item.is c.loop-item.invariant.begun c.in_ok-read.read c.in-Some.next c.push.new.self c.in_ok-read.ensures.read (c.in-Some.ensures.1 ∙ ap (λ s. c.loop-item.number + s) c.size.ensures) c.in_ok-push.ensures.ok;
 }
 

@@ -1,4 +1,4 @@
-use Rattle.ss_model.proofs.Fitting.{applied_fits}
+use Rattle.ss_model.proofs.CallerLemmas.{applied_fits}
 use Rattle.ss_model_laws.proofs.entries.applied_fits.Goals as goal
 
 pub returns : goal.returns

@@ -1,4 +1,4 @@
-use Rattle.ss_model.proofs.Fitting.{fitting_applies}
+use Rattle.ss_model.proofs.CallerLemmas.{fitting_applies}
 use Rattle.ss_model_laws.proofs.entries.fitting_applies.Goals as goal
 
 pub returns : goal.returns

@@ -1,4 +1,4 @@
-use Rattle.ss_model.proofs.Replays.{goes_on}
+use Rattle.ss_model.proofs.CallerLemmas.{goes_on}
 use Rattle.ss_model_laws.proofs.lists.replays_go_on.Goals as goal
 
 pub returns : goal.returns

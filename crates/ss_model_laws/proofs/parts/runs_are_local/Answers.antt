@@ -1,4 +1,4 @@
-use Rattle.ss_model_kept.proofs.Locality.{run_is_local}
+use Rattle.ss_model_kept.proofs.CallerLemmas.{run_is_local}
 use Rattle.ss_model_laws.proofs.parts.runs_are_local.Goals as goal
 
 pub returns : goal.returns

@@ -1,15 +1,15 @@
 use Rattle.std.proofs.Common.{◌≡◌, ℕ, List, Bor, Option, Some, sym, ap, subst, ◌∙◌, slice_get}
 use Rattle.ss_value.specs.Rows.{Row}
 use Rattle.ss_model.specs.declared.catalog.TableDef.{TableDef}
-use Rattle.ss_table.specs.Held.{Held}
+use Rattle.ss_table.specs.TableValue.{TableValue}
 use Rattle.ss_index.specs.Pairs.{slots_in}
-use Rattle.ss_rows.specs.Sources.{Placed}
-use Rattle.ss_shard.proofs.Shapes.{table_of}
-use Rattle.ss_plan.specs.Seen.{row_is_seen, value_behind, seen_of, live_places, live_of}
+use Rattle.ss_rows.specs.Sources.{Positioned}
+use Rattle.ss_shard.proofs.CallerLemmas.{table_of}
+use Rattle.ss_plan.specs.Seen.{row_is_seen, value_behind, seen_of, live_positions, live_of}
 use Rattle.ss_plan.specs.Keys.{Finds}
 use Rattle.ss_plan.specs.Found.{lent_rows, rows_seen_in, IsInKeyOrder}
 use Rattle.ss_plan.specs.Ranges.{range_end}
-use Rattle.ss_plan.specs.declared.bounds.End.TheVariants.{Low, High}
+use Rattle.ss_plan.specs.declared.bounds.RangeEnd.TheVariants.{Low, High}
 use Rattle.ss_plan.proofs.Gathering.{found_by_range}
 use Rattle.ss_plan.proofs.range.rows_in_range.Goals as goal
 
@@ -34,7 +34,7 @@ returns c =
     let rows = c.in_ok-ordered.ordered.items in
     let gathered = c.in_ok-found.ensures ∙ ap (rows_seen_in seen h.live) slots in
     let by_key = subst (λ (key : List ℕ). IsInKeyOrder key (lent_rows c.in_ok-found.found.items) (lent_rows rows)) key c.in_ok-ordered.ensures in
-    let of_range = subst (λ (found : Placed). IsInKeyOrder h.key found (lent_rows rows)) gathered by_key in
+    let of_range = subst (λ (found : Positioned). IsInKeyOrder h.key found (lent_rows rows)) gathered by_key in
     let enough = found_by_range seen h.live h.key c.rows_are_keyed.ensures.keyed c.rows_are_keyed.ensures.apart index c.requires.pairs def.schema params test (lent_rows rows) of_range in
-    subst (λ (o : Option Held). Finds params test (seen_of catalog split c.args.table (live_places (live_of o))) (lent_rows c.from_vec.result)) (sym c.requires.there)
-    (subst (λ (rows : List (ℕ × Bor Row)). Finds params test (seen_of catalog split c.args.table (live_places h.live)) (lent_rows rows)) (sym c.from_vec.ensures) enough)
+    subst (λ (o : Option TableValue). Finds params test (seen_of catalog split c.args.table (live_positions (live_of o))) (lent_rows c.from_vec.result)) (sym c.requires.there)
+    (subst (λ (rows : List (ℕ × Bor Row)). Finds params test (seen_of catalog split c.args.table (live_positions h.live)) (lent_rows rows)) (sym c.from_vec.ensures) enough)

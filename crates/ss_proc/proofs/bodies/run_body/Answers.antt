@@ -3,86 +3,86 @@ use Rattle.std.proofs.lemmas.Result.{err_from_is_err_and}
 use Rattle.ss_model.specs.declared.entry.Outcome.TheVariants.{Aborted}
 use Rattle.ss_model.specs.Bodies.{run_body}
 use Rattle.ss_model.specs.Database.{body_result}
-use Rattle.ss_operators.specs.declared.run_error.RunError.{RunError}
-use Rattle.ss_operators.specs.Stops.{StopsAs}
+use Rattle.ss_model.specs.declared.run_error.RunError.{RunError}
+use Rattle.ss_model.specs.Stops.{StopsAs}
 use Rattle.ss_shard.specs.Contents.{contents_of, contents_with}
-use Rattle.ss_shard.proofs.Settling.{starts_here, of_same}
+use Rattle.ss_shard.proofs.CallerLemmas.{starts_here, of_same}
 use Rattle.ss_proc.specs.Executions.{context_of}
-use Rattle.ss_proc.proofs.Whole.{back_here}
+use Rattle.ss_proc.proofs.RolledBack.{back_here}
 use Rattle.ss_proc.proofs.bodies.run_body.Goals as goal
 
 pub returns-in_err-emitted-in-Err-Abort-clause-of_catalog : goal.returns-in_err-emitted-in-Err-Abort-clause-of_catalog
 returns-in_err-emitted-in-Err-Abort-clause-of_catalog c =
     let catalog = c.args.given.now.catalog.now in
     let old = c.args.shard.now in
-    let can = c.run_steps.ensures.changed.back old (starts_here catalog old c.requires.settled) in
-    let same = c.roll_back.ensures.back old can in
-    of_same catalog old c.roll_back.new.self same c.requires.settled.of_catalog
+    let can = c.run_steps.ensures.changed.back old (starts_here catalog old c.requires.committed) in
+    let same = c.rollback.ensures.back old can in
+    of_same catalog old c.rollback.new.self same c.requires.committed.of_catalog
 
 pub returns-in_ok-emitted-in-Err-Abort-clause-of_catalog : goal.returns-in_ok-emitted-in-Err-Abort-clause-of_catalog
 returns-in_ok-emitted-in-Err-Abort-clause-of_catalog c =
     let catalog = c.args.given.now.catalog.now in
     let old = c.args.shard.now in
-    let can = c.run_steps.ensures.changed.back old (starts_here catalog old c.requires.settled) in
-    let same = c.roll_back.ensures.back old can in
-    of_same catalog old c.roll_back.new.self same c.requires.settled.of_catalog
+    let can = c.run_steps.ensures.changed.back old (starts_here catalog old c.requires.committed) in
+    let same = c.rollback.ensures.back old can in
+    of_same catalog old c.rollback.new.self same c.requires.committed.of_catalog
 
 pub returns-in-Err-NoMemory-clause-of_catalog : goal.returns-in-Err-NoMemory-clause-of_catalog
 returns-in-Err-NoMemory-clause-of_catalog c =
     let catalog = c.args.given.now.catalog.now in
     let old = c.args.shard.now in
-    let can = c.run_steps.ensures.changed.back old (starts_here catalog old c.requires.settled) in
-    let same = c.roll_back-in-Err-NoMemory.ensures.back old can in
-    of_same catalog old c.roll_back-in-Err-NoMemory.new.self same c.requires.settled.of_catalog
+    let can = c.run_steps.ensures.changed.back old (starts_here catalog old c.requires.committed) in
+    let same = c.rollback-in-Err-NoMemory.ensures.back old can in
+    of_same catalog old c.rollback-in-Err-NoMemory.new.self same c.requires.committed.of_catalog
 
-pub returns-in_err-emitted-in-Err-Abort-clause-kept : goal.returns-in_err-emitted-in-Err-Abort-clause-kept
-returns-in_err-emitted-in-Err-Abort-clause-kept c =
+pub returns-in_err-emitted-in-Err-Abort-clause-err : goal.returns-in_err-emitted-in-Err-Abort-clause-err
+returns-in_err-emitted-in-Err-Abort-clause-err c =
     let p = err_from_is_err_and c.from_residual.result c.from_residual.ensures.1 in
     let catalog = c.args.given.now.catalog.now in
     let old = c.args.shard.now in
-    let can = c.run_steps.ensures.changed.back old (starts_here catalog old c.requires.settled) in
-    let same = c.roll_back.ensures.back old can in
+    let can = c.run_steps.ensures.changed.back old (starts_here catalog old c.requires.committed) in
+    let same = c.rollback.ensures.back old can in
     rw p.1 same
 
-pub returns-in_err-emitted-in-Err-Abort-clause-settled : goal.returns-in_err-emitted-in-Err-Abort-clause-settled
-returns-in_err-emitted-in-Err-Abort-clause-settled c =
+pub returns-in_err-emitted-in-Err-Abort-clause-committed : goal.returns-in_err-emitted-in-Err-Abort-clause-committed
+returns-in_err-emitted-in-Err-Abort-clause-committed c =
     let p = err_from_is_err_and c.from_residual.result c.from_residual.ensures.1 in
     let catalog = c.args.given.now.catalog.now in
     let old = c.args.shard.now in
-    let can = c.run_steps.ensures.changed.back old (starts_here catalog old c.requires.settled) in
-    let same = c.roll_back.ensures.back old can in
-    rw p.1 (c.roll_back.ensures.settled catalog old can c.requires.settled.of_catalog)
+    let can = c.run_steps.ensures.changed.back old (starts_here catalog old c.requires.committed) in
+    let same = c.rollback.ensures.back old can in
+    rw p.1 (c.rollback.ensures.committed catalog old can c.requires.committed.of_catalog)
 
-pub returns-in-Err-NoMemory-clause-kept : goal.returns-in-Err-NoMemory-clause-kept
-returns-in-Err-NoMemory-clause-kept c =
+pub returns-in-Err-NoMemory-clause-err : goal.returns-in-Err-NoMemory-clause-err
+returns-in-Err-NoMemory-clause-err c =
     let catalog = c.args.given.now.catalog.now in
     let old = c.args.shard.now in
-    let can = c.run_steps.ensures.changed.back old (starts_here catalog old c.requires.settled) in
-    let same = c.roll_back-in-Err-NoMemory.ensures.back old can in
+    let can = c.run_steps.ensures.changed.back old (starts_here catalog old c.requires.committed) in
+    let same = c.rollback-in-Err-NoMemory.ensures.back old can in
     same
 
-pub returns-in-Err-NoMemory-clause-settled : goal.returns-in-Err-NoMemory-clause-settled
-returns-in-Err-NoMemory-clause-settled c =
+pub returns-in-Err-NoMemory-clause-committed : goal.returns-in-Err-NoMemory-clause-committed
+returns-in-Err-NoMemory-clause-committed c =
     let catalog = c.args.given.now.catalog.now in
     let old = c.args.shard.now in
-    let can = c.run_steps.ensures.changed.back old (starts_here catalog old c.requires.settled) in
-    let same = c.roll_back-in-Err-NoMemory.ensures.back old can in
-    c.roll_back-in-Err-NoMemory.ensures.settled catalog old can c.requires.settled.of_catalog
+    let can = c.run_steps.ensures.changed.back old (starts_here catalog old c.requires.committed) in
+    let same = c.rollback-in-Err-NoMemory.ensures.back old can in
+    c.rollback-in-Err-NoMemory.ensures.committed catalog old can c.requires.committed.of_catalog
 
 pub returns-in_ok-emitted-in-Err-Abort-clause-back : goal.returns-in_ok-emitted-in-Err-Abort-clause-back
 returns-in_ok-emitted-in-Err-Abort-clause-back c =
     let catalog = c.args.given.now.catalog.now in
     let old = c.args.shard.now in
-    let can = c.run_steps.ensures.changed.back old (starts_here catalog old c.requires.settled) in
-    let same = c.roll_back.ensures.back old can in
-    back_here catalog old c.roll_back.new.self c.requires.settled (c.roll_back.ensures.settled catalog old can c.requires.settled.of_catalog) same
+    let can = c.run_steps.ensures.changed.back old (starts_here catalog old c.requires.committed) in
+    let same = c.rollback.ensures.back old can in
+    back_here catalog old c.rollback.new.self c.requires.committed (c.rollback.ensures.committed catalog old can c.requires.committed.of_catalog) same
 
-pub returns-in_ok-emitted-in-Err-Abort-clause-ran : goal.returns-in_ok-emitted-in-Err-Abort-clause-ran
-returns-in_ok-emitted-in-Err-Abort-clause-ran c =
+pub returns-in_ok-emitted-in-Err-Abort-clause-ok : goal.returns-in_ok-emitted-in-Err-Abort-clause-ok
+returns-in_ok-emitted-in-Err-Abort-clause-ok c =
     let catalog = c.args.given.now.catalog.now in
     let old = c.args.shard.now in
-    let can = c.run_steps.ensures.changed.back old (starts_here catalog old c.requires.settled) in
-    let same = c.roll_back.ensures.back old can in
+    let can = c.run_steps.ensures.changed.back old (starts_here catalog old c.requires.committed) in
+    let same = c.rollback.ensures.back old can in
     let s = contents_of old in
     let stops : run_body (context_of c.args.given.now) c.args.body.now s ≡ Err c.in-Err-Abort.reason = subst (λ (stop : RunError). StopsAs (run_body (context_of c.args.given.now) c.args.body.now s) stop) c.in-Err-Abort.field-0-is c.in-Err-Abort.ensures.stops in
     let none = c.in_ok-emitted-in-Err-Abort.ensures ∙ ap (λ n. replicate n []) c.len.ensures in

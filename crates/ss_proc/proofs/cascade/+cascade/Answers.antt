@@ -7,24 +7,24 @@ use Rattle.std.proofs.lemmas.Result.{err_from_is_err_and}
 use Rattle.ss_model.specs.declared.catalog.TriggerDef.{TriggerDef}
 use Rattle.ss_model.specs.Results.{OrAbort}
 use Rattle.ss_model.specs.Statements.{Execution, run_triggers, cascade_to_depth}
-use Rattle.ss_operators.specs.Stops.{StopsAs}
+use Rattle.ss_model.specs.Stops.{StopsAs}
 use Rattle.ss_shard.specs.Contents.{contents_of}
 use Rattle.ss_shard.specs.Windows.{unit_added}
 use Rattle.ss_eetrig.specs.Waiting.{waits_for}
-use Rattle.ss_shard.specs.HeldShard.{HeldShard}
+use Rattle.ss_shard.specs.ShardValue.{ShardValue}
 use Rattle.ss_shard.specs.Shards.{Changed}
 use Rattle.ss_plan.specs.Statements.{FitsTables}
-use Rattle.ss_plan.proofs.Inserts.{changed_on}
+use Rattle.ss_plan.proofs.CallerLemmas.{changed_on}
 use Rattle.ss_proc.specs.Executions.{context_of, execution_of}
-use Rattle.ss_operators.proofs.Walks.{rest_of}
+use Rattle.ss_model.proofs.CallerLemmas.{rest_of}
 use Rattle.ss_proc.proofs.Firing.{one_less, close_stops, close_moved, close_still, fires_on, fires_stops, passes_by}
 use Rattle.ss_proc.proofs.cascade.+cascade.Goals as goal
 use Rattle.ss_proc.proofs.cascade.+cascade.Goals.{run_triggers-then-has+in_ok-run_statements, run_triggers-else-has}
 
-pub cascade-returns-clause-done : goal.cascade-returns-clause-done
-cascade-returns-clause-done t c =
+pub cascade-returns-clause-ok : goal.cascade-returns-clause-ok
+cascade-returns-clause-ok t c =
     rw (one_less c.args.depth (context_of c.args.given.now) c.args.window (execution_of c.args.shard.now c.args.work.now) c.if-depth-eq0.false)
-    (rw (c.as_slice.ensures, c.new-nothing.ensures) at c.run_triggers.ensures.done)
+    (rw (c.as_slice.ensures, c.new-nothing.ensures) at c.run_triggers.ensures.ok)
 
 pub cascade-returns-clause-stops : goal.cascade-returns-clause-stops
 cascade-returns-clause-stops t c =
@@ -39,35 +39,35 @@ close_to_depth-returns-in_err-stage_unit-clause-stops t c =
     (close_stops catalog (cascade_to_depth c.args.depth (context_of c.args.given.now)) c.args.window c.args.unit (execution_of c.args.shard.now c.args.work.now) c.in_err-stage_unit.field-0.0
     (c.in_err-stage_unit.ensures.stops catalog c.requires.of_catalog.windows))
 
-pub close_to_depth-returns-then-branch-clause-done : goal.close_to_depth-returns-then-branch-clause-done
-close_to_depth-returns-then-branch-clause-done t c =
+pub close_to_depth-returns-then-branch-clause-ok : goal.close_to_depth-returns-then-branch-clause-ok
+close_to_depth-returns-then-branch-clause-ok t c =
     let catalog = c.args.given.now.catalog.now in
     let s = contents_of c.args.shard.now in
     let now = contents_of c.stage_unit.new.self in
-    let moved = subst (λ (b : Bool). unit_added catalog c.args.window c.args.unit s ≡ Ok (b, now)) c.if-branch.true (c.in_ok-stage_unit.ensures.done catalog c.requires.of_catalog.windows) in
-    rw (close_moved catalog (cascade_to_depth c.args.depth (context_of c.args.given.now)) c.args.window c.args.unit (execution_of c.args.shard.now c.args.work.now) now moved) c.cascade.ensures.done
+    let moved = subst (λ (b : Bool). unit_added catalog c.args.window c.args.unit s ≡ Ok (b, now)) c.if-branch.true (c.in_ok-stage_unit.ensures.ok catalog c.requires.of_catalog.windows) in
+    rw (close_moved catalog (cascade_to_depth c.args.depth (context_of c.args.given.now)) c.args.window c.args.unit (execution_of c.args.shard.now c.args.work.now) now moved) c.cascade.ensures.ok
 
 pub close_to_depth-returns-then-branch-clause-stops : goal.close_to_depth-returns-then-branch-clause-stops
 close_to_depth-returns-then-branch-clause-stops t c =
     let catalog = c.args.given.now.catalog.now in
     let s = contents_of c.args.shard.now in
     let now = contents_of c.stage_unit.new.self in
-    let moved = subst (λ (b : Bool). unit_added catalog c.args.window c.args.unit s ≡ Ok (b, now)) c.if-branch.true (c.in_ok-stage_unit.ensures.done catalog c.requires.of_catalog.windows) in
+    let moved = subst (λ (b : Bool). unit_added catalog c.args.window c.args.unit s ≡ Ok (b, now)) c.if-branch.true (c.in_ok-stage_unit.ensures.ok catalog c.requires.of_catalog.windows) in
     rw (close_moved catalog (cascade_to_depth c.args.depth (context_of c.args.given.now)) c.args.window c.args.unit (execution_of c.args.shard.now c.args.work.now) now moved) c.cascade.ensures.stops
 
-pub close_to_depth-returns-clause-done : goal.close_to_depth-returns-clause-done
-close_to_depth-returns-clause-done t c =
+pub close_to_depth-returns-clause-ok : goal.close_to_depth-returns-clause-ok
+close_to_depth-returns-clause-ok t c =
     let catalog = c.args.given.now.catalog.now in
     let s = contents_of c.args.shard.now in
     let now = contents_of c.stage_unit.new.self in
-    let still = subst (λ (b : Bool). unit_added catalog c.args.window c.args.unit s ≡ Ok (b, now)) c.if-branch.false (c.in_ok-stage_unit.ensures.done catalog c.requires.of_catalog.windows) in
+    let still = subst (λ (b : Bool). unit_added catalog c.args.window c.args.unit s ≡ Ok (b, now)) c.if-branch.false (c.in_ok-stage_unit.ensures.ok catalog c.requires.of_catalog.windows) in
     close_still catalog (cascade_to_depth c.args.depth (context_of c.args.given.now)) c.args.window c.args.unit (execution_of c.args.shard.now c.args.work.now) now still
 
 -- a bit that tells a test
-told : (result b : Bool) (P : Type 0) → (IsTrue result ↔ P) → (P ↔ (b ≡ true)) → b ≡ result
-told true b P h k = k.0 (h.0 refl)
-told false true P h k = let no : false ≡ true = h.1 (k.1 refl) in cc
-told false false P h k = refl
+folds : (result b : Bool) (P : Type 0) → (IsTrue result ↔ P) → (P ↔ (b ≡ true)) → b ≡ result
+folds true b P h k = k.0 (h.0 refl)
+folds false true P h k = let no : false ≡ true = h.1 (k.1 refl) in cc
+folds false false P h k = refl
 
 pub run_triggers-returns-in_err-run_statements-clause-stops : goal.run_triggers-returns-in_err-run_statements-clause-stops
 run_triggers-returns-in_err-run_statements-clause-stops t c =
@@ -80,10 +80,10 @@ run_triggers-returns-in_err-run_statements-clause-stops t c =
     let within : n < length triggers = subst (λ (ts : List TriggerDef). n < length ts) c.as_slice-trigger-items.ensures c.loop-n-test.true in
     let is : trigger ≡ get_or triggers n trigger = subst (λ (ts : List TriggerDef). trigger ≡ get_or ts n trigger) c.as_slice-trigger-items.ensures c.trigger-item.is in
     let here : slice_get triggers n ≡ Some trigger = slice_get_read triggers (length triggers) n trigger refl within is in
-    let fires : waits_for c.args.event trigger.on ≡ true = told c.has.result (waits_for c.args.event trigger.on) (IsBitSet c.firings-fired.result n) c.has.ensures (c.firings-fired.ensures.those n trigger here) ∙ c.if-has.true in
+    let fires : waits_for c.args.event trigger.on ≡ true = folds c.has.result (waits_for c.args.event trigger.on) (IsBitSet c.firings-fired.result n) c.has.ensures (c.firings-fired.ensures.those n trigger here) ∙ c.if-has.true in
     let stopped = rw c.as_slice.ensures at c.in_err-run_statements.ensures.stops in
     rw (p.1, p.2)
-    (subst (λ (r : OrAbort Execution). StopsAs r c.in_err-run_statements.field-0.0) c.loop-n.invariant.told
+    (subst (λ (r : OrAbort Execution). StopsAs r c.in_err-run_statements.field-0.0) c.loop-n.invariant.folds
     (fires_stops context cascade c.args.inserted.now (λ t. waits_for c.args.event t.on) triggers n trigger within is (execution_of c.loop-n.shard c.loop-n.work) c.in_err-run_statements.field-0.0 fires stopped))
 
 pub run_triggers-loop-n-preserved : goal.run_triggers-loop-n-preserved
@@ -96,25 +96,25 @@ run_triggers-loop-n-preserved t c =
     let within : n < length triggers = subst (λ (ts : List TriggerDef). n < length ts) c.as_slice-trigger-items.ensures c.loop-n-test.true in
     let is : trigger ≡ get_or triggers n trigger = subst (λ (ts : List TriggerDef). trigger ≡ get_or ts n trigger) c.as_slice-trigger-items.ensures c.trigger-item.is in
     let here : slice_get triggers n ≡ Some trigger = slice_get_read triggers (length triggers) n trigger refl within is in
-    let same : waits_for c.args.event trigger.on ≡ c.has.result = told c.has.result (waits_for c.args.event trigger.on) (IsBitSet c.firings-fired.result n) c.has.ensures (c.firings-fired.ensures.those n trigger here) in
+    let same : waits_for c.args.event trigger.on ≡ c.has.result = folds c.has.result (waits_for c.args.event trigger.on) (IsBitSet c.firings-fired.result n) c.has.ensures (c.firings-fired.ensures.those n trigger here) in
     let passes = λ (t : TriggerDef). waits_for c.args.event t.on in
     let fits = rest_of (λ (t : TriggerDef). AllByRecursion (FitsTables c.args.given.now.catalog.now) t.statements) triggers n trigger within c.loop-n.invariant.fits in
     let before = execution_of c.loop-n.shard c.loop-n.work in
     elim c.if-has.branch [
       | run_triggers-then-has+in_ok-run_statements w ↦ record {
-        told =
+        folds =
             (λ i. run_triggers context cascade c.args.inserted.now (filter passes (drop (n + 1) triggers)) (execution_of (w.shard-is i) (w.work-is i)))
-            ∙ fires_on context cascade c.args.inserted.now passes triggers n trigger within is before (execution_of w.run_statements.new.shard w.run_statements.new.work) (same ∙ w.if-has.true) (rw w.as_slice.ensures at w.in_ok-run_statements.ensures.done)
-            ∙ c.loop-n.invariant.told;
-        changed = subst (λ (s : HeldShard). Changed c.args.shard.now s) (sym w.shard-is) (changed_on c.args.shard.now c.loop-n.shard w.run_statements.new.shard c.loop-n.invariant.changed w.run_statements.ensures.changed);
+            ∙ fires_on context cascade c.args.inserted.now passes triggers n trigger within is before (execution_of w.run_statements.new.shard w.run_statements.new.work) (same ∙ w.if-has.true) (rw w.as_slice.ensures at w.in_ok-run_statements.ensures.ok)
+            ∙ c.loop-n.invariant.folds;
+        changed = subst (λ (s : ShardValue). Changed c.args.shard.now s) (sym w.shard-is) (changed_on c.args.shard.now c.loop-n.shard w.run_statements.new.shard c.loop-n.invariant.changed w.run_statements.ensures.changed);
         fits = fits;
       }
       | run_triggers-else-has w ↦ record {
-        told =
+        folds =
             (λ i. run_triggers context cascade c.args.inserted.now (filter passes (drop (n + 1) triggers)) (execution_of (w.shard-is i) (w.work-is i)))
             ∙ passes_by context cascade c.args.inserted.now passes triggers n trigger within is before (same ∙ w.if-has.false)
-            ∙ c.loop-n.invariant.told;
-        changed = subst (λ (s : HeldShard). Changed c.args.shard.now s) (sym w.shard-is) c.loop-n.invariant.changed;
+            ∙ c.loop-n.invariant.folds;
+        changed = subst (λ (s : ShardValue). Changed c.args.shard.now s) (sym w.shard-is) c.loop-n.invariant.changed;
         fits = fits;
       }
     ]

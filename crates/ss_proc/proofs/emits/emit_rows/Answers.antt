@@ -12,8 +12,8 @@ returns-in_err-run_stream_triggers-clause-stops c =
     let stopped = rw c.as_slice-2.ensures at c.in_err-run_stream_triggers.ensures.stops in
     rw (p.1, p.2) (emit_stops (context_of c.args.given.now) c.args.stream c.args.rows (execution_of c.args.shard.now c.args.work.now) fits c.in_err-run_stream_triggers.field-0.0 stopped)
 
-pub returns-clause-done : goal.returns-clause-done
-returns-clause-done c =
+pub returns-clause-ok : goal.returns-clause-ok
+returns-clause-ok c =
     let fits : exceeds_row_limit (get_or c.args.work.now.emitted c.args.stream []) c.args.rows ≡ false = search rules in
-    let done = rw c.as_slice-2.ensures at c.in_ok-run_stream_triggers.ensures.done in
+    let done = rw c.as_slice-2.ensures at c.in_ok-run_stream_triggers.ensures.ok in
     emit_done (context_of c.args.given.now) c.args.stream c.args.rows (execution_of c.args.shard.now c.args.work.now) fits (execution_of c.run_stream_triggers.new.shard c.run_stream_triggers.new.work) c.add_batch.new.emitted done c.in_ok-add_batch.ensures

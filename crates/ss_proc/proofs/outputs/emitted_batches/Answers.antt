@@ -20,7 +20,7 @@ loop-n-preserved c =
     let after = λ (made : List Emitted) (left : List Rows). made ++ batches_for (numbers_from emitting (n + 1) count) left in
     elim c.if-emits.branch [
       | then-emits+in_ok-add_output w ↦
-          (λ i. after ((w.batches-is ∙ w.in_ok-add_output.ensures.batches) i) ((w.left-is ∙ w.in_ok-add_output.ensures.left) i))
+          (λ i. after ((w.batches-is ∙ w.in_ok-add_output.ensures.ok) i) ((w.left-is ∙ w.in_ok-add_output.ensures.left) i))
           ∙ batch_taken emitting c.loop-n.left n count c.loop-n.batches within (sym test ∙ w.if-emits.true)
           ∙ c.loop-n.invariant
       | else-emits w ↦

@@ -1,18 +1,19 @@
 use Rattle.std.proofs.Common.{◌≡◌, ◌∙◌, ℕ, [], Ok, subst}
+use Rattle.ss_lemmas.proofs.Results.{if_ok}
 use Rattle.ss_value.specs.Rows.{Rows}
 use Rattle.ss_model.specs.Statements.{context_query}
-use Rattle.ss_operators.specs.Stops.{StopsAs}
+use Rattle.ss_model.specs.Stops.{StopsAs}
 use Rattle.ss_shard.specs.Contents.{contents_of}
-use Rattle.ss_plan.proofs.Answering.{ok_so, err_so}
+use Rattle.ss_plan.proofs.CallerLemmas.{err_so}
 use Rattle.ss_proc.specs.Executions.{context_of}
 use Rattle.ss_proc.proofs.statements.execution_query.Goals as goal
 
-pub returns-clause-rows : goal.returns-clause-rows
-returns-clause-rows c =
+pub returns-clause-ok : goal.returns-clause-ok
+returns-clause-ok c =
     let g = c.args.given.now in
     let none : c.as_slice.result.now ≡ [] = c.as_slice.ensures ∙ c.new-nothing.ensures in
     let query = λ (procedure : ℕ) (inserted : Rows). context_query (record (context_of g) { procedure = procedure }) inserted c.args.params.now c.args.query.now (contents_of c.args.shard.now) in
-    ok_so (λ rows. (procedure : ℕ) → query procedure c.as_slice.result.now ≡ Ok rows) (λ rows. query g.procedure [] ≡ Ok rows) (λ rows h. subst (λ (inserted : Rows). query g.procedure inserted ≡ Ok rows) none (h g.procedure)) c.query_shard.result c.query_shard.ensures.rows
+    if_ok (λ rows. (procedure : ℕ) → query procedure c.as_slice.result.now ≡ Ok rows) (λ rows. query g.procedure [] ≡ Ok rows) (λ rows h. subst (λ (inserted : Rows). query g.procedure inserted ≡ Ok rows) none (h g.procedure)) c.query_shard.result c.query_shard.ensures.ok
 
 pub returns-clause-stops : goal.returns-clause-stops
 returns-clause-stops c =

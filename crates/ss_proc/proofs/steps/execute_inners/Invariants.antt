@@ -8,7 +8,7 @@ use Rattle.ss_proc.proofs.steps.execute_inners.Given as goal
 
 abbrev pub invariant-loop-inner : goal.invariant-loop-inner
 invariant-loop-inner l = record {
-  told : try_fold (execute_inner (context_of l.given) l.current) (drop l.inner-index l.body) (execution_of l.shard l.work) ≡ try_fold (execute_inner (context_of l.given) l.current) l.body (execution_of l.fn.shard l.fn.work);
+  folds : try_fold (execute_inner (context_of l.given) l.current) (drop l.inner-index l.body) (execution_of l.shard l.work) ≡ try_fold (execute_inner (context_of l.given) l.current) l.body (execution_of l.fn.shard l.fn.work);
   changed : Changed l.fn.shard l.shard;
   fits : AllByRecursion (InnerRuns l.given.catalog.now) (drop l.inner-index l.body);
 }

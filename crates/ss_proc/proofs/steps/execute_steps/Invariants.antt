@@ -8,7 +8,7 @@ use Rattle.ss_proc.proofs.steps.execute_steps.Given as goal
 
 abbrev pub invariant-loop-step : goal.invariant-loop-step
 invariant-loop-step l = record {
-  told : try_fold (execute_step (context_of l.given)) (drop l.step-index l.steps) (execution_of l.shard l.work) ≡ try_fold (execute_step (context_of l.given)) l.steps (execution_of l.fn.shard l.fn.work);
+  folds : try_fold (execute_step (context_of l.given)) (drop l.step-index l.steps) (execution_of l.shard l.work) ≡ try_fold (execute_step (context_of l.given)) l.steps (execution_of l.fn.shard l.fn.work);
   changed : Changed l.fn.shard l.shard;
   fits : AllByRecursion (StepRuns l.given.catalog.now) (drop l.step-index l.steps);
 }

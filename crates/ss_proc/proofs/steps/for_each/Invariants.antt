@@ -7,6 +7,6 @@ use Rattle.ss_proc.proofs.steps.for_each.Given as goal
 
 abbrev pub invariant-loop-row : goal.invariant-loop-row
 invariant-loop-row l = record {
-  told : try_fold (λ row. try_fold (execute_inner (context_of l.given) row) l.body) (drop l.row-index l.rows) (execution_of l.shard l.work) ≡ try_fold (λ row. try_fold (execute_inner (context_of l.given) row) l.body) l.rows (execution_of l.fn.shard l.fn.work);
+  folds : try_fold (λ row. try_fold (execute_inner (context_of l.given) row) l.body) (drop l.row-index l.rows) (execution_of l.shard l.work) ≡ try_fold (λ row. try_fold (execute_inner (context_of l.given) row) l.body) l.rows (execution_of l.fn.shard l.fn.work);
   changed : Changed l.fn.shard l.shard;
 }

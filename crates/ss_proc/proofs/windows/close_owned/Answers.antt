@@ -5,10 +5,10 @@ use Rattle.ss_model.specs.declared.catalog.WindowDef.{WindowDef}
 use Rattle.ss_model.specs.Results.{OrAbort, try_fold}
 use Rattle.ss_model.specs.Statements.{Execution}
 use Rattle.ss_model.specs.Bodies.{is_closed_by, close_window}
-use Rattle.ss_operators.specs.Stops.{StopsAs}
-use Rattle.ss_shard.specs.HeldShard.{HeldShard}
+use Rattle.ss_model.specs.Stops.{StopsAs}
+use Rattle.ss_shard.specs.ShardValue.{ShardValue}
 use Rattle.ss_shard.specs.Shards.{Changed}
-use Rattle.ss_plan.proofs.Inserts.{changed_on}
+use Rattle.ss_plan.proofs.CallerLemmas.{changed_on}
 use Rattle.ss_proc.specs.Executions.{context_of, execution_of}
 use Rattle.ss_proc.proofs.Owned.{numbers_from, owned_stops, owned_goes_on, owned_passes}
 use Rattle.ss_proc.proofs.windows.close_owned.Goals as goal
@@ -28,7 +28,7 @@ returns-in_err-close_window-clause-stops c =
     let tested : mine n ≡ c.is_closed_by.result = ap (is_closed_by c.args.given.now.procedure) here ∙ sym c.is_closed_by.ensures in
     let before = execution_of c.loop-n.shard c.loop-n.work in
     rw (p.1, p.2)
-    (subst (λ (r : OrAbort Execution). StopsAs r c.in_err-close_window.field-0.0) c.loop-n.invariant.told
+    (subst (λ (r : OrAbort Execution). StopsAs r c.in_err-close_window.field-0.0) c.loop-n.invariant.folds
     (owned_stops close mine n (length windows) within before c.in_err-close_window.field-0.0 (tested ∙ c.if-is_closed_by.true) c.in_err-close_window.ensures.stops))
 
 pub loop-n-preserved : goal.loop-n-preserved
@@ -45,17 +45,17 @@ loop-n-preserved c =
     let before = execution_of c.loop-n.shard c.loop-n.work in
     elim c.if-is_closed_by.branch [
       | then-is_closed_by+in_ok-close_window w ↦ record {
-        told =
+        folds =
             (λ i. try_fold close (numbers_from mine (n + 1) (length windows)) (execution_of (w.shard-is i) (w.work-is i)))
-            ∙ owned_goes_on close mine n (length windows) within before (execution_of w.close_window.new.shard w.close_window.new.work) (tested ∙ w.if-is_closed_by.true) w.in_ok-close_window.ensures.done
-            ∙ c.loop-n.invariant.told;
-        changed = subst (λ (s : HeldShard). Changed c.args.shard.now s) (sym w.shard-is) (changed_on c.args.shard.now c.loop-n.shard w.close_window.new.shard c.loop-n.invariant.changed w.close_window.ensures.changed);
+            ∙ owned_goes_on close mine n (length windows) within before (execution_of w.close_window.new.shard w.close_window.new.work) (tested ∙ w.if-is_closed_by.true) w.in_ok-close_window.ensures.ok
+            ∙ c.loop-n.invariant.folds;
+        changed = subst (λ (s : ShardValue). Changed c.args.shard.now s) (sym w.shard-is) (changed_on c.args.shard.now c.loop-n.shard w.close_window.new.shard c.loop-n.invariant.changed w.close_window.ensures.changed);
       }
       | else-is_closed_by w ↦ record {
-        told =
+        folds =
             (λ i. try_fold close (numbers_from mine (n + 1) (length windows)) (execution_of (w.shard-is i) (w.work-is i)))
             ∙ owned_passes close mine n (length windows) within before (tested ∙ w.if-is_closed_by.false)
-            ∙ c.loop-n.invariant.told;
-        changed = subst (λ (s : HeldShard). Changed c.args.shard.now s) (sym w.shard-is) c.loop-n.invariant.changed;
+            ∙ c.loop-n.invariant.folds;
+        changed = subst (λ (s : ShardValue). Changed c.args.shard.now s) (sym w.shard-is) c.loop-n.invariant.changed;
       }
     ]

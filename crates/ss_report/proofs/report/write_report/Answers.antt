@@ -10,11 +10,11 @@ returns c =
           let whole = c.from_vec.ensures ∙ ap (λ v. v.items) w.out-is ∙ w.in_ok-append_settled-in-Tables.ensures in
           rw w.in-Tables.is
           (settled c.args.catalog.now c.args.requests.now c.args.answers.now c.args.first c.args.list.now c.from_vec.result w.in-Tables.database
-          (rw (c.in_ok-out.ensures, c.as_slice-2.ensures, c.as_slice-3.ensures, c.as_slice-4.ensures, c.unanswered-missing.ensures, w.in-Tables.is, w.tables.ensures, w.len.ensures) at whole))
+          (rw (c.in_ok-out.ensures, c.as_slice-2.ensures, c.as_slice-3.ensures, c.as_slice-4.ensures, c.missing_answer-missing.ensures, w.in-Tables.is, w.tables.ensures, w.len.ensures) at whole))
       | in-Stopped+in_ok-append_stop-in-Stopped w ↦
           let whole = c.from_vec.ensures ∙ ap (λ v. v.items) w.out-is ∙ w.in_ok-append_stop-in-Stopped.ensures in
           rw w.in-Stopped.is
           (stopped c.args.catalog.now c.args.requests.now c.args.answers.now c.args.first c.args.list.now c.from_vec.result w.in-Stopped.status w.in-Stopped.count w.in-Stopped.faults
-          (rw (c.in_ok-out.ensures, c.as_slice-2.ensures, c.as_slice-3.ensures, c.as_slice-4.ensures, c.unanswered-missing.ensures, w.in-Stopped.is) at whole))
+          (rw (c.in_ok-out.ensures, c.as_slice-2.ensures, c.as_slice-3.ensures, c.as_slice-4.ensures, c.missing_answer-missing.ensures, w.in-Stopped.is) at whole))
       | in-Voter-end w ↦ absurd (c.in_default.not-Voter w.in-Voter-end.votes w.in-Voter-end.is)
     ]

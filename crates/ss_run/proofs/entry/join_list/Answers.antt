@@ -1,5 +1,5 @@
 use Rattle.std.proofs.Common.{◌<◌, ◌^◌, ◌∙◌, length, arith}
-use Rattle.ss_flow.proofs.Following.{batches_have_streams}
+use Rattle.ss_flow.proofs.CallerLemmas.{batches_have_streams}
 use Rattle.ss_run.specs.Stands.{database_at}
 use Rattle.ss_run.proofs.Entries.{after_one, replays_one, last_is, advances_at, countable_at, kept_listed}
 use Rattle.ss_run.proofs.Progress.{kept_many}
@@ -12,18 +12,18 @@ make_room-requires c =
     rw (c.as_slice.ensures, kept_many catalog (database_at catalog c.args.store.now.list) c.args.store.now.database.streams.streams run.at.stands.streams, run.ran.emitted)
     (batches_have_streams catalog c.requires.accepted (database_at catalog c.args.store.now.list) c.args.entry run.ran.applied run.ran.value)
 
-pub keep-requires-clause-countable : goal.keep-requires-clause-countable
-keep-requires-clause-countable c =
+pub commit-requires-clause-countable : goal.commit-requires-clause-countable
+commit-requires-clause-countable c =
     let list = c.args.store.now.list in
     let run = c.requires.ran.1 in
     let is = last_is list c.push.new.self _ c.in-Some.listed.now c.len-place.result c.in-Ok-push.ensures.ok c.len-place.ensures c.in-Some.ensures.item in
     let short : length list < 2 ^ 60 = let h = c.if-place-ge-MOST_ENTRIES.false in let long = c.len-place.ensures in omega arith in
     rw is (countable_at c.args.catalog.now c.requires.accepted list c.args.entry run.ran.applied short run.ran.value)
 
-pub keep-requires-clause-placed : goal.keep-requires-clause-placed
-keep-requires-clause-placed c =
+pub commit-requires-clause-sourced : goal.commit-requires-clause-sourced
+commit-requires-clause-sourced c =
     let is = last_is c.args.store.now.list c.push.new.self _ c.in-Some.listed.now c.len-place.result c.in-Ok-push.ensures.ok c.len-place.ensures c.in-Some.ensures.item in
-    rw is c.requires.ran.1.placed
+    rw is c.requires.ran.1.sourced
 
 pub advance-requires-clause-advances : goal.advance-requires-clause-advances
 advance-requires-clause-advances c =
@@ -32,7 +32,7 @@ advance-requires-clause-advances c =
     let run = c.requires.ran.1 in
     let is = last_is list c.push.new.self _ c.in-Some.listed.now c.len-place.result c.in-Ok-push.ensures.ok c.len-place.ensures c.in-Some.ensures.item in
     let short : length list < 2 ^ 60 = let h = c.if-place-ge-MOST_ENTRIES.false in let long = c.len-place.ensures in omega arith in
-    (database_at catalog list, run.ran.applied, rw (is, c.make_room.ensures.same) (advances_at catalog c.requires.accepted list c.args.entry c.args.executed _ _ short run.ran run.at.stands.streams))
+    (database_at catalog list, run.ran.applied, rw (is, c.make_room.ensures.unchanged) (advances_at catalog c.requires.accepted list c.args.entry c.args.executed _ _ short run.ran run.at.stands.streams))
 
 pub returns-clause-at : goal.returns-clause-at
 returns-clause-at c =
@@ -44,10 +44,10 @@ returns-clause-at c =
     let short : length list < 2 ^ 60 = let h = c.if-place-ge-MOST_ENTRIES.false in let long = c.len-place.ensures in omega arith in
     rw c.in-Ok-push.ensures.ok (record {
       replays = replays_one catalog c.requires.accepted list c.args.entry c.args.executed.outcome run.ran.applied run.at.replays run.ran.value run.ran.outcome;
-      settled = c.keep.ensures.settled catalog run.of_catalog;
-      number = c.keep.ensures.number ∙ run.back.number ∙ run.at.number;
+      committed = c.commit.ensures.committed catalog run.of_catalog;
+      number = c.commit.ensures.unchanged ∙ run.back.number ∙ run.at.number;
       stands = record {
-        shard = rw next (kept_listed catalog (database_at catalog list) c.args.entry c.args.executed _ _ c.in-Some.listed.now is run.ran (c.keep.ensures.keeps catalog run.of_catalog));
-        streams = rw next (c.advance.ensures (database_at catalog list) run.ran.applied (rw (is, c.make_room.ensures.same) (advances_at catalog c.requires.accepted list c.args.entry c.args.executed _ _ short run.ran run.at.stands.streams)));
+        shard = rw next (kept_listed catalog (database_at catalog list) c.args.entry c.args.executed _ _ c.in-Some.listed.now is run.ran (c.commit.ensures.keeps catalog run.of_catalog));
+        streams = rw next (c.advance.ensures (database_at catalog list) run.ran.applied (rw (is, c.make_room.ensures.unchanged) (advances_at catalog c.requires.accepted list c.args.entry c.args.executed _ _ short run.ran run.at.stands.streams)));
       };
     })

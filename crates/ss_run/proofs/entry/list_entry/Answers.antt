@@ -8,7 +8,7 @@ join_list-requires-clause-ran c = (
     at = c.requires.at;
     back = c.in-Ok.ensures.back;
     of_catalog = c.execute_entry.ensures.of_catalog;
-    placed = c.in-Ok.ensures.placed;
-    ran = c.in-Ok.ensures.ran (database_at c.args.catalog.now c.args.store.now.list) c.requires.at.stands.shard c.requires.at.stands.streams c.requires.ready;
+    sourced = c.in-Ok.ensures.sourced;
+    ran = c.in-Ok.ensures.ok (database_at c.args.catalog.now c.args.store.now.list) c.requires.at.stands.shard c.requires.at.stands.streams c.requires.ready;
   },
 )

@@ -12,6 +12,6 @@ execute-requires-clause-next c =
     let (db, holds, are, ready) = c.requires.ready in
     (finds c.args.catalog.now db c.requires.accepted c.args.streams.now are c.args.entry.now ready).next c.args.whole.now holds
 
-pub returns-clause-ran : goal.returns-clause-ran
-returns-clause-ran c =
-    if_ok c.execute.result (λ x ran db holds are ready. ran db holds (rw c.in-Ok.ensures (finds c.args.catalog.now db c.requires.accepted c.args.streams.now are c.args.entry.now ready).at_hand)) c.execute.ensures.ran
+pub returns-clause-ok : goal.returns-clause-ok
+returns-clause-ok c =
+    if_ok c.execute.result (λ x ran db holds are ready. ran db holds (rw c.in-Ok.ensures (finds c.args.catalog.now db c.requires.accepted c.args.streams.now are c.args.entry.now ready).at_hand)) c.execute.ensures.ok

@@ -1,5 +1,5 @@
 use Rattle.std.proofs.Common.{arith}
-use Rattle.ss_sched.proofs.Counts.{few_procedures}
+use Rattle.ss_sched.proofs.CallerLemmas.{few_procedures}
 use Rattle.ss_run.proofs.Progress.{sees}
 use Rattle.ss_run.proofs.hints.hint_again.Goals as goal
 

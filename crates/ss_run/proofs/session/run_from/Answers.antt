@@ -5,10 +5,10 @@ use Rattle.std.proofs.lemmas.Option.{slice_get-get_or}
 use Rattle.ss_model.specs.declared.entry.Request.{Request}
 use Rattle.ss_model.specs.Database.{fits_entry}
 use Rattle.ss_model.specs.Report.{Whole, asked_entry}
-use Rattle.ss_report_laws.proofs.OneMore.{next_index, pushed_one}
+use Rattle.ss_report_laws.proofs.CallerLemmas.{next_index, pushed_one}
 use Rattle.ss_run.specs.BySteps.{IsAnswered}
-use Rattle.ss_run.proofs.Asked.{client_at, fits_at, in_order_next, take_at}
-use Rattle.ss_run.proofs.Told.{room_left, room_next, told_next, told_on}
+use Rattle.ss_run.proofs.RequestEntries.{client_at, fits_at, in_order_next, take_at}
+use Rattle.ss_run.proofs.Answering.{room_left, room_next, answered_next, answered_on}
 use Rattle.ss_run.proofs.session.run_from.Goals as goal
 
 pub count-index-requires : goal.count-index-requires
@@ -30,7 +30,7 @@ pump-answer-requires-clause-fits c = λ q at.
     let same : get_or rs i r ≡ r = sym (rw c.as_slice-request-items.ensures at c.request-item.is) in
     let here : slice_get rs i ≡ Some r = slice_get-get_or rs i r within ∙ ap Some same in
     let fits = fits_at c.args.catalog.now rs i r c.requires.fit here in
-    let index = c.count-index.ensures ∙ next_index (take i rs) 0 c.loop-number.store.list Whole c.loop-number.replies.answers r.client c.loop-number.invariant.told in
+    let index = c.count-index.ensures ∙ next_index (take i rs) 0 c.loop-number.store.list Whole c.loop-number.replies.answers r.client c.loop-number.invariant.answered in
     let both : Some r ≡ Some q = sym here ∙ at in
     let one : r ≡ q = cc in
     subst (λ (x : Request). fits_entry c.args.catalog.now (asked_entry x.client c.count-index.result x.what) ≡ true) one (rw index fits)
@@ -53,7 +53,7 @@ add-requires-clause-room c =
     let within : i < length rs = rw (← c.as_slice-request-items.ensures) c.loop-number-test.true in
     let same : get_or rs i r ≡ r = sym (rw c.as_slice-request-items.ensures at c.request-item.is) in
     let here : slice_get rs i ≡ Some r = slice_get-get_or rs i r within ∙ ap Some same in
-    room_next rs i r c.loop-number.replies here (client_at c.args.catalog.now rs i r c.requires.fit here) (c.loop-number.invariant.told.many r.client) c.loop-number.invariant.room
+    room_next rs i r c.loop-number.replies here (client_at c.args.catalog.now rs i r c.requires.fit here) (c.loop-number.invariant.answered.many r.client) c.loop-number.invariant.room
 
 pub loop-number-preserved : goal.loop-number-preserved
 loop-number-preserved c =
@@ -67,27 +67,27 @@ loop-number-preserved c =
     let same : get_or rs i r ≡ r = sym (rw c.as_slice-request-items.ensures at c.request-item.is) in
     let here : slice_get rs i ≡ Some r = slice_get-get_or rs i r within ∙ ap Some same in
     let there : r.client < length before.answers = rw c.loop-number.invariant.eight (client_at c.args.catalog.now rs i r c.requires.fit here) in
-    let index = next_index (take i rs) 0 old Whole before.answers r.client c.loop-number.invariant.told in
+    let index = next_index (take i rs) 0 old Whole before.answers r.client c.loop-number.invariant.answered in
     let answered = c.pump-answer.ensures.answered r here in
-    let told = subst (λ (n : ℕ). IsAnswered old new (asked_entry r.client n r.what) c.pump-answer.result) c.count-index.ensures answered in
-    let numbered = subst (λ (n : ℕ). IsAnswered old new (asked_entry r.client n r.what) c.pump-answer.result) index told in
+    let indexed = subst (λ (n : ℕ). IsAnswered old new (asked_entry r.client n r.what) c.pump-answer.result) c.count-index.ensures answered in
+    let numbered = subst (λ (n : ℕ). IsAnswered old new (asked_entry r.client n r.what) c.pump-answer.result) index indexed in
     let one = pushed_one r.client c.pump-answer.result before.answers c.add.new.self.answers there c.add.ensures.answers in
     let more = take_at rs i r here in
     record {
       at = c.pump-answer.ensures.at;
       in_order = rw (add-one i, more) (in_order_next (take i rs) old new r c.pump-answer.result c.loop-number.invariant.in_order numbered);
-      told = rw (add-one i, more) (told_next (take i rs) old new before.answers c.add.new.self.answers r c.pump-answer.result c.loop-number.invariant.told told one);
+      answered = rw (add-one i, more) (answered_next (take i rs) old new before.answers c.add.new.self.answers r c.pump-answer.result c.loop-number.invariant.answered indexed one);
       eight = rw c.add.ensures.answers (simp length-set c.loop-number.invariant.eight);
       room = room_left rs before c.add.new.self r.client c.pump-answer.result one c.add.ensures.room c.add.ensures.elsewhere c.loop-number.invariant.room;
       hints = c.pump-answer.ensures.hints;
       jobs = c.pump-answer.ensures.jobs;
-      inbox_room = c.pump-answer.ensures.room ∙ c.loop-number.invariant.inbox_room;
+      inbox_room = c.pump-answer.ensures.unchanged ∙ c.loop-number.invariant.inbox_room;
     }
 
-pub returns-clause-told : goal.returns-clause-told
-returns-clause-told c =
+pub returns-clause-answered : goal.returns-clause-answered
+returns-clause-answered c =
     let rs = c.args.requests.now in
     let i = c.loop-number.number in
     let whole : take i rs ≡ rs = take_all i rs (let past = c.loop-number-test.false in let many = ap length c.as_slice-request-items.ensures in omega arith) in
     rw c.into_lists.ensures
-    (told_on rs c.loop-number.store.list c.settle.new.store.list c.loop-number.replies.answers c.settle.ensures.by_steps (rw whole at c.loop-number.invariant.told))
+    (answered_on rs c.loop-number.store.list c.settle.new.store.list c.loop-number.replies.answers c.settle.ensures.by_steps (rw whole at c.loop-number.invariant.answered))

@@ -1,16 +1,16 @@
 use Rattle.std.proofs.Common.{◌≡◌, [], length, take}
 use Rattle.ss_model.specs.Report.{Whole, asked_entries}
-use Rattle.ss_report_laws.specs.Replies.{AreTold}
+use Rattle.ss_report_laws.specs.Replies.{AreAnswered}
 use Rattle.ss_run.specs.RunAnswers.{IsPartOf, client_entries}
 use Rattle.ss_run.specs.Stands.{IsAt}
-use Rattle.ss_run.proofs.Told.{HaveRoom}
+use Rattle.ss_run.proofs.Answering.{HaveRoom}
 use Rattle.ss_run.proofs.session.run_from.Given as goal
 
 abbrev pub invariant-loop-number : goal.invariant-loop-number
 invariant-loop-number l = record {
   at : IsAt l.catalog l.store.database l.store.list;
   in_order : IsPartOf (client_entries l.store.list) (asked_entries (take l.number l.requests));
-  told : AreTold (take l.number l.requests) 0 l.store.list Whole l.replies.answers;
+  answered : AreAnswered (take l.number l.requests) 0 l.store.list Whole l.replies.answers;
   eight : length l.replies.answers ≡ 8;
   room : HaveRoom l.requests l.replies;
   hints : l.inbox.hints ≡ [];

@@ -1,7 +1,6 @@
 use Rattle.ss_model.specs.Database.{empty_database}
-use Rattle.ss_model_laws.proofs.Orders.{matching_stays, replays_orders}
-use Rattle.ss_model_laws.proofs.WholeDatabase.{empty_whole, whole_after}
-use Rattle.ss_sched.proofs.Counts.{few_procedures}
+use Rattle.ss_model_laws.proofs.CallerLemmas.{matching_stays, replays_orders, empty_whole, whole_after}
+use Rattle.ss_sched.proofs.CallerLemmas.{few_procedures}
 use Rattle.ss_run.specs.Stands.{database_at}
 use Rattle.ss_run.proofs.Entries.{if_ok}
 use Rattle.ss_run.proofs.Opening.{sound_windows}
@@ -17,7 +16,7 @@ pub returns-clause-orders : goal.returns-clause-orders
 returns-clause-orders c =
     let catalog = c.args.catalog.now in
     let wired = c.requires.accepted.wired in
-    if_ok c.run_from.result (λ s at. replays_orders catalog wired (empty_database catalog) s.list (matching_stays catalog wired).starts at.replays) c.run_from.ensures.at
+    if_ok c.run_from.result (λ s at. replays_orders catalog wired (empty_database catalog) s.list (matching_stays catalog wired).starts at.replays) c.run_from.ensures.ok
 
 pub returns-clause-whole : goal.returns-clause-whole
 returns-clause-whole c =
@@ -25,8 +24,8 @@ returns-clause-whole c =
     if_ok c.run_from.result
     (
     λ s at. record {
-      settled = at.settled;
+      committed = at.committed;
       number = at.number;
       stands = (database_at catalog s.list, at.stands, whole_after catalog c.requires.accepted (empty_database catalog) s.list (empty_whole catalog c.requires.accepted));
     }
-    ) c.run_from.ensures.at
+    ) c.run_from.ensures.ok

@@ -1,5 +1,5 @@
 use Rattle.std.proofs.Common.{◌∙◌, sym}
-use Rattle.ss_model_laws.proofs.Settled.{at_rest, next_is_ready}
+use Rattle.ss_model_laws.proofs.CallerLemmas.{at_rest, next_is_ready}
 use Rattle.ss_run.specs.Stands.{database_at}
 use Rattle.ss_run.proofs.BySteps.{none_yet, step_more}
 use Rattle.ss_run.proofs.Entries.{in_step}
@@ -40,8 +40,8 @@ loop-procedure-preserved c =
       far = one_settled catalog list old c.loop-procedure.invariant.far c.in-Some.procedure new (sym (c.next_ranked.ensures.next db seen.far) ∙ c.in-Some.is) joined;
     }
 
-pub returns-clause-settles : goal.returns-clause-settles
-returns-clause-settles c =
+pub returns-clause-ok : goal.returns-clause-ok
+returns-clause-ok c =
     let catalog = c.args.catalog.now in
     let seen = sees catalog c.requires.accepted c.loop-procedure.store.database c.loop-procedure.store.list c.cursors.result.now c.loop-procedure.invariant.at c.cursors.ensures in
     all_settled catalog c.args.store.now.list c.loop-procedure.store.list c.loop-procedure.invariant.far (sym (c.next_ranked.ensures.next (database_at catalog c.loop-procedure.store.list) seen.far) ∙ c.in_default.is)

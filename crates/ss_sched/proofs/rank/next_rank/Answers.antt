@@ -5,5 +5,5 @@ use Rattle.ss_sched.proofs.rank.next_rank.Goals as goal
 pub overflow_add-result : goal.overflow_add-result
 overflow_add-result c =
     let most = greatest_within c.args.ranks.now c.args.emitters.now c.as_slice.result.now 64 c.requires.small in
-    let lt : c.greatest.result ≤ 64 = rw c.greatest.ensures most in
+    let lt : c.greatest_rank.result ≤ 64 = rw c.greatest_rank.ensures most in
     search rules

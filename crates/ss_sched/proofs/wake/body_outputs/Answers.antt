@@ -2,7 +2,7 @@ use Rattle.std.proofs.Common.{◌≡◌, ◌<◌, ◌∙◌, ◌==◌, ◌||◌,
 use Rattle.std.specs.Int.{IsBitSet}
 use Rattle.std.specs.List.{list_any}
 use Rattle.std.proofs.lemmas.Bool.Decides.{Decides-eqb}
-use Rattle.ss_model.proofs.Truths.{or_first}
+use Rattle.std.proofs.lemmas.Bool.{or_left}
 use Rattle.ss_model.specs.Database.{emits_to}
 use Rattle.ss_sched.proofs.Outputs.{output_joins, outputs_from, emits_here, emits_nothing}
 use Rattle.ss_sched.proofs.wake.body_outputs.Goals as goal
@@ -13,14 +13,14 @@ insert-requires c =
     let t = c.in-Emit.stream in
     let body = c.args.body.now in
     let from = outputs_from t body c.loop-step.step-index c.step-item.result c.loop-step-test.true c.step-item.is in
-    c.requires t ((c.loop-step.invariant t).0 (inr (from ∙ or_first _ _ (emits_here t t c.in-Emit.query c.step-item.result c.in-Emit.is ∙ (Decides-eqb t t).1 refl))))
+    c.requires t ((c.loop-step.invariant t).0 (inr (from ∙ or_left _ _ (emits_here t t c.in-Emit.query c.step-item.result c.in-Emit.is ∙ (Decides-eqb t t).1 refl))))
 
 pub overflow_cast-stream : goal.overflow_cast-stream
 overflow_cast-stream c =
     let t = c.in-Emit.stream in
     let body = c.args.body.now in
     let from = outputs_from t body c.loop-step.step-index c.step-item.result c.loop-step-test.true c.step-item.is in
-    let few : t < 64 = c.requires t ((c.loop-step.invariant t).0 (inr (from ∙ or_first _ _ (emits_here t t c.in-Emit.query c.step-item.result c.in-Emit.is ∙ (Decides-eqb t t).1 refl)))) in
+    let few : t < 64 = c.requires t ((c.loop-step.invariant t).0 (inr (from ∙ or_left _ _ (emits_here t t c.in-Emit.query c.step-item.result c.in-Emit.is ∙ (Decides-eqb t t).1 refl)))) in
     let small : t < 256 = omega arith in
     search rules
 

@@ -1,6 +1,6 @@
 use Rattle.std.proofs.Common.{ap, ◌∙◌, slice_set}
-use Rattle.ss_undo.proofs.Back.{set_same}
-use Rattle.ss_shard.proofs.Cases.{error_so}
+use Rattle.ss_undo.proofs.CallerLemmas.{set_same}
+use Rattle.ss_lemmas.proofs.Results.{error_so}
 use Rattle.ss_shard.proofs.pairs.add_pairs.Goals as goal
 
 pub returns-in-Some-clause-err : goal.returns-in-Some-clause-err

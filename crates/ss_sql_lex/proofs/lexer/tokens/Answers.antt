@@ -17,5 +17,5 @@ loop-first-preserved c =
     let pushed : c.push.new.self ≡ c.loop-first.tokens ++ c.in_ok-token.token ∷ [] = search rules in
     rw pushed
     (read_so c.args.text.now _ _ c.split_at.result.1.now
-    (reached_next c.args.text.now c.loop-first.tokens c.loop-first.at c.loop-first.rest.now c.in_ok-token.token c.split_at.result.1.now c.loop-first.invariant.reached c.in_ok-token.ensures.token
+    (reached_next c.args.text.now c.loop-first.tokens c.loop-first.at c.loop-first.rest.now c.in_ok-token.token c.split_at.result.1.now c.loop-first.invariant.reached c.in_ok-token.ensures.ok
     c.split_at.ensures.back))

@@ -1,5 +1,5 @@
 use Rattle.std.proofs.Common.{◌≡◌, ◌*◌, ◌+◌, ◌-◌, ◌≤◌, length}
-use Rattle.ss_sql_parse.specs.Levels.{operator_rule, side_rule, turns, chained, tail}
+use Rattle.ss_sql_parse.specs.Levels.{operator_rule, side_rule, turns, chain_tree, tail}
 use Rattle.ss_sql_parse.proofs.expr.+expression.Given as goal
 
 abbrev pub decreases-primary_of : goal.decreases-primary_of
@@ -34,6 +34,6 @@ decreases-tail_of l = 8 * length l.tokens.now
 
 abbrev pub invariant-tail_of-loop : goal.invariant-tail_of-loop
 invariant-tail_of-loop l = record {
-  read : chained l.left (turns (operator_rule l.level) (side_rule l.level) (l.end - l.counter) l.rest) ≡ tail l.level l.fn.left l.tokens;
+  read : chain_tree l.left (turns (operator_rule l.level) (side_rule l.level) (l.end - l.counter) l.rest) ≡ tail l.level l.fn.left l.tokens;
   within : length l.rest ≤ length l.tokens;
 }

@@ -1,6 +1,6 @@
 use Rattle.std.proofs.Common.{◌-◌, sym, subst}
 use Rattle.std.specs.Str.{IsUtf8}
-use Rattle.ss_sql_lex.proofs.Quotes.{spelling_utf8}
+use Rattle.ss_sql_lex.proofs.CallerLemmas.{spelling_utf8}
 use Rattle.ss_sql_parse.proofs.words.lexeme_of.Goals as goal
 
 pub new-requires-in-Text-clause-utf8 : goal.new-requires-in-Text-clause-utf8

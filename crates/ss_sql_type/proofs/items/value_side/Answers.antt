@@ -9,4 +9,4 @@ use Rattle.ss_sql_type.proofs.items.value_side.Goals as goal
 pub returns-clause-faults : goal.returns-clause-faults
 returns-clause-faults c =
     let t = typed_expr c.args.names.now None c.args.side.now in
-    check_noted c.args.found.now c.expr_at.new.found c.check.new.found (expr_faults c.args.names.now None Value c.args.side.now) c.fits.result (fits c.args.needs (value_kind t.kind)) (WrongType c.args.at) (WrongType c.args.at) c.in_ok-typed.ensures.faults (c.fits.ensures ∙ ap (fits c.args.needs) (c.value_kind.ensures ∙ ap value_kind c.in_ok-typed.ensures.expr.1)) refl c.check.ensures
+    check_noted c.args.found.now c.expr_at.new.found c.check.new.found (expr_faults c.args.names.now None Value c.args.side.now) c.fits.result (fits c.args.needs (value_kind t.kind)) (WrongType c.args.at) (WrongType c.args.at) c.in_ok-typed.ensures.faults (c.fits.ensures ∙ ap (fits c.args.needs) (c.value_kind.ensures ∙ ap value_kind c.in_ok-typed.ensures.ok.1)) refl c.check.ensures

@@ -5,8 +5,8 @@ use Rattle.ss_sql_type.specs.Items.{typed_item, typed_groups}
 use Rattle.ss_sql_type.specs.Queries.{is_aggregated, grouped_columns}
 use Rattle.ss_sql_type.proofs.query.grouped_items.Goals as goal
 
-pub returns-in_ok-grouped-clause-items : goal.returns-in_ok-grouped-clause-items
-returns-in_ok-grouped-clause-items c =
+pub returns-in_ok-grouped-clause-ok : goal.returns-in_ok-grouped-clause-ok
+returns-in_ok-grouped-clause-ok c =
     let reach = c.args.names.now in
     let q = c.args.tree.now in
     let aggregated : is_aggregated q ≡ true = sym c.is_aggregated.ensures ∙ c.if-is_aggregated.true in
@@ -15,4 +15,4 @@ returns-in_ok-grouped-clause-items c =
     subst
     (λ (g : Option (List ColAt)). IfOk c.items_of.result (λ items. items ≡ map (typed_item reach g) q.items))
     columns
-    (subst (λ (l : List ItemTree). IfOk c.items_of.result (λ items. items ≡ map (typed_item reach (Some c.in_ok-grouped.grouped)) l)) c.as_slice-items.ensures c.items_of.ensures.items)
+    (subst (λ (l : List ItemTree). IfOk c.items_of.result (λ items. items ≡ map (typed_item reach (Some c.in_ok-grouped.grouped)) l)) c.as_slice-items.ensures c.items_of.ensures.ok)

@@ -1,7 +1,7 @@
 use Rattle.std.proofs.Common.{◌∙◌, ◌<◌, [], ap, arith, get_or, length, length-set, subst, sym, List, ℕ}
 use Rattle.ss_value.specs.Rows.{Rows}
 use Rattle.ss_stream.specs.declared.cursor.Cursor.{Cursor}
-use Rattle.ss_stream.specs.Pending.{CanResume, resumed}
+use Rattle.ss_stream.specs.Pending.{CanResume, resume}
 use Rattle.ss_stream.proofs.Resumed.{made_more, rest_stays, taken_out}
 use Rattle.ss_stream.proofs.streams.resumed_streams.Goals as goal
 
@@ -18,8 +18,8 @@ loop-stream-preserved c =
     let i = c.loop-stream.stream in
     let batches = taken_out c.loop-stream.kept c.args.kept i [] c.put-batches.result c.put-batches.ensures.old (c.loop-stream.invariant.kept i (omega arith)) in
     let cursors = taken_out c.loop-stream.lists c.args.lists i [] c.put-cursors.result c.put-cursors.ensures.old (c.loop-stream.invariant.lists i (omega arith)) in
-    let made = λ (s : ℕ). resumed (get_or c.args.kept s []) (get_or c.args.lists s []) in
-    let one = c.resume.ensures ∙ ap (λ (bs : List Rows). resumed bs c.put-cursors.result) batches ∙ ap (resumed (get_or c.args.kept i [])) cursors in
+    let made = λ (s : ℕ). resume (get_or c.args.kept s []) (get_or c.args.lists s []) in
+    let one = c.resume.ensures ∙ ap (λ (bs : List Rows). resume bs c.put-cursors.result) batches ∙ ap (resume (get_or c.args.kept i [])) cursors in
     record {
       made = made_more c.loop-stream.streams.items c.add.new.self.items c.resume.result made i c.add.ensures.items one c.loop-stream.invariant.made;
       room = omega arith;

@@ -19,7 +19,7 @@ loop-line-preserved c =
     let pushed : c.push.new.self ≡ c.loop-line.requests ++ c.in_ok-request.request ∷ [] = search rules in
     let asks = c.in_ok-request.ensures in
     rw pushed (record {
-      asked = asked_more c.args.catalog.now c.args.lines.now c.loop-line.line-index c.loop-line.requests c.line-item.result c.in_ok-request.request c.loop-line-test.true c.line-item.is c.loop-line.invariant.asked asks.asks;
+      asked = asked_more c.args.catalog.now c.args.lines.now c.loop-line.line-index c.loop-line.requests c.line-item.result c.in_ok-request.request c.loop-line-test.true c.line-item.is c.loop-line.invariant.asked asks.ok;
       fits = EachFits-push c.args.catalog.now c.loop-line.requests c.in_ok-request.request c.loop-line.invariant.fits asks.fits;
     })
 

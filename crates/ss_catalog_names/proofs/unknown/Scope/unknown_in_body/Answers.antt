@@ -2,7 +2,7 @@ use Rattle.std.proofs.Common.{◌∙◌, sym, ap}
 use Rattle.std.specs.Option.{option_copied}
 use Rattle.ss_catalog_outline.specs.Unknown.{step_uses, first_unknown}
 use Rattle.ss_catalog_names.proofs.Firsts.{found_here, not_found_here}
-use Rattle.ss_catalog_outline.proofs.FirstUnknown.{first_unknown_append}
+use Rattle.ss_catalog_outline.proofs.CallerLemmas.{first_unknown_append}
 use Rattle.ss_catalog_names.proofs.unknown.Scope.unknown_in_body.Goals as goal
 
 pub returns-in-Some : goal.returns-in-Some

@@ -5,7 +5,7 @@ use Rattle.ss_model.specs.declared.catalog.Inner.TheVariants.{Sql, AbortIf}
 use Rattle.ss_sql_type.specs.declared.scope.Scope.{Scope}
 use Rattle.ss_catalog_resolve.specs.Texts.{StatementSays, ConditionSays}
 use Rattle.ss_catalog_resolve.specs.Steps.{OfText, columns_of_stream, step_scope}
-use Rattle.ss_catalog_resolve.proofs.Told.{seen}
+use Rattle.ss_catalog_resolve.proofs.TextAnswers.{seen}
 use Rattle.ss_catalog_resolve.proofs.steps.InnerStepsItemReader.read.Goals as goal
 
 pub returns-in-Sql-clause-read : goal.returns-in-Sql-clause-read

@@ -2,8 +2,8 @@ use Rattle.std.proofs.Common.{◌≡◌, sym, ap, ◌∙◌, ◌++◌, true, fal
 use Rattle.std.specs.Prelude.{is_ok}
 use Rattle.std.specs.List.{insert}
 use Rattle.ss_chunks.specs.Chunks.{items_in}
-use Rattle.ss_chunks.proofs.Cases.{on_err_so}
-use Rattle.ss_chunks.proofs.Chunked.{mid, items_set, items_mid, chunk_at}
+use Rattle.ss_lemmas.proofs.Results.{on_err_so}
+use Rattle.ss_chunks.proofs.ChunkedLemmas.{mid, items_set, items_mid, chunk_at}
 use Rattle.ss_chunks.proofs.list.chunks.put_in.Goals as goal
 
 pub returns-in_err-insert-clause-err : goal.returns-in_err-insert-clause-err
@@ -24,4 +24,4 @@ returns-clause-ok g c = λ front back chunk is here.
     let items = rw yes at c.insert.ensures.items in
     let was : c.index_mut.result.now ≡ chunk = c.index_mut.ensures.value ∙ chunk_at c.args.chunks.now.items front chunk back c.args.at c.index_mut.result.now is here in
     items_set c.args.chunks.now.items front chunk back c.args.at c.insert.new.self is here
-    ∙ ap (λ t. items_in front ++ (t ++ items_in back)) (items ∙ ap (λ x. insert x.items c.args.place c.args.item) was)
+    ∙ ap (λ t. items_in front ++ (t ++ items_in back)) (items ∙ ap (λ x. insert x.items c.args.position c.args.item) was)

@@ -2,7 +2,7 @@ use Rattle.std.proofs.Common.{◌≡◌, ◌+◌, ◌/◌, ◌<◌, ◌≤◌, s
 use Rattle.std.specs.Prelude.{is_ok}
 use Rattle.std.specs.List.{insert}
 use Rattle.ss_chunks.specs.Chunks.{items_in, IsFilled}
-use Rattle.ss_chunks.proofs.Chunked.{mid, chunk_at, at_if, halved, split_items, split_filled}
+use Rattle.ss_chunks.proofs.ChunkedLemmas.{mid, chunk_at, at_if, halved, split_items, split_filled}
 use Rattle.ss_chunks.proofs.list.chunks.split.Goals as goal
 
 pub returns-clause-items : goal.returns-clause-items

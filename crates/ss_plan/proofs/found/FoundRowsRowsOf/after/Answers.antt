@@ -1,7 +1,7 @@
 use Rattle.std.proofs.Common.{◌<◌, length, arith}
 use Rattle.ss_rows.specs.Sources.{rows_in}
 use Rattle.ss_plan.specs.Found.{rows_found}
-use Rattle.ss_plan.proofs.AtPlaces.{within_there, count_is, next_there, no_next}
+use Rattle.ss_plan.proofs.AtPositions.{within_there, count_is, next_there, no_next}
 use Rattle.ss_plan.proofs.found.FoundRowsRowsOf.after.Goals as goal
 
 pub overflow_add-at : goal.overflow_add-at

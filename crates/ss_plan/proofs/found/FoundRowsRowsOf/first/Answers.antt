@@ -1,4 +1,4 @@
-use Rattle.ss_plan.proofs.AtPlaces.{first_lent}
+use Rattle.ss_plan.proofs.AtPositions.{first_lent}
 use Rattle.ss_plan.proofs.found.FoundRowsRowsOf.first.Goals as goal
 
 pub returns-in-Some : goal.returns-in-Some

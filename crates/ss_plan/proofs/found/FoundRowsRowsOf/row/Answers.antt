@@ -1,7 +1,7 @@
 use Rattle.std.proofs.Common.{sym, ◌∙◌, true≢false}
 use Rattle.ss_rows.specs.Sources.{rows_in}
 use Rattle.ss_plan.specs.Found.{rows_found}
-use Rattle.ss_plan.proofs.AtPlaces.{row_there, row_lent, no_lent, place_lent}
+use Rattle.ss_plan.proofs.AtPositions.{row_there, row_lent, no_lent, position_lent}
 use Rattle.ss_plan.proofs.found.FoundRowsRowsOf.row.Goals as goal
 
 pub returns-in-Some-clause-some : goal.returns-in-Some-clause-some
@@ -10,7 +10,7 @@ returns-in-Some-clause-some c = λ row behind s.
 
 pub returns-in-Some-clause-none : goal.returns-in-Some-clause-none
 returns-in-Some-clause-none c = λ none.
-    absurd (true≢false (sym (place_lent c.args.self.now.rows c.args.at c.in-Some.field-0.now c.in-Some.ensures.item) ∙ none))
+    absurd (true≢false (sym (position_lent c.args.self.now.rows c.args.at c.in-Some.field-0.now c.in-Some.ensures.item) ∙ none))
 
 pub returns-in-None-clause-some : goal.returns-in-None-clause-some
 returns-in-None-clause-some c = λ row behind s.

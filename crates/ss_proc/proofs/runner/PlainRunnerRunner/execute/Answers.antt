@@ -5,7 +5,7 @@ use Rattle.ss_model.specs.declared.entry.Entry.{Entry}
 use Rattle.ss_model.specs.declared.entry.Entry.TheVariants.{Step as StepEntry}
 use Rattle.ss_model.specs.Database.{Database, fits_entry, has_call, has_step, run_procedure}
 use Rattle.ss_model.specs.Batches.{output_batches}
-use Rattle.ss_shard.specs.HeldShard.{HeldShard}
+use Rattle.ss_shard.specs.ShardValue.{ShardValue}
 use Rattle.ss_shard.specs.Contents.{contents_of}
 use Rattle.ss_shard.specs.Windows.{HoldsDatabase}
 use Rattle.ss_proc.specs.declared.runner.Executed.{Executed}
@@ -13,15 +13,15 @@ use Rattle.ss_proc.specs.Entries.{IsNext, AreAtHand, AreBatchesOf, Ran}
 use Rattle.ss_model.specs.declared.entry.Entry.TheVariants.{Push}
 use Rattle.ss_model.specs.declared.entry.Outcome.{Outcome}
 use Rattle.ss_shard.specs.Sources.{number_in, push_outcome}
-use Rattle.ss_shard.specs.Shards.{CanGoBack, Same}
-use Rattle.ss_shard.proofs.Cases.{error_so}
+use Rattle.ss_shard.specs.Shards.{CanRollBack, Same}
+use Rattle.ss_lemmas.proofs.Results.{error_so}
 use Rattle.ss_model.specs.Batches.{pushed_batch}
 use Rattle.ss_proc.proofs.Standing.{call_ran, step_ran, named}
 use Rattle.ss_proc.proofs.Pushing.{is_countable, push_ran, holds_same}
 use Rattle.ss_proc.proofs.runner.PlainRunnerRunner.execute.Goals as goal
 
-pub returns-in_ok-left-in-Call-clause-ran : goal.returns-in_ok-left-in-Call-clause-ran
-returns-in_ok-left-in-Call-clause-ran c = λ db holds hand.
+pub returns-in_ok-left-in-Call-clause-ok : goal.returns-in_ok-left-in-Call-clause-ok
+returns-in_ok-left-in-Call-clause-ok c = λ db holds hand.
     let catalog = c.args.catalog.now in
     let n = c.in-Call.procedure in
     let args = c.in-Call.args in
@@ -30,10 +30,10 @@ returns-in_ok-left-in-Call-clause-ran c = λ db holds hand.
     let fits = subst (λ (e : Entry). fits_entry catalog e ≡ true) c.in-Call.is c.requires.fits in
     let none = subst (λ (e : Entry). AreAtHand catalog db e c.args.inputs.now.batches.now) c.in-Call.is hand in
     let p = named (has_call client args) catalog.procedures n fits refl in
-    let ran = c.in_ok-left-in-Call.ensures.ran p.0 p.1 in
+    let ran = c.in_ok-left-in-Call.ensures.ok p.0 p.1 in
     let made : Executed = record { outcome = c.in_ok-left-in-Call.left.outcome; emitted = c.new.result } in
     subst (λ (e : Entry). Ran catalog db e made c.run_procedure.new.shard) (sym c.in-Call.is)
-    (call_ran catalog c.args.shard.now c.run_procedure.new.shard c.requires.settled.of_catalog c.run_procedure.ensures.of_catalog db holds client index n args p.0 p.1 fits c.in_ok-left-in-Call.left.outcome c.in_ok-left-in-Call.left.emitted
+    (call_ran catalog c.args.shard.now c.run_procedure.new.shard c.requires.committed.of_catalog c.run_procedure.ensures.of_catalog db holds client index n args p.0 p.1 fits c.in_ok-left-in-Call.left.outcome c.in_ok-left-in-Call.left.emitted
     (subst (λ (batches : List Rows). run_procedure catalog n p.0 args batches (contents_of c.args.shard.now) ≡ record { contents = contents_of c.run_procedure.new.shard; outcome = c.in_ok-left-in-Call.left.outcome; emitted = c.in_ok-left-in-Call.left.emitted }) none ran)
     c.in_ok-left-in-Call.ensures.back made refl c.new.ensures)
 
@@ -41,8 +41,8 @@ three_ok : {A E : Type 0} (P Q R S : A → Type 0) → ((x : A) → P x → Q x 
 three_ok P Q R S f (Ok x) p q r = f x p q r
 three_ok P Q R S f (Err e) p q r = tt
 
-pub returns-in_ok-left-in-Step-clause-ran : goal.returns-in_ok-left-in-Step-clause-ran
-returns-in_ok-left-in-Step-clause-ran c =
+pub returns-in_ok-left-in-Step-clause-ok : goal.returns-in_ok-left-in-Step-clause-ok
+returns-in_ok-left-in-Step-clause-ok c =
     let catalog = c.args.catalog.now in
     let n = c.in-Step.procedure in
     let r = c.in-Step.batch in
@@ -53,20 +53,20 @@ returns-in_ok-left-in-Step-clause-ran c =
     let fits = subst (λ (e : Entry). fits_entry catalog e ≡ true) c.in-Step.is c.requires.fits in
     let next = subst (λ (e : Entry). IsNext e old) c.in-Step.is c.requires.next in
     let p = named has_step catalog.procedures n fits refl in
-    let ran = subst (λ (args : Row). run_procedure catalog n p.0 args batches (contents_of old) ≡ record { contents = contents_of new; outcome = left.outcome; emitted = left.emitted }) c.new-nothing.ensures (c.in_ok-left-in-Step.ensures.ran p.0 p.1) in
+    let ran = subst (λ (args : Row). run_procedure catalog n p.0 args batches (contents_of old) ≡ record { contents = contents_of new; outcome = left.outcome; emitted = left.emitted }) c.new-nothing.ensures (c.in_ok-left-in-Step.ensures.ok p.0 p.1) in
     three_ok
     (λ (e : Executed). e.outcome ≡ left.outcome)
     (λ (e : Executed). e.emitted ≡ output_batches catalog left.emitted (slice_get catalog.procedures n))
     (λ (e : Executed). c.with_outputs.new.shard ≡ new)
     (λ (e : Executed). (db : Database) → HoldsDatabase catalog old db → AreAtHand catalog db c.args.entry.now batches → Ran catalog db c.args.entry.now e c.with_outputs.new.shard)
-    (λ e told gave stays db holds hand.
+    (λ e folds gave stays db holds hand.
     let mine = subst (λ (e : Entry). AreAtHand catalog db e batches) c.in-Step.is hand in
     let at = subst (λ (o : Option Procedure). AreBatchesOf db r batches o) p.1 mine in
     let batch = gave ∙ ap (output_batches catalog left.emitted) p.1 in
     subst (λ (entry : Entry). Ran catalog db entry e c.with_outputs.new.shard) (sym c.in-Step.is)
-    (subst (λ (shard : HeldShard). Ran catalog db (StepEntry n r) e shard) (sym stays)
-    (step_ran catalog old new c.requires.settled.of_catalog c.run_procedure-in-Step.ensures.of_catalog db holds n r p.0 p.1 fits next batches at left.outcome left.emitted ran c.in_ok-left-in-Step.ensures.back e told batch)))
-    c.with_outputs.result c.with_outputs.ensures.outcome c.with_outputs.ensures.emitted c.with_outputs.ensures.stays
+    (subst (λ (shard : ShardValue). Ran catalog db (StepEntry n r) e shard) (sym stays)
+    (step_ran catalog old new c.requires.committed.of_catalog c.run_procedure-in-Step.ensures.of_catalog db holds n r p.0 p.1 fits next batches at left.outcome left.emitted ran c.in_ok-left-in-Step.ensures.back e folds batch)))
+    c.with_outputs.result c.with_outputs.ensures.ok c.with_outputs.ensures.emitted c.with_outputs.ensures.unchanged
 
 pub returns-in_ok-left-in-Step-clause-holds : goal.returns-in_ok-left-in-Step-clause-holds
 returns-in_ok-left-in-Step-clause-holds c =
@@ -74,9 +74,9 @@ returns-in_ok-left-in-Step-clause-holds c =
     let old = c.args.shard.now in
     let mid = c.run_procedure-in-Step.new.shard in
     let new = c.with_outputs.new.shard in
-    error_so c.with_outputs.result ((before : HeldShard) → CanGoBack before mid → Same before new) ((db : Database) → HoldsDatabase catalog old db → HoldsDatabase catalog new db)
+    error_so c.with_outputs.result ((before : ShardValue) → CanRollBack before mid → Same before new) ((db : Database) → HoldsDatabase catalog old db → HoldsDatabase catalog new db)
     (λ same db holds. holds_same catalog old new (same old c.in_ok-left-in-Step.ensures.back) db holds)
-    c.with_outputs.ensures.kept
+    c.with_outputs.ensures.err
 
 pub run_push-requires-clause-countable : goal.run_push-requires-clause-countable
 run_push-requires-clause-countable c =
@@ -86,8 +86,8 @@ two_ok : {A E : Type 0} (P Q S : A → Type 0) → ((x : A) → P x → Q x → 
 two_ok P Q S f (Ok x) p q = f x p q
 two_ok P Q S f (Err e) p q = tt
 
-pub returns-in-Push-clause-ran : goal.returns-in-Push-clause-ran
-returns-in-Push-clause-ran c =
+pub returns-in-Push-clause-ok : goal.returns-in-Push-clause-ok
+returns-in-Push-clause-ok c =
     let catalog = c.args.catalog.now in
     let old = c.args.shard.now in
     let new = c.run_push.new.shard in
@@ -100,6 +100,6 @@ returns-in-Push-clause-ran c =
     (λ (e : Executed). e.outcome ≡ push_outcome seq (number_in old.sources s source))
     (λ (e : Executed). e.emitted ≡ pushed_batch s rows e.outcome)
     (λ (e : Executed). (db : Database) → HoldsDatabase catalog old db → AreAtHand catalog db c.args.entry.now c.args.inputs.now.batches.now → Ran catalog db c.args.entry.now e new)
-    (λ e told gave db holds hand. subst (λ (entry : Entry). Ran catalog db entry e new) (sym c.in-Push.is)
-    (push_ran catalog old new db holds c.in-Push.client c.in-Push.index s source seq rows fits c.run_push.ensures.same c.run_push.ensures.rest e told gave))
-    c.run_push.result c.run_push.ensures.outcome c.run_push.ensures.emitted
+    (λ e folds gave db holds hand. subst (λ (entry : Entry). Ran catalog db entry e new) (sym c.in-Push.is)
+    (push_ran catalog old new db holds c.in-Push.client c.in-Push.index s source seq rows fits c.run_push.ensures.same c.run_push.ensures.rest e folds gave))
+    c.run_push.result c.run_push.ensures.ok c.run_push.ensures.emitted

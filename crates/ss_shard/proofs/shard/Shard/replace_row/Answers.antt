@@ -1,13 +1,12 @@
 use Rattle.std.proofs.Common.{refl, ◌≡◌, [], ◌∷◌, ◌++◌, subst, sym, ap, ◌∙◌, slice_set}
 use Rattle.std.specs.Prelude.{IsSomeAnd}
 use Rattle.ss_value.specs.Rows.{Row}
-use Rattle.ss_table.specs.Held.{Held, key_of, row_at}
+use Rattle.ss_table.specs.TableValue.{TableValue, key_of, row_at}
 use Rattle.ss_undo.specs.declared.change.Change.TheVariants.{Replaced}
-use Rattle.ss_undo.specs.Came.{Step}
+use Rattle.ss_undo.specs.ResultsFrom.{Step}
 use Rattle.ss_undo.specs.Indexed.{AreIndexed, columns_of, with_row_of}
-use Rattle.ss_undo.proofs.Back.{one_changed}
-use Rattle.ss_undo.proofs.Indexed.{replaced_indexed, columns_added, found_as, told_as}
-use Rattle.ss_shard.specs.HeldShard.{HeldShard}
+use Rattle.ss_undo.proofs.CallerLemmas.{one_changed, replaced_indexed, columns_added, found_as, reported_as}
+use Rattle.ss_shard.specs.ShardValue.{ShardValue}
 use Rattle.ss_shard.specs.Rows.{StandsIn, HasKeyOf, RowPut}
 use Rattle.ss_shard.specs.Shards.{Changed}
 use Rattle.ss_shard.proofs.Shapes.{shapes_kept, all_set}
@@ -20,7 +19,7 @@ alike c =
     let rows = c.in-Some.rows.now in
     at_some (row_at rows.live c.args.slot) c.replace-old.result (λ old. key_of rows.key c.args.row ≡ key_of rows.key old) c.replace-old.ensures.old
     (at_table c.self.inside.tables c.args.table c.from.result rows (λ h. IsSomeAnd (row_at h.live c.args.slot) (λ old. key_of h.key c.args.row ≡ key_of h.key old)) c.from.ensures c.in-Some.ensures.item
-    (subst (λ (s : HeldShard). HasKeyOf s.tables c.args.table c.args.slot c.args.row) (sym c.self.view_is) c.requires))
+    (subst (λ (s : ShardValue). HasKeyOf s.tables c.args.table c.args.slot c.args.row) (sym c.self.view_is) c.requires))
 
 pub invariant_of-self-2 : goal.invariant_of-self-2
 invariant_of-self-2 c =
@@ -31,17 +30,17 @@ invariant_of-self-2 c =
     let now = c.replace-old.new.self in
     let old = c.replace-old.result in
     let step = c.replace-old.ensures.step in
-    let items = c.note.ensures.items ∙ ap (λ cs. cs ++ Replaced t slot old ∷ []) c.room.ensures.items in
+    let items = c.note.ensures.items ∙ ap (λ cs. cs ++ Replaced t slot old ∷ []) c.room.ensures.unchanged in
     let pairs = c.in_ok-add_pairs.ensures.ok ∙ ap (λ row. with_row_of inside.indexes t row slot) (sym (row_is rows now slot old c.args.row step c.replace-old.ensures.new (alike c))) in
     subst (λ cs. AreIndexed (slice_set inside.tables c.from.result now) cs c.add_pairs.new.indexes) (sym items)
-    (told_as inside.tables t c.from.result now now (inside.undo.items ++ Replaced t slot old ∷ []) _ c.add_pairs.new.indexes c.from.ensures refl pairs
+    (reported_as inside.tables t c.from.result now now (inside.undo.items ++ Replaced t slot old ∷ []) _ c.add_pairs.new.indexes c.from.ensures refl pairs
     (replaced_indexed inside.tables inside.indexes t slot rows now (found_as inside.tables t c.from.result rows c.from.ensures c.in-Some.ensures.item) inside.undo.items c.self.invariant old step))
 
-pub returns-clause-done : goal.returns-clause-done
-returns-clause-done c =
+pub returns-clause-ok : goal.returns-clause-ok
+returns-clause-ok c =
     let tables = c.self.inside.tables in
     let now = c.replace-old.new.self in
-    subst (λ (s : HeldShard). (key other : Row) → StandsIn s.tables c.args.table key c.args.slot other → RowPut s.tables (slice_set tables c.from.result now) c.args.table key c.args.slot c.args.row) c.self.view_is
+    subst (λ (s : ShardValue). (key other : Row) → StandsIn s.tables c.args.table key c.args.slot other → RowPut s.tables (slice_set tables c.from.result now) c.args.table key c.args.slot c.args.row) c.self.view_is
     (subst (λ t. (key other : Row) → StandsIn tables t key c.args.slot other → RowPut tables (slice_set tables c.from.result now) t key c.args.slot c.args.row) c.from.ensures
     (put tables c.from.result c.args.slot c.in-Some.rows.now now c.in-Some.ensures.item c.rows_are_keyed.ensures c.replace-old.result c.args.row c.replace-old.ensures.step c.replace-old.ensures.new (alike c)))
 
@@ -53,17 +52,17 @@ returns-clause-changed c =
     let now = c.replace-old.new.self in
     let slot = c.args.slot in
     let step = c.replace-old.ensures.step in
-    let old : HeldShard = record { number = inside.number; tables = inside.tables; changes = inside.undo.items; columns = columns_of inside.indexes; windows = inside.windows; cursors = inside.cursors; sources = inside.sources } in
-    let new : HeldShard = record { number = inside.number; tables = slice_set tables c.from.result now; changes = c.note.new.self.items; columns = columns_of c.add_pairs.new.indexes; windows = inside.windows; cursors = inside.cursors; sources = inside.sources } in
-    subst (λ (s : HeldShard). Changed s new) c.self.view_is
+    let old : ShardValue = record { number = inside.number; tables = inside.tables; changes = inside.undo.items; columns = columns_of inside.indexes; windows = inside.windows; cursors = inside.cursors; sources = inside.sources } in
+    let new : ShardValue = record { number = inside.number; tables = slice_set tables c.from.result now; changes = c.note.new.self.items; columns = columns_of c.add_pairs.new.indexes; windows = inside.windows; cursors = inside.cursors; sources = inside.sources } in
+    subst (λ (s : ShardValue). Changed s new) c.self.view_is
     (noted old new (Replaced c.args.table slot c.replace-old.result)
     (subst (λ t. Step tables (Replaced t slot c.replace-old.result) (slice_set tables c.from.result now)) c.from.ensures ((one_changed tables c.from.result slot rows now c.replace-old.result c.in-Some.ensures.item).2 step))
     refl
-    (c.note.ensures.items ∙ ap (λ cs. cs ++ Replaced c.args.table slot c.replace-old.result ∷ []) c.room.ensures.items)
+    (c.note.ensures.items ∙ ap (λ cs. cs ++ Replaced c.args.table slot c.replace-old.result ∷ []) c.room.ensures.unchanged)
     refl
     refl
     refl
     (ap columns_of c.in_ok-add_pairs.ensures.ok ∙ columns_added inside.indexes c.args.table slot c.args.row)
     refl
-    (shapes_kept tables c.from.result rows now c.in-Some.ensures.item (ap (λ (h : Held). h.key) step.is) (ap (λ (h : Held). h.limit) step.is))
+    (shapes_kept tables c.from.result rows now c.in-Some.ensures.item (ap (λ (h : TableValue). h.key) step.is) (ap (λ (h : TableValue). h.limit) step.is))
     (all_set tables c.from.result now c.rows_are_keyed-2.ensures))

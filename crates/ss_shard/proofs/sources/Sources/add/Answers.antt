@@ -5,8 +5,8 @@ use Rattle.ss_shard.specs.Sources.{number_of}
 use Rattle.ss_shard.proofs.Numbers.{key_bytes, numbers_of, number_at, get_number, none_there, none_risen, now_stands}
 use Rattle.ss_shard.proofs.sources.Sources.add.Goals as goal
 
-pub returns-then-contains_key-clause-stands : goal.returns-then-contains_key-clause-stands
-returns-then-contains_key-clause-stands c =
+pub returns-then-contains_key-clause-ok : goal.returns-then-contains_key-clause-ok
+returns-then-contains_key-clause-ok c =
     let entries = c.self.inside.numbers.entries in
     ap (λ (ns : NextNumbers). is_some (finite.get ns c.args.source.now)) (sym c.self.view_is)
     ∙ ap is_some (get_number key_bytes entries c.args.source.now)
@@ -23,8 +23,8 @@ returns-clause-same c = λ name.
     none_risen key_bytes entries c.insert.new.self.entries key none c.in_ok-insert.ensures.entries name
     ∙ ap (λ (ns : NextNumbers). number_of ns name) c.self.view_is
 
-pub returns-clause-stands : goal.returns-clause-stands
-returns-clause-stands c =
+pub returns-clause-ok : goal.returns-clause-ok
+returns-clause-ok c =
     let key = c.in_ok-name.name in
     subst (λ (q : List ℕ). is_some (finite.get (numbers_of key_bytes c.insert.new.self.entries) q) ≡ true) (c.in_ok-name.ensures.items ∙ c.as_bytes-2.ensures.bytes)
     (now_stands key_bytes c.self.inside.numbers.entries c.insert.new.self.entries key c.in_ok-insert.ensures.entries)

@@ -3,8 +3,8 @@ use Rattle.std.specs.Prelude.{IsSome}
 use Rattle.std.specs.FinMap as finite
 use Rattle.ss_table.specs.declared.cell.Cell.{Cell}
 use Rattle.ss_table.specs.Chunks.{slots_of}
-use Rattle.ss_table.specs.Near.{slot_found, IsBehind}
-use Rattle.ss_table.specs.Held.{Held, row_at, after_in}
+use Rattle.ss_table.specs.Near.{without_hint, IsBehind}
+use Rattle.ss_table.specs.TableValue.{TableValue, row_at, after_in}
 use Rattle.ss_table.proofs.Cells.{live_entries}
 use Rattle.ss_table.proofs.Near.{after_behind}
 use Rattle.ss_table.proofs.table.Table.after_near.Goals as goal
@@ -12,9 +12,9 @@ use Rattle.ss_table.proofs.table.Table.after_near.Goals as goal
 pub returns-in-Some : goal.returns-in-Some
 returns-in-Some c =
     let t = c.self.inside in
-    let found = slot_found c.in-Some.found in
-    let some = subst (λ (h : Held). IsSome (row_at h.live c.args.slot)) (sym c.self.view_is) c.requires in
+    let found = without_hint c.in-Some.found in
+    let some = subst (λ (h : TableValue). IsSome (row_at h.live c.args.slot)) (sym c.self.view_is) c.requires in
     let b = subst (λ (cells : List Cell). IsBehind t.order c.args.slot cells found) c.as_slice.ensures.value c.in-Some.ensures in
     after_behind t.key t.cells.items t.order c.args.slot c.self.invariant.table some found b
     ∙ sym (ap (λ es. after_in es c.args.slot) (live_entries t.key t.cells.items (slots_of t.order) c.self.invariant.table))
-    ∙ ap (λ (h : Held). after_in (finite.entries h.live) c.args.slot) c.self.view_is
+    ∙ ap (λ (h : TableValue). after_in (finite.entries h.live) c.args.slot) c.self.view_is

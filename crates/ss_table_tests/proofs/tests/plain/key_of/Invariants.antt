@@ -1,5 +1,5 @@
 use Rattle.std.proofs.Common.{◌≡◌, ◌++◌, drop}
-use Rattle.ss_table.specs.Held.{key_of}
+use Rattle.ss_table.specs.TableValue.{key_of}
 use Rattle.ss_table_tests.proofs.tests.plain.key_of.Given as goal
 
 abbrev pub invariant-loop-column : goal.invariant-loop-column

@@ -1,5 +1,5 @@
 use Rattle.std.proofs.Common.{ap}
-use Rattle.ss_table.specs.Held.{Held}
+use Rattle.ss_table.specs.TableValue.{TableValue}
 use Rattle.ss_table_tests.proofs.Running.{keyed_on, deleted_at}
 use Rattle.ss_table_tests.proofs.tests.real.delete_in.Goals as goal
 
@@ -7,4 +7,4 @@ pub returns-clause-made : goal.returns-clause-made
 returns-clause-made c = deleted_at c.one_table_changed.ensures c.args.tables.now c.args.at c.from.result c.args.slot c.in-Some.table.now c.mark_dead.new.self c.from.ensures c.in-Some.ensures.item c.mark_dead.ensures.step
 
 pub returns-clause-keyed : goal.returns-clause-keyed
-returns-clause-keyed c = keyed_on c.args.key.now c.args.tables.now c.from.result c.in-Some.table.now c.mark_dead.new.self c.requires.keyed c.in-Some.ensures.item (ap (λ (h : Held). h.key) c.mark_dead.ensures.step.is)
+returns-clause-keyed c = keyed_on c.args.key.now c.args.tables.now c.from.result c.in-Some.table.now c.mark_dead.new.self c.requires.keyed c.in-Some.ensures.item (ap (λ (h : TableValue). h.key) c.mark_dead.ensures.step.is)

@@ -1,19 +1,19 @@
 use Rattle.std.proofs.Common.{◌≡◌, List, length}
-use Rattle.ss_table.specs.Held.{Held}
-use Rattle.ss_window.specs.Held.{HeldWindow}
-use Rattle.ss_undo.specs.Came.{Came}
+use Rattle.ss_table.specs.TableValue.{TableValue}
+use Rattle.ss_window.specs.WindowValue.{WindowValue}
+use Rattle.ss_undo.specs.ResultsFrom.{ResultsFrom}
 use Rattle.ss_undo.specs.Indexed.{AreIndexed, columns_of}
-use Rattle.ss_undo.specs.Windows.{WindowsCame}
+use Rattle.ss_undo.specs.Windows.{WindowsResultFrom}
 use Rattle.ss_undo.proofs.Final.{OnTheWay}
 use Rattle.ss_undo.proofs.Windows.{WindowsOnTheWay}
 use Rattle.ss_undo.proofs.undo.Undo.commit.Given as goal
 
 abbrev pub invariant-loop-change : goal.invariant-loop-change
 invariant-loop-change l = record {
-  tables : (before : List Held) → Came before l.initial.self-inside.changes.items l.initial.tables → OnTheWay before l.initial.tables l.self-inside.changes.items l.tables;
+  tables : (before : List TableValue) → ResultsFrom before l.initial.self-inside.changes.items l.initial.tables → OnTheWay before l.initial.tables l.self-inside.changes.items l.tables;
   indexed : AreIndexed l.tables l.self-inside.changes.items l.indexes;
   columns : columns_of l.indexes ≡ columns_of l.initial.indexes;
-  windows : (before : List HeldWindow) → WindowsCame before l.initial.self-inside.changes.items l.initial.windows → WindowsOnTheWay before l.initial.windows l.self-inside.changes.items l.windows;
+  windows : (before : List WindowValue) → WindowsResultFrom before l.initial.self-inside.changes.items l.initial.windows → WindowsOnTheWay before l.initial.windows l.self-inside.changes.items l.windows;
 }
 
 abbrev pub decreases-loop-change : goal.decreases-loop-change

@@ -1,9 +1,9 @@
 use Rattle.std.proofs.Common.{refl, sym, subst, ◌∙◌}
 use Rattle.ss_value.specs.Reserved.{ReservedList}
 use Rattle.ss_undo.specs.declared.change.Change.{Change}
-use Rattle.ss_undo.specs.Came.{Came}
+use Rattle.ss_undo.specs.ResultsFrom.{ResultsFrom}
 use Rattle.ss_undo.specs.Indexed.{AreIndexed}
-use Rattle.ss_undo.specs.Windows.{WindowsCame}
+use Rattle.ss_undo.specs.Windows.{WindowsResultFrom}
 use Rattle.ss_undo.proofs.Back.{came_back}
 use Rattle.ss_undo.proofs.Windows.{windows_back}
 use Rattle.ss_undo.proofs.undo.Undo.rollback.Goals as goal
@@ -16,14 +16,14 @@ loop-change-init c = record {
   windows = λ before start. start;
 }
 
-pub take_back-requires : goal.take_back-requires
-take_back-requires c =
+pub rollback_change-requires : goal.rollback_change-requires
+rollback_change-requires c =
     let before = c.requires.came.0 in
-    let start : Came before c.self.inside.changes.items c.args.tables.now = subst (λ (u : ReservedList Change). Came before u.items c.args.tables.now) (sym c.self.view_is) c.requires.came.1 in
-    let came = subst (λ cs. Came before cs c.loop-change.tables) c.in-Some.ensures.some.0 (c.loop-change.invariant.tables before start) in
+    let start : ResultsFrom before c.self.inside.changes.items c.args.tables.now = subst (λ (u : ReservedList Change). ResultsFrom before u.items c.args.tables.now) (sym c.self.view_is) c.requires.came.1 in
+    let came = subst (λ cs. ResultsFrom before cs c.loop-change.tables) c.in-Some.ensures.some.0 (c.loop-change.invariant.tables before start) in
     let old = c.requires.windows.0 in
-    let first : WindowsCame old c.self.inside.changes.items c.args.windows.now = subst (λ (u : ReservedList Change). WindowsCame old u.items c.args.windows.now) (sym c.self.view_is) c.requires.windows.1 in
-    let led = subst (λ cs. WindowsCame old cs c.loop-change.windows) c.in-Some.ensures.some.0 (c.loop-change.invariant.windows old first) in
+    let first : WindowsResultFrom old c.self.inside.changes.items c.args.windows.now = subst (λ (u : ReservedList Change). WindowsResultFrom old u.items c.args.windows.now) (sym c.self.view_is) c.requires.windows.1 in
+    let led = subst (λ cs. WindowsResultFrom old cs c.loop-change.windows) c.in-Some.ensures.some.0 (c.loop-change.invariant.windows old first) in
     record {
       undo = (came_back before c.loop-change.tables c.pop.new.self.items c.in-Some.change came).0;
       window = (windows_back old c.loop-change.windows c.pop.new.self.items c.in-Some.change led).0;
@@ -33,13 +33,13 @@ take_back-requires c =
 pub loop-change-preserved : goal.loop-change-preserved
 loop-change-preserved c = record {
   tables = λ before start.
-      let came = subst (λ cs. Came before cs c.loop-change.tables) c.in-Some.ensures.some.0 (c.loop-change.invariant.tables before start) in
-      subst (Came before c.pop.new.self.items) (sym c.take_back.ensures.tables) (came_back before c.loop-change.tables c.pop.new.self.items c.in-Some.change came).1;
-  indexed = c.take_back.ensures.indexed c.pop.new.self.items (subst (λ cs. AreIndexed c.loop-change.tables cs c.loop-change.indexes) c.in-Some.ensures.some.0 c.loop-change.invariant.indexed);
-  columns = c.take_back.ensures.columns ∙ c.loop-change.invariant.columns;
+      let came = subst (λ cs. ResultsFrom before cs c.loop-change.tables) c.in-Some.ensures.some.0 (c.loop-change.invariant.tables before start) in
+      subst (ResultsFrom before c.pop.new.self.items) (sym c.rollback_change.ensures.tables) (came_back before c.loop-change.tables c.pop.new.self.items c.in-Some.change came).1;
+  indexed = c.rollback_change.ensures.indexed c.pop.new.self.items (subst (λ cs. AreIndexed c.loop-change.tables cs c.loop-change.indexes) c.in-Some.ensures.some.0 c.loop-change.invariant.indexed);
+  columns = c.rollback_change.ensures.columns ∙ c.loop-change.invariant.columns;
   windows = λ before start.
-      let came = subst (λ cs. WindowsCame before cs c.loop-change.windows) c.in-Some.ensures.some.0 (c.loop-change.invariant.windows before start) in
-      subst (WindowsCame before c.pop.new.self.items) (sym c.take_back.ensures.windows) (windows_back before c.loop-change.windows c.pop.new.self.items c.in-Some.change came).1;
+      let came = subst (λ cs. WindowsResultFrom before cs c.loop-change.windows) c.in-Some.ensures.some.0 (c.loop-change.invariant.windows before start) in
+      subst (WindowsResultFrom before c.pop.new.self.items) (sym c.rollback_change.ensures.windows) (windows_back before c.loop-change.windows c.pop.new.self.items c.in-Some.change came).1;
 }
 
 pub returns-clause-indexed : goal.returns-clause-indexed

@@ -7,6 +7,6 @@ pub invariant_of-self : goal.invariant_of-self
 invariant_of-self c =
     let held = c.self.inside in
     let left = c.pop_back.new.self.items in
-    let numbered = numbered_without_last held.first held.next held.ends.items left c.in-Some.unit (subst (AreNumbered held.first held.next held.ends.items) c.in-Some.ensures.items c.self.invariant) in
+    let numbered = numbered_without_last held.first held.next held.unit_ends.items left c.in-Some.unit (subst (AreNumbered held.first held.next held.unit_ends.items) c.in-Some.ensures.items c.self.invariant) in
     let many : c.len-in-Some.result ≡ length left = search rules in
     rw (c.len.ensures, c.truncate.ensures.items, many) numbered

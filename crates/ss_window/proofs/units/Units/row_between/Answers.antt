@@ -1,5 +1,5 @@
 use Rattle.std.proofs.Common.{◌+◌, ◌-◌, ◌<◌, ◌≤◌, slice_get, sym, ap, ◌∙◌, arith}
-use Rattle.ss_window.specs.Held.{rows_in}
+use Rattle.ss_window.specs.WindowValue.{rows_in}
 use Rattle.ss_window.specs.Numbers.{rows_before}
 use Rattle.ss_window.proofs.Numbered.{before_rises, row_in_between, row_past_between}
 use Rattle.ss_window.proofs.units.Units.row_between.Goals as goal

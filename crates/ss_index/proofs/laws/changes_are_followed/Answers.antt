@@ -1,5 +1,0 @@
-use Rattle.ss_index.proofs.Holding.{insert_adds, delete_leaves, replace_adds_and_notes}
-use Rattle.ss_index.proofs.laws.changes_are_followed.Goals as goal
-
-pub returns : goal.returns
-returns c = record { insert = insert_adds; delete = delete_leaves; replace = replace_adds_and_notes }

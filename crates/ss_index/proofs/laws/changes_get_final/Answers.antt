@@ -1,5 +1,0 @@
-use Rattle.ss_index.proofs.Holding.{purge_drops, note_drops}
-use Rattle.ss_index.proofs.laws.changes_get_final.Goals as goal
-
-pub returns : goal.returns
-returns c = record { delete = purge_drops; replace = note_drops }

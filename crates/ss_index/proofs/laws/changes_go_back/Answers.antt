@@ -1,5 +1,0 @@
-use Rattle.ss_index.proofs.Holding.{insert_goes_back, delete_goes_back, replace_goes_back}
-use Rattle.ss_index.proofs.laws.changes_go_back.Goals as goal
-
-pub returns : goal.returns
-returns c = record { insert = insert_goes_back; delete = delete_goes_back; replace = replace_goes_back }

@@ -1,0 +1,107 @@
+//! The indexes of one table.
+
+ghost use Rattle.std.specs.Prelude.{◌≡◌, List, [], ◌∷◌, ◌++◌, OnOk, OnErr, slice_get};
+ghost use Rattle.std.specs.Option.{option_copied};
+ghost use Rattle.ss_index.specs.Indexes.{with_rows, without_rows, HavePair};
+
+use crate::index::Index;
+use ss_value::{NoMemory, Row, Slot};
+use std::alloc::Global;
+use std::marker::Model;
+
+/// The indexes of one table, in the order in which the catalogue lists them.
+///
+/// Each call costs as much as the same call of every index.
+#[derive(Drop)]
+pub struct Indexes {
+    items: Vec<Index>,
+}
+
+impl Model for Indexes {
+    ghost use Rattle.std.specs.Prelude.{List};
+    ghost use Rattle.ss_index.specs.Pairs.{IndexValue, coded_index};
+    ghost use Rattle.std.specs.Coded.{coded_list};
+
+    ghost Value = { List IndexValue };
+
+    ghost coded = { coded_list coded_index };
+
+    ghost view = { λ o. o.items.items };
+}
+
+/// Drops the pair of a row in a slot once from each index.
+fn drop_pairs(indexes: &mut [Index], row: &Row, slot: Slot)
+    requires { HavePair row.now slot indexes.old }
+    ensures { indexes.new ≡ without_rows row.now slot indexes.old }
+{
+    match indexes.split_first_mut() {
+        None => (),
+        Some((first, others)) => {
+            first.drop_row(row, slot);
+            drop_pairs(others, row, slot)
+        }
+    }
+}
+
+/// Adds the pair of a row in a slot to each index. Out of memory drops those again that were added.
+fn add_pairs(indexes: &mut [Index], row: &Row, slot: Slot) -> Result<(), NoMemory>
+    ensures ok { OnOk result (indexes.new ≡ with_rows row.now slot indexes.old) }
+    ensures err { OnErr result (indexes.new ≡ indexes.old) }
+{
+    match indexes.split_first_mut() {
+        None => Ok(()),
+        Some((index, others)) => {
+            // The law by which an add and a drop give the same index back.
+            index.pairs_are_counted();
+            index.add(row, slot)?;
+            if add_pairs(others, row, slot).is_err() {
+                index.drop_row(row, slot);
+                return Err(NoMemory);
+            }
+            Ok(())
+        }
+    }
+}
+
+impl Indexes {
+    /// The indexes of a table that has none. Takes no memory.
+    pub fn new(alloc: Global) -> Indexes
+        ensures { result ≡ [] }
+    {
+        Indexes {
+            items: Vec::new(alloc),
+        }
+    }
+
+    /// Adds an index behind the others. Out of memory changes nothing.
+    pub fn push(&mut self, index: Index) -> Result<(), NoMemory>
+        ensures ok { OnOk result (self.new ≡ self.old ++ index ∷ []) }
+        ensures err { OnErr result (self.new ≡ self.old) }
+    {
+        self.items.push(index)?;
+        Ok(())
+    }
+
+    /// The index at a position, and None past the last. Constant.
+    pub fn get(&self, at: usize) -> Option<&Index>
+        ensures { option_copied result ≡ slice_get self.now at }
+    {
+        self.items.get(at)
+    }
+
+    /// Adds the pair of a row in a slot to each index, once more where it is there. Out of memory changes none.
+    pub fn add(&mut self, row: &Row, slot: Slot) -> Result<(), NoMemory>
+        ensures ok { OnOk result (self.new ≡ with_rows row.now slot self.old) }
+        ensures err { OnErr result (self.new ≡ self.old) }
+    {
+        add_pairs(self.items.as_mut_slice(), row, slot)
+    }
+
+    /// Drops the pair of a row in a slot once from each index. Takes no memory.
+    pub fn drop_row(&mut self, row: &Row, slot: Slot)
+        requires { HavePair row.now slot self.old }
+        ensures { self.new ≡ without_rows row.now slot self.old }
+    {
+        drop_pairs(self.items.as_mut_slice(), row, slot)
+    }
+}

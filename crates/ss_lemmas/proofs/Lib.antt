@@ -1,0 +1,12 @@
+pub mod Bools
+pub mod Counts
+pub mod EachOf
+pub mod Filtered
+pub mod Firsts
+pub mod LoopItem
+pub mod Mapped
+pub mod Numbers
+pub mod Orderings
+pub mod PartitionPoint
+pub mod Positions
+pub mod Results

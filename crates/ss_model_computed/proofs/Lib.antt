@@ -1,0 +1,4 @@
+pub mod Stores
+pub mod Depths
+pub mod Numbers
+pub mod Steps

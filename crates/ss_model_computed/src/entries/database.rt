@@ -1,0 +1,71 @@
+//! A database, and what an entry comes to.
+
+ghost use Rattle.std.specs.Prelude.{◌≡◌, IfOk, replicate};
+ghost use Rattle.std.specs.FinMap as finmap;
+ghost use Rattle.ss_model.specs.Database.{empty_database};
+ghost use Rattle.ss_model_computed.specs.Databases.{database_of};
+
+use crate::contents::Contents;
+use crate::entries::numbers::NextNumbers;
+use crate::lists::empty_lists;
+use ss_model::{Catalog, Outcome};
+use ss_value::{NoMemory, Rows, Seq};
+use std::alloc::Global;
+
+/// Tables and windows, all batches that each stream has ever had, how many batches each procedure has taken, and for
+/// each stream the next numbers of the sources that push to it.
+#[derive(Drop)]
+pub struct Database {
+    pub contents: Contents,
+    pub streams: Seq<Seq<Rows>>,
+    pub counts: Seq<u64>,
+    pub next_numbers: Seq<NextNumbers>,
+}
+
+/// What an entry comes to, besides the database that it leaves: its outcome, and its batch per stream.
+#[derive(Drop)]
+pub struct Applied {
+    pub outcome: Outcome,
+    pub emitted: Seq<Rows>,
+}
+
+/// This many zeros.
+fn zeros(alloc: Global, count: usize) -> Result<Seq<u64>, NoMemory>
+    ensures { IfOk result (λ counts. counts ≡ replicate count 0) }
+{
+    let mut counts = Seq::new(alloc);
+    for _ in 0..count {
+        counts.push(0)?;
+    }
+    Ok(counts)
+}
+
+/// The next numbers of this many streams, of which no source has one yet.
+fn no_numbers(alloc: Global, count: usize) -> Result<Seq<NextNumbers>, NoMemory>
+    ensures { IfOk result (λ numbers. numbers ≡ replicate count finmap.empty) }
+{
+    let mut numbers = Seq::new(alloc);
+    for _ in 0..count {
+        numbers.push(NextNumbers::new(alloc))?;
+    }
+    Ok(numbers)
+}
+
+impl Database {
+    /// The database before any entry: no row, unit, batch or next number, and every count is 0. Linear in the number of the
+    /// catalogue's definitions.
+    pub fn empty(alloc: Global, catalog: &Catalog) -> Result<Database, NoMemory>
+        ensures { IfOk result (λ database. database_of database ≡ empty_database catalog.now) }
+    {
+        let contents = Contents::empty(alloc, catalog)?;
+        let streams = empty_lists(alloc, catalog.streams.len())?;
+        let counts = zeros(alloc, catalog.procedures.len())?;
+        let next_numbers = no_numbers(alloc, catalog.streams.len())?;
+        Ok(Database {
+            contents,
+            streams,
+            counts,
+            next_numbers,
+        })
+    }
+}

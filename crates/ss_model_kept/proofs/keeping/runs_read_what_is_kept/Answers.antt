@@ -1,5 +1,0 @@
-use Rattle.ss_model_kept.proofs.KeptDatabase.{contents_kept}
-use Rattle.ss_model_kept.proofs.keeping.runs_read_what_is_kept.Goals as goal
-
-pub returns : goal.returns
-returns c = λ catalog q p args batches s z same. contents_kept catalog q p args batches s z same

@@ -1,6 +1,0 @@
-use Rattle.std.proofs.Common.{◌≡◌, map, take}
-use Rattle.ss_names.specs.Names.{bytes_behind}
-use Rattle.ss_names.proofs.index.borrowed.Given as goal
-
-abbrev pub invariant-loop-item : goal.invariant-loop-item
-invariant-loop-item g l = bytes_behind l.names.items ≡ map g.T.Named.name (take l.item-index l.items)

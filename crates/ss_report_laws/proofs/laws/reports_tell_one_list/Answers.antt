@@ -1,5 +1,0 @@
-use Rattle.ss_report_laws.proofs.Told.{one_list}
-use Rattle.ss_report_laws.proofs.laws.reports_tell_one_list.Goals as goal
-
-pub returns : goal.returns
-returns c = λ catalog accepted requests db bytes list other one two. one_list catalog accepted requests db bytes list other one two

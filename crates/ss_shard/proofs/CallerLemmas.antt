@@ -1,0 +1,22 @@
+-- What crates above may rely on: the lemmas of this crate that they cite.
+
+-- The rows of a table by key, and the live rows with their slots.
+pub use Rattle.ss_shard.proofs.ByKey.{entries_by_key}
+-- One change of a shard, noted.
+pub use Rattle.ss_shard.proofs.Changing.{at_some, at_table}
+-- What an insert of a row is to the model.
+pub use Rattle.ss_shard.proofs.Inserting.{same_key}
+-- A database before the first execution.
+pub use Rattle.ss_shard.proofs.OpeningLemmas.{no_entries, no_row_entries}
+-- The next numbers of one stream among those of all.
+pub use Rattle.ss_shard.proofs.Placed.{alike_again}
+-- Shards between executions.
+pub use Rattle.ss_shard.proofs.Committing.{of_same, starts_here}
+-- The tables of a catalogue.
+pub use Rattle.ss_shard.proofs.Shapes.{still_tables, table_of, table_there_is, window_of}
+-- What a unit more of a window is to the model.
+pub use Rattle.ss_shard.proofs.Staging.{all_count, def_there, units_there}
+-- A shard stands for its own tables and windows, and with them for all that keep the same.
+pub use Rattle.ss_shard.proofs.Standing.{carried, gone_past}
+-- The tables of a shard with one of them changed.
+pub use Rattle.ss_shard.proofs.Tables.{contents_put, contents_taken, table_there}

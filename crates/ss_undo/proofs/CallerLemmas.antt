@@ -1,0 +1,10 @@
+-- What crates above may rely on: the lemmas of this crate that they cite.
+
+-- What takes a change back gives the tables before it.
+pub use Rattle.ss_undo.proofs.Back.{came_more, one_changed, set_same, some_and}
+-- What the indexes of a table hold, change by change.
+pub use Rattle.ss_undo.proofs.Holding.{hold_at_first, rows_are_there}
+-- What the indexes of several tables hold, where one change is noted or is no longer.
+pub use Rattle.ss_undo.proofs.Indexed.{columns_added, deleted_indexed, found_as, inserted_indexed, replaced_indexed, reported_as, unit_noted}
+-- Windows taken back, and made final.
+pub use Rattle.ss_undo.proofs.Windows.{windows_more}

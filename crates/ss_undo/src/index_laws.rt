@@ -1,0 +1,35 @@
+//! What the indexes of a table hold, change by change, forward and back. A law does nothing.
+
+ghost use Rattle.ss_undo.specs.IndexLaws.{HoldAtFirst, InsertAdds, DeleteLeaves, ReplaceAddsAndNotes};
+ghost use Rattle.ss_undo.specs.IndexLaws.{InsertGoesBack, DeleteGoesBack, ReplaceGoesBack, PurgeDrops, NoteDrops, RowsAreThere};
+
+/// Indexes without a pair hold the pairs of a table without a row.
+pub fn hold_at_first()
+    ensures { HoldAtFirst }
+{}
+
+/// Where a row is inserted, its pairs are added; where one is deleted, its pairs stay; and where one is replaced, the
+/// pairs of the new one are added and the old one is noted.
+pub fn changes_are_followed()
+    ensures insert { InsertAdds }
+    ensures delete { DeleteLeaves }
+    ensures replace { ReplaceAddsAndNotes }
+{}
+
+/// Where a change is rolled back, the pairs of the row that comes out are dropped, if one does.
+pub fn changes_go_back()
+    ensures insert { InsertGoesBack }
+    ensures delete { DeleteGoesBack }
+    ensures replace { ReplaceGoesBack }
+{}
+
+/// Where a change is made final, the pairs of the row that is freed are dropped, if one is.
+pub fn changes_get_final()
+    ensures delete { PurgeDrops }
+    ensures replace { NoteDrops }
+{}
+
+/// Every live row has its pair in each index.
+pub fn rows_are_there()
+    ensures { RowsAreThere }
+{}
