@@ -25,7 +25,7 @@ use crate::script::outcome_of;
 use crate::wrong::Wrong;
 use serde_json::Value as Json;
 use ss_catalog_requests::request_of;
-use ss_model::{Asked, Catalog, Entry, Kind};
+use ss_model::{Catalog, Entry, Kind, asked_entry};
 use ss_plan::{Batches, Inputs};
 use ss_proc::{Executed, PlainRunner, Runner, commit};
 use ss_report::{outcome_json, rows_json};
@@ -62,31 +62,8 @@ fn asked_of(alloc: Global, catalog: &Catalog, text: &str) -> Result<AskedExecuti
     let Ok(request) = request_of(alloc, catalog, 1, &value) else {
         return Err(Wrong::text(alloc, "no request"));
     };
-    let client = request.client;
-    let index = 0;
-    let entry = match request.what {
-        Asked::Call { procedure, args } => Entry::Call {
-            client,
-            index,
-            procedure,
-            args,
-        },
-        Asked::Push {
-            stream,
-            source,
-            seq,
-            rows,
-        } => Entry::Push {
-            client,
-            index,
-            stream,
-            source,
-            seq,
-            rows,
-        },
-    };
     Ok(AskedExecution {
-        entry,
+        entry: asked_entry(request.client, 0, request.what),
         batches: Seq::new(alloc),
     })
 }

@@ -4,7 +4,7 @@ use Rattle.std.specs.List.{AllByRecursion, filter, flat_map, list_all, list_any,
 use Rattle.std.proofs.lemmas.Option.{slice_get_within, slice_get-get_or}
 use Rattle.std.proofs.lemmas.Bool.{and_parts, not-false, or_cases, eqb-true, eq-eqb, ltb-true, lt-ltb, or_right, or_left}
 use Rattle.ss_lemmas.proofs.EachOf.{all_from}
-use Rattle.ss_lemmas.proofs.Bools.{some_same, any_of_both, neither_left}
+use Rattle.ss_lemmas.proofs.Bools.{some_same, any_of_both, neither_left, at_index}
 use Rattle.ss_sql_lex.specs.declared.typed.Expr.{Expr}
 use Rattle.ss_sql_lex.specs.declared.typed.Expr.TheVariants.{Param}
 use Rattle.ss_sql_lex.specs.declared.typed.Item.{Item}
@@ -45,7 +45,7 @@ use Rattle.ss_model.specs.declared.catalog.On.TheVariants.{Stream as OnStream, W
 use Rattle.ss_model.specs.declared.catalog.WindowDef.{WindowDef}
 use Rattle.ss_catalog_checks.specs.Runs.{is_owner, runs_in}
 use Rattle.ss_catalog_checks.specs.Owners.{reads_from, joins_with, query_names, statement_names, inner_names, step_names, trigger_names, steps_name, runs_outside, is_named_outside, is_call_procedure, is_misowned, is_refused_window, refused_window}
-use Rattle.ss_catalog_checks.proofs.Ending.{range_at, all_at}
+use Rattle.ss_catalog_checks.proofs.Ending.{range_at}
 use Rattle.ss_catalog_checks.proofs.Searches.{none_passes}
 
 neither_right : (a b : Bool) → (a || b) ≡ false → b ≡ false
@@ -313,7 +313,7 @@ module _ (catalog : Catalog) (scope : catalog_in_scope catalog ≡ true) (allowe
   at_window w C l k = k (get_or catalog.windows w default_window) (slice_get-get_or catalog.windows w default_window l)
 
   in_scope : procedure_in_scope catalog p ≡ true
-  in_scope = all_at (procedure_in_scope catalog) catalog.procedures q p ((and_parts _ _ scope).0) is
+  in_scope = at_index (procedure_in_scope catalog) catalog.procedures ((and_parts _ _ scope).0) q p is
 
   step_owns : (w : ℕ) → list_any (step_names w) p.body ≡ true → window_owner catalog w ≡ Some q
   step_owns w h =
@@ -325,7 +325,7 @@ module _ (catalog : Catalog) (scope : catalog_in_scope catalog ≡ true) (allowe
   trigger_owns n t st runs w h =
       at_window w (window_owner catalog w ≡ Some q)
       (any_of_both (w < length catalog.windows) (statement_names w) (statement_in_scope catalog 0 (is_on_a_stream t.on)) (λ x y g. statement_there catalog 0 (is_on_a_stream t.on) w x g y) t.statements
-      (all_at (trigger_in_scope catalog) catalog.triggers n t ((and_parts _ _ scope).1) st) h)
+      (at_index (trigger_in_scope catalog) catalog.triggers ((and_parts _ _ scope).1) n t st) h)
       (λ d e. trigger_owns_it n t st runs w d e h)
 
   -- ---- what is allowed

@@ -5,7 +5,8 @@ use Rattle.std.proofs.lemmas.Bool.{and_parts, or_cases, not-false, eqb-true, ltb
 use Rattle.std.proofs.lemmas.Option.{slice_get-get_or}
 use Rattle.std.proofs.lemmas.List.Folds.{Any-from_list_any}
 use Rattle.std.proofs.lemmas.List.FromFn.{get_or-range_with_len, length-range_with_len}
-use Rattle.ss_lemmas.proofs.Bools.{some_same, any_of_both, any_at}
+use Rattle.ss_lemmas.proofs.Bools.{some_same, any_of_both, any_at, at_index}
+use Rattle.ss_model.specs.Accepted.{StreamsEndWell}
 use Rattle.ss_model.specs.declared.catalog.Catalog.{Catalog}
 use Rattle.ss_model.specs.declared.catalog.Kind.{Kind}
 use Rattle.ss_model.specs.declared.catalog.Kind.TheVariants.{Call as CallKind, Border, Interior}
@@ -22,7 +23,6 @@ use Rattle.ss_model.specs.Scopes.{catalog_in_scope, procedure_in_scope, step_in_
 use Rattle.ss_model.specs.Settling.{procedure_numbers, emitting_procedure, border_stream}
 use Rattle.ss_model.specs.Statements.{is_on_stream}
 use Rattle.ss_catalog_checks.specs.StreamEnds.{is_interior, emitters, consumers, border_consumers, interior_consumers, ends_at_border, ends_inside, ends_badly, refuses_triggers, workflow_of, awaited_stream, is_foreign, foreign_among, foreign_inputs, refused_streams, refused_stream}
-use Rattle.ss_catalog_checks.specs.Guarantees.{StreamsEndWell}
 use Rattle.ss_lemmas.proofs.Counts.{none_counted, one_counted, some_counted, as_strong, filter_none, empty_left, empty_right}
 use Rattle.ss_lemmas.proofs.Firsts.{empty_from_none}
 use Rattle.ss_catalog_checks.proofs.Searches.{found_passes, none_passes}
@@ -36,11 +36,6 @@ pub range_at : (n k : ℕ) → k < n → slice_get (range_with_len 0 n) k ≡ So
 range_at n k h =
     slice_get-get_or (range_with_len 0 n) k 0 (subst (λ l. k < l) (sym (length-range_with_len 0 n)) h)
     ∙ ap Some (get_or-range_with_len 0 n k 0 h ∙ plus_zero k)
-
-pub all_at : {A : Type 0} (g : A → Bool) (xs : List A) (n : ℕ) (x : A) → list_all g xs ≡ true → slice_get xs n ≡ Some x → g x ≡ true
-all_at g [] n x h e = absurd (cc)
-all_at g (y ∷ xs) zero x h e = subst (λ z. g z ≡ true) (some_same y x e) ((and_parts (g y) (list_all g xs) h).0)
-all_at g (y ∷ xs) (suc n) x h e = all_at g xs n x ((and_parts (g y) (list_all g xs) h).1) e
 
 -- a procedure with something
 pub record Having (f : Procedure → Bool) (ps : List Procedure) (q : ℕ) : Type 0 where
@@ -124,7 +119,7 @@ module _ (catalog : Catalog) (numbers : numbers_in_range catalog ≡ true) (scop
   emits_there : (p s : ℕ) → procedure_emits catalog p s ≡ true → s < length catalog.streams
   emits_there p s e =
       let d = having (λ d. list_any (emits_to s) d.body) catalog.procedures p e in
-      let h = all_at (procedure_in_scope catalog) catalog.procedures p d.procedure ((and_parts _ _ scope).0) d.stands in
+      let h = at_index (procedure_in_scope catalog) catalog.procedures ((and_parts _ _ scope).0) p d.procedure d.stands in
       any_of_both (s < length catalog.streams) (emits_to s) (step_in_scope catalog (length d.procedure.inputs) false) (emit_there catalog (length d.procedure.inputs) s) d.procedure.body h d.has
 
   inputs_there : (p : Procedure) (s : ℕ) → list_all (λ s. nat_lt s (length catalog.streams)) p.inputs ≡ true → takes_stream s p ≡ true → s < length catalog.streams
@@ -132,7 +127,7 @@ module _ (catalog : Catalog) (numbers : numbers_in_range catalog ≡ true) (scop
 
   takes_there : (n : ℕ) (p : Procedure) (s : ℕ) → slice_get catalog.procedures n ≡ Some p → takes_stream s p ≡ true → s < length catalog.streams
   takes_there n p s e t =
-      let h = all_at (λ p. list_all (λ s. nat_lt s (length catalog.streams)) p.inputs && touch_in_range p.args p.touch) catalog.procedures n p ((and_parts _ _ numbers).1) e in
+      let h = at_index (λ p. list_all (λ s. nat_lt s (length catalog.streams)) p.inputs && touch_in_range p.args p.touch) catalog.procedures ((and_parts _ _ numbers).1) n p e in
       inputs_there p s ((and_parts _ _ h).0) t
 
   -- a border stream's border procedure

@@ -11,23 +11,12 @@ use Rattle.ss_model.specs.declared.catalog.Step.TheVariants.{Sql, AbortIf, ForEa
 use Rattle.ss_model.specs.Database.{emits_to, takes_stream}
 use Rattle.ss_model.specs.Orders.{procedure_has, procedure_emits, procedure_takes}
 use Rattle.ss_model.specs.Settling.{procedure_numbers}
+use Rattle.ss_model.proofs.CallerLemmas.{emitter_there, taker_there}
 use Rattle.ss_catalog_checks.specs.declared.graph.Edge.{Edge}
 use Rattle.ss_catalog_checks.specs.Graphs.{Reached, at_once as reached_at_once, onward as reached_onward, is_among, has_edge, edge, joins, is_edge, IsGraphOf, FlagsReached}
 use Rattle.ss_catalog_checks.specs.Workflows.{LeadsTo, at_once, onward, IsOnCycle, emit_edges, take_edge, procedure_edges, workflow_edges}
 use Rattle.ss_catalog_checks.proofs.Graphs.{or_none}
 use Rattle.ss_catalog_checks.proofs.Ending.{range_at}
-
--- a procedure with something is there
-there : (f : Procedure → Bool) (ps : List Procedure) (q : ℕ) → procedure_has f (slice_get ps q) ≡ true → q < length ps
-there f [] q e = absurd (cc)
-there f (p ∷ ps) zero e = omega arith
-there f (p ∷ ps) (suc q) e = let l = there f ps q e in omega arith
-
-pub emitter_there : (catalog : Catalog) (p s : ℕ) → procedure_emits catalog p s ≡ true → p < length catalog.procedures
-emitter_there catalog p s e = there (λ d. list_any (emits_to s) d.body) catalog.procedures p e
-
-taker_there : (catalog : Catalog) (q s : ℕ) → procedure_takes catalog q s ≡ true → q < length catalog.procedures
-taker_there catalog q s t = there (takes_stream s) catalog.procedures q t
 
 -- what a procedure leads to is there
 led_is_there : (catalog : Catalog) (p q : ℕ) → LeadsTo catalog p q → q < length catalog.procedures

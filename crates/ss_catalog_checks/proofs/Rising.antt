@@ -3,7 +3,7 @@ use Rattle.std.proofs.Common.{◌≡◌, ◌==◌, ◌<◌, ◌≤◌, inl, inr,
 use Rattle.std.specs.List.{AllByRecursion, filter, list_any}
 use Rattle.std.proofs.lemmas.Bool.{and_parts, and_from, or_left, or_right, cases_lt, eqb-true, eq-eqb, ltb-true, le-leb}
 use Rattle.std.proofs.lemmas.List.Folds.{Any-from_list_any, list_any-from_Any}
-use Rattle.ss_lemmas.proofs.Bools.{any_of_both}
+use Rattle.ss_lemmas.proofs.Bools.{any_of_both, at_index}
 use Rattle.ss_sql_lex.specs.declared.typed.Statement.{Statement}
 use Rattle.ss_sql_lex.specs.declared.typed.Statement.TheVariants.{InsertValues, InsertQuery, Update, Delete}
 use Rattle.ss_sql_lex.specs.declared.typed.Target.TheVariants.{Table as IntoTable, Window as IntoWindow}
@@ -15,19 +15,17 @@ use Rattle.ss_model.specs.declared.catalog.Step.{Step}
 use Rattle.ss_model.specs.declared.catalog.Step.TheVariants.{Sql, AbortIf, ForEach, Emit, Return}
 use Rattle.ss_model.specs.declared.catalog.TriggerDef.{TriggerDef}
 use Rattle.ss_model.specs.Database.{emits_to}
-use Rattle.ss_model.specs.Accepted.{StagesBelow}
+use Rattle.ss_model.specs.Accepted.{HasLevels, HasRanks, StagesBelow}
 use Rattle.ss_model.specs.CatalogForm.{numbers_in_range, trigger_in_range}
 use Rattle.ss_model.specs.Feeds.{stages_into, feeds, Reaches, at_once as reaches_at_once, through, BatchesGoForward}
 use Rattle.ss_model.specs.Orders.{procedure_has, procedure_emits, procedure_takes}
 use Rattle.ss_model.specs.Scopes.{catalog_in_scope, statement_in_scope, trigger_in_scope, is_on_a_stream}
 use Rattle.ss_model.specs.Statements.{is_on_window}
+use Rattle.ss_model.proofs.CallerLemmas.{emitter_there}
 use Rattle.ss_catalog_checks.specs.Cascades.{inserts_into, LeadsInto, at_once as leads_at_once, onward as leads_onward, goes_back, counts_batches, SomeLeadsBack, IsOnTriggerCycle}
 use Rattle.ss_catalog_checks.specs.Firsts.{IsFirst}
-use Rattle.ss_catalog_checks.specs.Guarantees.{HasLevels, HasRanks}
 use Rattle.ss_catalog_checks.specs.Workflows.{LeadsTo, at_once, onward, IsOnCycle}
-use Rattle.ss_catalog_checks.proofs.Ending.{all_at}
 use Rattle.ss_catalog_checks.proofs.Firing.{feeder}
-use Rattle.ss_catalog_checks.proofs.Handing.{emitter_there}
 use Rattle.ss_catalog_checks.proofs.Levels.{level, level_grows, level_within}
 
 -- ---- procedures
@@ -168,7 +166,7 @@ module _ (catalog : Catalog) where
       fed_is_there n m h =
           let f = feeder catalog.triggers n m h in
           any_of_both (m < length catalog.windows) (stages_into m) (statement_in_scope catalog 0 (is_on_a_stream f.trigger.on)) (λ s. target_there (is_on_a_stream f.trigger.on) m s) f.trigger.statements
-          (all_at (trigger_in_scope catalog) catalog.triggers f.number f.trigger ((and_parts _ _ scope).1) f.stands) f.inserts
+          (at_index (trigger_in_scope catalog) catalog.triggers ((and_parts _ _ scope).1) f.number f.trigger f.stands) f.inserts
 
       -- the ranks count what a window reaches
       abbrev fed_by : ℕ → ℕ → Bool

@@ -1,14 +1,12 @@
 //! What procedures are, emit to and own.
 
 ghost use Rattle.std.specs.Prelude.{◌≡◌, length, slice_get};
-ghost use Rattle.std.specs.List.{list_any};
 ghost use Rattle.ss_model.specs.Contents.{window_owner};
-ghost use Rattle.ss_model.specs.Database.{emits_to};
 ghost use Rattle.ss_model.specs.Orders.{procedure_emits};
 ghost use Rattle.ss_catalog_checks.specs.StreamEnds.{is_interior};
 ghost use Rattle.ss_catalog_checks.specs.Runs.{is_owner, runs_in};
 
-use ss_model::{Catalog, Kind, On, Step};
+use ss_model::{Catalog, Kind, On};
 
 /// Whether procedures of this kind are interior.
 pub(crate) fn is_interior(kind: Kind) -> bool
@@ -21,32 +19,12 @@ pub(crate) fn is_interior(kind: Kind) -> bool
     }
 }
 
-/// Whether a step emits to this stream.
-fn emits_to(stream: usize, step: &Step) -> bool
-    ensures { result ≡ emits_to stream step.now }
-{
-    match step {
-        Step::Emit { stream: to, .. } => stream == usize::from(*to),
-        Step::Sql(_) => false,
-        Step::AbortIf { .. } => false,
-        Step::ForEach { .. } => false,
-        Step::Return(_) => false,
-    }
-}
-
-/// Whether a step of a body emits to this stream.
-fn body_emits(stream: usize, body: &[Step]) -> bool
-    ensures { result ≡ list_any (emits_to stream) body.now }
-{
-    body.iter().any(|step| emits_to(stream, step))
-}
-
 /// Whether a procedure emits to this stream. Linear in its body.
 pub(crate) fn procedure_emits(catalog: &Catalog, procedure: usize, stream: usize) -> bool
     ensures { result ≡ procedure_emits catalog.now procedure stream }
 {
     match catalog.procedures.get(procedure) {
-        Some(procedure) => body_emits(stream, procedure.body.as_slice()),
+        Some(procedure) => procedure.emits(stream),
         None => false,
     }
 }

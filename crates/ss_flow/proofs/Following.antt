@@ -119,7 +119,7 @@ pushed_below n s rows (Gap x) lt = tt
 pub batches_below : (catalog : Catalog) → Accepted catalog → (e : Entry) (a : Applied) → fits_entry catalog e ≡ true → AreOfStreams (length catalog.streams) (emitted_batches catalog e a)
 batches_below catalog accepted (Call c i q args) a fits = tt
 batches_below catalog accepted (Push c i s source seq rows) a fits =
-    pushed_below (length catalog.streams) s rows a.outcome (accepted.wired.border_there s (second_of_two _ _ (first_of_two _ _ (first_of_two _ _ (first_of_two _ _ fits)))))
+    pushed_below (length catalog.streams) s rows a.outcome (accepted.structure.streams.wired.border_there s (second_of_two _ _ (first_of_two _ _ (first_of_two _ _ (first_of_two _ _ fits)))))
 batches_below catalog accepted (StepEntry q r) a fits = outputs_below catalog a.emitted (slice_get catalog.procedures q)
 
 pub batches_have_streams : (catalog : Catalog) → Accepted catalog → (db : Database) (e : Entry) (a : Applied) → apply catalog db e ≡ Some a → AreOfStreams (length catalog.streams) (emitted_batches catalog e a)

@@ -6,8 +6,8 @@ use Rattle.ss_model.specs.declared.entry.Entry.TheVariants.{Step as StepEntry}
 use Rattle.ss_model.specs.declared.entry.Outcome.TheVariants.{Done}
 use Rattle.ss_model.specs.Batches.{emitted_batches}
 use Rattle.ss_model.specs.Database.{empty_database, stream_batches}
-use Rattle.ss_model_laws.proofs.Workflow as flow
-use Rattle.ss_model_laws.proofs.WorkflowRun as run
+use Rattle.ss_model_laws.proofs.worked.Workflow as flow
+use Rattle.ss_model_laws.proofs.worked.WorkflowRun as run
 use Rattle.ss_stream.specs.Pending.{cursor_at}
 use Rattle.ss_stream.specs.Streams.{ReservedStreams}
 use Rattle.ss_stream.specs.OfDatabase.{kept_stream, kept_streams}

@@ -1,5 +1,6 @@
 pub mod Bools
 pub mod Counts
+pub mod Dropped
 pub mod EachOf
 pub mod Filtered
 pub mod Firsts

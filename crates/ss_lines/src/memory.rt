@@ -29,7 +29,7 @@ impl Source for MemorySource {
     ghost use Rattle.std.specs.Prelude.{◌≡◌, ◌<◌, length, min, Some};
     ghost use Rattle.std.specs.Io.{ReadsAtMost};
     ghost use Rattle.std.specs.Io.KnownBytes.{ReadConsumes};
-    ghost use Rattle.ss_lines.specs.Causes.{HasCause};
+    ghost use Rattle.ss_value.specs.FaultCounts.{HasCause};
     ghost use Rattle.ss_lines.specs.Memory.{bytes_left};
 
     ghost left = { λ s. Some (bytes_left s) };
@@ -99,7 +99,8 @@ impl MemorySink {
 impl Sink for MemorySink {
     ghost use Rattle.std.specs.Prelude.{◌≡◌, ◌<◌, ◌-◌, length, min, Some, IfOk, OnErr};
     ghost use Rattle.std.specs.Io.KnownBytes.{WriteAppends};
-    ghost use Rattle.ss_lines.specs.Causes.{CountsFailures, HasCause};
+    ghost use Rattle.ss_value.specs.FaultCounts.{HasCause};
+    ghost use Rattle.ss_lines.specs.Causes.{CountsFailures};
     ghost use Rattle.ss_lines.specs.Memory.{bytes_taken, fault_count, room_of};
 
     ghost written = { λ s. Some (bytes_taken s) };

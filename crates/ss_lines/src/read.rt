@@ -2,7 +2,8 @@
 
 ghost use Rattle.std.specs.Prelude.{◌≡◌, ◌<◌, ◌≤◌, ◌+◌, length, IfOk, OnOk, IfErr, IfSome};
 ghost use Rattle.std.specs.Io.KnownBytes.{IsAtEnd};
-ghost use Rattle.ss_lines.specs.Causes.{Rose, TakesAtMost};
+ghost use Rattle.ss_value.specs.FaultCounts.{Rose};
+ghost use Rattle.ss_lines.specs.Causes.{TakesAtMost};
 ghost use Rattle.ss_lines.specs.Lines.{lines_of, max_input};
 ghost use Rattle.ss_lines.specs.Refusals.{IsReadRefusal};
 

@@ -3,7 +3,8 @@
 ghost use Rattle.std.specs.Prelude.{◌<◌, ◌≤◌, length, IfOk};
 ghost use Rattle.std.specs.Io.{ReadsAtMost};
 ghost use Rattle.std.specs.Io.KnownBytes.{ReadConsumes, WriteAppends};
-ghost use Rattle.ss_lines.specs.Causes.{CountsFailures, HasCause};
+ghost use Rattle.ss_value.specs.FaultCounts.{HasCause};
+ghost use Rattle.ss_lines.specs.Causes.{CountsFailures};
 
 use crate::source_sink::{Sink, Source};
 use ss_value::Failed;

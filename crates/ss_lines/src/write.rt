@@ -2,7 +2,7 @@
 
 ghost use Rattle.std.specs.Prelude.{◌≤◌, ℕ, length, take, OnOk};
 ghost use Rattle.std.specs.Io.KnownBytes.{Appends};
-ghost use Rattle.ss_lines.specs.Causes.{HasCause};
+ghost use Rattle.ss_value.specs.FaultCounts.{HasCause};
 
 use crate::source_sink::Sink;
 

@@ -6,26 +6,30 @@ pub use Rattle.ss_model.proofs.BodyParts.{body_done, steps_stop, windows_stop}
 pub use Rattle.ss_model.proofs.Fitting.{applied_fits, fitting_applies, tested}
 -- What a fold gives at a node of an expression.
 pub use Rattle.ss_model.proofs.Folds.{at_binary, at_col, at_lit, at_param, at_unary}
+-- What the form of a catalogue says, part by part.
+pub use Rattle.ss_model.proofs.FormParts.{limits_of, numbers_of}
 -- Groups by key.
 pub use Rattle.ss_model.proofs.Grouping.{grouped, grouped_onto, into_group, members_of, new_group}
 -- What a function of the index and the item gives of each item of a list, one item more.
 pub use Rattle.ss_model.proofs.Indexed.{indexed_more, indexed_push}
 -- What each expression means by its sides, and the type of a parameter and of a column.
 pub use Rattle.ss_model.proofs.Meanings.{binary_test, binary_value, column_meaning, literal_value, param_type, param_value, source_type}
+-- Which procedures a test of one says to be there.
+pub use Rattle.ss_model.proofs.Procedures.{emitter_there, procedure_there, taker_there}
 -- What holds of all rows of a query, since it holds of what its items give for any group.
 pub use Rattle.ss_model.proofs.QueryRows.{query_all}
 -- A list that replays goes on.
 pub use Rattle.ss_model.proofs.Replays.{goes_on}
 -- A push and its step, at the catalogue with the sliding window: the list replays.
 pub use Rattle.ss_model.proofs.SlidingRun.{push, push_and_step, push_and_step_replay, step}
--- A catalogue with a window, a trigger that keeps what it shows, and a procedure that returns it: it is accepted with a
+-- A catalogue with a window, a trigger that keeps what it shows, and a procedure that returns it: it is accepted.
 pub use Rattle.ss_model.proofs.SlidingSeen.{accepted, fills, sliding_seen}
 -- Under `arg` what an INSERT gives has the argument in the split column.
 pub use Rattle.ss_model.proofs.SplitColumns.{context_query, key_column, same_self, values_at}
 -- Tables cut down to the keys that pass a test.
 pub use Rattle.ss_model.proofs.Tables.{cut_within, get_cut, get_drop, get_put, same_table}
--- What can be computed of a small catalogue, and that `Accepted` asks for no more but types and the names that each procedure
-pub use Rattle.ss_model.proofs.Tested.{IsLocal, Tested, accepted_of, calls_of, tested_of}
+-- What can be computed of a small catalogue: `Accepted` asks for no more but types and what each procedure uses.
+pub use Rattle.ss_model.proofs.Tested.{Tested, accepted_of, calls_of, tested_of}
 -- Short forms of the trees that the catalogues of these proofs have.
 pub use Rattle.ss_model.proofs.Trees.{column, compares, count_is, int_column, number, select, set_to, text, text_column}
 -- One turn of a loop over a list, and walks that end at the first abort.

@@ -1,24 +1,20 @@
 -- Which bodies the procedures of an accepted catalogue may have.
-use Rattle.std.specs.Prelude.{◌≡◌, ◌<◌, ◌⊎◌, ◌↔◌, ℕ, true, false, List, [], length, slice_get, Some}
-use Rattle.std.specs.List.{AllByRecursion, filter, list_all, list_any}
+use Rattle.std.specs.Prelude.{◌≡◌, ◌↔◌, ℕ, true, false, List, [], length, slice_get, Some}
+use Rattle.std.specs.List.{AllByRecursion, list_all, list_any}
 use Rattle.ss_value.specs.Rows.{Row, Rows}
 use Rattle.ss_model.specs.declared.catalog.Catalog.{Catalog}
 use Rattle.ss_model.specs.declared.catalog.Procedure.{Procedure}
 use Rattle.ss_model.specs.declared.catalog.Step.{Step}
 use Rattle.ss_model.specs.Results.{map_indexed}
-use Rattle.ss_model.specs.Contents.{Contents, window_owner, table_placement, key_columns}
-use Rattle.ss_model.specs.Statements.{is_on_stream}
-use Rattle.ss_model.specs.Database.{emits_to, is_border_stream, is_streaming, run_procedure}
-use Rattle.ss_model.specs.Orders.{IsWired, procedure_emits, procedure_has, procedure_takes}
+use Rattle.ss_model.specs.Contents.{Contents}
+use Rattle.ss_model.specs.Database.{emits_to, run_procedure}
 use Rattle.ss_model.specs.Claims.{UsesOnly}
 use Rattle.ss_model.specs.Partitions.{local_claims}
-use Rattle.ss_model.specs.Settling.{border_stream}
 use Rattle.ss_model.specs.CatalogForm.{step_of_kind, body_within_limit, has_frame}
 use Rattle.ss_model.specs.Typing.{step_typed, trigger_typed}
 use Rattle.ss_model.specs.Conjuncts.{StepLimited}
 use Rattle.ss_model.specs.Scopes.{step_in_scope, trigger_in_scope}
-use Rattle.ss_model.specs.Feeds.{BatchesGoForward}
-use Rattle.ss_model.specs.Accepted.{Accepted, IsArg, IsSomewhere, Keyed, Ranked}
+use Rattle.ss_model.specs.Accepted.{Accepted, AcceptedStructure}
 
 -- the procedure with this body in place of its own
 abbrev pub with_body : List Step → Procedure → Procedure
@@ -48,22 +44,7 @@ pub record AcceptedFrame (catalog : Catalog) : Type 0 where
   pub form : has_frame catalog ≡ true
   pub triggers_typed : list_all (trigger_typed catalog) catalog.triggers ≡ true
   pub triggers_in_scope : list_all (trigger_in_scope catalog) catalog.triggers ≡ true
-  pub no_arg : (q : ℕ) (p : Procedure) → slice_get catalog.procedures q ≡ Some p → is_streaming p.kind ≡ true → IsArg p.touch → ⊥
-  pub somewhere : (q : ℕ) (p : Procedure) → slice_get catalog.procedures q ≡ Some p → IsSomewhere p.touch
-  pub keyed : (t : ℕ) → Keyed (table_placement (slice_get catalog.tables t)) (key_columns (slice_get catalog.tables t))
-  pub owned : (w q : ℕ) → window_owner catalog w ≡ Some q → procedure_has (λ p. is_streaming p.kind) (slice_get catalog.procedures q) ≡ true
-  pub wired : IsWired catalog
-  pub fed : (s : ℕ) → s < length catalog.streams → (is_border_stream catalog s ≡ true) ⊎ ((p : ℕ) × (procedure_emits catalog p s ≡ true))
-  pub taken : (p s : ℕ) → procedure_emits catalog p s ≡ true → (q : ℕ) × (procedure_takes catalog q s ≡ true)
-  pub one_consumer : (p q s : ℕ) → is_border_stream catalog s ≡ true → procedure_takes catalog p s ≡ true → procedure_takes catalog q s ≡ true → p ≡ q
-  pub no_trigger : (s : ℕ) → is_border_stream catalog s ≡ true → filter (λ t. is_on_stream s t.on) catalog.triggers ≡ []
-  pub one_workflow : (p q s : ℕ) → procedure_takes catalog q s ≡ true → procedure_emits catalog p s ≡ true → border_stream catalog p ≡ border_stream catalog q
-  pub level : ℕ → ℕ
-  pub level_rises : (p q s : ℕ) → procedure_emits catalog p s ≡ true → procedure_takes catalog q s ≡ true → level p < level q
-  pub rank : ℕ → ℕ
-  pub ranked : Ranked catalog rank
-  pub rank_within : (n : ℕ) → n < length catalog.windows → rank n < length catalog.windows
-  pub batches_forward : BatchesGoForward catalog
+  pub structure : AcceptedStructure catalog
 
 -- each procedure may have its own body
 abbrev pub OwnBodies : Catalog → Type 0

@@ -20,6 +20,7 @@ use Rattle.ss_lemmas.proofs.Orderings.{equal_test, is_less}
 use Rattle.ss_value.specs.Rows.{Row}
 use Rattle.ss_value.specs.Order.{row_cmp}
 use Rattle.ss_value.specs.ValueOrder.{row_cmp_total, row_cmp-IsAntisymmetric}
+use Rattle.ss_value.proofs.CallerLemmas.{alike}
 use Rattle.ss_model.specs.Contents.{Table}
 
 -- the map of a tree's entries
@@ -71,9 +72,6 @@ len_in_order es h = len-entries (table_of es) ∙ ap length (entries_in_order es
 
 pub values_in_order : (es : List (Row × Row)) → IsStrictlySortedBy row_cmp (keys_of es) → finmap.values (table_of es) ≡ values_of es
 values_in_order es h = ap (map (λ e. e.1)) (entries_in_order es h)
-
-alike : (p : Row → Bool) (q x : Row) → row_cmp q x ≡ Equal → p x ≡ p q
-alike p q x t = ap p (sym (row_cmp-IsAntisymmetric q x t))
 
 -- the entries of a table that is cut down to a test are those that pass it
 pub entries_seen : (m : Table) (p : Row → Bool) → finmap.entries (finmap.retain_keys m p) ≡ filter (λ e. p e.0) (finmap.entries m)

@@ -8,13 +8,12 @@ use Rattle.ss_sql_lex.specs.declared.typed.SourceId.{SourceId}
 use Rattle.ss_sql_lex.specs.declared.typed.Statement.{Statement}
 use Rattle.ss_sql_lex.specs.declared.typed.Target.{Target}
 use Rattle.ss_model.specs.declared.catalog.Catalog.{Catalog}
-use Rattle.ss_model.specs.declared.catalog.Inner.{Inner}
 use Rattle.ss_model.specs.declared.catalog.On.{On}
 use Rattle.ss_model.specs.declared.catalog.Step.{Step}
-use Rattle.ss_model.specs.Results.{OrAbort, try_fold}
+use Rattle.ss_model.specs.Results.{OrAbort}
 use Rattle.ss_model.specs.Contents.{Table, Contents, source_rows, visible_table}
-use Rattle.ss_model.specs.Statements.{Execution, context_query, insert_into, statement_effect, execute_statement, stage_row, close_unit, run_triggers, cascade_to_depth, trigger_cascade, is_on_stream}
-use Rattle.ss_model.specs.Bodies.{run_body, execute_inner, owned_batch_windows, close_window}
+use Rattle.ss_model.specs.Statements.{Execution, context_query, insert_into, statement_effect, run_triggers, cascade_to_depth}
+use Rattle.ss_model.specs.Bodies.{run_body}
 use Rattle.ss_model.specs.Database.{body_result}
 use Rattle.ss_model.specs.declared.run_error.RunError.{RunError}
 use Rattle.ss_model.specs.Stops.{StopsAs}
@@ -70,57 +69,11 @@ StatementStops c inserted params statement old stop = StopsAs (statement_effect 
 
 -- ---- windows and triggers, where the triggers of windows nest to this depth
 
--- closes a unit of a window
-abbrev pub close_to_depth : ℕ → HeldContext → ℕ → Rows → Execution → OrAbort Execution
-close_to_depth depth c window unit w = close_unit (context_of c).catalog (cascade_to_depth depth (context_of c)) window unit w
-
--- stages a row in a window
-abbrev pub stage_to_depth : ℕ → HeldContext → ℕ → Row → Execution → OrAbort Execution
-stage_to_depth depth c window row w = stage_row (context_of c).catalog (cascade_to_depth depth (context_of c)) window row w
-
--- stages rows in a window, one by one
-abbrev pub stage_all_to_depth : ℕ → HeldContext → ℕ → Rows → Execution → OrAbort Execution
-stage_all_to_depth depth c window rows w = try_fold (stage_row (context_of c).catalog (cascade_to_depth depth (context_of c)) window) rows w
-
--- runs a statement
-abbrev pub execute_to_depth : ℕ → HeldContext → Rows → Row → Statement → Execution → OrAbort Execution
-execute_to_depth depth c inserted params statement w = execute_statement (context_of c) (cascade_to_depth depth (context_of c)) inserted params statement w
-
--- runs the statements of a trigger
-abbrev pub execute_all_to_depth : ℕ → HeldContext → Rows → List Statement → Execution → OrAbort Execution
-execute_all_to_depth depth c inserted statements w = try_fold (execute_statement (context_of c) (cascade_to_depth depth (context_of c)) inserted []) statements w
-
 -- runs the triggers that wait for this stream or window
 abbrev pub fire_to_depth : ℕ → HeldContext → Rows → On → Execution → OrAbort Execution
 fire_to_depth depth c inserted on w = run_triggers (context_of c) (cascade_to_depth depth (context_of c)) inserted (filter (λ t. waits_for on t.on) (context_of c).catalog.triggers) w
 
--- ---- the same, where the triggers of windows nest as deep as there are windows
-
--- closes a unit of a window
-abbrev pub close_and_fire : HeldContext → ℕ → Rows → Execution → OrAbort Execution
-close_and_fire c window unit w = close_unit (context_of c).catalog (trigger_cascade (context_of c)) window unit w
-
--- runs a statement
-abbrev pub execute_and_fire : HeldContext → Rows → Row → Statement → Execution → OrAbort Execution
-execute_and_fire c inserted params statement w = execute_statement (context_of c) (trigger_cascade (context_of c)) inserted params statement w
-
--- runs the triggers of a stream on these rows
-abbrev pub fire_stream : HeldContext → Rows → ℕ → Execution → OrAbort Execution
-fire_stream c rows stream w = run_triggers (context_of c) (trigger_cascade (context_of c)) rows (filter (λ t. is_on_stream stream t.on) (context_of c).catalog.triggers) w
-
 -- ---- bodies
-
--- the steps of a `for_each` on one row
-abbrev pub inner_steps : HeldContext → Row → List Inner → Execution → OrAbort Execution
-inner_steps c row body w = try_fold (execute_inner (context_of c) row) body w
-
--- the steps of a `for_each` on each row
-abbrev pub steps_of_rows : HeldContext → List Inner → Rows → Execution → OrAbort Execution
-steps_of_rows c body rows w = try_fold (λ row. try_fold (execute_inner (context_of c) row) body) rows w
-
--- closes the `batches` windows of the execution's procedure
-abbrev pub close_owned : HeldContext → Execution → OrAbort Execution
-close_owned c w = try_fold (close_window (context_of c)) (owned_batch_windows c.catalog.now c.procedure) w
 
 -- the run of a body on these contents leaves this result
 abbrev pub BodyLeaves : Catalog → ℕ → List Step → Row → List Rows → Option Value → HeldContents → HeldResult → Type 0

@@ -1,7 +1,9 @@
 //! Whole statements: what they make, and the triggers that this sets off.
 
 ghost use Rattle.std.specs.Prelude.{IfErr, OnOk};
-ghost use Rattle.ss_model_computed.specs.Meanings.{Brings, StepStops, execute_and_fire};
+ghost use Rattle.ss_model.specs.Depths.{run_and_fire};
+ghost use Rattle.ss_model_computed.specs.Meanings.{Brings, StepStops};
+ghost use Rattle.ss_model_computed.specs.State.{context_of};
 
 use crate::contents::{Context, Execution};
 pub use crate::queries::context_query;
@@ -22,8 +24,8 @@ pub fn execute_statement(
     statement: &Statement,
     execution: &mut Execution,
 ) -> Result<(), RunError>
-    ensures ok { OnOk result (Brings (execute_and_fire context.now inserted.now params.now statement.now) execution.old execution.new) }
-    ensures stops { IfErr result (StepStops (execute_and_fire context.now inserted.now params.now statement.now) execution.old) }
+    ensures ok { OnOk result (Brings (run_and_fire (context_of context.now) inserted.now params.now statement.now) execution.old execution.new) }
+    ensures stops { IfErr result (StepStops (run_and_fire (context_of context.now) inserted.now params.now statement.now) execution.old) }
 {
     let depth = context.catalog.windows.len();
     execute_to_depth(

@@ -9,7 +9,8 @@ ghost use Rattle.ss_model.specs.Statements.{cascade_to_depth};
 ghost use Rattle.ss_model.specs.Stops.{StopsAs};
 ghost use Rattle.ss_model_computed.specs.State.{execution_of, context_of};
 ghost use Rattle.ss_model_computed.specs.Firing.{waits_for};
-ghost use Rattle.ss_model_computed.specs.Meanings.{Brings, StepStops, close_to_depth, stage_to_depth, stage_all_to_depth, execute_to_depth, execute_all_to_depth, fire_to_depth, close_and_fire, fire_stream};
+ghost use Rattle.ss_model.specs.Depths.{close_to_depth, stage_to_depth, stage_all_to_depth, run_to_depth, run_all_to_depth, close_and_fire, fire_stream};
+ghost use Rattle.ss_model_computed.specs.Meanings.{Brings, StepStops, fire_to_depth};
 
 use crate::contents::{Context, Execution};
 use crate::effects::{Effect, one_row, statement_effect};
@@ -71,8 +72,8 @@ fn close_to_depth(
     unit: Rows,
     execution: &mut Execution,
 ) -> Result<(), RunError>
-    ensures ok { OnOk result (Brings (close_to_depth depth context.now window unit) execution.old execution.new) }
-    ensures stops { IfErr result (StepStops (close_to_depth depth context.now window unit) execution.old) }
+    ensures ok { OnOk result (Brings (close_to_depth depth (context_of context.now) window unit) execution.old execution.new) }
+    ensures stops { IfErr result (StepStops (close_to_depth depth (context_of context.now) window unit) execution.old) }
 {
     let count = units_count(&execution.contents, window);
     if count >= WINDOW_UNIT_LIMIT {
@@ -98,8 +99,8 @@ fn stage_row(
     row: Row,
     execution: &mut Execution,
 ) -> Result<(), RunError>
-    ensures ok { OnOk result (Brings (stage_to_depth depth context.now window row) execution.old execution.new) }
-    ensures stops { IfErr result (StepStops (stage_to_depth depth context.now window row) execution.old) }
+    ensures ok { OnOk result (Brings (stage_to_depth depth (context_of context.now) window row) execution.old execution.new) }
+    ensures stops { IfErr result (StepStops (stage_to_depth depth (context_of context.now) window row) execution.old) }
 {
     match window_unit(context.catalog, window) {
         Unit::Rows => {
@@ -123,8 +124,8 @@ fn stage_rows(
     rows: &[Row],
     execution: &mut Execution,
 ) -> Result<(), RunError>
-    ensures ok { OnOk result (Brings (stage_all_to_depth depth context.now window rows.now) execution.old execution.new) }
-    ensures stops { IfErr result (StepStops (stage_all_to_depth depth context.now window rows.now) execution.old) }
+    ensures ok { OnOk result (Brings (stage_all_to_depth depth (context_of context.now) window rows.now) execution.old execution.new) }
+    ensures stops { IfErr result (StepStops (stage_all_to_depth depth (context_of context.now) window rows.now) execution.old) }
 {
     for row in rows {
         let row = row.duplicate(alloc)?;
@@ -144,8 +145,8 @@ pub(crate) fn execute_to_depth(
     statement: &Statement,
     execution: &mut Execution,
 ) -> Result<(), RunError>
-    ensures ok { OnOk result (Brings (execute_to_depth depth context.now inserted.now params.now statement.now) execution.old execution.new) }
-    ensures stops { IfErr result (StepStops (execute_to_depth depth context.now inserted.now params.now statement.now) execution.old) }
+    ensures ok { OnOk result (Brings (run_to_depth depth (context_of context.now) inserted.now params.now statement.now) execution.old execution.new) }
+    ensures stops { IfErr result (StepStops (run_to_depth depth (context_of context.now) inserted.now params.now statement.now) execution.old) }
 {
     let effect = statement_effect(
         alloc,
@@ -173,8 +174,8 @@ fn run_statements(
     statements: &[Statement],
     execution: &mut Execution,
 ) -> Result<(), RunError>
-    ensures ok { OnOk result (Brings (execute_all_to_depth depth context.now inserted.now statements.now) execution.old execution.new) }
-    ensures stops { IfErr result (StepStops (execute_all_to_depth depth context.now inserted.now statements.now) execution.old) }
+    ensures ok { OnOk result (Brings (run_all_to_depth depth (context_of context.now) inserted.now statements.now) execution.old execution.new) }
+    ensures stops { IfErr result (StepStops (run_all_to_depth depth (context_of context.now) inserted.now statements.now) execution.old) }
 {
     let nothing = Seq::new(alloc);
     for statement in statements {
@@ -223,8 +224,8 @@ pub fn run_stream_triggers(
     rows: &Rows,
     execution: &mut Execution,
 ) -> Result<(), RunError>
-    ensures ok { OnOk result (Brings (fire_stream context.now rows.now stream) execution.old execution.new) }
-    ensures stops { IfErr result (StepStops (fire_stream context.now rows.now stream) execution.old) }
+    ensures ok { OnOk result (Brings (fire_stream (context_of context.now) rows.now stream) execution.old execution.new) }
+    ensures stops { IfErr result (StepStops (fire_stream (context_of context.now) rows.now stream) execution.old) }
 {
     let depth = context.catalog.windows.len();
     run_triggers(alloc, depth, context, On::Stream(stream), rows, execution)
@@ -241,8 +242,8 @@ pub fn close_unit(
     unit: Rows,
     execution: &mut Execution,
 ) -> Result<(), RunError>
-    ensures ok { OnOk result (Brings (close_and_fire context.now window unit) execution.old execution.new) }
-    ensures stops { IfErr result (StepStops (close_and_fire context.now window unit) execution.old) }
+    ensures ok { OnOk result (Brings (close_and_fire (context_of context.now) window unit) execution.old execution.new) }
+    ensures stops { IfErr result (StepStops (close_and_fire (context_of context.now) window unit) execution.old) }
 {
     let depth = context.catalog.windows.len();
     close_to_depth(alloc, depth, context, window, unit, execution)

@@ -21,7 +21,7 @@ under true e f h = h refl e
 under false e f h = refl
 
 -- equal cuts give equal answers inside
-inside_get : (p : Row → Bool) (m n : Table) (q : Row) → finmap.retain_keys m p ≡ finmap.retain_keys n p → p q ≡ true → finmap.get m q ≡ finmap.get n q
+pub inside_get : (p : Row → Bool) (m n : Table) (q : Row) → finmap.retain_keys m p ≡ finmap.retain_keys n p → p q ≡ true → finmap.get m q ≡ finmap.get n q
 inside_get p m n q e t =
     let h = sym (get_cut m p q) ∙ ap (λ x. finmap.get x q) e ∙ get_cut n p q in
     subst (λ b. cond b (finmap.get m q) None ≡ cond b (finmap.get n q) None) t h

@@ -16,7 +16,7 @@ use Rattle.ss_model.specs.declared.entry.Entry.TheVariants.{Call, Push, Step as 
 use Rattle.ss_model.specs.declared.entry.Outcome.TheVariants.{Done, Duplicate, Gap}
 use Rattle.ss_model.specs.Results.{map_indexed}
 use Rattle.ss_model.specs.Contents.{Contents, Window, window_def, kept_units, window_units}
-use Rattle.ss_model.specs.Database.{Database, Applied, run_procedure, only_when, apply, apply_call, apply_step, accept_batch, numbered_push, next_number, batch_count, stream_batches, is_ready, is_streaming, append_batches, takes_stream, emits_to}
+use Rattle.ss_model.specs.Database.{Database, Applied, run_procedure, only_when, apply, apply_call, apply_step, accept_batch, numbered_push, next_number, batch_count, stream_batches, is_ready, is_streaming, append_batches, input_batches, stepped_on, takes_stream, emits_to}
 use Rattle.ss_model.specs.Orders.{procedure_takes, procedure_has}
 use Rattle.ss_model.specs.Settling.{Kept, kept, least_count, procedure_numbers, SameKeptEffect, SameKeptApplied}
 use Rattle.ss_model.specs.Locality.{context_of, BodyResultRelated}
@@ -208,14 +208,6 @@ module _ (catalog : Catalog) where
   -- ---- steps
 
   module _ (q r : ℕ) (p : Procedure) (is : slice_get catalog.procedures q ≡ Some p) where
-    abbrev stepped : List Rows → Database → Applied
-    stepped batches db =
-        let x = run_procedure catalog q p [] batches db.contents in
-        record { db = record db { contents = x.contents; counts = set db.counts q (r + 1); streams = append_batches p x.emitted db.streams }; outcome = x.outcome; emitted = x.emitted }
-
-    abbrev inputs : Database → List Rows
-    inputs db = map (λ s. get_or (stream_batches db s) r []) p.inputs
-
     same_ready : (x y : Database) → SameKeptDatabase x y → is_ready x q r p ≡ is_ready y q r p
     same_ready x y k = λ i. is_streaming p.kind && (get_or (k.counts i) q 0 == r) && list_all (λ s. nat_lt r (k.lengths s i)) p.inputs
 
@@ -270,17 +262,17 @@ module _ (catalog : Catalog) where
     raised_count : (cs : List ℕ) (z : ℕ) → get_or cs q 0 ≡ r → get_or cs z 0 ≤ get_or (set cs q (r + 1)) z 0
     raised_count cs z c = set_one (λ n. get_or cs z 0 ≤ n) cs q z (r + 1) 0 (omega arith) (λ e. let f : get_or cs z 0 ≡ r = ap (λ i. get_or cs i 0) (sym e) ∙ c in omega arith)
 
-    step_kept : (x y : Database) (batches : List Rows) → SameKeptDatabase x y → batch_count x q ≡ r → SameKeptEffect catalog (stepped batches x) (stepped batches y)
+    step_kept : (x y : Database) (batches : List Rows) → SameKeptDatabase x y → batch_count x q ≡ r → SameKeptEffect catalog (stepped_on catalog x q r p batches) (stepped_on catalog y q r p batches)
     step_kept x y batches k c =
         let run = run_kept q p [] batches x y k in
         let new = (run_procedure catalog q p [] batches x.contents).emitted in
-        let least : (s : ℕ) → least_count catalog x s ≤ least_count catalog (stepped batches x).db s =
+        let least : (s : ℕ) → least_count catalog x s ≤ least_count catalog (stepped_on catalog x q r p batches).db s =
         λ s. least_rises (λ z. procedure_takes catalog z s) (procedure_numbers catalog) (batch_count x) (λ z. get_or (set x.counts q (r + 1)) z 0) _ _ (λ z. raised_count x.counts z c) (grown_longer new x.streams s (nat_lt s (length x.streams)) refl) in
         record {
           outcome = run.outcome;
           emitted = run.emitted;
-          after = to_kept (stepped batches x).db (stepped batches y).db
-              (subst (λ m. SameKeptDatabase (stepped batches x).db (record (stepped batches y).db { streams = append_batches p m y.streams })) run.emitted (record {
+          after = to_kept (stepped_on catalog x q r p batches).db (stepped_on catalog y q r p batches).db
+              (subst (λ m. SameKeptDatabase (stepped_on catalog x q r p batches).db (record (stepped_on catalog y q r p batches).db { streams = append_batches p m y.streams })) run.emitted (record {
                 contents = run.contents;
                 counts = ap (λ cs. set cs q (r + 1)) k.counts;
                 next_numbers = k.next_numbers;
@@ -290,16 +282,16 @@ module _ (catalog : Catalog) where
               }));
         }
 
-    when_kept : (x y : Database) → SameKeptDatabase x y → (b : Bool) → is_ready x q r p ≡ b → SameKeptApplied catalog (only_when b (Some (stepped (inputs x) x))) (only_when b (Some (stepped (inputs y) y)))
+    when_kept : (x y : Database) → SameKeptDatabase x y → (b : Bool) → is_ready x q r p ≡ b → SameKeptApplied catalog (only_when b (Some (stepped_on catalog x q r p (input_batches x r p)))) (only_when b (Some (stepped_on catalog y q r p (input_batches y r p))))
     when_kept x y k false e = tt
     when_kept x y k true e =
         let count : batch_count x q ≡ r = (Decides-eqb _ _).0 (second_of_two _ _ (first_of_two _ _ e)) in
-        subst (λ batches. SameKeptEffect catalog (stepped (inputs x) x) (stepped batches y)) (same_inputs x y k count p.inputs (λ s t. t)) (step_kept x y (inputs x) k count)
+        subst (λ batches. SameKeptEffect catalog (stepped_on catalog x q r p (input_batches x r p)) (stepped_on catalog y q r p batches)) (same_inputs x y k count p.inputs (λ s t. t)) (step_kept x y (input_batches x r p) k count)
 
   step_kept_by : (x y : Database) (q r : ℕ) (o : Option Procedure) → slice_get catalog.procedures q ≡ o → SameKeptDatabase x y → SameKeptApplied catalog (apply_step catalog x q r o) (apply_step catalog y q r o)
   step_kept_by x y q r None is k = tt
   step_kept_by x y q r (Some p) is k =
-      subst (λ b. SameKeptApplied catalog (only_when (is_ready x q r p) (Some (stepped q r p is (inputs q r p is x) x))) (only_when b (Some (stepped q r p is (inputs q r p is y) y)))) (same_ready q r p is x y k)
+      subst (λ b. SameKeptApplied catalog (only_when (is_ready x q r p) (Some (stepped_on catalog x q r p (input_batches x r p)))) (only_when b (Some (stepped_on catalog y q r p (input_batches y r p))))) (same_ready q r p is x y k)
       (when_kept q r p is x y k (is_ready x q r p) refl)
 
   entry_kept : (x y : Database) → SameKeptDatabase x y → (e : Entry) → SameKeptApplied catalog (apply catalog x e) (apply catalog y e)

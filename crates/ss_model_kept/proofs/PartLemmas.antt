@@ -13,6 +13,7 @@ use Rattle.ss_model.specs.Partitions.{row_partition, window_partition, part}
 use Rattle.ss_model.proofs.CallerLemmas.{get_cut, same_table, cut_within}
 use Rattle.ss_model.specs.Locality.{Agree, Unchanged}
 use Rattle.ss_model_kept.proofs.ListItems.{length-map_index}
+use Rattle.ss_model_kept.proofs.Agreement.{inside_get}
 
 pub slot : {A B : Type 0} (f : ℕ → A → B) (xs : List A) (i : ℕ) (d : A) (e : B) → f i d ≡ e → get_or (map_indexed f xs) i e ≡ f i (get_or xs i d)
 slot f [] i d e h = sym h
@@ -48,10 +49,6 @@ module _ (catalog : Catalog) (n : ℕ) where
   unfolding part
   part_lengths db p = (length-map_index _ db.contents.tables, length-map_index _ db.contents.windows)
 
-  in_both : (p : Row → Bool) (m k : Table) (q : Row) → finmap.retain_keys m p ≡ finmap.retain_keys k p → p q ≡ true → finmap.get m q ≡ finmap.get k q
-  in_both p m k q e t =
-      subst (λ b. cond b (finmap.get m q) None ≡ cond b (finmap.get k q) None) t (sym (get_cut m p q) ∙ ap (λ x. finmap.get x q) e ∙ get_cut k p q)
-
   module _ (set : ℕ → Bool) where
     -- equal parts of a set of partitions make contents that agree on it
     pub parts_agree : (x y : Database) (touched_part : ℕ) → set touched_part ≡ true → ((p : ℕ) → set p ≡ true → part catalog n p x ≡ part catalog n p y) → Agree (λ t key. set (row_partition catalog n t key)) (λ w. set (window_partition catalog n w)) x.contents y.contents
@@ -70,7 +67,7 @@ module _ (catalog : Catalog) (n : ℕ) where
         one t q false s = refl
         one t q true s =
             let p = row_partition catalog n t q in
-            in_both (λ key. row_partition catalog n t key == p) (table_at x.contents t) (table_at y.contents t) q
+            inside_get (λ key. row_partition catalog n t key == p) (table_at x.contents t) (table_at y.contents t) q
             (sym (part_table x p t) ∙ ap (λ d. get_or d.tables t finmap.empty) (e p s) ∙ part_table y p t) ((Decides-eqb p p).1 refl)
 
     -- and back: the tables and windows of each such part are equal

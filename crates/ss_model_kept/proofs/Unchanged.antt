@@ -2,7 +2,6 @@
 use Rattle.std.proofs.Common.{◌≡◌, ℕ, Bool, true, false, cond, not, List, [], ◌∷◌, length, refl, sym, ap, ◌∙◌, subst, Ok, Some, None, slice_get, length-set}
 use Rattle.std.specs.declared.option.Option.{Option}
 use Rattle.std.specs.Ordering.{eq_by_cmp}
-use Rattle.std.specs.Cmp.{Equal-is}
 use Rattle.std.specs.List.{AllByRecursion, fold}
 use Rattle.std.specs.FinMap as finmap
 use Rattle.ss_model.specs.declared.entry.Reason.TheVariants.{KeyTaken, TableFull}
@@ -11,15 +10,12 @@ use Rattle.ss_value.specs.Rows.{Row, Rows}
 use Rattle.ss_value.specs.Order.{row_cmp}
 use Rattle.ss_model.specs.Contents.{Table, Contents, window_def, visible_rows, table_at, window_units, append_unit, put_entries, remove_entries, visible_table, row_key, table_placement}
 use Rattle.ss_model.specs.Statements.{Context, is_table_full, insert_row}
-use Rattle.ss_value.specs.ValueOrder.{row_cmp-IsAntisymmetric}
+use Rattle.ss_value.proofs.CallerLemmas.{same_row}
 use Rattle.ss_model.proofs.CallerLemmas.{get_cut, get_put, get_drop, same_table}
 use Rattle.ss_model_kept.proofs.ListItems.{set_one}
 use Rattle.ss_model_kept.proofs.Related.{Related, same_test_abort}
 use Rattle.ss_model_kept.proofs.Respects.{Respects}
 use Rattle.ss_model.specs.Locality.{IsVisible, IsVisibleRow, Unchanged, inside_scope}
-
-tied : (a b : Row) → eq_by_cmp row_cmp a b ≡ true → a ≡ b
-tied a b e = row_cmp-IsAntisymmetric a b ((Equal-is (row_cmp a b)).0 e)
 
 -- a key that fails the test makes no difference to the cut
 cut_apart : (p : Row → Bool) (k : Row) (v : Option Row) (m a : Table) → p k ≡ false → ((q : Row) → finmap.get a q ≡ cond (eq_by_cmp row_cmp q k) v (finmap.get m q)) → finmap.retain_keys a p ≡ finmap.retain_keys m p
@@ -28,7 +24,7 @@ cut_apart p k v m a f h = same_table _ _ (λ q. get_cut a p q ∙ by_test q (p q
     by_test : (q : Row) (c : Bool) → p q ≡ c → (b : Bool) → eq_by_cmp row_cmp q k ≡ b → cond c (finmap.get a q) None ≡ cond c (finmap.get m q) None
     by_test q false t b e = refl
     by_test q true t false e = h q ∙ ap (λ b. cond b v (finmap.get m q)) e
-    by_test q true t true e = let g : true ≡ false = sym t ∙ ap p (tied q k e) ∙ f in cc
+    by_test q true t true e = let g : true ≡ false = sym t ∙ ap p (same_row q k e) ∙ f in cc
 
 put_apart : (p : Row → Bool) (new : List (Row × Row)) (m : Table) → AllByRecursion (λ e. p e.0 ≡ false) new → finmap.retain_keys (fold (λ m e. finmap.insert m e.0 e.1) m new) p ≡ finmap.retain_keys m p
 put_apart p [] m all = refl

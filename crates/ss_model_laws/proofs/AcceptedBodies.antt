@@ -196,22 +196,7 @@ module _ (catalog : Catalog) where
     form = frame_of a.form;
     triggers_typed = second_of_two _ _ a.typed;
     triggers_in_scope = second_of_two _ _ a.in_scope;
-    no_arg = a.no_arg;
-    somewhere = a.somewhere;
-    keyed = a.keyed;
-    owned = a.owned;
-    wired = a.wired;
-    fed = a.fed;
-    taken = a.taken;
-    one_consumer = a.one_consumer;
-    no_trigger = a.no_trigger;
-    one_workflow = a.one_workflow;
-    level = a.level;
-    level_rises = a.level_rises;
-    rank = a.rank;
-    ranked = a.ranked;
-    rank_within = a.rank_within;
-    batches_forward = a.batches_forward;
+    structure = a.structure;
   }
 
   bodies_in : Accepted catalog → OwnBodies catalog
@@ -220,8 +205,8 @@ module _ (catalog : Catalog) where
     size = at_index (λ p. body_within_limit p.body) catalog.procedures (second_of_two _ _ (limits a.form)) q p is;
     typed = at_index (procedure_typed catalog) catalog.procedures (first_of_two _ _ a.typed) q p is;
     in_scope = at_index (procedure_in_scope catalog) catalog.procedures (first_of_two _ _ a.in_scope) q p is;
-    local = a.local q p is;
-    limited = a.limited q p is;
+    local = (a.uses q p is).local;
+    limited = (a.uses q p is).limited;
     emits = λ s. refl;
   }
 
@@ -231,24 +216,8 @@ module _ (catalog : Catalog) where
     typed = and_from _ _ (all_from (procedure_typed catalog) catalog.procedures (λ q p is. (b q p is).typed)) f.triggers_typed;
     in_scope = and_from _ _ (all_from (procedure_in_scope catalog) catalog.procedures (λ q p is. (b q p is).in_scope)) f.triggers_in_scope;
     call_steps = λ q p is call. calls_of p.kind p.body call (b q p is).kind;
-    local = λ q p is. (b q p is).local;
-    limited = λ q p is. (b q p is).limited;
-    no_arg = f.no_arg;
-    somewhere = f.somewhere;
-    keyed = f.keyed;
-    owned = f.owned;
-    wired = f.wired;
-    fed = f.fed;
-    taken = f.taken;
-    one_consumer = f.one_consumer;
-    no_trigger = f.no_trigger;
-    one_workflow = f.one_workflow;
-    level = f.level;
-    level_rises = f.level_rises;
-    rank = f.rank;
-    ranked = f.ranked;
-    rank_within = f.rank_within;
-    batches_forward = f.batches_forward;
+    uses = λ q p is. let body = b q p is in record { local = body.local; limited = body.limited };
+    structure = f.structure;
   }
 
   pub in_parts : Accepted catalog ↔ (AcceptedFrame catalog × OwnBodies catalog)

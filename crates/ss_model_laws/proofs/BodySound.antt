@@ -262,7 +262,7 @@ module _ (context : Context) (typed : catalog_typed context.catalog ≡ true) (i
 
 -- ---- what a procedure leaves
 
-nothing_emitted : (n i : ℕ) → get_or (replicate {A = Rows} n []) i [] ≡ []
+pub nothing_emitted : (n i : ℕ) → get_or (replicate {A = Rows} n []) i [] ≡ []
 nothing_emitted zero i = refl
 nothing_emitted (suc n) zero = refl
 nothing_emitted (suc n) (suc i) = nothing_emitted n i

@@ -15,7 +15,7 @@ use Rattle.ss_model.specs.Partitions.{local_claims}
 use Rattle.ss_model.specs.Settling.{border_stream, border_stream_from, first_input, emitting_procedure, procedure_numbers}
 use Rattle.ss_model.specs.Feeds.{Reaches, at_once, through, BatchesGoForward}
 use Rattle.ss_model.specs.CatalogForm.{has_frame, head_of_kind, has_distinct_names, numbers_in_range, counts_within_limits, has_window_sizes, has_distinct_numbers, has_parts, all_distinct, source_names, columns_distinct, numbers_distinct, listed_parts, touch_in_range, trigger_in_range, placement_in_range}
-use Rattle.ss_model.specs.Accepted.{Accepted, IsArg, IsSomewhere}
+use Rattle.ss_model.specs.Accepted.{Accepted, AcceptedStructure, IsArg, IsSomewhere, StreamsEndWell}
 use Rattle.ss_model.specs.AcceptedBodies.{with_body, with_bodies, AcceptedBody, AcceptedBodies, AcceptedFrame, OwnBodies, BodiesMayChange}
 use Rattle.ss_lemmas.proofs.Bools.{some_same}
 use Rattle.ss_model_laws.proofs.AcceptedBodies.{in_parts, joined}
@@ -172,32 +172,34 @@ module _ (catalog : Catalog) (bodies : ℕ → List Step) where
 
     -- ---- the frame
 
-    frame : AcceptedFrame catalog → AcceptedFrame other
-    frame f = record {
-      form = frame_same ∙ f.form;
-      triggers_typed = f.triggers_typed;
-      triggers_in_scope = f.triggers_in_scope;
-      no_arg = λ q p is. let k = was_there q p is in subst (λ (z : Procedure). is_streaming z.kind ≡ true → IsArg z.touch → ⊥) k.is (f.no_arg q k.was k.stood);
-      somewhere = λ q p is. let k = was_there q p is in subst (λ (z : Procedure). IsSomewhere z.touch) k.is (f.somewhere q k.was k.stood);
-      keyed = f.keyed;
-      owned = λ w q o. has_same (λ p. is_streaming p.kind) (λ body p. refl) q ∙ f.owned w q o;
-      wired = wired f.wired;
-      fed = λ s l. fed s (f.fed s l);
-      taken = λ p s e. let (q, t) = f.taken p s (emits_back p s e) in (q, takes_same q s ∙ t);
-      one_consumer = λ p q s b t u. f.one_consumer p q s (border_back s b) (takes_back p s t) (takes_back q s u);
-      no_trigger = λ s b. f.no_trigger s (border_back s b);
-      one_workflow = λ p q s t e. stream_same p ∙ f.one_workflow p q s (takes_back q s t) (emits_back p s e) ∙ sym (stream_same q);
-      level = f.level;
-      level_rises = λ p q s e t. f.level_rises p q s (emits_back p s e) (takes_back q s t);
-      rank = f.rank;
-      ranked = f.ranked;
-      rank_within = f.rank_within;
-      batches_forward = forward f.batches_forward;
+    streams : StreamsEndWell catalog → StreamsEndWell other
+    streams k = record {
+      wired = wired k.wired;
+      fed = λ s l. fed s (k.fed s l);
+      taken = λ p s e. let (q, t) = k.taken p s (emits_back p s e) in (q, takes_same q s ∙ t);
+      one_consumer = λ p q s b t u. k.one_consumer p q s (border_back s b) (takes_back p s t) (takes_back q s u);
+      no_trigger = λ s b. k.no_trigger s (border_back s b);
+      one_workflow = λ p q s t e. stream_same p ∙ k.one_workflow p q s (takes_back q s t) (emits_back p s e) ∙ sym (stream_same q);
     }
       where
         fed : (s : ℕ) → (is_border_stream catalog s ≡ true) ⊎ ((p : ℕ) × (procedure_emits catalog p s ≡ true)) → (is_border_stream other s ≡ true) ⊎ ((p : ℕ) × (procedure_emits other p s ≡ true))
         fed s (inl b) = inl (border_same s ∙ b)
         fed s (inr (p, e)) = inr (p, emits_same p s ∙ e)
+
+    structure : AcceptedStructure catalog → AcceptedStructure other
+    structure k = record {
+      no_arg = λ q p is. let b = was_there q p is in subst (λ (z : Procedure). is_streaming z.kind ≡ true → IsArg z.touch → ⊥) b.is (k.no_arg q b.was b.stood);
+      somewhere = λ q p is. let b = was_there q p is in subst (λ (z : Procedure). IsSomewhere z.touch) b.is (k.somewhere q b.was b.stood);
+      keyed = k.keyed;
+      owned = λ w q o. has_same (λ p. is_streaming p.kind) (λ body p. refl) q ∙ k.owned w q o;
+      streams = streams k.streams;
+      levels = record { level = k.levels.level; level_rises = λ p q s e t. k.levels.level_rises p q s (emits_back p s e) (takes_back q s t) };
+      ranks = record { rank = k.ranks.rank; ranked = k.ranks.ranked; rank_within = k.ranks.rank_within };
+      batches_forward = forward k.batches_forward;
+    }
+
+    frame : AcceptedFrame catalog → AcceptedFrame other
+    frame f = record { form = frame_same ∙ f.form; triggers_typed = f.triggers_typed; triggers_in_scope = f.triggers_in_scope; structure = structure f.structure }
 
     -- ---- the bodies
 

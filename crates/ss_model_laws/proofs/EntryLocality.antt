@@ -1,5 +1,5 @@
 -- An entry leaves the parts that it does not touch, and depends on those that it touches and on its input batches.
-use Rattle.std.proofs.Common.{◌≡◌, ◌≤◌, ◌<◌, ◌+◌, ℕ, Bool, true, false, cond, ◌==◌, ◌&&◌, nat_lt, ◌⊎◌, inl, inr, ◌≢◌, List, [], ◌∷◌, map, refl, sym, ap, ◌∙◌, subst, Some, None, slice_get, get_or, set, length, is_some, unwrap_or, arith}
+use Rattle.std.proofs.Common.{◌≡◌, ◌≤◌, ◌<◌, ◌+◌, ℕ, Bool, true, false, cond, ◌==◌, ◌&&◌, nat_lt, ◌⊎◌, inl, inr, ◌≢◌, List, [], ◌∷◌, map, refl, sym, ap, ◌∙◌, subst, Some, None, slice_get, get_or, length, is_some, unwrap_or, arith}
 use Rattle.std.proofs.lemmas.Bool.{lt-ltb, ltb-true}
 use Rattle.std.proofs.lemmas.Bool.Decides.{eqb_tells, Decides-eqb}
 use Rattle.std.proofs.lemmas.Option.{unwrap_or-slice_get, slice_get_cases}
@@ -12,7 +12,7 @@ use Rattle.ss_model.specs.declared.catalog.Procedure.{Procedure}
 use Rattle.ss_model.specs.declared.entry.Entry.{Entry}
 use Rattle.ss_model.specs.declared.entry.Entry.TheVariants.{Call, Push, Step as StepEntry}
 use Rattle.ss_model.specs.declared.entry.Outcome.TheVariants.{Done, Duplicate, Gap}
-use Rattle.ss_model.specs.Database.{Database, Applied, run_procedure, only_when, apply, apply_call, apply_step, accept_batch, numbered_push, next_number, batch_count, stream_batches, is_ready, is_streaming, append_batches}
+use Rattle.ss_model.specs.Database.{Database, Applied, only_when, apply, apply_call, apply_step, accept_batch, numbered_push, next_number, batch_count, stream_batches, is_ready, is_streaming, input_batches, stepped_on}
 use Rattle.ss_model.specs.Partitions.{part, home_of, home_partition, border_procedure, in_touch_set, touches, procedure_touches}
 use Rattle.ss_model.specs.Accepted.{Accepted}
 use Rattle.ss_model.specs.Locality.{SameInputs, SameEffect, SameApplied, LeavesParts, EntryIsLocal}
@@ -71,7 +71,7 @@ module _ (catalog : Catalog) (accepted : Accepted catalog) (n : ℕ) (some : 1 �
     call_same : (x y : Database) → ((p : ℕ) → touches catalog n (Call client index q args) p ≡ true → part catalog n p x ≡ part catalog n p y) → (o : Option Procedure) → slice_get catalog.procedures q ≡ o → SameApplied catalog n (Call client index q args) (apply_call catalog x client q args o) (apply_call catalog y client q args o)
     call_same x y h None is = tt
     call_same x y h (Some p) is =
-        let (some_part, touched) = touched_partition n p.touch args some (accepted.somewhere q p is) in
+        let (some_part, touched) = touched_partition n p.touch args some (accepted.structure.somewhere q p is) in
         let run = depends_on_parts catalog n q p args [] ((uses_touched catalog accepted n some q p is).uses args []) x y some_part touched (λ z t. h z (ap (λ o. procedure_touches n o args z) is ∙ t)) in
         only_same catalog n (Call client index q args) _ _ _ (record { outcome = run.outcome; emitted = refl; parts = λ z t. run.parts z (sym (ap (λ o. procedure_touches n o args z) is) ∙ t) })
 
@@ -119,15 +119,6 @@ module _ (catalog : Catalog) (accepted : Accepted catalog) (n : ℕ) (some : 1 �
   -- ---- steps
 
   module _ (q r : ℕ) (p : Procedure) (is : slice_get catalog.procedures q ≡ Some p) where
-    -- what a step comes to, of these batches
-    abbrev stepped : List Rows → Database → Applied
-    stepped batches db =
-        let x = run_procedure catalog q p [] batches db.contents in
-        record { db = record db { contents = x.contents; counts = set db.counts q (r + 1); streams = append_batches p x.emitted db.streams }; outcome = x.outcome; emitted = x.emitted }
-
-    abbrev inputs : Database → List Rows
-    inputs db = map (λ s. get_or (stream_batches db s) r []) p.inputs
-
     touched_by : (x : ℕ) → touches catalog n (StepEntry q r) x ≡ in_touch_set n p.touch [] x
     touched_by x = ap (λ o. procedure_touches n o [] x) is
 
@@ -138,16 +129,16 @@ module _ (catalog : Catalog) (accepted : Accepted catalog) (n : ℕ) (some : 1 �
         by (inl h) = let g : true ≡ false = sym ((uses_touched catalog accepted n some q p is).home s []) ∙ ap (in_touch_set n p.touch []) h.1 ∙ t in cc
         by (inr h) = h.0
 
-    stepped_apart : (batches : List Rows) (db : Database) (x : ℕ) → is_streaming p.kind ≡ true → in_touch_set n p.touch [] x ≡ false → part catalog n x (stepped batches db).db ≡ part catalog n x db
+    stepped_apart : (batches : List Rows) (db : Database) (x : ℕ) → is_streaming p.kind ≡ true → in_touch_set n p.touch [] x ≡ false → part catalog n x (stepped_on catalog db q r p batches).db ≡ part catalog n x db
     unfolding part
     stepped_apart batches db x s t =
         let run = leaves_parts catalog n q p [] batches ((uses_touched catalog accepted n some q p is).uses [] batches) db x t in
         same_part _ _ (ap (λ d. d.tables) run) (ap (λ d. d.windows) run) (count_apart catalog n db x q (r + 1) (home_apart x s t)) (ap (λ d. d.next_numbers) run)
 
-    stepped_same : (batches : List Rows) (x y : Database) → ((z : ℕ) → in_touch_set n p.touch [] z ≡ true → part catalog n z x ≡ part catalog n z y) → SameEffect catalog n (StepEntry q r) (stepped batches x) (stepped batches y)
+    stepped_same : (batches : List Rows) (x y : Database) → ((z : ℕ) → in_touch_set n p.touch [] z ≡ true → part catalog n z x ≡ part catalog n z y) → SameEffect catalog n (StepEntry q r) (stepped_on catalog x q r p batches) (stepped_on catalog y q r p batches)
     unfolding part
     stepped_same batches x y h =
-        let (some_part, touched) = touched_partition n p.touch [] some (accepted.somewhere q p is) in
+        let (some_part, touched) = touched_partition n p.touch [] some (accepted.structure.somewhere q p is) in
         let run = depends_on_parts catalog n q p [] batches ((uses_touched catalog accepted n some q p is).uses [] batches) x y some_part touched h in
         record {
           outcome = run.outcome;
@@ -170,27 +161,27 @@ module _ (catalog : Catalog) (accepted : Accepted catalog) (n : ℕ) (some : 1 �
     ready_streams db e = first_of_two _ _ (first_of_two _ _ e)
 
     -- a procedure that does not stream has no steps
-    when_ready : (db : Database) (batches : List Rows) (b : Bool) → is_ready db q r p ≡ b → LeavesParts catalog n (StepEntry q r) db (only_when b (Some (stepped batches db)))
+    when_ready : (db : Database) (batches : List Rows) (b : Bool) → is_ready db q r p ≡ b → LeavesParts catalog n (StepEntry q r) db (only_when b (Some (stepped_on catalog db q r p batches)))
     when_ready db batches true e = λ x t. stepped_apart batches db x (ready_streams db e) (sym (touched_by x) ∙ t)
     when_ready db batches false e = tt
 
-    both_ready : (x y : Database) → ((z : ℕ) → touches catalog n (StepEntry q r) z ≡ true → part catalog n z x ≡ part catalog n z y) → SameInputs catalog (StepEntry q r) x y → (b : Bool) → is_streaming p.kind ≡ b → SameApplied catalog n (StepEntry q r) (only_when (is_ready x q r p) (Some (stepped (inputs x) x))) (only_when (is_ready y q r p) (Some (stepped (inputs y) y)))
+    both_ready : (x y : Database) → ((z : ℕ) → touches catalog n (StepEntry q r) z ≡ true → part catalog n z x ≡ part catalog n z y) → SameInputs catalog (StepEntry q r) x y → (b : Bool) → is_streaming p.kind ≡ b → SameApplied catalog n (StepEntry q r) (only_when (is_ready x q r p) (Some (stepped_on catalog x q r p (input_batches x r p)))) (only_when (is_ready y q r p) (Some (stepped_on catalog y q r p (input_batches y r p))))
     both_ready x y h i true k =
         let home : touches catalog n (StepEntry q r) (home_of catalog n q) ≡ true = touched_by (home_of catalog n q) ∙ (uses_touched catalog accepted n some q p is).home k [] in
         let count : batch_count x q ≡ batch_count y q = count_from catalog n x y q (h (home_of catalog n q) home) in
         let ready : is_ready x q r p ≡ is_ready y q r p = λ j. is_streaming p.kind && (count j == r) && same_lengths x y p.inputs (i p is) j in
-        subst (λ b. SameApplied catalog n (StepEntry q r) (only_when (is_ready x q r p) (Some (stepped (inputs x) x))) (only_when b (Some (stepped (inputs y) y)))) ready
-        (subst (λ batches. SameApplied catalog n (StepEntry q r) (only_when (is_ready x q r p) (Some (stepped (inputs x) x))) (only_when (is_ready x q r p) (Some (stepped batches y)))) (same_batches x y p.inputs (i p is))
-        (only_same catalog n (StepEntry q r) (is_ready x q r p) _ _ (stepped_same (inputs x) x y (λ z t. h z (touched_by z ∙ t)))))
+        subst (λ b. SameApplied catalog n (StepEntry q r) (only_when (is_ready x q r p) (Some (stepped_on catalog x q r p (input_batches x r p)))) (only_when b (Some (stepped_on catalog y q r p (input_batches y r p))))) ready
+        (subst (λ batches. SameApplied catalog n (StepEntry q r) (only_when (is_ready x q r p) (Some (stepped_on catalog x q r p (input_batches x r p)))) (only_when (is_ready x q r p) (Some (stepped_on catalog y q r p batches)))) (same_batches x y p.inputs (i p is))
+        (only_same catalog n (StepEntry q r) (is_ready x q r p) _ _ (stepped_same (input_batches x r p) x y (λ z t. h z (touched_by z ∙ t)))))
     both_ready x y h i false k = idle (is_streaming p.kind) k (batch_count x q == r) (batch_count y q == r) _ _
       where
-        idle : (a : Bool) → a ≡ false → (b c d e : Bool) → SameApplied catalog n (StepEntry q r) (only_when (a && b && d) (Some (stepped (inputs x) x))) (only_when (a && c && e) (Some (stepped (inputs y) y)))
+        idle : (a : Bool) → a ≡ false → (b c d e : Bool) → SameApplied catalog n (StepEntry q r) (only_when (a && b && d) (Some (stepped_on catalog x q r p (input_batches x r p)))) (only_when (a && c && e) (Some (stepped_on catalog y q r p (input_batches y r p))))
         idle true f b c d e = cc
         idle false f b c d e = tt
 
   step_leaves : (db : Database) (q r : ℕ) (o : Option Procedure) → slice_get catalog.procedures q ≡ o → LeavesParts catalog n (StepEntry q r) db (apply_step catalog db q r o)
   step_leaves db q r None is = tt
-  step_leaves db q r (Some p) is = when_ready q r p is db (inputs q r p is db) (is_ready db q r p) refl
+  step_leaves db q r (Some p) is = when_ready q r p is db (input_batches db r p) (is_ready db q r p) refl
 
   step_same : (x y : Database) (q r : ℕ) → ((z : ℕ) → touches catalog n (StepEntry q r) z ≡ true → part catalog n z x ≡ part catalog n z y) → SameInputs catalog (StepEntry q r) x y → (o : Option Procedure) → slice_get catalog.procedures q ≡ o → SameApplied catalog n (StepEntry q r) (apply_step catalog x q r o) (apply_step catalog y q r o)
   step_same x y q r h i None is = tt

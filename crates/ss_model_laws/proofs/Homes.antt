@@ -69,18 +69,18 @@ call_streams Interior e f = cc
 
 module _ (catalog : Catalog) (accepted : Accepted catalog) (n : ℕ) (some : 1 ≤ n) (q : ℕ) (p : Procedure) (is : slice_get catalog.procedures q ≡ Some p) where
   owned_by : (w : ℕ) → window_owner catalog w ≡ Some q → is_streaming p.kind ≡ true
-  owned_by w o = sym (ap (procedure_has (λ p. is_streaming p.kind)) is) ∙ accepted.owned w q o
+  owned_by w o = sym (ap (procedure_has (λ p. is_streaming p.kind)) is) ∙ accepted.structure.owned w q o
 
   home_in : (args : Row) → is_streaming p.kind ≡ true → in_touch_set n p.touch args (home_of catalog n q) ≡ true
   home_in args s =
-      ap (λ o. in_touch_set n p.touch args (home_partition n o)) is ∙ home_touched n p args some (accepted.no_arg q p is s) (accepted.somewhere q p is)
+      ap (λ o. in_touch_set n p.touch args (home_partition n o)) is ∙ home_touched n p args some (accepted.structure.no_arg q p is s) (accepted.structure.somewhere q p is)
 
   streaming_uses : (args : Row) (batches : List Rows) → is_streaming p.kind ≡ true → UsesOnly (inside_scope (touched_keys catalog n p args) (touched_windows catalog n p args) (context_of catalog q p args batches)) catalog q args p
-  streaming_uses args batches s = stream_covered catalog n q p args batches some accepted.keyed (accepted.no_arg q p is s) (home_in args s) (accepted.local q p is args)
+  streaming_uses args batches s = stream_covered catalog n q p args batches some accepted.structure.keyed (accepted.structure.no_arg q p is s) (home_in args s) ((accepted.uses q p is).local args)
 
   uses_in : (args : Row) (batches : List Rows) (k : Kind) → p.kind ≡ k → UsesOnly (inside_scope (touched_keys catalog n p args) (touched_windows catalog n p args) (context_of catalog q p args batches)) catalog q args p
   uses_in args batches CallKind e =
-      call_covered catalog n q p args batches some accepted.keyed (λ w o. call_streams p.kind e (owned_by w o)) (accepted.call_steps q p is (ap is_call e)) (accepted.local q p is args)
+      call_covered catalog n q p args batches some accepted.structure.keyed (λ w o. call_streams p.kind e (owned_by w o)) (accepted.call_steps q p is (ap is_call e)) ((accepted.uses q p is).local args)
   uses_in args batches Border e = streaming_uses args batches (ap is_streaming e)
   uses_in args batches Interior e = streaming_uses args batches (ap is_streaming e)
 

@@ -4,7 +4,6 @@ use Rattle.std.proofs.lemmas.Bool.{lt-ltb}
 use Rattle.std.proofs.lemmas.Bool.Decides.{Decides-eqb, eqb_tells}
 use Rattle.std.proofs.Math.Nat.{mod-lt}
 use Rattle.std.specs.declared.option.Option.{Option}
-use Rattle.std.specs.Cmp.{Equal-is}
 use Rattle.std.specs.List.{list_any}
 use Rattle.ss_lemmas.proofs.EachOf.{all_with}
 use Rattle.ss_lemmas.proofs.Numbers.{eqb_self}
@@ -40,7 +39,7 @@ use Rattle.ss_model.proofs.CallerLemmas.{when_ok_map, anything, all_of}
 use Rattle.ss_model.specs.Results.{try_map}
 use Rattle.ss_model.specs.Expressions.{expr_value}
 use Rattle.ss_model.specs.Queries.{query_result}
-use Rattle.ss_value.specs.ValueOrder.{value_cmp-IsAntisymmetric}
+use Rattle.ss_value.proofs.CallerLemmas.{same_value}
 use Rattle.ss_model.specs.Accepted.{IsArg}
 use Rattle.ss_model.specs.Locality.{IsPlaced, context_of, inside_scope, touched_keys, touched_windows}
 
@@ -95,9 +94,6 @@ module _ (C : Row → Type 0) (u v : Claims) (h : Implies C u v) where
       triggers = λ w o. all_with (TriggerClaim u) (TriggerClaim v) trigger_implied _ (k.triggers w o);
     }
 
-same_is : (a b : Value) → values_equal a b ≡ true → a ≡ b
-same_is a b e = value_cmp-IsAntisymmetric a b ((Equal-is (value_cmp a b)).0 e)
-
 or_so : (a b : Bool) → (a ≡ true) ⊎ (b ≡ true) → (a || b) ≡ true
 or_so true b h = refl
 or_so false b (inl e) = cc
@@ -125,7 +121,7 @@ seen_inside n (Part x) args (Some (By c)) cs key some e split_value o s = cc
 seen_inside n (Multi xs) args (Some (By c)) cs key some e split_value o s = cc
 seen_inside n All args (Some (By c)) cs key some e split_value o s = lt-ltb _ n (value_part_below n _ some)
 seen_inside n (Arg a) args (Some (By c)) cs key some e split_value o s =
-    let same = same_is _ _ (s (column_value args a) o) in
+    let same = same_value _ _ (s (column_value args a) o) in
     ap (λ v. value_partition n v == value_partition n (column_value args a)) same ∙ eqb_self _
 seen_inside n (Part x) args None cs key some e split_value o s = cc
 seen_inside n (Multi xs) args None cs key some e split_value o s = cc

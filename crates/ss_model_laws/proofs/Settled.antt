@@ -181,14 +181,14 @@ module _ (catalog : Catalog) (accepted : Accepted catalog) where
   border_grows n r s o streams border = by (procedure_emits catalog n s) refl
     where
       by : (b : Bool) → procedure_emits catalog n s ≡ b → growth catalog (StepEntry n r) o s ≡ 0
-      by true e = absurd (accepted.wired.border_free n s border e)
+      by true e = absurd (accepted.structure.streams.wired.border_free n s border e)
       by false e = ap (λ b. cond b 1 0) e
 
   same_due : (db : Database) (n r : ℕ) (a : Applied) → Effect catalog db (StepEntry n r) a → Streams catalog accepted n → (q : ℕ) → Streams catalog accepted q → length (stream_batches a.db (border_stream catalog q)) ≡ length (stream_batches db (border_stream catalog q))
   same_due db n r a k streams q mine =
       let border = at_its_border catalog accepted q mine in
       let grown : growth catalog (StepEntry n r) a.outcome (border_stream catalog q) ≡ 0 = border_grows n r (border_stream catalog q) a.outcome streams border in
-      let lengths : length (stream_batches a.db (border_stream catalog q)) ≡ length (stream_batches db (border_stream catalog q)) + growth catalog (StepEntry n r) a.outcome (border_stream catalog q) = k.lengths (border_stream catalog q) (accepted.wired.border_there (border_stream catalog q) border) in
+      let lengths : length (stream_batches a.db (border_stream catalog q)) ≡ length (stream_batches db (border_stream catalog q)) + growth catalog (StepEntry n r) a.outcome (border_stream catalog q) = k.lengths (border_stream catalog q) (accepted.structure.streams.wired.border_there (border_stream catalog q) border) in
       omega arith
 
   -- a step leaves one step less to run
@@ -269,7 +269,7 @@ module _ (catalog : Catalog) (accepted : Accepted catalog) where
       by (Some q) is go =
           let step = stepped db q (next_found catalog db q is) in
           let fewer = lower_pending db in_step q (batch_count db q) step.value step.applies in
-          let rest = go step.value.db (in_step_next catalog accepted.wired db (StepEntry q (batch_count db q)) step.value in_step step.applies) (omega arith) in
+          let rest = go step.value.db (in_step_next catalog accepted.structure.streams.wired db (StepEntry q (batch_count db q)) step.value in_step step.applies) (omega arith) in
           record {
             list = StepEntry q (batch_count db q) ∷ rest.list;
             settles = (q, is, refl, subst (λ z. Settles catalog z rest.list) (sym step.next) rest.settles);
@@ -286,7 +286,7 @@ module _ (catalog : Catalog) (accepted : Accepted catalog) where
 
   in_step_entries : (list : List Entry) (db : Database) → IsInStep catalog db → IsInStep catalog (after_entries catalog db list)
   in_step_entries [] db in_step = in_step
-  in_step_entries (e ∷ es) db in_step = in_step_entries es (database_after catalog db e) (in_step_behind catalog accepted.wired db e in_step)
+  in_step_entries (e ∷ es) db in_step = in_step_entries es (database_after catalog db e) (in_step_behind catalog accepted.structure.streams.wired db e in_step)
 
   pub settles_once : (db : Database) → IsInStep catalog db → SettlesOnce catalog db
   settles_once db in_step =
@@ -314,7 +314,7 @@ module _ (catalog : Catalog) (accepted : Accepted catalog) where
   weak_once (e ∷ es) db in_step =
       let s = settles_once db in_step in
       let before = after_entries catalog db s.list in
-      let rest = weak_once es (database_after catalog before e) (in_step_behind catalog accepted.wired before e s.in_step) in
+      let rest = weak_once es (database_after catalog before e) (in_step_behind catalog accepted.structure.streams.wired before e s.in_step) in
       let ends : after_entries catalog db (s.list ++ e ∷ rest.list) ≡ after_entries catalog (database_after catalog before e) rest.list = after-append catalog db s.list (e ∷ rest.list) in
       record {
         list = s.list ++ e ∷ rest.list;

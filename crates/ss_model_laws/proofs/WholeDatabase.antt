@@ -285,7 +285,7 @@ module _ (catalog : Catalog) (accepted : Accepted catalog) where
       let l = left db e a h (least_rises_too db e a k (λ s. (grown_length catalog _ _ (grows_by_one catalog db e a is s)).0)) is in
       record {
         contents = l.contents;
-        in_step = in_step_next catalog accepted.wired db e a h.in_step is;
+        in_step = in_step_next catalog accepted.structure.streams.wired db e a h.in_step is;
         next_count = l.next_count;
         batches = l.batches;
         calls = still_none db e a h k (applied_fits catalog db e a is);
@@ -306,7 +306,7 @@ module _ (catalog : Catalog) (accepted : Accepted catalog) where
   pub empty_whole : WholeDatabase catalog (empty_database catalog)
   empty_whole = record {
     contents = empty_contents catalog;
-    in_step = empty_in_step catalog accepted.wired;
+    in_step = empty_in_step catalog accepted.structure.streams.wired;
     next_count = length-replicate (length catalog.streams) finmap.empty;
     batches = λ s.
         let m = least_count catalog (empty_database catalog) s in

@@ -104,17 +104,17 @@ module _ (catalog : Catalog) (accepted : Accepted catalog) where
       apart Interior e b = cc
 
       inner : (p : Procedure) → slice_get catalog.procedures q ≡ Some p → p.kind ≡ Interior → (is_border_stream catalog s ≡ true) ⊎ ((p : ℕ) × (procedure_emits catalog p s ≡ true)) → Source q s
-      inner p is interior (inr (from, em)) = emitted_by from em (accepted.one_workflow from q s takes em)
+      inner p is interior (inr (from, em)) = emitted_by from em (accepted.structure.streams.one_workflow from q s takes em)
       inner p is interior (inl border) =
           let (n, d, at_n, passes) = some_index (λ p. is_border p.kind && takes_stream s p) catalog.procedures border in
           let other : procedure_takes catalog n s ≡ true = ap (procedure_has (takes_stream s)) at_n ∙ second_of_two _ _ passes in
-          let same : n ≡ q = accepted.one_consumer n q s border other takes in
+          let same : n ≡ q = accepted.structure.streams.one_consumer n q s border other takes in
           absurd (apart p.kind interior (sym (ap (procedure_has (λ p. is_border p.kind)) (ap (slice_get catalog.procedures) same ∙ is)) ∙ ap (procedure_has (λ p. is_border p.kind)) at_n ∙ first_of_two _ _ passes))
 
       by : (p : Procedure) → slice_get catalog.procedures q ≡ Some p → takes_stream s p ≡ true → (k : Kind) → p.kind ≡ k → Source q s
       by p is t CallKind e = let no : false ≡ true = sym (ap (procedure_has (λ p. is_streaming p.kind)) is ∙ ap is_streaming e) ∙ streams in cc
       by p is t Border e = at_border (stream_of_border q s p is e t) (border_at q s p is e t)
-      by p is t Interior e = inner p is e (accepted.fed s (within_streams q s takes))
+      by p is t Interior e = inner p is e (accepted.structure.streams.fed s (within_streams q s takes))
 
   input_of : (q : ℕ) → Streams q → (s : ℕ) × (procedure_takes catalog q s ≡ true)
   input_of q streams = let (p, is, t) = named (λ p. is_streaming p.kind) (slice_get catalog.procedures q) streams in has_input catalog accepted q p is t
@@ -123,11 +123,11 @@ module _ (catalog : Catalog) (accepted : Accepted catalog) where
 
   -- what holds of a procedure where it holds of all that emit to it
   pub by_level : (P : ℕ → Type 0) → ((q : ℕ) → Streams q → ((p s : ℕ) → procedure_takes catalog q s ≡ true → procedure_emits catalog p s ≡ true → P p) → P q) → (q : ℕ) → Streams q → P q
-  by_level P step q streams = up (suc (accepted.level q)) q (omega arith) streams
+  by_level P step q streams = up (suc (accepted.structure.levels.level q)) q (omega arith) streams
     where
-      up : (n q : ℕ) → accepted.level q < n → Streams q → P q
+      up : (n q : ℕ) → accepted.structure.levels.level q < n → Streams q → P q
       up zero q below streams = absurd (omega arith)
-      up (suc n) q below streams = step q streams (λ p s takes em. up n p (let rises : accepted.level p < accepted.level q = accepted.level_rises p q s em takes in omega arith) (emitter_streams p s em))
+      up (suc n) q below streams = step q streams (λ p s takes em. up n p (let rises : accepted.structure.levels.level p < accepted.structure.levels.level q = accepted.structure.levels.level_rises p q s em takes in omega arith) (emitter_streams p s em))
 
   -- a workflow's border stream is one
   pub at_its_border : (q : ℕ) → Streams q → is_border_stream catalog (border_stream catalog q) ≡ true

@@ -2,7 +2,7 @@
 //!
 //! A law is stated in `ss_model/specs`, in the file of what it speaks of. It is a contract, since a statement in a
 //! file of definitions alone would be no theorem. What executes one entry rests on `ss_model_kept` alone; the proofs of
-//! streams and of whole runs (`ss_flow`, `ss_run`) rest on the laws here. `proofs/Premises` and `proofs/ShowPremises`
+//! streams and of whole runs (`ss_flow`, `ss_run`) rest on the laws here. `proofs/worked/Premises` and `VoterPremises`
 //! meet the premises of the laws at small catalogues, so that none holds only because nothing meets them.
 //!
 //! - `runs`: triggers, windows, and that what is well typed stays so
@@ -30,7 +30,9 @@ pub use kept::kept_carries;
 pub use lists::{
     databases_stay_in_step, databases_stay_matched, replays_go_on, replays_have_orders,
 };
-pub use parts::{entries_are_local, runs_are_local, touched_run, uses_are_touched};
+pub use parts::{
+    entries_are_local, lists_are_local, runs_are_local, touched_run, uses_are_touched,
+};
 pub use runs::{
     depth_is_enough, queries_are_sound, runs_stay_whole, well_typed_are_sound, windows_show,
 };

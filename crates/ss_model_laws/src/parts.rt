@@ -1,6 +1,7 @@
 //! Partitions: what a run uses and what an entry touches.
 
 ghost use Rattle.ss_model.specs.Locality.{RunsAreLocal, UsesAreTouched, EntriesAreLocal};
+ghost use Rattle.ss_model.specs.ListLocality.{ListsAreLocal};
 ghost use Rattle.ss_model.specs.Partitions.{TouchedRun};
 
 /// A run depends only on the rows and windows that its procedure uses, and changes no others.
@@ -21,4 +22,10 @@ pub fn touched_run()
 /// An entry depends only on the parts that it touches and on its input batches, and leaves the other parts as before.
 pub fn entries_are_local()
     ensures { EntriesAreLocal }
+{}
+
+/// A list leaves the parts that none of its entries touches as before, and an entry that touches none of the partitions
+/// that the list touches has the same effect behind the list as before it.
+pub fn lists_are_local()
+    ensures { ListsAreLocal }
 {}

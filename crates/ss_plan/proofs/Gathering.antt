@@ -12,10 +12,12 @@ use Rattle.ss_lemmas.proofs.Bools.{and_left, and_right, is_false}
 use Rattle.ss_value.specs.declared.schema.Column.{Column}
 use Rattle.ss_value.specs.Rows.{Row, column_values}
 use Rattle.ss_value.specs.Order.{row_cmp}
+use Rattle.ss_value.specs.ValueOrder.{row_cmp_total, row_cmp-IsAntisymmetric}
+use Rattle.ss_value.proofs.CallerLemmas.{same_row, alike}
 use Rattle.ss_sql_lex.specs.declared.typed.Expr.{Expr}
 use Rattle.ss_table.specs.TableValue.{LiveRows, key_of, row_at}
 use Rattle.ss_table.specs.Keyed.{StandsAtKey, SlotsDiffer}
-use Rattle.ss_table.proofs.CallerLemmas.{rows_total, rows_antisymmetric, and_both}
+use Rattle.ss_table.proofs.CallerLemmas.{and_both}
 use Rattle.ss_index.specs.Pairs.{IndexValue as Index, Pair, pair_cmp, pair_of, in_range, slots_in}
 use Rattle.ss_index.proofs.CallerLemmas.{tied as pair_tied}
 use Rattle.ss_rows.specs.Sources.{Positioned}
@@ -28,7 +30,6 @@ use Rattle.ss_plan.specs.Ranges.{range_end}
 use Rattle.ss_plan.specs.Found.{row_seen, rows_seen_in, with_keys, IsInKeyOrder}
 use Rattle.ss_plan.specs.Plans.{HasRows}
 use Rattle.ss_plan.specs.declared.bounds.RangeEnd.TheVariants.{Low, High}
-use Rattle.ss_plan.proofs.Choosing.{tied}
 use Rattle.ss_plan.proofs.Matching.{filter_through, filter_alike, find_own, live_apart}
 use Rattle.ss_plan.proofs.Keyed.{row_found, every}
 use Rattle.ss_plan.proofs.KeyOrder.{first_in, behind_in, in_cases, in_none}
@@ -40,9 +41,6 @@ module _ (all found : List Chosen) (rises : T (entries.is_sorted row_cmp all)) (
   abbrev is_found : Row → Bool
   is_found key = is_there (entries.find row_cmp key found)
 
-  alike : (q x : Row) → row_cmp q x ≡ Equal → is_found x ≡ is_found q
-  alike q x t = ap is_found (sym (rows_antisymmetric q x t))
-
   same_found : (key : Row) → entries.find row_cmp key found ≡ cond (is_found key) (entries.find row_cmp key all) None
   same_found key = by (entries.find row_cmp key found) refl
     where
@@ -52,8 +50,8 @@ module _ (all found : List Chosen) (rises : T (entries.is_sorted row_cmp all)) (
 
   gathered : found ≡ filter (λ e. is_found e.0) all
   gathered =
-      entries.same_entries row_cmp rows_total rows_antisymmetric _ _ sorted (entries.is_sorted-where_key row_cmp is_found all rises)
-      (λ q. same_found q ∙ sym (entries.find-where_key row_cmp is_found q (alike q) all))
+      entries.same_entries row_cmp row_cmp_total row_cmp-IsAntisymmetric _ _ sorted (entries.is_sorted-where_key row_cmp is_found all rises)
+      (λ q. same_found q ∙ sym (entries.find-where_key row_cmp is_found q (alike is_found q) all))
 
   module _ (key : List ℕ) (keyed : AllByRecursion (StandsAtKey key) all) where
     agree : (es : List Chosen) → AllByRecursion (StandsAtKey key) es → AllByRecursion (λ e. is_found e.0 ≡ is_found (key_of key e.1.1)) es
@@ -176,7 +174,7 @@ find_in key q v (p ∷ ps) is = by (eq_by_cmp row_cmp q (column_values key p.1))
         → (entries.find row_cmp q (with_keys key ps) ≡ Some v → Contains ps v × (q ≡ column_values key v.1)) → Contains (p ∷ ps) v × (q ≡ column_values key v.1)
     by true same is rest =
         let here : p ≡ v = cc in
-        (subst (Contains (p ∷ ps)) here (first_in p ps), tied q (column_values key p.1) same ∙ ap (λ (p : ℕ × Row). column_values key p.1) here)
+        (subst (Contains (p ∷ ps)) here (first_in p ps), same_row q (column_values key p.1) same ∙ ap (λ (p : ℕ × Row). column_values key p.1) here)
     by false same is rest = let r = rest is in (behind_in p v ps r.0, r.1)
 
 -- ---- the slot of a pair in the range is reported

@@ -7,12 +7,13 @@ use Rattle.std.specs.FinMap.Entries as entries
 use Rattle.ss_value.specs.declared.value.Value.{Value}
 use Rattle.ss_value.specs.Rows.{Row, column_value}
 use Rattle.ss_value.specs.Order.{row_cmp}
+use Rattle.ss_value.specs.ValueOrder.{row_cmp_total}
+use Rattle.ss_value.proofs.CallerLemmas.{same_row}
 use Rattle.ss_sql_lex.specs.declared.typed.Expr.{Expr}
 use Rattle.ss_model.specs.declared.catalog.Catalog.{Catalog}
 use Rattle.ss_model.specs.Contents.{key_columns}
 use Rattle.ss_table.specs.TableValue.{TableValue, LiveRows, key_of, row_at}
 use Rattle.ss_table.specs.Keyed.{StandsAtKey, SlotsDiffer}
-use Rattle.ss_table.proofs.CallerLemmas.{rows_total}
 use Rattle.std.proofs.lemmas.Cmp.{tied_itself}
 use Rattle.std.specs.Ordering.{is_eq}
 use Rattle.ss_lemmas.proofs.Bools.{is_false}
@@ -23,7 +24,7 @@ use Rattle.ss_plan.specs.Chosen.{KeysDiffer}
 use Rattle.ss_plan.specs.Seen.{row_is_seen, live_positions, live_of, seen_of, table_positions}
 use Rattle.ss_plan.specs.Fronts.{meets_run}
 use Rattle.ss_plan.specs.Keys.{has_key, with_key, one_or_none, key_sought, Finds}
-use Rattle.ss_plan.proofs.Choosing.{other_key, tied}
+use Rattle.ss_plan.proofs.Choosing.{other_key}
 use Rattle.ss_plan.proofs.Matching.{live_apart}
 use Rattle.ss_plan.proofs.Slots.{Live, positioned, row_is}
 use Rattle.ss_plan.proofs.Naming.{key_is}
@@ -75,7 +76,7 @@ module _ (q : ℕ × Row → Bool) where
         → filter (λ p. has_key columns k p.1) (filter q (positioned es)) ≡ one_or_none (kept_one (entries.find row_cmp k es))
         → filter (λ p. has_key columns k p.1) (cond (q e.1) (e.1 ∷ filter q (positioned es)) (filter q (positioned es))) ≡ one_or_none (kept_one (cond (eq_by_cmp row_cmp k e.0) (Some e.1) (entries.find row_cmp k es)))
     keyed_step e es a true on is there apart rest =
-        let none : entries.find row_cmp k es ≡ None = none_with k es (subst (λ z. AllByRecursion (λ d. d.0 ≡ z → ⊥) es) (sym (tied k e.0 there)) apart) in
+        let none : entries.find row_cmp k es ≡ None = none_with k es (subst (λ z. AllByRecursion (λ d. d.0 ≡ z → ⊥) es) (sym (same_row k e.0 there)) apart) in
         let nothing = rest ∙ ap (λ o. one_or_none (kept_one o)) none in
         ap (λ a. filter (λ p. has_key columns k p.1) (cond a (e.1 ∷ filter q (positioned es)) (filter q (positioned es)))) on
         ∙ front_with e.1 (filter q (positioned es)) a true on is
@@ -146,7 +147,7 @@ every P Q [] f h = tt
 every P Q (e ∷ es) f h = (f e h.0, every P Q es f h.1)
 
 itself : (k : Row) → eq_by_cmp row_cmp k k ≡ true
-itself k = ap is_eq (tied_itself rows_total k)
+itself k = ap is_eq (tied_itself row_cmp_total k)
 
 module _ (catalog : Catalog) (tables : List TableValue) (has : HasTables catalog tables) (split : Option Value) (t : ℕ) (params : Row) (test : Option Expr) (key : Row) where
   abbrev columns : List ℕ

@@ -25,17 +25,12 @@ use Rattle.ss_model.specs.CatalogForm.{has_form, numbers_in_range, is_within_lim
 use Rattle.ss_model.specs.Contents.{key_columns}
 use Rattle.ss_model.specs.Scopes.{procedure_in_scope, trigger_in_scope, is_on_a_stream, step_in_scope, inner_in_scope, statement_in_scope, target_in_scope}
 use Rattle.ss_model.specs.Typing.{procedure_typed, trigger_typed, trigger_schema, input_schema, schemas_of, step_typed, inner_typed, target_schema}
+use Rattle.ss_model.proofs.CallerLemmas.{numbers_of, limits_of}
 use Rattle.ss_lemmas.proofs.Bools.{first_of_two, second_of_two, at_index}
 use Rattle.ss_plan.specs.Statements.{FitsTables, FitsTarget}
 use Rattle.ss_proc.specs.Executions.{InnerRuns, StepRuns, MayRun}
 
 -- ---- what the form says
-
-numbers_of : (catalog : Catalog) → has_form catalog ≡ true → numbers_in_range catalog ≡ true
-numbers_of catalog h = second_of_two _ _ (first_of_two _ _ (first_of_two _ _ (first_of_two _ _ (first_of_two _ _ (first_of_two _ _ h)))))
-
-limits_of : (catalog : Catalog) → has_form catalog ≡ true → is_within_limits catalog ≡ true
-limits_of catalog h = second_of_two _ _ (first_of_two _ _ (first_of_two _ _ (first_of_two _ _ (first_of_two _ _ h))))
 
 abbrev key_in_range : TableDef → Bool
 key_in_range d = list_all (λ c. nat_lt c (length d.schema)) d.key
@@ -151,7 +146,7 @@ module _ (catalog : Catalog) (accepted : Accepted catalog) where
   -- executions may run
   pub may_run : MayRun catalog
   may_run = record {
-    keyed = accepted.keyed;
+    keyed = accepted.structure.keyed;
     triggers = triggers_fit catalog all_keys catalog.triggers (second_of_two _ _ accepted.typed) (second_of_two _ _ accepted.in_scope);
     few = (counts_of catalog (limits_of catalog accepted.form)).2;
   }

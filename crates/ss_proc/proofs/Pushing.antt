@@ -36,7 +36,7 @@ module _ (catalog : Catalog) (client s seq : ℕ) (rows : Rows) (fits : push_fit
   is_countable = ltb-true _ _ (second_of_two _ _ (first_of_two _ _ fits))
 
   pub stream_there : Accepted catalog → s < length catalog.streams
-  stream_there accepted = accepted.wired.border_there s (second_of_two _ _ (first_of_two _ _ (first_of_two _ _ (first_of_two _ _ fits))))
+  stream_there accepted = accepted.structure.streams.wired.border_there s (second_of_two _ _ (first_of_two _ _ (first_of_two _ _ (first_of_two _ _ fits))))
 
 -- ---- one number set in both
 

@@ -9,7 +9,7 @@ use Rattle.ss_model.specs.declared.catalog.Catalog.{Catalog}
 use Rattle.ss_model.specs.declared.catalog.Procedure.{Procedure}
 use Rattle.ss_model.specs.declared.entry.Entry.TheVariants.{Call, Step as StepEntry}
 use Rattle.ss_model.specs.declared.entry.Outcome.{Outcome}
-use Rattle.ss_model.specs.Database.{Database, Applied, BodyResult, apply, apply_call, apply_step, call_fits, has_call, has_step, fits_entry, only_when, run_procedure, is_ready, is_streaming, append_batches, stream_batches, output_streams}
+use Rattle.ss_model.specs.Database.{Database, Applied, BodyResult, apply, apply_call, apply_step, call_fits, has_call, has_step, fits_entry, only_when, run_procedure, is_ready, is_streaming, input_batches, stepped, stream_batches, output_streams}
 use Rattle.ss_shard.specs.ShardValue.{ShardValue}
 use Rattle.ss_shard.specs.Contents.{contents_of}
 use Rattle.ss_shard.specs.Shards.{IsOf}
@@ -75,9 +75,6 @@ module _ (catalog : Catalog) (old new : ShardValue) (is : IsOf catalog old) (now
   abbrev here : Database
   here = own_database old db
 
-  abbrev stepped : BodyResult → Applied
-  stepped x = record { db = record here { contents = x.contents; counts = set db.counts n (r + 1); streams = append_batches p x.emitted db.streams }; outcome = x.outcome; emitted = x.emitted }
-
   ready : is_ready here n r p ≡ true
   ready =
       let streams : is_streaming p.kind ≡ true = ap has_step (sym found) ∙ fits in
@@ -86,17 +83,17 @@ module _ (catalog : Catalog) (old new : ShardValue) (is : IsOf catalog old) (now
       ∙ (λ i. equal_test (get_or db.counts n 0) r counted i && list_all (λ s. nat_lt r (length (stream_batches db s))) p.inputs)
       ∙ all_there db r p.inputs batches at_hand
 
-  step_value : run_procedure catalog n p [] batches (contents_of old) ≡ result → apply catalog here (StepEntry n r) ≡ Some (stepped result)
+  step_value : run_procedure catalog n p [] batches (contents_of old) ≡ result → apply catalog here (StepEntry n r) ≡ Some (stepped here n r p result)
   unfolding apply
   step_value ran =
       ap (apply_step catalog here n r) found
-      ∙ ap (λ b. only_when b (Some (stepped (run_procedure catalog n p [] (map (λ s. get_or (stream_batches here s) r []) p.inputs) (contents_of old))))) ready
-      ∙ ap (λ bs. Some (stepped (run_procedure catalog n p [] bs (contents_of old)))) (same_batches db r p.inputs batches at_hand)
-      ∙ ap (λ x. Some (stepped x)) ran
+      ∙ ap (λ b. only_when b (Some (stepped here n r p (run_procedure catalog n p [] (input_batches here r p) (contents_of old))))) ready
+      ∙ ap (λ bs. Some (stepped here n r p (run_procedure catalog n p [] bs (contents_of old)))) (same_batches db r p.inputs batches at_hand)
+      ∙ ap (λ x. Some (stepped here n r p x)) ran
 
   pub step_ran : run_procedure catalog n p [] batches (contents_of old) ≡ result → CanRollBack old new → (e : Executed) → e.outcome ≡ outcome → e.emitted ≡ batches_for (output_streams catalog p) emitted → Ran catalog db (StepEntry n r) e new
   step_ran ran back e folds gave =
-      let c = carried catalog old new is now db holds (StepEntry n r) (stepped result) (step_value ran) refl in
+      let c = carried catalog old new is now db holds (StepEntry n r) (stepped here n r p result) (step_value ran) refl in
       record {
         applied = c.applied;
         value = c.value;

@@ -11,8 +11,9 @@ ghost use Rattle.ss_model.specs.Statements.{cascade_to_depth};
 ghost use Rattle.ss_shard.specs.Shards.{IsOf, Changed};
 ghost use Rattle.ss_plan.specs.Statements.{FitsTables};
 ghost use Rattle.ss_proc.specs.Executions.{context_of, MayRun};
-ghost use Rattle.ss_proc.specs.Meanings.{Brings, StepStops, close_to_depth, stage_to_depth, stage_all_to_depth, execute_to_depth, execute_all_to_depth, fire_to_depth};
-ghost use Rattle.ss_proc.specs.Meanings.{close_and_fire, execute_and_fire, fire_stream};
+ghost use Rattle.ss_model.specs.Depths.{close_to_depth, stage_to_depth, stage_all_to_depth, run_to_depth, run_all_to_depth};
+ghost use Rattle.ss_proc.specs.Meanings.{Brings, StepStops, fire_to_depth};
+ghost use Rattle.ss_model.specs.Depths.{close_and_fire, run_and_fire, fire_stream};
 
 use crate::statements::statement_effect;
 use crate::work::{Given, Work, join_unit};
@@ -90,8 +91,8 @@ fn close_to_depth(
     requires of_catalog { IsOf given.now.catalog.now shard.old }
     requires runs { MayRun given.now.catalog.now }
     requires there { window < length given.now.catalog.now.windows }
-    ensures ok { OnOk result (Brings (close_to_depth depth given.now window unit) shard.old work.old shard.new work.new) }
-    ensures stops { IfErr result (StepStops (close_to_depth depth given.now window unit) shard.old work.old) }
+    ensures ok { OnOk result (Brings (close_to_depth depth (context_of given.now) window unit) shard.old work.old shard.new work.new) }
+    ensures stops { IfErr result (StepStops (close_to_depth depth (context_of given.now) window unit) shard.old work.old) }
     ensures changed { Changed shard.old shard.new }
 {
     if shard.stage_unit(window, unit)? {
@@ -115,8 +116,8 @@ fn stage_row(
     requires of_catalog { IsOf given.now.catalog.now shard.old }
     requires runs { MayRun given.now.catalog.now }
     requires there { window < length given.now.catalog.now.windows }
-    ensures ok { OnOk result (Brings (stage_to_depth depth given.now window row) shard.old work.old shard.new work.new) }
-    ensures stops { IfErr result (StepStops (stage_to_depth depth given.now window row) shard.old work.old) }
+    ensures ok { OnOk result (Brings (stage_to_depth depth (context_of given.now) window row) shard.old work.old shard.new work.new) }
+    ensures stops { IfErr result (StepStops (stage_to_depth depth (context_of given.now) window row) shard.old work.old) }
     ensures changed { Changed shard.old shard.new }
 {
     match window_unit(given.catalog, window) {
@@ -146,8 +147,8 @@ fn stage_rows(
     requires of_catalog { IsOf given.now.catalog.now shard.old }
     requires runs { MayRun given.now.catalog.now }
     requires there { window < length given.now.catalog.now.windows }
-    ensures ok { OnOk result (Brings (stage_all_to_depth depth given.now window rows) shard.old work.old shard.new work.new) }
-    ensures stops { IfErr result (StepStops (stage_all_to_depth depth given.now window rows) shard.old work.old) }
+    ensures ok { OnOk result (Brings (stage_all_to_depth depth (context_of given.now) window rows) shard.old work.old shard.new work.new) }
+    ensures stops { IfErr result (StepStops (stage_all_to_depth depth (context_of given.now) window rows) shard.old work.old) }
     ensures changed { Changed shard.old shard.new }
 {
     for row in rows.into_vec() {
@@ -171,8 +172,8 @@ fn execute_to_depth(
     requires of_catalog { IsOf given.now.catalog.now shard.old }
     requires runs { MayRun given.now.catalog.now }
     requires fits { FitsTables given.now.catalog.now statement.now }
-    ensures ok { OnOk result (Brings (execute_to_depth depth given.now inserted.now params.now statement.now) shard.old work.old shard.new work.new) }
-    ensures stops { IfErr result (StepStops (execute_to_depth depth given.now inserted.now params.now statement.now) shard.old work.old) }
+    ensures ok { OnOk result (Brings (run_to_depth depth (context_of given.now) inserted.now params.now statement.now) shard.old work.old shard.new work.new) }
+    ensures stops { IfErr result (StepStops (run_to_depth depth (context_of given.now) inserted.now params.now statement.now) shard.old work.old) }
     ensures changed { Changed shard.old shard.new }
 {
     match statement_effect(alloc, given, inserted, params, statement, shard)? {
@@ -197,8 +198,8 @@ fn run_statements(
     requires of_catalog { IsOf given.now.catalog.now shard.old }
     requires runs { MayRun given.now.catalog.now }
     requires fits { AllByRecursion (FitsTables given.now.catalog.now) statements.now }
-    ensures ok { OnOk result (Brings (execute_all_to_depth depth given.now inserted.now statements.now) shard.old work.old shard.new work.new) }
-    ensures stops { IfErr result (StepStops (execute_all_to_depth depth given.now inserted.now statements.now) shard.old work.old) }
+    ensures ok { OnOk result (Brings (run_all_to_depth depth (context_of given.now) inserted.now statements.now) shard.old work.old shard.new work.new) }
+    ensures stops { IfErr result (StepStops (run_all_to_depth depth (context_of given.now) inserted.now statements.now) shard.old work.old) }
     ensures changed { Changed shard.old shard.new }
 {
     let nothing = Seq::new(alloc);
@@ -256,8 +257,8 @@ pub fn run_stream_triggers(
 ) -> Result<(), RunError>
     requires of_catalog { IsOf given.now.catalog.now shard.old }
     requires runs { MayRun given.now.catalog.now }
-    ensures ok { OnOk result (Brings (fire_stream given.now stream rows.now) shard.old work.old shard.new work.new) }
-    ensures stops { IfErr result (StepStops (fire_stream given.now stream rows.now) shard.old work.old) }
+    ensures ok { OnOk result (Brings (fire_stream (context_of given.now) rows.now stream) shard.old work.old shard.new work.new) }
+    ensures stops { IfErr result (StepStops (fire_stream (context_of given.now) rows.now stream) shard.old work.old) }
     ensures changed { Changed shard.old shard.new }
 {
     let depth = given.catalog.windows.len();
@@ -279,8 +280,8 @@ pub fn close_unit(
     requires of_catalog { IsOf given.now.catalog.now shard.old }
     requires runs { MayRun given.now.catalog.now }
     requires there { window < length given.now.catalog.now.windows }
-    ensures ok { OnOk result (Brings (close_and_fire given.now window unit) shard.old work.old shard.new work.new) }
-    ensures stops { IfErr result (StepStops (close_and_fire given.now window unit) shard.old work.old) }
+    ensures ok { OnOk result (Brings (close_and_fire (context_of given.now) window unit) shard.old work.old shard.new work.new) }
+    ensures stops { IfErr result (StepStops (close_and_fire (context_of given.now) window unit) shard.old work.old) }
     ensures changed { Changed shard.old shard.new }
 {
     let depth = given.catalog.windows.len();
@@ -299,8 +300,8 @@ pub fn execute_statement(
     requires of_catalog { IsOf given.now.catalog.now shard.old }
     requires runs { MayRun given.now.catalog.now }
     requires fits { FitsTables given.now.catalog.now statement.now }
-    ensures ok { OnOk result (Brings (execute_and_fire given.now params.now statement.now) shard.old work.old shard.new work.new) }
-    ensures stops { IfErr result (StepStops (execute_and_fire given.now params.now statement.now) shard.old work.old) }
+    ensures ok { OnOk result (Brings (run_and_fire (context_of given.now) [] params.now statement.now) shard.old work.old shard.new work.new) }
+    ensures stops { IfErr result (StepStops (run_and_fire (context_of given.now) [] params.now statement.now) shard.old work.old) }
     ensures changed { Changed shard.old shard.new }
 {
     let depth = given.catalog.windows.len();

@@ -1,6 +1,6 @@
 //! Pushes: batches that clients push to border streams.
 
-ghost use Rattle.std.specs.Prelude.{◌≡◌, ◌<◌, ◌^◌, [], ◌∷◌, length, IfOk, OnErr};
+ghost use Rattle.std.specs.Prelude.{◌≡◌, ◌<◌, ◌^◌, [], ◌∷◌, length, IfOk};
 ghost use Rattle.ss_model.specs.Batches.{pushed_batch};
 ghost use Rattle.ss_shard.specs.Sources.{number_in, SameNumbers, push_outcome};
 ghost use Rattle.ss_proc.specs.Entries.{HasSourceEntry};

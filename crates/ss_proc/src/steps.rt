@@ -1,13 +1,14 @@
 //! The steps of a body.
 
-ghost use Rattle.std.specs.Prelude.{◌≡◌, [], get_or, OnOk, IfErr};
+ghost use Rattle.std.specs.Prelude.{◌≡◌, OnOk, IfErr};
 ghost use Rattle.std.specs.List.{AllByRecursion};
 ghost use Rattle.ss_model.specs.declared.catalog.Step.TheVariants.{Emit, Return};
 ghost use Rattle.ss_model.specs.Results.{try_fold};
 ghost use Rattle.ss_model.specs.Bodies.{execute_inner, execute_step};
 ghost use Rattle.ss_shard.specs.Shards.{IsOf, Changed};
 ghost use Rattle.ss_proc.specs.Executions.{context_of, MayRun, InnerRuns, StepRuns};
-ghost use Rattle.ss_proc.specs.Meanings.{Brings, StepStops, inner_steps, steps_of_rows};
+ghost use Rattle.ss_model.specs.Depths.{inner_steps, steps_of_input, steps_of_rows};
+ghost use Rattle.ss_proc.specs.Meanings.{Brings, StepStops};
 
 use crate::cascade::execute_statement;
 use crate::conditions::abort_if;
@@ -54,8 +55,8 @@ fn execute_inners(
     requires of_catalog { IsOf given.now.catalog.now shard.old }
     requires runs { MayRun given.now.catalog.now }
     requires fits { AllByRecursion (InnerRuns given.now.catalog.now) body.now }
-    ensures ok { OnOk result (Brings (inner_steps given.now current.now body.now) shard.old work.old shard.new work.new) }
-    ensures stops { IfErr result (StepStops (inner_steps given.now current.now body.now) shard.old work.old) }
+    ensures ok { OnOk result (Brings (inner_steps (context_of given.now) current.now body.now) shard.old work.old shard.new work.new) }
+    ensures stops { IfErr result (StepStops (inner_steps (context_of given.now) current.now body.now) shard.old work.old) }
     ensures changed { Changed shard.old shard.new }
 {
     for inner in body {
@@ -76,8 +77,8 @@ fn for_each(
     requires of_catalog { IsOf given.now.catalog.now shard.old }
     requires runs { MayRun given.now.catalog.now }
     requires fits { AllByRecursion (InnerRuns given.now.catalog.now) body.now }
-    ensures ok { OnOk result (Brings (steps_of_rows given.now body.now rows.now) shard.old work.old shard.new work.new) }
-    ensures stops { IfErr result (StepStops (steps_of_rows given.now body.now rows.now) shard.old work.old) }
+    ensures ok { OnOk result (Brings (steps_of_rows (context_of given.now) body.now rows.now) shard.old work.old shard.new work.new) }
+    ensures stops { IfErr result (StepStops (steps_of_rows (context_of given.now) body.now rows.now) shard.old work.old) }
     ensures changed { Changed shard.old shard.new }
 {
     for row in rows {
@@ -98,8 +99,8 @@ fn for_each_of(
     requires of_catalog { IsOf given.now.catalog.now shard.old }
     requires runs { MayRun given.now.catalog.now }
     requires fits { AllByRecursion (InnerRuns given.now.catalog.now) body.now }
-    ensures ok { OnOk result (Brings (steps_of_rows given.now body.now (get_or given.now.batches.now input [])) shard.old work.old shard.new work.new) }
-    ensures stops { IfErr result (StepStops (steps_of_rows given.now body.now (get_or given.now.batches.now input [])) shard.old work.old) }
+    ensures ok { OnOk result (Brings (steps_of_input (context_of given.now) body.now input) shard.old work.old shard.new work.new) }
+    ensures stops { IfErr result (StepStops (steps_of_input (context_of given.now) body.now input) shard.old work.old) }
     ensures changed { Changed shard.old shard.new }
 {
     match given.batches.get(usize::from(input)) {

@@ -4,7 +4,8 @@ ghost use Rattle.std.specs.Prelude.{◌≡◌, ◌<◌, ◌≤◌, [], get_or, s
 ghost use Rattle.ss_model.specs.Bodies.{is_closed_by, close_window};
 ghost use Rattle.ss_shard.specs.Shards.{IsOf, Changed};
 ghost use Rattle.ss_proc.specs.Executions.{context_of, MayRun};
-ghost use Rattle.ss_proc.specs.Meanings.{Brings, StepStops, close_owned};
+ghost use Rattle.ss_model.specs.Depths.{close_owned};
+ghost use Rattle.ss_proc.specs.Meanings.{Brings, StepStops};
 
 use crate::cascade::close_unit;
 use crate::work::{Given, Work};
@@ -64,8 +65,8 @@ pub fn close_owned(
     requires of_catalog { IsOf given.now.catalog.now shard.old }
     requires runs { MayRun given.now.catalog.now }
     requires few { length given.now.catalog.now.windows ≤ 32 }
-    ensures ok { OnOk result (Brings (close_owned given.now) shard.old work.old shard.new work.new) }
-    ensures stops { IfErr result (StepStops (close_owned given.now) shard.old work.old) }
+    ensures ok { OnOk result (Brings (close_owned (context_of given.now)) shard.old work.old shard.new work.new) }
+    ensures stops { IfErr result (StepStops (close_owned (context_of given.now)) shard.old work.old) }
     ensures changed { Changed shard.old shard.new }
 {
     for (n, window) in given.catalog.windows.as_slice().iter().enumerate() {

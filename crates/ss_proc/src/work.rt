@@ -1,6 +1,6 @@
 //! What an execution is given, and how far it is.
 
-ghost use Rattle.std.specs.Prelude.{◌≡◌, ◌∷◌, [], ◌++◌, set, get_or, replicate, length, IfOk, OnOk};
+ghost use Rattle.std.specs.Prelude.{◌≡◌, ◌∷◌, [], ◌++◌, set, get_or, replicate, IfOk, OnOk};
 ghost use Rattle.ss_proc.specs.Executions.{empty_work};
 
 use ss_model::Catalog;

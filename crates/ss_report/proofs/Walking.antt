@@ -8,7 +8,7 @@ use Rattle.ss_value.specs.Rows.{Row}
 use Rattle.std.specs.FinMap as finmap
 use Rattle.ss_lemmas.proofs.Numbers.{eqb_self}
 use Rattle.ss_model.specs.Contents.{Table}
-use Rattle.ss_table.specs.TableValue.{LiveRows, first_in, after_in}
+use Rattle.ss_table.specs.TableValue.{LiveRows, first_in, after_in, row_among}
 use Rattle.ss_table.specs.Keyed.{SlotsDiffer}
 use Rattle.ss_shard.specs.Contents.{without_slot, rows_by_key}
 use Rattle.ss_shard.proofs.CallerLemmas.{entries_by_key}
@@ -20,10 +20,6 @@ Live = Row × (ℕ × Row)
 -- the row of an entry
 abbrev pub row_of : Live → Row
 row_of e = e.1.1
-
--- the row of a slot
-abbrev pub row_in : List Live → ℕ → Option Row
-row_in es slot = option_map row_of (find (λ e. e.1.0 == slot) es)
 
 -- ---- entries whose slots differ
 
@@ -40,7 +36,7 @@ midst P [] e behind h = h.0
 midst P (x ∷ xs) e behind h = midst P xs e behind h.1
 
 module _ (e : Live) (behind : List Live) where
-  row_here : (before : List Live) → SlotsDiffer (before ++ e ∷ behind) → row_in (before ++ e ∷ behind) e.1.0 ≡ Some e.1.1
+  row_here : (before : List Live) → SlotsDiffer (before ++ e ∷ behind) → row_among (before ++ e ∷ behind) e.1.0 ≡ Some e.1.1
   row_here [] apart = ap (λ b. option_map row_of (cond b (Some e) (find (λ d. d.1.0 == e.1.0) behind))) (eqb_self e.1.0)
   row_here (x ∷ xs) apart =
       ap (λ b. option_map row_of (cond b (Some x) (find (λ d. d.1.0 == e.1.0) (xs ++ e ∷ behind)))) (other_slot x.1.0 e.1.0 (midst (λ d. d.1.0 ≡ x.1.0 → ⊥) xs e behind apart.0))
@@ -93,9 +89,9 @@ module _ (es : List Live) (at : Option ℕ) (rows : List (Bor Row)) (w : Walked 
 
 module _ (es : List Live) (apart : SlotsDiffer es) (slot : ℕ) (rows : List (Bor Row)) (s : Stands es slot rows) where
   -- the row of that slot
-  pub stands_row : row_in es slot ≡ Some s.entry.1.1
+  pub stands_row : row_among es slot ≡ Some s.entry.1.1
   stands_row =
-      (λ i. row_in (s.is i) (sym s.slot_is i))
+      (λ i. row_among (s.is i) (sym s.slot_is i))
       ∙ row_here s.entry s.rest s.before (subst SlotsDiffer s.is apart)
 
   stands_next : after_in es slot ≡ first_in s.rest
@@ -104,7 +100,7 @@ module _ (es : List Live) (apart : SlotsDiffer es) (slot : ℕ) (rows : List (Bo
       ∙ next_here s.entry s.rest s.before (subst SlotsDiffer s.is apart)
 
   -- a step meets it, and is at the next one
-  pub walk_on : (row : Bor Row) (next : Option ℕ) → row_in es slot ≡ Some row.now → next ≡ after_in es slot → Walked es next (rows ++ row ∷ [])
+  pub walk_on : (row : Bor Row) (next : Option ℕ) → row_among es slot ≡ Some row.now → next ≡ after_in es slot → Walked es next (rows ++ row ∷ [])
   walk_on row next there goes =
       let same : row.now ≡ s.entry.1.1 = cc (stands_row, there) in
       record {

@@ -310,7 +310,7 @@ from_rises n [] h = tt
 from_rises n (i ∷ []) h = tt
 from_rises n (i ∷ j ∷ js) h = (let k : suc i ≤ j = h.1.0 in omega arith, from_rises (suc i) (j ∷ js) h.1)
 
-asked_index : (k c n : ℕ) (what : Asked) → client_index k (asked_entry c n what) ≡ cond (c == k) (Some n) None
+pub asked_index : (k c n : ℕ) (what : Asked) → client_index k (asked_entry c n what) ≡ cond (c == k) (Some n) None
 asked_index k c n (CallAsked q args) = refl
 asked_index k c n (PushAsked s source seq rows) = refl
 

@@ -3,21 +3,16 @@ use Rattle.std.proofs.Common.{◌≡◌, ◌∙◌, ◌+◌, ◌<◌, ◌≤◌,
 use Rattle.std.specs.List.{Contains, count_by}
 use Rattle.std.proofs.lemmas.Bool.{cases_Bool, eqb-true, eq-eqb, cond-true, cond-false}
 use Rattle.std.proofs.lemmas.List.Sums.{sum_by_push}
-use Rattle.ss_model.specs.declared.entry.Asked.{Asked}
-use Rattle.ss_model.specs.declared.entry.Asked.TheVariants.{Call as CallAsked, Push as PushAsked}
 use Rattle.ss_model.specs.declared.entry.Entry.{Entry}
 use Rattle.ss_model.specs.declared.entry.Request.{Request}
 use Rattle.ss_model.specs.Report.{asked_entry, entries_behind, asked_entries, client_index}
 use Rattle.ss_lemmas.proofs.Bools.{some_same}
+use Rattle.ss_report_laws.proofs.AnswersInOrder.{asked_index}
 
 -- an element is the first, or further behind
 contained : {A : Type 0} (y : A) (ys : List A) (x : A) → Contains (y ∷ ys) x → (y ≡ x) ⊎ Contains ys x
 contained y ys x (zero, within, there) = inl there
 contained y ys x (suc k, within, there) = inr (k, (let h : suc k < length (y ∷ ys) = within in omega arith), there)
-
-index_of : (client c n : ℕ) (what : Asked) → client_index client (asked_entry c n what) ≡ cond (c == client) (Some n) None
-index_of client c n (CallAsked q args) = refl
-index_of client c n (PushAsked s source seq rows) = refl
 
 -- where an entry has an index among a client's requests, it is that client's, and that is its index
 answered_index : (client c n i : ℕ) → cond (c == client) (Some n) None ≡ Some i → (c ≡ client) × (n ≡ i)
@@ -37,7 +32,7 @@ one_more client earlier r = sum_by_push (λ (x : Request). cond (x.client == cli
 first_index : (client i : ℕ) (earlier : List Request) (r : Request) (e : Entry)
     → asked_entry r.client (requests_of r.client earlier) r.what ≡ e → client_index client e ≡ Some i → (r.client ≡ client) × (requests_of client earlier ≡ i)
 first_index client i earlier r e is answered =
-    let both = answered_index client r.client (requests_of r.client earlier) i (sym (index_of client r.client (requests_of r.client earlier) r.what) ∙ ap (client_index client) is ∙ answered) in
+    let both = answered_index client r.client (requests_of r.client earlier) i (sym (asked_index client r.client (requests_of r.client earlier) r.what) ∙ ap (client_index client) is ∙ answered) in
     (both.0, ap (λ c. requests_of c earlier) (sym both.0) ∙ both.1)
 
 -- behind requests no index is below their number

@@ -3,6 +3,7 @@ use Rattle.std.proofs.Common.{◌≡◌, ◌∙◌, ℕ, zero, suc, ◌+◌, ◌
 use Rattle.std.specs.List.{AllByRecursion}
 use Rattle.std.proofs.lemmas.List.{length-map}
 use Rattle.ss_lemmas.proofs.Numbers.{eqb_self, eqb_is}
+use Rattle.ss_lemmas.proofs.Mapped.{all_at}
 use Rattle.ss_model.specs.declared.entry.Answer.{Answer}
 use Rattle.ss_model.specs.declared.entry.Asked.{Asked}
 use Rattle.ss_model.specs.declared.entry.Asked.TheVariants.{Call as CallAsked, Push as PushAsked}
@@ -63,12 +64,6 @@ module _ (missing : Answer) (answers : List (List Answer)) where
           let next : before k (earlier ++ r ∷ []) ≡ suc (before k earlier) = count_here (λ (x : Request). x.client == k) earlier r is ∙ add-one (before k earlier) in
           (λ i. own i ∷ (rest ∙ ap (λ n. drop n (answers_of answers k)) next) i) ∙ sym (drop-cons (answers_of answers k) (before k earlier) missing less)
       by a later one rest false is = rest ∙ ap (λ n. drop n (answers_of answers k)) (same_before k earlier r is)
-
-  -- an answer that is there is one of them
-  all_at : {A : Type 0} (P : A → Type 0) (xs : List A) (i : ℕ) (d : A) → AllByRecursion P xs → i < length xs → P (get_or xs i d)
-  all_at P [] i d h l = absurd (omega (arith, l))
-  all_at P (x ∷ xs) zero d h l = h.0
-  all_at P (x ∷ xs) (suc i) d h l = all_at P xs i d h.1 (omega (arith, l))
 
   woven_others : (P : Answer → Type 0) (earlier rs : List Request) → IsEnough answers earlier rs → ((k : ℕ) → AllByRecursion P (answers_of answers k)) → AllByRecursion P (map (answer_to missing answers) (entries_behind earlier rs))
   woven_others P earlier [] h all = tt

@@ -42,7 +42,7 @@ module _ (catalog : Catalog) (accepted : Accepted catalog) where
       subst (λ (n : ℕ). HadAtMost n (database_at catalog list)) same most
 
   pub in_step : (list : List Listed) → IsInStep catalog (database_at catalog list)
-  in_step list = in_step_after catalog accepted.wired (empty_database catalog) list (empty_in_step catalog accepted.wired)
+  in_step list = in_step_after catalog accepted.structure.streams.wired (empty_database catalog) list (empty_in_step catalog accepted.structure.streams.wired)
 
   -- ---- one entry more
   pub after_one : (list : List Listed) (e : Entry) (o : Outcome) (a : Applied) → apply catalog (database_at catalog list) e ≡ Some a → database_at catalog (with_entry list e o) ≡ a.db

@@ -4,8 +4,9 @@ use Rattle.std.proofs.lemmas.Bool.{leb-true, ltb-true}
 use Rattle.std.specs.List.{AllByRecursion, list_all}
 use Rattle.ss_model.specs.declared.catalog.Procedure.{Procedure}
 use Rattle.ss_model.specs.declared.catalog.Catalog.{Catalog}
-use Rattle.ss_model.specs.CatalogForm.{counts_within_limits, numbers_in_range, touch_in_range}
+use Rattle.ss_model.specs.CatalogForm.{counts_within_limits, touch_in_range}
 use Rattle.ss_model.specs.Accepted.{Accepted}
+use Rattle.ss_model.proofs.CallerLemmas.{limits_of, numbers_of}
 use Rattle.ss_lemmas.proofs.Bools.{first_of_two, second_of_two, at_index}
 
 all_below : (n m : ℕ) (xs : List ℕ) → n ≤ m → list_all (λ s. nat_lt s n) xs ≡ true → AllByRecursion (λ s. s < m) xs
@@ -14,10 +15,7 @@ all_below n m (x ∷ xs) le all = (let below = ltb-true x n (first_of_two _ _ al
 
 module _ (catalog : Catalog) (accepted : Accepted catalog) where
   counts : counts_within_limits catalog ≡ true
-  counts = first_of_two _ _ (second_of_two _ _ (first_of_two _ _ (first_of_two _ _ (first_of_two _ _ (first_of_two _ _ accepted.form)))))
-
-  numbers : numbers_in_range catalog ≡ true
-  numbers = second_of_two _ _ (first_of_two _ _ (first_of_two _ _ (first_of_two _ _ (first_of_two _ _ (first_of_two _ _ accepted.form)))))
+  counts = first_of_two _ _ (limits_of catalog accepted.form)
 
   pub few_procedures : length catalog.procedures ≤ 64
   few_procedures = leb-true (length catalog.procedures) 64 (second_of_two _ _ (first_of_two _ _ (first_of_two _ _ (first_of_two _ _ (first_of_two _ _ (first_of_two _ _ (first_of_two _ _ counts)))))))
@@ -29,4 +27,4 @@ module _ (catalog : Catalog) (accepted : Accepted catalog) where
   pub inputs_below : (m q : ℕ) (d : Procedure) → length catalog.streams ≤ m → slice_get catalog.procedures q ≡ Some d → AllByRecursion (λ s. s < m) d.inputs
   inputs_below m q d le here =
       all_below (length catalog.streams) m d.inputs le
-      (first_of_two _ _ (at_index (λ (p : Procedure). list_all (λ s. nat_lt s (length catalog.streams)) p.inputs && touch_in_range p.args p.touch) catalog.procedures (second_of_two _ _ numbers) q d here))
+      (first_of_two _ _ (at_index (λ (p : Procedure). list_all (λ s. nat_lt s (length catalog.streams)) p.inputs && touch_in_range p.args p.touch) catalog.procedures (second_of_two _ _ (numbers_of catalog accepted.form)) q d here))

@@ -1,6 +1,7 @@
 pub mod CallerLemmas
 pub mod Counts
 pub mod Hints
+pub mod LoopItem
 pub mod NextStep
 pub mod Outputs
 pub mod Premises

@@ -10,8 +10,8 @@ use Rattle.ss_sched.specs.Lanes.{Lanes, Taken, with_hint}
 use Rattle.ss_sched.specs.Progress.{HasProgress}
 use Rattle.ss_sched.specs.Ranks.{AreRanks}
 use Rattle.ss_sched.specs.declared.inbox.Work.TheVariants.{Hint, Job}
-use Rattle.ss_model_laws.proofs.Workflow as flow
-use Rattle.ss_model_laws.proofs.WorkflowRun as run
+use Rattle.ss_model_laws.proofs.worked.Workflow as flow
+use Rattle.ss_model_laws.proofs.worked.WorkflowRun as run
 
 -- the batch is split: the border procedure has taken it, and each of its two outputs has a batch
 abbrev cursors : List ℕ

@@ -1,9 +1,7 @@
 -- The procedures that an entry wakes.
-use Rattle.std.proofs.Common.{◌≡◌, ◌≢◌, ◌<◌, ◌≤◌, ◌+◌, ◌==◌, ◌&&◌, ◌⊎◌, ◌↔◌, ◌∙◌, inl, inr, ℕ, zero, suc, Bool, true, false, length, slice_get, Some, None, arith, ap, sym, subst, refl}
+use Rattle.std.proofs.Common.{◌≡◌, ◌≢◌, ◌<◌, ◌≤◌, ◌+◌, ◌==◌, ◌&&◌, ◌⊎◌, ◌↔◌, ◌∙◌, inl, inr, ℕ, zero, suc, Bool, true, false, length, slice_get, Some, arith, ap, sym, subst, refl}
 use Rattle.std.proofs.lemmas.Bool.{eqb-true, cases_eq, and_from, or_right, or_left}
 use Rattle.std.proofs.lemmas.Bool.Decides.{Decides-eqb, eqb_tells}
-use Rattle.std.proofs.lemmas.Option.{slice_get_within}
-use Rattle.std.specs.declared.option.Option.{Option}
 use Rattle.std.specs.List.{list_any, range_with_len}
 use Rattle.ss_model.specs.declared.catalog.Procedure.{Procedure}
 use Rattle.ss_model.specs.declared.catalog.Catalog.{Catalog}
@@ -12,6 +10,7 @@ use Rattle.ss_model.specs.declared.entry.Entry.TheVariants.{Call, Push, Step as 
 use Rattle.ss_model.specs.Database.{takes_stream}
 use Rattle.ss_model.specs.Orders.{IsWired, procedure_emits, procedure_takes, procedure_has}
 use Rattle.ss_model.specs.Wakes.{wakes}
+use Rattle.ss_model.proofs.CallerLemmas.{taker_there}
 use Rattle.ss_lemmas.proofs.Bools.{first_of_two, second_of_two, either_so}
 use Rattle.ss_sched.specs.Wakes.{may_append}
 
@@ -56,15 +55,8 @@ woken_is catalog wired e q d here Has are = (
 )
 
 -- only procedures are woken
-taker_within : (catalog : Catalog) (q s : ℕ) → procedure_takes catalog q s ≡ true → q < length catalog.procedures
-taker_within catalog q s takes = by (slice_get catalog.procedures q) refl takes
-  where
-    by : (o : Option Procedure) → slice_get catalog.procedures q ≡ o → procedure_has (takes_stream s) o ≡ true → q < length catalog.procedures
-    by None is h = cc
-    by (Some d) is h = slice_get_within catalog.procedures q d is
-
 pub wakes_within : (catalog : Catalog) (e : Entry) (q : ℕ) → wakes catalog e q ≡ true → q < length catalog.procedures
-wakes_within catalog e q h = let (s, may, takes) = wakes_by catalog e q h in taker_within catalog q s takes
+wakes_within catalog e q h = let (s, may, takes) = wakes_by catalog e q h in taker_there catalog q s takes
 
 -- ---- a set of the numbers below n that pass
 pub marks_more : (Old New Passes : ℕ → Type 0) (n : ℕ) → ((q : ℕ) → Old q ↔ ((q < n) × Passes q)) → Passes n → ((q : ℕ) → New q ↔ ((q ≡ n) ⊎ Old q)) → (q : ℕ) → New q ↔ ((q < n + 1) × Passes q)

@@ -1,13 +1,12 @@
 //! Ranks: the longest path from the border to each procedure.
 
 ghost use Rattle.std.specs.Prelude.{◌≡◌, ◌≤◌, ◌<◌, ◌+◌, length, get_or, ℕ};
-ghost use Rattle.std.specs.List.{AllByRecursion, list_any};
+ghost use Rattle.std.specs.List.{AllByRecursion};
 ghost use Rattle.ss_model.specs.Accepted.{Accepted};
-ghost use Rattle.ss_model.specs.Database.{emits_to};
 ghost use Rattle.ss_model.specs.Settling.{emitting_procedure};
 ghost use Rattle.ss_sched.specs.Ranks.{AreEmitters, AreRanks, AreCounted, greatest_rank, rank_by};
 
-use ss_model::{Catalog, Procedure, Step};
+use ss_model::{Catalog, Procedure};
 use std::marker::Model;
 
 /// The most procedures that a catalogue has.
@@ -42,20 +41,6 @@ fn zeros() -> [u8; PROCEDURES]
     [0; PROCEDURES]
 }
 
-/// Whether one of these steps emits to a stream.
-fn emits(body: &[Step], stream: u16) -> bool
-    ensures { result ≡ list_any (emits_to stream) body.now }
-{
-    for step in body {
-        if let Step::Emit { stream: to, .. } = step {
-            if *to == stream {
-                return true;
-            }
-        }
-    }
-    false
-}
-
 /// The first procedure that emits to a stream, and 0 where none does.
 fn emitting_procedure(catalog: &Catalog, stream: u16) -> u16
     requires { Accepted catalog.now }
@@ -63,7 +48,7 @@ fn emitting_procedure(catalog: &Catalog, stream: u16) -> u16
     ensures small { result < 64 }
 {
     for (number, procedure) in catalog.procedures.as_slice().iter().enumerate() {
-        if emits(procedure.body.as_slice(), stream) {
+        if procedure.emits(usize::from(stream)) {
             return number as u16;
         }
     }

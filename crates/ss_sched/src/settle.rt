@@ -1,6 +1,6 @@
 //! The next procedure to run when settling.
 
-ghost use Rattle.std.specs.Prelude.{◌≡◌, ◌<◌, ℕ, length, IfSome};
+ghost use Rattle.std.specs.Prelude.{◌≡◌, ◌<◌, length, IfSome};
 ghost use Rattle.ss_model.specs.Accepted.{Accepted};
 ghost use Rattle.ss_model.specs.Database.{Database};
 ghost use Rattle.ss_model.specs.Settling.{lower_rank, next_settled};

@@ -5,13 +5,14 @@ use Rattle.std.specs.List.{AllByRecursion}
 use Rattle.std.specs.Ordering.{eq_by_cmp}
 use Rattle.std.specs.FinMap as finite
 use Rattle.std.specs.FinMap.Entries as entries
-use Rattle.ss_lemmas.proofs.Orderings.{equal_test}
 use Rattle.ss_value.specs.Rows.{Row}
 use Rattle.ss_value.specs.Order.{row_cmp}
+use Rattle.ss_value.specs.ValueOrder.{row_cmp_total, row_cmp-IsAntisymmetric}
+use Rattle.ss_value.proofs.CallerLemmas.{same_row}
 use Rattle.ss_table.specs.TableValue.{TableValue, LiveRows, key_of, replace}
 use Rattle.ss_table.specs.Keyed.{SlotsDiffer, AreKeyed}
 use Rattle.ss_table.specs.Steps.{WasDeleted, WasReplaced}
-use Rattle.ss_table.proofs.CallerLemmas.{rows_total, rows_antisymmetric, get_inserted}
+use Rattle.ss_table.proofs.CallerLemmas.{get_inserted}
 use Rattle.ss_undo.specs.declared.change.Change.{Change}
 use Rattle.ss_undo.specs.ResultsFrom.{Step, ResultsFrom}
 use Rattle.ss_undo.proofs.CallerLemmas.{came_more, windows_more}
@@ -86,15 +87,12 @@ module _ (P : ℕ × Row → Type 0) where
   found_so q [] v h e = cc
   found_so q (d ∷ es) v h e = first_so (eq_by_cmp row_cmp q d.0) d (entries.find row_cmp q es) v h.0 (found_so q es v h.1) e
 
-tied : (q k : Row) → eq_by_cmp row_cmp q k ≡ true → q ≡ k
-tied q k e = rows_antisymmetric q k (equal_test (row_cmp q k) e)
-
 one_key : (p q : Row) (es : List (Row × (ℕ × Row))) (v w : ℕ × Row) → SlotsDiffer es → entries.find row_cmp p es ≡ Some v → entries.find row_cmp q es ≡ Some w → v.0 ≡ w.0 → p ≡ q
 one_key p q [] v w h e f same = cc
 one_key p q (d ∷ es) v w h e f same = by (one_key p q es v w h.1) (eq_by_cmp row_cmp p d.0) refl (eq_by_cmp row_cmp q d.0) refl e f
   where
     by : (entries.find row_cmp p es ≡ Some v → entries.find row_cmp q es ≡ Some w → v.0 ≡ w.0 → p ≡ q) → (a : Bool) → eq_by_cmp row_cmp p d.0 ≡ a → (b : Bool) → eq_by_cmp row_cmp q d.0 ≡ b → cond a (Some d.1) (entries.find row_cmp p es) ≡ Some v → cond b (Some d.1) (entries.find row_cmp q es) ≡ Some w → p ≡ q
-    by rest true s true t i j = tied p d.0 s ∙ sym (tied q d.0 t)
+    by rest true s true t i j = same_row p d.0 s ∙ sym (same_row q d.0 t)
     by rest true s false t i j = absurd (found_so (λ x. x.0 ≡ d.1.0 → ⊥) q es w h.0 j (sym same ∙ sym (ap (λ (x : ℕ × Row). x.0) (let r : d.1 ≡ v = cc in r))))
     by rest false s true t i j = absurd (found_so (λ x. x.0 ≡ d.1.0 → ⊥) p es v h.0 i (same ∙ sym (ap (λ (x : ℕ × Row). x.0) (let r : d.1 ≡ w = cc in r))))
     by rest false s false t i j = rest i j same
@@ -113,11 +111,11 @@ at_table tables t u was P same here h = at_some (slice_get tables t) was P (ap (
 pub row_is : (was now : TableValue) (slot : ℕ) (before row : Row) (w : WasReplaced was now slot before) → now ≡ replace was slot row → key_of was.key row ≡ key_of was.key before → w.row ≡ row
 row_is was now slot before row w is alike =
     let k = key_of was.key w.row in
-    let one : finite.get now.live k ≡ Some (slot, w.row) = ap (λ (h : TableValue). finite.get h.live k) w.is ∙ get_inserted rows_total rows_antisymmetric was.live k (slot, w.row) in
+    let one : finite.get now.live k ≡ Some (slot, w.row) = ap (λ (h : TableValue). finite.get h.live k) w.is ∙ get_inserted row_cmp_total row_cmp-IsAntisymmetric was.live k (slot, w.row) in
     let two : finite.get now.live k ≡ Some (slot, row) =
     ap (λ (h : TableValue). finite.get h.live k) is
     ∙ ap (λ q. finite.get (finite.insert was.live q (slot, row)) k) (alike ∙ w.same_key)
-    ∙ get_inserted rows_total rows_antisymmetric was.live k (slot, row) in
+    ∙ get_inserted row_cmp_total row_cmp-IsAntisymmetric was.live k (slot, row) in
     let p : ℕ × Row = (slot, w.row) in
     let q : ℕ × Row = (slot, row) in
     let same : p ≡ q = (let both = sym one ∙ two in cc) in

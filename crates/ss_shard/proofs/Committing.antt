@@ -2,7 +2,7 @@
 use Rattle.std.proofs.Common.{◌≡◌, List, [], ◌∷◌, map, drop, length, refl, sym, ap, subst, ◌∙◌, arith}
 use Rattle.ss_model.specs.declared.catalog.Catalog.{Catalog}
 use Rattle.ss_table.specs.TableValue.{TableValue}
-use Rattle.ss_undo.specs.ResultsFrom.{ResultsFrom, AreCommitted, all_committed}
+use Rattle.ss_undo.specs.ResultsFrom.{ResultsFrom, all_committed}
 use Rattle.ss_undo.specs.declared.change.Change.{Change}
 use Rattle.ss_shard.specs.ShardValue.{ShardValue}
 use Rattle.ss_window.specs.Slides.{first_kept}
@@ -19,10 +19,6 @@ shapes_final (h ∷ hs) = ap (λ shapes. shape_of h ∷ shapes) (shapes_final hs
 keyed_final : (tables : List TableValue) → AllKeyed tables → AllKeyed (all_committed tables)
 keyed_final [] k = tt
 keyed_final (h ∷ hs) k = (record { keyed = (k.0).keyed; apart = (k.0).apart }, keyed_final hs k.1)
-
-pub all_are_final : (tables : List TableValue) → AreCommitted (all_committed tables)
-all_are_final [] = tt
-all_are_final (h ∷ hs) = (refl, all_are_final hs)
 
 -- tables without their dead slots are still those of the catalogue
 pub tables_final : (catalog : Catalog) (tables : List TableValue) → HasTables catalog tables → HasTables catalog (all_committed tables)

@@ -1,8 +1,8 @@
 -- What a unit more of a window is to the model.
 use Rattle.std.proofs.Common.{◌≡◌, ℕ, zero, suc, ◌+◌, ◌^◌, ◌<◌, ◌≤◌, ◌==◌, nat_le, not, true, false, List, [], ◌∷◌, ◌++◌, set, length, replicate, refl, sym, ap, ◌∙◌, Some, slice_get, slice_set, Ok, Err, arith, append_assoc, length-append}
 use Rattle.std.proofs.lemmas.Option.{get_or_from_slice_get}
-use Rattle.std.proofs.lemmas.Bool.Decides.{nat_tests}
 use Rattle.std.proofs.lemmas.List.{map-set}
+use Rattle.std.proofs.lemmas.Bool.{le-leb, lt-leb}
 use Rattle.ss_value.specs.Rows.{Rows}
 use Rattle.ss_model.specs.declared.catalog.WindowDef.{WindowDef}
 use Rattle.ss_model.specs.declared.catalog.Catalog.{Catalog}
@@ -25,12 +25,6 @@ length_replicate (suc n) x = ap suc (length_replicate n x)
 -- all units of the model are those that were dropped, and those that are held
 pub all_count : (h : WindowValue) → length (all_units h) ≡ unit_count h
 all_count h = length-append (replicate h.gone []) h.kept ∙ ap (λ n. n + length h.kept) (length_replicate h.gone [])
-
-le_true : (a b : ℕ) → a ≤ b → nat_le a b ≡ true
-le_true a b h = grind (arith, nat_tests)
-
-le_false : (a b : ℕ) → b < a → nat_le a b ≡ false
-le_false a b h = grind (arith, nat_tests)
 
 module _ (catalog : Catalog) (tables : List TableValue) (windows : List WindowValue) (has : HasWindows catalog windows) (w : ℕ) (was : WindowValue) (here : slice_get windows w ≡ Some was) where
   abbrev held : Contents
@@ -64,10 +58,10 @@ module _ (catalog : Catalog) (tables : List TableValue) (windows : List WindowVa
   pub unit_more : (unit : Rows) → unit_count was < 2 ^ 62 → unit_added catalog w unit held ≡ Ok (moves_end was, contents_with tables (slice_set windows w (stage was unit)))
   unit_more unit less =
       ap (λ k. abort_when (nat_le (2 ^ 62) k) (WindowFull w) (Ok (unit_moves_end catalog w held, append_unit held w unit))) count_there
-      ∙ ap (λ b. abort_when b (WindowFull w) (Ok (unit_moves_end catalog w held, append_unit held w unit))) (le_false (2 ^ 62) (unit_count was) less)
+      ∙ ap (λ b. abort_when b (WindowFull w) (Ok (unit_moves_end catalog w held, append_unit held w unit))) (lt-leb (2 ^ 62) (unit_count was) less)
       ∙ (λ i. Ok (moves_there i, added_there unit i))
 
   pub window_full : (unit : Rows) → 2 ^ 62 ≤ unit_count was → unit_added catalog w unit held ≡ Err (WindowFull w)
   window_full unit full =
       ap (λ k. abort_when (nat_le (2 ^ 62) k) (WindowFull w) (Ok (unit_moves_end catalog w held, append_unit held w unit))) count_there
-      ∙ ap (λ b. abort_when b (WindowFull w) (Ok (unit_moves_end catalog w held, append_unit held w unit))) (le_true (2 ^ 62) (unit_count was) full)
+      ∙ ap (λ b. abort_when b (WindowFull w) (Ok (unit_moves_end catalog w held, append_unit held w unit))) (le-leb (2 ^ 62) (unit_count was) full)

@@ -1,8 +1,8 @@
 -- What the parsers answer, from what reading gives.
 use Rattle.std.proofs.Common.{◌≡◌, ℕ, ◌-◌, ◌≤◌, ◌<◌, Bool, true, false, cond, List, length, take, drop, Result, Ok, Err, refl, sym, ap, subst, ◌∙◌, arith, inl, length-append}
 use Rattle.std.specs.Prelude.{nat_le, IfOk, IfErr}
-use Rattle.std.proofs.lemmas.Bool.Decides.{nat_tests}
 use Rattle.std.proofs.lemmas.List.{drop_at, take-append-drop, length-take, length-drop, length-map}
+use Rattle.std.proofs.lemmas.Bool.{leb-true, leb-false}
 use Rattle.ss_sql_parse.specs.declared.lexeme.Lexeme.{Lexeme}
 use Rattle.ss_sql_parse.specs.declared.parse.ParseError.{ParseError}
 use Rattle.ss_sql_parse.specs.declared.parse.ParseError.TheVariants as parse
@@ -37,16 +37,10 @@ many_judged : {A : Type 0} (g : Sql A) (ts : List Lexeme) (end : ℕ) → max_to
 many_judged g ts end lt (Ok tree) t = cut_whole g ts (take 512 ts) (drop 512 ts) tree end (sym (take-append-drop 512 ts)) (front_long ts lt) (omega (arith, length-drop 512 ts)) t
 many_judged g ts end lt (Err n) t = cut_refused g ts (take 512 ts) (drop 512 ts) (drop (512 - n) ts) n end (sym (take-append-drop 512 ts)) (front_long ts lt) (omega (arith, length-drop 512 ts)) refl t
 
-le_of : (a b : ℕ) → nat_le a b ≡ true → a ≤ b
-le_of a b e = grind (arith, nat_tests)
-
-lt_of : (a b : ℕ) → nat_le a b ≡ false → b < a
-lt_of a b e = grind (arith, nat_tests)
-
 limit_at : {A : Type 0} (g : Sql A) → decides sql g ≡ true → (ts : List Lexeme) (end : ℕ) (few : Bool) → nat_le (length ts) max_tokens ≡ few
     → LimitJudged g ts end (cond few (at_offset end ts (whole g ts)) (past_limit end ts (whole g (take max_tokens ts))))
-limit_at g ll ts end true e = few_judged g ts end (le_of (length ts) max_tokens e) (whole g ts) (judged g ll ts)
-limit_at g ll ts end false e = many_judged g ts end (lt_of (length ts) max_tokens e) (whole g (take max_tokens ts)) (judged g ll (take max_tokens ts))
+limit_at g ll ts end true e = few_judged g ts end (leb-true (length ts) max_tokens e) (whole g ts) (judged g ll ts)
+limit_at g ll ts end false e = many_judged g ts end (leb-false (length ts) max_tokens e) (whole g (take max_tokens ts)) (judged g ll (take max_tokens ts))
 
 limited_judged : {A : Type 0} (g : Sql A) → decides sql g ≡ true → (ts : List Lexeme) (end : ℕ) → LimitJudged g ts end (read_limited (read sql inner g) ts end)
 limited_judged g ll ts end = limit_at g ll ts end (nat_le (length ts) max_tokens) refl

@@ -6,9 +6,7 @@ pub use Rattle.ss_table.proofs.Answered.{is_same}
 pub use Rattle.ss_table.proofs.Cases.{length_set, set_twice}
 -- What a table's lists are where one cell changes.
 pub use Rattle.ss_table.proofs.Cells.{get_set_other, get_set_same}
--- The order of rows by the columns of a key is the order of their keys.
-pub use Rattle.ss_table.proofs.Keys.{rows_total}
 -- An entry in the middle of a map's list.
-pub use Rattle.ss_table.proofs.Maps.{and_both, none_below, rows_antisymmetric, values_antisymmetric}
+pub use Rattle.ss_table.proofs.Maps.{and_both, none_below}
 -- An entry put into a map and taken out again.
 pub use Rattle.ss_table.proofs.PutBack.{get_inserted, get_removed, insert_insert, insert_over, insert_remove, remove_insert}

@@ -5,6 +5,8 @@ use Rattle.std.specs.Option.{option_map_or, option_and_then, is_some}
 use Rattle.std.specs.Ordering.{nat_cmp, is_lt, ordering_then}
 use Rattle.std.specs.declared.cmp.Ordering.{Ordering}
 use Rattle.std.specs.declared.cmp.Ordering.TheVariants.{Less, Equal, Greater}
+use Rattle.std.specs.Prelude.{Result, OnOk}
+use Rattle.std.specs.Result.{is_err}
 use Rattle.std.specs.FinMap as finite
 use Rattle.std.specs.FinMap.{nat_cmp-IsAntisymmetric}
 use Rattle.std.specs.FinMap.Entries as entries
@@ -14,23 +16,23 @@ use Rattle.ss_table.specs.declared.cell.Cell.TheVariants.{Free, Live, Dead}
 use Rattle.ss_table.specs.Cells.{row_of, row_in}
 use Rattle.ss_table.specs.Targets.{is_before_slot, slot_rank}
 use Rattle.ss_value.specs.Rows.{Row}
+use Rattle.ss_value.specs.ValueOrder.{row_cmp_total, row_cmp-IsAntisymmetric}
 use Rattle.ss_table.specs.TableValue.{TableValue, key_of, HasKey, insert as inserted, slot_with, is_at_limit}
 use Rattle.ss_table.specs.Invariant.{order_cmp, order_key, live_list, dead_list, table_of, Rises, Among, IsTable, IsMark, TableInvariant, IsFree, Grown}
 use Rattle.ss_table.proofs.Rising.{every_so, every_with, every_map, every-append, every_front, every_back, map_every, rises_insert, front_passes, back_fails, turned}
-use Rattle.ss_table.proofs.Keys.{rows_total, positions_total}
-use Rattle.ss_table.proofs.Maps.{rows_antisymmetric}
+use Rattle.ss_table.proofs.Keys.{positions_total}
 use Rattle.ss_table.proofs.Cells.{live_get, live_entries, sorted_live, get_set_other, get_set_same, among_here, among_more, same_tests}
 use Rattle.ss_table.proofs.Steps.{plus_is, map_mid, map_two, Apart, live_two, dead_two, Agree, live_agree, dead_agree, position_agree}
 use Rattle.ss_table.specs.declared.mark.Mark.{Mark}
 use Rattle.ss_table.specs.Prefixes.{key_prefix}
 use Rattle.ss_table.specs.Chunks.{slots_of}
 use Rattle.ss_table.proofs.Answered.{is_same}
-use Rattle.ss_table.proofs.Cases.{every_one, length_set, none_from}
+use Rattle.ss_table.proofs.Cases.{every_one, length_set, none_from, on_ok}
 use Rattle.ss_table.proofs.Turned.{Turns, Becomes, becomes, live_new, dead_new, keyed_set, marked_same, marked_off, positions_apart, single_more, live_of_held, settled}
 use Rattle.std.proofs.lemmas.List.{take-map, drop-map}
 use Rattle.ss_lemmas.proofs.Results.{some_map}
 use Rattle.ss_lemmas.proofs.Orderings.{less_test}
-use Rattle.ss_table.specs.Targets.{target_at, target_mark}
+use Rattle.ss_table.specs.Targets.{linked_order, target_at, target_mark}
 use Rattle.ss_table.proofs.Fronts.{row_prefix-key}
 use Rattle.ss_table.specs.Refusals.{refusal_by, refusal}
 
@@ -140,7 +142,7 @@ module _ (key : List ℕ) (limit : Option ℕ) (cells : List Cell) (front : List
       let new_dead : dead_list made (front ++ slot ∷ back) ≡ dead_list cells front ++ dead_list cells back = dead_new key cells front slot back off_front off_back (Free m) (Live row) is in
       let live_is : finite.from_sorted {R = row_cmp} (live_list made key (front ++ slot ∷ back)) ≡ finite.insert (finite.from_sorted {R = row_cmp} (live_list cells key (front ++ back))) k (slot, row) =
       ap (finite.from_sorted {R = row_cmp}) new_list
-      ∙ plus_is row_cmp rows_total rows_antisymmetric (live_list cells key front) k (slot, row) (live_list cells key back)
+      ∙ plus_is row_cmp row_cmp_total row_cmp-IsAntisymmetric (live_list cells key front) k (slot, row) (live_list cells key back)
       (subst (λ es. T (entries.is_sorted row_cmp es)) new_list (sorted_live key made table_more.single (front ++ slot ∷ back) table_more.rises))
       (subst (λ es. T (entries.is_sorted row_cmp es)) old_list (sorted_live key cells t.single (front ++ back) t.rises))
       ∙ sym (ap (λ es. finite.insert (finite.from_sorted {R = row_cmp} es) k (slot, row)) old_list) in
@@ -246,3 +248,16 @@ not_taken false full e = refl
 
 pub none_from_key : (key : List ℕ) (h : TableValue) (row : Row) → key ≡ h.key → finite.contains_key h.live (key_of h.key row) ≡ false → finite.get h.live (key_of key row) ≡ None
 none_from_key key h row same gone = ap (λ k. finite.get h.live (key_of k row)) same ∙ none_from (finite.get h.live (key_of h.key row)) gone
+
+-- ---- a row put in a free slot, where there may be more free cells than before
+
+module _ (key : List ℕ) (limit : Option ℕ) (cells made filled : List Cell) (marks put linked : List Mark) (count spare now : ℕ) (h : TableValue) (slot : ℕ) (row : Row) where
+  pub put_step : {A B E F : Type 0} (freed : Result A E) (did : Result B F) → TableInvariant key cells marks count spare → table_of key limit cells (slots_of marks) ≡ h → Grown cells made spare now → HasKey h.key row → finite.contains_key h.live (key_of h.key row) ≡ false
+      → is_err freed ≡ false → OnOk freed ((m : ℕ) × (slice_get made slot ≡ Some (Free m))) → OnOk freed (1 ≤ now) → filled ≡ slice_set made slot (Live row)
+      → is_err did ≡ false → OnOk did (put ≡ linked) → linked ≡ linked_order made key row slot marks → Becomes key limit filled put (count + 1) (now - 1) (inserted h slot row)
+  put_step freed did kept view grown has gone is_free free some wrote is_linked order place =
+      let b = grown_step key limit cells made marks count spare now h kept view grown in
+      let at = on_ok freed ((m : ℕ) × (slice_get made slot ≡ Some (Free m))) is_free free in
+      let here : key ≡ h.key = ap (λ (x : TableValue). x.key) view in
+      position_step key limit made filled marks put count now h slot row at.0 b.kept b.view at.1
+      (subst (λ k. HasKey k row) (sym here) has) (none_from_key key h row here gone) wrote (on_ok did (put ≡ linked) is_linked order ∙ place) (on_ok freed (1 ≤ now) is_free some)

@@ -38,9 +38,13 @@ coded_table = code_by (List ℕ × (Option ℕ × (LiveRows × DeadRows)))
     (coded× (coded_list coded_ℕ) (coded× (coded_option coded_ℕ) (coded× (finite.code coded_row (coded× coded_ℕ coded_row)) (finite.code coded_ℕ coded_row))))
     (λ h. (h.key, (h.limit, (h.live, h.dead)))) (λ p. record { key = p.0; limit = p.1.0; live = p.1.1.0; dead = p.1.1.1 }) (λ _. refl)
 
+-- the row of a slot, among entries
+abbrev pub row_among : List (Row × (ℕ × Row)) → ℕ → Option Row
+row_among es slot = option_map (λ e. e.1.1) (find (λ e. e.1.0 == slot) es)
+
 -- the row of a live slot
 abbrev pub row_at : LiveRows → ℕ → Option Row
-row_at live slot = option_map (λ e. e.1.1) (find (λ e. e.1.0 == slot) (finite.entries live))
+row_at live slot = row_among (finite.entries live) slot
 
 -- the slot of the first entry
 abbrev pub first_in : List (Row × (ℕ × Row)) → Option ℕ

@@ -1,7 +1,7 @@
 -- An input has one answer: it starts, or it has one refusal.
 use Rattle.std.specs.Prelude.{◌≡◌, ◌⊎◌, Bool, true, false, ℕ, List}
 use Rattle.ss_lines.specs.declared.line.LineError.TheVariants as cause
-use Rattle.ss_lines.specs.Causes.{Rose}
+use Rattle.ss_value.specs.FaultCounts.{Rose}
 use Rattle.ss_model.specs.declared.catalog.Catalog.{Catalog}
 use Rattle.ss_model.specs.declared.entry.Request.{Request}
 use Rattle.ss_catalog.specs.declared.error.CatalogError.TheVariants as catalog

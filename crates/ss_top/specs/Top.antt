@@ -4,7 +4,7 @@ use Rattle.std.specs.Str.{bytes_eq}
 use Rattle.std.specs.declared.alloc.Global.{Global}
 use Rattle.std.specs.Io.KnownBytes.{Appends, IsAtEnd}
 use Rattle.ss_lines.specs.declared.line.LineError.TheVariants as cause
-use Rattle.ss_lines.specs.Causes.{Rose}
+use Rattle.ss_value.specs.FaultCounts.{Rose}
 use Rattle.ss_lines.specs.Lines.{max_input}
 use Rattle.ss_model.specs.declared.catalog.Catalog.{Catalog}
 use Rattle.ss_model.specs.declared.entry.Listed.{Listed}

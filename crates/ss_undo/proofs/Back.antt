@@ -5,9 +5,10 @@ use Rattle.std.proofs.lemmas.Cmp.{nat_cmp_total}
 use Rattle.std.specs.FinMap as finite
 use Rattle.std.specs.FinMap.{nat_cmp-IsAntisymmetric}
 use Rattle.ss_value.specs.Rows.{Row}
+use Rattle.ss_value.specs.ValueOrder.{row_cmp_total, row_cmp-IsAntisymmetric}
 use Rattle.ss_table.specs.TableValue.{TableValue, key_of, row_at, remove_fresh, remove_fresh_row, unmark, unmark_row, replace}
 use Rattle.ss_table.specs.Steps.{WasInserted, WasDeleted, WasReplaced}
-use Rattle.ss_table.proofs.CallerLemmas.{rows_total, rows_antisymmetric, get_set_same, set_twice, remove_insert, insert_remove, insert_insert, get_inserted, get_removed}
+use Rattle.ss_table.proofs.CallerLemmas.{get_set_same, set_twice, remove_insert, insert_remove, insert_insert, get_inserted, get_removed}
 use Rattle.ss_undo.specs.declared.change.Change.{Change}
 use Rattle.ss_undo.specs.declared.change.Change.TheVariants.{Inserted, Deleted, Replaced, Staged}
 use Rattle.ss_undo.specs.ResultsFrom.{At, Step, ResultsFrom}
@@ -19,7 +20,7 @@ use Rattle.ss_undo.specs.Laws.{RollsBack, OneTableChanged}
 pub removed_back : (old new : TableValue) (slot : ℕ) → WasInserted old new slot → remove_fresh new slot ≡ old
 removed_back old new slot w =
     ap (remove_fresh_row new) w.there ∙ ap (λ h. remove_fresh_row h (Some w.row)) w.is
-    ∙ (λ i. record old { live = remove_insert rows_total rows_antisymmetric old.live (key_of old.key w.row) (slot, w.row) w.free i })
+    ∙ (λ i. record old { live = remove_insert row_cmp_total row_cmp-IsAntisymmetric old.live (key_of old.key w.row) (slot, w.row) w.free i })
 
 pub dead_there : (old new : TableValue) (slot : ℕ) (w : WasDeleted old new slot) → finite.get new.dead slot ≡ Some w.row
 dead_there old new slot w = ap (λ h. finite.get h.dead slot) w.is ∙ get_inserted nat_cmp_total nat_cmp-IsAntisymmetric old.dead slot w.row
@@ -27,13 +28,13 @@ dead_there old new slot w = ap (λ h. finite.get h.dead slot) w.is ∙ get_inser
 pub unmarked_back : (old new : TableValue) (slot : ℕ) → WasDeleted old new slot → unmark new slot ≡ old
 unmarked_back old new slot w =
     ap (unmark_row new slot) (dead_there old new slot w) ∙ ap (λ h. unmark_row h slot (Some w.row)) w.is
-    ∙ (λ i. record old { live = insert_remove rows_total rows_antisymmetric old.live (key_of old.key w.row) (slot, w.row) w.there i; dead = remove_insert nat_cmp_total nat_cmp-IsAntisymmetric old.dead slot w.row w.apart i })
+    ∙ (λ i. record old { live = insert_remove row_cmp_total row_cmp-IsAntisymmetric old.live (key_of old.key w.row) (slot, w.row) w.there i; dead = remove_insert nat_cmp_total nat_cmp-IsAntisymmetric old.dead slot w.row w.apart i })
 
 pub replaced_back : (old new : TableValue) (slot : ℕ) (was : Row) → WasReplaced old new slot was → replace new slot was ≡ old
 replaced_back old new slot was w =
     ap (λ h. replace h slot was) w.is
     ∙ (λ i. record old { live = finite.insert (finite.insert old.live (sym w.same_key i) (slot, w.row)) (key_of old.key was) (slot, was) })
-    ∙ (λ i. record old { live = insert_insert rows_total rows_antisymmetric old.live (key_of old.key was) (slot, was) (slot, w.row) w.before i })
+    ∙ (λ i. record old { live = insert_insert row_cmp_total row_cmp-IsAntisymmetric old.live (key_of old.key was) (slot, was) (slot, w.row) w.before i })
 
 -- ---- one table among others
 
@@ -63,7 +64,7 @@ step_back before now (Inserted table slot) a = (
 step_back before now (Deleted table slot) a = (
   some_and (slice_get now table) a.new (λ h. IsSomeAnd (finite.get h.dead slot) (λ row. finite.get h.live (key_of h.key row) ≡ None)) (now_there before now table (λ old new. WasDeleted old new slot) a)
       (some_and (finite.get a.new.dead slot) a.step.row (λ row. finite.get a.new.live (key_of a.new.key row) ≡ None) (dead_there a.old a.new slot a.step)
-      (ap (λ h. finite.get h.live (key_of h.key a.step.row)) a.step.is ∙ get_removed rows_total rows_antisymmetric a.old.live (key_of a.old.key a.step.row))),
+      (ap (λ h. finite.get h.live (key_of h.key a.step.row)) a.step.is ∙ get_removed row_cmp_total row_cmp-IsAntisymmetric a.old.live (key_of a.old.key a.step.row))),
   one_back before now table (λ old new. WasDeleted old new slot) (λ h. unmark h slot) a (unmarked_back a.old a.new slot a.step),
 )
 step_back before now (Replaced table slot row) a =

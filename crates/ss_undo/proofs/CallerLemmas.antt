@@ -2,6 +2,8 @@
 
 -- What takes a change back gives the tables before it.
 pub use Rattle.ss_undo.proofs.Back.{came_more, one_changed, set_same, some_and}
+-- What a commit leaves of tables and windows.
+pub use Rattle.ss_undo.proofs.Final.{all_are_committed}
 -- What the indexes of a table hold, change by change.
 pub use Rattle.ss_undo.proofs.Holding.{hold_at_first, rows_are_there}
 -- What the indexes of several tables hold, where one change is noted or is no longer.

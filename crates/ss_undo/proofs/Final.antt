@@ -93,9 +93,9 @@ settles_to before now (c ∷ cs) (mid, step, rest) = let s = settle_step before 
 pub settles : (before now : List TableValue) (cs : List Change) → ResultsFrom before cs now → AreCommitted before → Commits now cs (all_committed now)
 settles before now cs came final = subst (Commits now cs) (buried_final now before (came_length before now cs came) final) (settles_to before now cs came)
 
-pub all_are : (tables : List TableValue) → AreCommitted (all_committed tables)
-all_are [] = tt
-all_are (h ∷ hs) = (refl, all_are hs)
+pub all_are_committed : (tables : List TableValue) → AreCommitted (all_committed tables)
+all_are_committed [] = tt
+all_are_committed (h ∷ hs) = (refl, all_are_committed hs)
 
 -- tables on the way: the live rows of those now, and the dead rows before the changes that are no longer noted
 abbrev pub OnTheWay : List TableValue → List TableValue → List Change → List TableValue → Type 0

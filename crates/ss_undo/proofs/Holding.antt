@@ -11,14 +11,14 @@ use Rattle.std.specs.FinMap.Entries as entries
 use Rattle.std.proofs.lemmas.Cmp.{nat_cmp_total, tied_itself}
 use Rattle.std.proofs.lemmas.Bool.Decides.{nat_tests}
 use Rattle.ss_lemmas.proofs.Bools.{and_left, and_right}
-use Rattle.ss_lemmas.proofs.Orderings.{equal_test}
 use Rattle.ss_value.specs.Rows.{Row}
 use Rattle.ss_value.specs.Order.{row_cmp}
-use Rattle.ss_value.specs.ValueOrder.{row_cmp_total}
-use Rattle.ss_table.specs.TableValue.{TableValue as Table, LiveRows, DeadRows, key_of, row_at, insert, mark_dead_row, unmark, unmark_row, remove_fresh, remove_fresh_row, replace, purge}
+use Rattle.ss_value.specs.ValueOrder.{row_cmp_total, row_cmp-IsAntisymmetric}
+use Rattle.ss_value.proofs.CallerLemmas.{same_row}
+use Rattle.ss_table.specs.TableValue.{TableValue as Table, LiveRows, DeadRows, key_of, row_at, insert, mark_dead_row, unmark, unmark_row, remove_fresh, remove_fresh_row, replace, purge, row_among}
 use Rattle.ss_table.specs.Keyed.{AreKeyed, StandsAtKey}
 use Rattle.ss_table.specs.Steps.{WasInserted, WasDeleted, WasReplaced}
-use Rattle.ss_table.proofs.CallerLemmas.{rows_antisymmetric, none_below, insert_remove, insert_over, get_removed}
+use Rattle.ss_table.proofs.CallerLemmas.{none_below, insert_remove, insert_over, get_removed}
 use Rattle.ss_index.specs.Pairs.{Pair, IndexValue, pair_of, add_pair, drop_pair}
 use Rattle.ss_index.specs.Entries.{pairs_in}
 use Rattle.ss_index.specs.Indexes.{with_rows}
@@ -80,13 +80,13 @@ module _ (columns : List ℕ) (q : Pair) where
   one_noted (n ∷ ns) row slot = let rest : in_notes (ns ++ (row, slot) ∷ []) ≡ one q (pair_of columns row slot) + in_notes ns = one_noted ns row slot in omega (arith, rest)
 
   live_more : (live : LiveRows) (k : Row) (slot : ℕ) (row : Row) → finite.get live k ≡ None → in_live (finite.insert live k (slot, row)) ≡ one q (pair_of columns row slot) + in_live live
-  live_more live k slot row none = more_there row_cmp_total rows_antisymmetric (live_pair columns) q live k (slot, row) none
+  live_more live k slot row none = more_there row_cmp_total row_cmp-IsAntisymmetric (live_pair columns) q live k (slot, row) none
 
   live_one : (live : LiveRows) (k : Row) (slot : ℕ) (row : Row) → finite.get live k ≡ Some (slot, row) → in_live live ≡ one q (pair_of columns row slot) + in_live (finite.remove live k)
-  live_one live k slot row some = one_there row_cmp_total rows_antisymmetric (live_pair columns) q live k (slot, row) some
+  live_one live k slot row some = one_there row_cmp_total row_cmp-IsAntisymmetric (live_pair columns) q live k (slot, row) some
 
   live_put : (live : LiveRows) (k : Row) (slot : ℕ) (row : Row) → in_live (finite.insert live k (slot, row)) ≡ one q (pair_of columns row slot) + in_live (finite.remove live k)
-  live_put live k slot row = put_there row_cmp_total rows_antisymmetric (live_pair columns) q live k (slot, row)
+  live_put live k slot row = put_there row_cmp_total row_cmp-IsAntisymmetric (live_pair columns) q live k (slot, row)
 
   dead_more : (dead : DeadRows) (slot : ℕ) (row : Row) → finite.get dead slot ≡ None → in_dead (finite.insert dead slot row) ≡ one q (pair_of columns row slot) + in_dead dead
   dead_more dead slot row none = more_there nat_cmp_total nat_cmp-IsAntisymmetric (dead_pair columns) q dead slot row none
@@ -187,19 +187,12 @@ module _ (old new : Table) (before after : Noted) where
 
 -- ---- a live row stands at its key
 
-same_key : (k d : Row) → eq_by_cmp row_cmp k d ≡ true → k ≡ d
-same_key k d e = rows_antisymmetric k d (equal_test (row_cmp k d) e)
-
-row_among : List (Row × (ℕ × Row)) → ℕ → Option Row
-row_among es slot = option_map (λ e. e.1.1) (find (λ e. e.1.0 == slot) es)
-
 at_key : (key : List ℕ) (slot : ℕ) (row : Row) (es : List (Row × (ℕ × Row))) → T (entries.is_sorted row_cmp es) → AllByRecursion (StandsAtKey key) es → row_among es slot ≡ Some row → entries.find row_cmp (key_of key row) es ≡ Some (slot, row)
-unfolding row_among
 at_key key slot row [] s a e = cc
 at_key key slot row (d ∷ es) s a e = by (at_key key slot row es (and_right _ _ s) a.1) (d.1.0 == slot) refl e
   where
     behind : (b : Bool) → eq_by_cmp row_cmp (key_of key row) d.0 ≡ b → entries.find row_cmp (key_of key row) es ≡ Some (slot, row) → cond b (Some d.1) (entries.find row_cmp (key_of key row) es) ≡ Some (slot, row)
-    behind true t f = let none : entries.find row_cmp (key_of key row) es ≡ None = ap (λ k. entries.find row_cmp k es) (same_key _ _ t) ∙ none_below row_cmp d.0 es (and_left _ _ s) in cc
+    behind true t f = let none : entries.find row_cmp (key_of key row) es ≡ None = ap (λ k. entries.find row_cmp k es) (same_row _ _ t) ∙ none_below row_cmp d.0 es (and_left _ _ s) in cc
     behind false t f = f
 
     by : (option_map (λ (x : Row × (ℕ × Row)). x.1.1) (find (λ x. x.1.0 == slot) es) ≡ Some row → entries.find row_cmp (key_of key row) es ≡ Some (slot, row))
@@ -212,7 +205,6 @@ at_key key slot row (d ∷ es) s a e = by (at_key key slot row es (and_right _ _
     by rest false t f = behind (eq_by_cmp row_cmp (key_of key row) d.0) refl (rest f)
 
 pub stands_at_key : (h : Table) (slot : ℕ) (row : Row) → AreKeyed h → row_at h.live slot ≡ Some row → finite.get h.live (key_of h.key row) ≡ Some (slot, row)
-unfolding row_among
 stands_at_key h slot row k e = finite.get-entries h.live (key_of h.key row) ∙ at_key h.key slot row (finite.entries h.live) (finite.entries_sorted h.live) k.keyed e
 
 -- ---- the laws

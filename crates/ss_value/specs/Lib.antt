@@ -8,3 +8,4 @@ pub mod Fit
 pub mod ValueOrder
 pub mod Refusals
 pub mod RowCodes
+pub mod FaultCounts

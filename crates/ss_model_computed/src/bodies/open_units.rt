@@ -5,7 +5,8 @@ ghost use Rattle.ss_model.specs.Results.{try_fold};
 ghost use Rattle.ss_model.specs.Bodies.{is_batches_unit, is_closed_by, owned_batch_windows, close_window};
 ghost use Rattle.ss_model.specs.Stops.{StopsAs};
 ghost use Rattle.ss_model_computed.specs.State.{context_of, execution_of};
-ghost use Rattle.ss_model_computed.specs.Meanings.{Brings, StepStops, close_owned};
+ghost use Rattle.ss_model.specs.Depths.{close_owned};
+ghost use Rattle.ss_model_computed.specs.Meanings.{Brings, StepStops};
 
 use crate::contents::{Context, Execution};
 use crate::lists::{copy_at, set_at};
@@ -94,8 +95,8 @@ pub fn close_owned(
     context: &Context,
     execution: &mut Execution,
 ) -> Result<(), RunError>
-    ensures ok { OnOk result (Brings (close_owned context.now) execution.old execution.new) }
-    ensures stops { IfErr result (StepStops (close_owned context.now) execution.old) }
+    ensures ok { OnOk result (Brings (close_owned (context_of context.now)) execution.old execution.new) }
+    ensures stops { IfErr result (StepStops (close_owned (context_of context.now)) execution.old) }
 {
     let owned = owned_batch_windows(alloc, context.catalog, context.procedure)?;
     close_each(alloc, context, owned.as_slice(), execution)

@@ -6,7 +6,8 @@ ghost use Rattle.ss_model.specs.Bodies.{execute_inner, execute_step};
 ghost use Rattle.ss_model.specs.Stops.{StopsAs};
 ghost use Rattle.ss_model_computed.specs.State.{context_of, execution_of};
 ghost use Rattle.ss_model_computed.specs.Steps.{reply_rows};
-ghost use Rattle.ss_model_computed.specs.Meanings.{Brings, StepStops, body_query, inner_steps, steps_of_rows};
+ghost use Rattle.ss_model.specs.Depths.{inner_steps, steps_of_rows};
+ghost use Rattle.ss_model_computed.specs.Meanings.{Brings, StepStops, body_query};
 
 use crate::bodies::conditions::execute_abort_if;
 use crate::bodies::emit::emit_rows;
@@ -49,8 +50,8 @@ fn execute_inners(
     body: &[Inner],
     execution: &mut Execution,
 ) -> Result<(), RunError>
-    ensures ok { OnOk result (Brings (inner_steps context.now current.now body.now) execution.old execution.new) }
-    ensures stops { IfErr result (StepStops (inner_steps context.now current.now body.now) execution.old) }
+    ensures ok { OnOk result (Brings (inner_steps (context_of context.now) current.now body.now) execution.old execution.new) }
+    ensures stops { IfErr result (StepStops (inner_steps (context_of context.now) current.now body.now) execution.old) }
 {
     for inner in body {
         execute_inner(alloc, context, current, inner, execution)?;
@@ -66,8 +67,8 @@ fn for_each(
     rows: &[Row],
     execution: &mut Execution,
 ) -> Result<(), RunError>
-    ensures ok { OnOk result (Brings (steps_of_rows context.now body.now rows.now) execution.old execution.new) }
-    ensures stops { IfErr result (StepStops (steps_of_rows context.now body.now rows.now) execution.old) }
+    ensures ok { OnOk result (Brings (steps_of_rows (context_of context.now) body.now rows.now) execution.old execution.new) }
+    ensures stops { IfErr result (StepStops (steps_of_rows (context_of context.now) body.now rows.now) execution.old) }
 {
     for row in rows {
         execute_inners(alloc, context, row, body, execution)?;

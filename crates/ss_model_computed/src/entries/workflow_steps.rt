@@ -1,14 +1,14 @@
 //! Steps: a streaming procedure takes the next batch of each of its inputs.
 
-ghost use Rattle.std.specs.Prelude.{◌≡◌, [], ◌∷◌, ◌++◌, cond, map, get_or, nat_lt, length, IfOk, OnErr, IfNone};
-ghost use Rattle.std.specs.List.{list_any, list_all};
-ghost use Rattle.ss_model.specs.Database.{is_streaming, emits_to, is_ready, append_batches};
-ghost use Rattle.ss_model_computed.specs.Databases.{StepAnswers, database_of};
+ghost use Rattle.std.specs.Prelude.{◌≡◌, [], map, get_or, nat_lt, length, IfOk, OnErr, IfNone};
+ghost use Rattle.std.specs.List.{list_all};
+ghost use Rattle.ss_model.specs.Database.{is_streaming, is_ready, append_batches};
+ghost use Rattle.ss_model_computed.specs.Databases.{StepAnswers, appended_batch, database_of};
 
 use crate::bodies::runs::run_procedure;
 use crate::entries::database::{Applied, Database};
 use crate::lists::{copy_at, set_at};
-use ss_model::{Catalog, Kind, Procedure, Step};
+use ss_model::{Catalog, Kind, Procedure};
 use ss_value::{Copies, NoMemory, Rows, Seq};
 use std::alloc::Global;
 
@@ -73,38 +73,18 @@ fn input_batches(
     Ok(batches)
 }
 
-/// Whether a step emits to this stream.
-fn emits_to(stream: usize, step: &Step) -> bool
-    ensures { result ≡ emits_to stream step.now }
-{
-    match step {
-        Step::Emit { stream: to, .. } => stream == usize::from(*to),
-        Step::Sql(_) => false,
-        Step::AbortIf { .. } => false,
-        Step::ForEach { .. } => false,
-        Step::Return(_) => false,
-    }
-}
-
-/// Whether a step of a body emits to this stream.
-fn is_output(stream: usize, body: &[Step]) -> bool
-    ensures { result ≡ list_any (emits_to stream) body.now }
-{
-    body.iter().any(|step| emits_to(stream, step))
-}
-
-/// A copy of a stream, with the body's batch behind it where the body emits to this stream.
+/// A copy of a stream, with the procedure's batch behind it where the procedure emits to this stream.
 fn appended_batch(
     alloc: Global,
-    body: &[Step],
+    procedure: &Procedure,
     emitted: &Seq<Rows>,
     stream: usize,
     batches: &Seq<Rows>,
 ) -> Result<Seq<Rows>, NoMemory>
-    ensures { IfOk result (λ longer. longer ≡ cond (list_any (emits_to stream) body.now) (batches.now ++ get_or emitted.now stream [] ∷ []) batches.now) }
+    ensures { IfOk result (λ longer. longer ≡ appended_batch procedure.now emitted.now stream batches.now) }
 {
     let mut longer = batches.duplicate(alloc)?;
-    if is_output(stream, body) {
+    if procedure.emits(stream) {
         let batch = copy_at(alloc, emitted, stream)?;
         longer.push(batch)?;
     }
@@ -122,7 +102,7 @@ fn append_batches(
 {
     let mut longer = Seq::new(alloc);
     for (stream, batches) in streams.as_slice().iter().enumerate() {
-        let batches = appended_batch(alloc, procedure.body.as_slice(), emitted, stream, batches)?;
+        let batches = appended_batch(alloc, procedure, emitted, stream, batches)?;
         longer.push(batches)?;
     }
     Ok(longer)

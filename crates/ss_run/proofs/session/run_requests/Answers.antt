@@ -15,7 +15,7 @@ opening-requires-clause-few c = few_procedures c.args.catalog.now c.requires.acc
 pub returns-clause-orders : goal.returns-clause-orders
 returns-clause-orders c =
     let catalog = c.args.catalog.now in
-    let wired = c.requires.accepted.wired in
+    let wired = c.requires.accepted.structure.streams.wired in
     if_ok c.run_from.result (λ s at. replays_orders catalog wired (empty_database catalog) s.list (matching_stays catalog wired).starts at.replays) c.run_from.ensures.ok
 
 pub returns-clause-whole : goal.returns-clause-whole

@@ -1,7 +1,7 @@
-use Rattle.std.proofs.Common.{◌≡◌, ◌<◌, ◌+◌, ◌∙◌, Some, length, get_or, slice_get, arith, ap, sym}
+use Rattle.std.proofs.Common.{◌≡◌, ◌<◌, ◌+◌, ◌∙◌, Some, length, slice_get, arith, ap}
 use Rattle.std.proofs.Math.ListN.{length-set}
-use Rattle.std.proofs.lemmas.Option.{slice_get-get_or}
 use Rattle.ss_model.specs.Settling.{rank_from}
+use Rattle.ss_sched.proofs.LoopItem.{item_there}
 use Rattle.ss_sched.proofs.Counts.{few_procedures, few_streams, inputs_below}
 use Rattle.ss_sched.proofs.Ranking.{written, written_below, rank_step, rank_within}
 use Rattle.ss_sched.proofs.rank.next_ranks.Goals as goal
@@ -11,9 +11,7 @@ next_rank-requires-clause-streams c =
     let catalog = c.args.catalog.now in
     let n = c.loop-number.number in
     let d = c.procedure-item.result in
-    let within : n < length catalog.procedures = rw (← c.as_slice-procedure-items.ensures) c.loop-number-test.true in
-    let same : get_or catalog.procedures n d ≡ d = sym (rw c.as_slice-procedure-items.ensures at c.procedure-item.is) in
-    let here : slice_get catalog.procedures n ≡ Some d = slice_get-get_or catalog.procedures n d within ∙ ap Some same in
+    let here : slice_get catalog.procedures n ≡ Some d = item_there _ catalog.procedures n d c.as_slice-procedure-items.ensures c.loop-number-test.true c.procedure-item.is in
     let few = few_streams catalog c.requires.accepted in
     let long : length c.args.emitters.now ≡ 32 = c.told-emitters in
     inputs_below catalog c.requires.accepted (length c.args.emitters.now) n d (omega arith) here
@@ -30,8 +28,7 @@ loop-number-preserved c =
     let n = c.loop-number.number in
     let d = c.procedure-item.result in
     let within : n < length catalog.procedures = rw (← c.as_slice-procedure-items.ensures) c.loop-number-test.true in
-    let same : get_or catalog.procedures n d ≡ d = sym (rw c.as_slice-procedure-items.ensures at c.procedure-item.is) in
-    let here : slice_get catalog.procedures n ≡ Some d = slice_get-get_or catalog.procedures n d within ∙ ap Some same in
+    let here : slice_get catalog.procedures n ≡ Some d = item_there _ catalog.procedures n d c.as_slice-procedure-items.ensures c.loop-number-test.true c.procedure-item.is in
     let few = few_procedures catalog c.requires.accepted in
     let long = c.loop-number.invariant.long in
     let inputs = inputs_below catalog c.requires.accepted (length catalog.streams) n d (omega arith) here in

@@ -12,6 +12,6 @@ body_outputs-requires c = λ s emits.
     let p = c.in-Step.procedure in
     let here : slice_get catalog.procedures p ≡ Some d = subst (λ (k : ℕ). slice_get catalog.procedures k ≡ Some d) c.from.ensures c.in-Some.ensures.item in
     let em : procedure_emits catalog p s ≡ true = ap (procedure_has (λ d. list_any (emits_to s) d.body)) here ∙ rw c.as_slice.ensures at emits in
-    let within : s < length catalog.streams = c.requires.accepted.wired.emits_there p s em in
+    let within : s < length catalog.streams = c.requires.accepted.structure.streams.wired.emits_there p s em in
     let few = few_streams catalog c.requires.accepted in
     omega arith

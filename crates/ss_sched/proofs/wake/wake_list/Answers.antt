@@ -1,8 +1,8 @@
-use Rattle.std.proofs.Common.{◌≡◌, ◌<◌, ◌∙◌, true, Some, length, get_or, slice_get, arith, ap, sym, refl, rules}
+use Rattle.std.proofs.Common.{◌≡◌, ◌<◌, true, Some, length, slice_get, arith, ap, refl, rules}
 use Rattle.std.specs.Int.{IsBitSet}
-use Rattle.std.proofs.lemmas.Option.{slice_get-get_or}
 use Rattle.ss_model.specs.Wakes.{wakes}
 use Rattle.ss_sched.proofs.Waking.{woken_is, wakes_within, marks_more, marks_same}
+use Rattle.ss_sched.proofs.LoopItem.{item_there}
 use Rattle.ss_sched.proofs.Counts.{few_procedures, few_streams, inputs_below}
 use Rattle.ss_sched.proofs.wake.wake_list.Goals as goal
 use Rattle.ss_sched.proofs.wake.wake_list.Goals.{then-takes_any, else-takes_any}
@@ -30,9 +30,8 @@ loop-number-preserved c =
     let n = c.loop-number.number in
     let d = c.procedure-item.result in
     let within : n < length catalog.procedures = rw (← c.as_slice-procedure-items.ensures) c.loop-number-test.true in
-    let same : get_or catalog.procedures n d ≡ d = sym (rw c.as_slice-procedure-items.ensures at c.procedure-item.is) in
-    let here : slice_get catalog.procedures n ≡ Some d = slice_get-get_or catalog.procedures n d within ∙ ap Some same in
-    let is = woken_is catalog c.requires.accepted.wired e n d here (IsBitSet c.entry_outputs-streams.result) c.entry_outputs-streams.ensures in
+    let here : slice_get catalog.procedures n ≡ Some d = item_there _ catalog.procedures n d c.as_slice-procedure-items.ensures c.loop-number-test.true c.procedure-item.is in
+    let is = woken_is catalog c.requires.accepted.structure.streams.wired e n d here (IsBitSet c.entry_outputs-streams.result) c.entry_outputs-streams.ensures in
     elim c.if-takes_any.branch [
       | then-takes_any w ↦ rw w.woken-is (marks_more (IsBitSet c.loop-number.woken) (IsBitSet w.insert.new.self) (λ q. wakes catalog e q ≡ true) n c.loop-number.invariant (is.0 (c.takes_any.ensures.0 w.if-takes_any.true)) w.insert.ensures)
       | else-takes_any w ↦ rw w.woken-is (marks_same (IsBitSet c.loop-number.woken) (λ q. wakes catalog e q ≡ true) n c.loop-number.invariant (λ t. let t2 = c.takes_any.ensures.1 (is.1 t) in let f = w.if-takes_any.false in cc))
@@ -50,8 +49,6 @@ takes_any-requires c =
     let catalog = c.args.catalog.now in
     let n = c.loop-number.number in
     let d = c.procedure-item.result in
-    let within : n < length catalog.procedures = rw (← c.as_slice-procedure-items.ensures) c.loop-number-test.true in
-    let same : get_or catalog.procedures n d ≡ d = sym (rw c.as_slice-procedure-items.ensures at c.procedure-item.is) in
-    let here : slice_get catalog.procedures n ≡ Some d = slice_get-get_or catalog.procedures n d within ∙ ap Some same in
+    let here : slice_get catalog.procedures n ≡ Some d = item_there _ catalog.procedures n d c.as_slice-procedure-items.ensures c.loop-number-test.true c.procedure-item.is in
     let few = few_streams catalog c.requires.accepted in
     inputs_below catalog c.requires.accepted 64 n d (omega arith) here

@@ -1,15 +1,13 @@
-use Rattle.std.proofs.Common.{◌≡◌, ◌∷◌, [], ◌++◌, ℕ, List, cond, get_or, ap, ◌∙◌, sym, rules}
-use Rattle.std.specs.List.{list_any}
+use Rattle.std.proofs.Common.{◌≡◌, ◌∷◌, [], ◌++◌, ap, ◌∙◌, sym, rules}
 use Rattle.ss_model.proofs.CallerLemmas.{indexed_more}
-use Rattle.ss_value.specs.Rows.{Rows}
-use Rattle.ss_model.specs.Database.{emits_to}
+use Rattle.ss_model_computed.specs.Databases.{appended_batch}
 use Rattle.ss_model_computed.proofs.entries.workflow_steps.append_batches.Goals as goal
 
 pub loop-stream-preserved : goal.loop-stream-preserved
 loop-stream-preserved c =
-    let one = λ (s : ℕ) (bs : List Rows). cond (list_any (emits_to s) c.args.procedure.now.body) (bs ++ get_or c.args.emitted.now s [] ∷ []) bs in
+    let one = appended_batch c.args.procedure.now c.args.emitted.now in
     let pushed : c.push.new.self ≡ c.loop-stream.longer ++ c.in_ok-batches.batches ∷ [] = search rules in
-    let batches : c.in_ok-batches.batches ≡ one c.loop-stream.stream c.batches-item.result = rw c.as_slice.ensures at c.in_ok-batches.ensures in
+    let batches : c.in_ok-batches.batches ≡ one c.loop-stream.stream c.batches-item.result = c.in_ok-batches.ensures in
     pushed
     ∙ ap (λ bs. c.loop-stream.longer ++ bs ∷ []) batches
     ∙ ap (λ longer. longer ++ one c.loop-stream.stream c.batches-item.result ∷ []) c.loop-stream.invariant

@@ -3,11 +3,12 @@ use Rattle.ss_table.specs.TableValue.{TableValue}
 use Rattle.ss_window.specs.WindowValue.{WindowValue}
 use Rattle.ss_undo.specs.ResultsFrom.{AreCommitted}
 use Rattle.ss_undo.specs.Windows.{AreCommittedWindows}
+use Rattle.ss_undo.proofs.CallerLemmas.{all_are_committed}
 use Rattle.ss_shard.specs.Contents.{tables_of}
 use Rattle.ss_shard.specs.ShardValue.{ShardValue}
 use Rattle.ss_shard.specs.Windows.{kept_part}
 use Rattle.ss_shard.specs.Shards.{HasTables, HasWindows, AllInvariant, IsOf}
-use Rattle.ss_shard.proofs.Committing.{all_are_final, tables_final, all_settled, windows_settled, same_parts}
+use Rattle.ss_shard.proofs.Committing.{tables_final, all_settled, windows_settled, same_parts}
 use Rattle.ss_shard.proofs.Tables.{final_tables}
 use Rattle.ss_shard.proofs.shard.Shard.commit.Goals as goal
 
@@ -32,7 +33,7 @@ returns-clause-committed c = λ catalog given.
         cursors = is.cursors;
         sources = is.sources;
       };
-      final = subst (λ (tables : List TableValue). AreCommitted tables) (sym c.commit.ensures.tables) (all_are_final inside.tables);
+      final = subst (λ (tables : List TableValue). AreCommitted tables) (sym c.commit.ensures.tables) (all_are_committed inside.tables);
       committed = subst (λ (windows : List WindowValue). AreCommittedWindows windows) (sym c.commit.ensures.windows) (all_settled inside.windows is.windows.held);
       empty = c.commit.ensures.empty;
     }

@@ -1,4 +1,4 @@
-use Rattle.std.proofs.Common.{◌≡◌, refl, sym, ap, subst, ◌∙◌, ◌+◌, ◌≤◌, ℕ, List, length, slice_get, Some, arith}
+use Rattle.std.proofs.Common.{◌≡◌, refl, sym, ap, subst, ◌∙◌, ℕ, List, slice_get, Some, arith}
 use Rattle.std.specs.FinMap as finite
 use Rattle.std.proofs.lemmas.Option.{slice_get_within}
 use Rattle.ss_table.specs.declared.cell.Cell.TheVariants.{Free, Live}
@@ -6,11 +6,12 @@ use Rattle.ss_table.specs.Cells.{live_row, dead_row}
 use Rattle.ss_table.specs.Targets.{linked_order}
 use Rattle.ss_table.specs.Chunks.{slots_of}
 use Rattle.ss_table.specs.TableValue.{TableValue, HasKey, key_of, row_at}
-use Rattle.ss_table.specs.Invariant.{live_list, table_of}
-use Rattle.ss_table.proofs.Cells.{live_fewer, get_set_same}
+use Rattle.ss_table.specs.Invariant.{table_of}
+use Rattle.ss_table.proofs.Cells.{get_set_same}
 use Rattle.ss_table.proofs.Answered.{row_at_is, dead_at_is}
 use Rattle.ss_table.proofs.Cases.{on_ok, on_err}
-use Rattle.ss_table.proofs.Putting.{grown_step, position_step, none_from_key}
+use Rattle.ss_table.proofs.Turned.{count_below}
+use Rattle.ss_table.proofs.Putting.{grown_step, none_from_key, put_step}
 use Rattle.ss_table.proofs.table.Table.put_new.Goals as goal
 
 pub invariant_of-self : goal.invariant_of-self
@@ -57,40 +58,22 @@ fill-self-inside-requires c =
 pub overflow_add-self : goal.overflow_add-self
 overflow_add-self c =
     let t = c.self.inside in
-    let few : length (live_list t.cells.items t.key (slots_of t.order)) ≤ length (slots_of t.order) = live_fewer t.cells.items t.key (slots_of t.order) in
-    let n : t.count ≡ length (live_list t.cells.items t.key (slots_of t.order)) = c.self.invariant.counted in
-    let all : length (slots_of t.order) + t.spare ≡ length t.cells.items = c.self.invariant.spared in
-    omega (arith, few, n, all, t.cells.ok.0, t.cells.ok.1, t.cells.small)
+    let below = count_below t.key t.cells.items t.order t.count t.spare c.self.invariant in
+    omega (arith, below, t.cells.ok.0, t.cells.ok.1, t.cells.small)
 
 pub invariant_of-self-2 : goal.invariant_of-self-2
 invariant_of-self-2 c =
     let t = c.self.inside in
-    let b = grown_step t.key t.limit t.cells.items c.make_free.new.cells.items t.order t.count t.spare c.make_free.new.spare c.args.self.now c.self.invariant c.self.view_is c.make_free.ensures.grown in
-    let ok = on_ok c.make_free.result ((n : ℕ) × (slice_get c.make_free.new.cells.items c.make_free.new.free ≡ Some (Free n))) (sym c.is_err.ensures.value ∙ c.if-is_err.false) c.make_free.ensures.ok in
-    let some : 1 ≤ c.make_free.new.spare = on_ok c.make_free.result (1 ≤ c.make_free.new.spare) (sym c.is_err.ensures.value ∙ c.if-is_err.false) c.make_free.ensures.some in
-    let here : t.key ≡ c.args.self.now.key = ap (λ (x : TableValue). x.key) c.self.view_is in
-    let P : List ℕ → Type 0 = λ k. HasKey k c.args.row in
-    let linked : c.link.new.order ≡ linked_order c.make_free.new.cells.items t.key c.args.row c.make_free.new.free t.order =
-    on_ok c.link.result _ (sym c.is_err-2.ensures.value ∙ c.if-is_err-2.false) c.link.ensures.ok
-    ∙ (λ i. linked_order (c.as_slice.ensures.value i) (c.as_slice-2.ensures i) (c.as_slice-3.ensures i) c.make_free.new.free t.order) in
-    let s = position_step t.key t.limit c.make_free.new.cells.items c.fill-self-inside.new.cells.items t.order c.link.new.order t.count c.make_free.new.spare c.args.self.now c.make_free.new.free c.args.row ok.0 b.kept b.view ok.1
-    (subst P (sym here) c.requires.has_key) (none_from_key t.key c.args.self.now c.args.row here c.requires.free) c.fill-self-inside.ensures linked some in
-    s.kept
+    (put_step t.key t.limit t.cells.items c.make_free.new.cells.items c.fill-self-inside.new.cells.items t.order c.link.new.order _ t.count t.spare c.make_free.new.spare c.args.self.now c.make_free.new.free c.args.row
+    c.make_free.result c.link.result c.self.invariant c.self.view_is c.make_free.ensures.grown c.requires.has_key c.requires.free (sym c.is_err.ensures.value ∙ c.if-is_err.false) c.make_free.ensures.ok c.make_free.ensures.some c.fill-self-inside.ensures
+    (sym c.is_err-2.ensures.value ∙ c.if-is_err-2.false) c.link.ensures.ok (λ i. linked_order (c.as_slice.ensures.value i) (c.as_slice-2.ensures i) (c.as_slice-3.ensures i) c.make_free.new.free t.order)).kept
 
 pub returns-clause-ok : goal.returns-clause-ok
 returns-clause-ok c =
     let t = c.self.inside in
-    let b = grown_step t.key t.limit t.cells.items c.make_free.new.cells.items t.order t.count t.spare c.make_free.new.spare c.args.self.now c.self.invariant c.self.view_is c.make_free.ensures.grown in
-    let ok = on_ok c.make_free.result ((n : ℕ) × (slice_get c.make_free.new.cells.items c.make_free.new.free ≡ Some (Free n))) (sym c.is_err.ensures.value ∙ c.if-is_err.false) c.make_free.ensures.ok in
-    let some : 1 ≤ c.make_free.new.spare = on_ok c.make_free.result (1 ≤ c.make_free.new.spare) (sym c.is_err.ensures.value ∙ c.if-is_err.false) c.make_free.ensures.some in
-    let here : t.key ≡ c.args.self.now.key = ap (λ (x : TableValue). x.key) c.self.view_is in
-    let P : List ℕ → Type 0 = λ k. HasKey k c.args.row in
-    let linked : c.link.new.order ≡ linked_order c.make_free.new.cells.items t.key c.args.row c.make_free.new.free t.order =
-    on_ok c.link.result _ (sym c.is_err-2.ensures.value ∙ c.if-is_err-2.false) c.link.ensures.ok
-    ∙ (λ i. linked_order (c.as_slice.ensures.value i) (c.as_slice-2.ensures i) (c.as_slice-3.ensures i) c.make_free.new.free t.order) in
-    let s = position_step t.key t.limit c.make_free.new.cells.items c.fill-self-inside.new.cells.items t.order c.link.new.order t.count c.make_free.new.spare c.args.self.now c.make_free.new.free c.args.row ok.0 b.kept b.view ok.1
-    (subst P (sym here) c.requires.has_key) (none_from_key t.key c.args.self.now c.args.row here c.requires.free) c.fill-self-inside.ensures linked some in
-    s.view
+    (put_step t.key t.limit t.cells.items c.make_free.new.cells.items c.fill-self-inside.new.cells.items t.order c.link.new.order _ t.count t.spare c.make_free.new.spare c.args.self.now c.make_free.new.free c.args.row
+    c.make_free.result c.link.result c.self.invariant c.self.view_is c.make_free.ensures.grown c.requires.has_key c.requires.free (sym c.is_err.ensures.value ∙ c.if-is_err.false) c.make_free.ensures.ok c.make_free.ensures.some c.fill-self-inside.ensures
+    (sym c.is_err-2.ensures.value ∙ c.if-is_err-2.false) c.link.ensures.ok (λ i. linked_order (c.as_slice.ensures.value i) (c.as_slice-2.ensures i) (c.as_slice-3.ensures i) c.make_free.new.free t.order)).view
 
 pub returns-clause-fresh : goal.returns-clause-fresh
 returns-clause-fresh c =
@@ -104,16 +87,12 @@ returns-clause-fresh c =
 pub returns-clause-step : goal.returns-clause-step
 returns-clause-step c =
     let t = c.self.inside in
-    let b = grown_step t.key t.limit t.cells.items c.make_free.new.cells.items t.order t.count t.spare c.make_free.new.spare c.args.self.now c.self.invariant c.self.view_is c.make_free.ensures.grown in
     let ok = on_ok c.make_free.result ((n : ℕ) × (slice_get c.make_free.new.cells.items c.make_free.new.free ≡ Some (Free n))) (sym c.is_err.ensures.value ∙ c.if-is_err.false) c.make_free.ensures.ok in
-    let some : 1 ≤ c.make_free.new.spare = on_ok c.make_free.result (1 ≤ c.make_free.new.spare) (sym c.is_err.ensures.value ∙ c.if-is_err.false) c.make_free.ensures.some in
     let here : t.key ≡ c.args.self.now.key = ap (λ (x : TableValue). x.key) c.self.view_is in
-    let P : List ℕ → Type 0 = λ k. HasKey k c.args.row in
-    let linked : c.link.new.order ≡ linked_order c.make_free.new.cells.items t.key c.args.row c.make_free.new.free t.order =
-    on_ok c.link.result _ (sym c.is_err-2.ensures.value ∙ c.if-is_err-2.false) c.link.ensures.ok
-    ∙ (λ i. linked_order (c.as_slice.ensures.value i) (c.as_slice-2.ensures i) (c.as_slice-3.ensures i) c.make_free.new.free t.order) in
-    let s = position_step t.key t.limit c.make_free.new.cells.items c.fill-self-inside.new.cells.items t.order c.link.new.order t.count c.make_free.new.spare c.args.self.now c.make_free.new.free c.args.row ok.0 b.kept b.view ok.1
-    (subst P (sym here) c.requires.has_key) (none_from_key t.key c.args.self.now c.args.row here c.requires.free) c.fill-self-inside.ensures linked some in
+    let s =
+    put_step t.key t.limit t.cells.items c.make_free.new.cells.items c.fill-self-inside.new.cells.items t.order c.link.new.order _ t.count t.spare c.make_free.new.spare c.args.self.now c.make_free.new.free c.args.row
+    c.make_free.result c.link.result c.self.invariant c.self.view_is c.make_free.ensures.grown c.requires.has_key c.requires.free (sym c.is_err.ensures.value ∙ c.if-is_err.false) c.make_free.ensures.ok c.make_free.ensures.some c.fill-self-inside.ensures
+    (sym c.is_err-2.ensures.value ∙ c.if-is_err-2.false) c.link.ensures.ok (λ i. linked_order (c.as_slice.ensures.value i) (c.as_slice-2.ensures i) (c.as_slice-3.ensures i) c.make_free.new.free t.order) in
     let made_row : row_at (table_of t.key t.limit c.fill-self-inside.new.cells.items (slots_of c.link.new.order)).live c.make_free.new.free ≡ Some c.args.row =
     row_at_is t.key c.fill-self-inside.new.cells.items (slots_of c.link.new.order) c.make_free.new.free s.kept.table ∙ ap (λ l. live_row (slice_get l c.make_free.new.free)) c.fill-self-inside.ensures ∙ ap live_row (get_set_same c.make_free.new.cells.items c.make_free.new.free (Live c.args.row) (Free ok.0) ok.1) in
     record {

@@ -1,0 +1,6 @@
+-- What crates above may rely on: the lemmas of this crate that they cite.
+
+-- Runs of calls, put together.
+pub use Rattle.ss_disk.proofs.Moments.{no_call, one_call, runs_join, leaves_less, goes_on, stays_only}
+-- A crash in a call falls at one of the moments of the disk.
+pub use Rattle.ss_disk.proofs.Loose.{crash_moment_within}

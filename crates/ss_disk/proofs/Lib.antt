@@ -1,0 +1,4 @@
+pub mod CallerLemmas
+pub mod Moments
+pub mod Recorded
+pub mod Loose

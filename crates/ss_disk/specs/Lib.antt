@@ -1,0 +1,10 @@
+pub mod Files
+pub mod Crash
+pub mod Moments
+pub mod Causes
+pub mod Memory
+pub mod Tearing
+pub mod RunLaws
+pub mod Happened
+pub mod Steps
+pub mod Calls

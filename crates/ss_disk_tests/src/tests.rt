@@ -1,0 +1,5 @@
+//! What stands behind steps, as a person decides it from the rules.
+
+mod crashes;
+mod runs;
+mod steps;

@@ -1,0 +1,9 @@
+pub mod Examples
+pub mod Nested
+pub mod Premises
+pub mod Trials
+pub mod Voter
+pub mod VoterPremises
+pub mod VoterRun
+pub mod Workflow
+pub mod WorkflowRun
