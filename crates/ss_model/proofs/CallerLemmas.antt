@@ -7,13 +7,15 @@ pub use Rattle.ss_model.proofs.Fitting.{applied_fits, fitting_applies, tested}
 -- What a fold gives at a node of an expression.
 pub use Rattle.ss_model.proofs.Folds.{at_binary, at_col, at_lit, at_param, at_unary}
 -- What the form of a catalogue says, part by part.
-pub use Rattle.ss_model.proofs.FormParts.{limits_of, numbers_of}
+pub use Rattle.ss_model.proofs.FormParts.{few_procedures, few_streams, few_triggers, few_windows, limits_of, numbers_of}
 -- Groups by key.
 pub use Rattle.ss_model.proofs.Grouping.{grouped, grouped_onto, into_group, members_of, new_group}
 -- What a function of the index and the item gives of each item of a list, one item more.
 pub use Rattle.ss_model.proofs.Indexed.{indexed_more, indexed_push}
 -- What each expression means by its sides, and the type of a parameter and of a column.
 pub use Rattle.ss_model.proofs.Meanings.{binary_test, binary_value, column_meaning, literal_value, param_type, param_value, source_type}
+-- The triggers of a window at one depth less.
+pub use Rattle.ss_model.proofs.OneDepthLess.{one_depth_less}
 -- Which procedures a test of one says to be there.
 pub use Rattle.ss_model.proofs.Procedures.{emitter_there, procedure_there, taker_there}
 -- What holds of all rows of a query, since it holds of what its items give for any group.

@@ -1,4 +1,3 @@
 pub mod Stores
-pub mod Depths
 pub mod Numbers
 pub mod Steps

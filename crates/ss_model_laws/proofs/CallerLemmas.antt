@@ -4,6 +4,8 @@
 pub use Rattle.ss_model_laws.proofs.Advanced.{steps_move}
 -- The batches that an entry adds to the streams.
 pub use Rattle.ss_model_laws.proofs.Batches.{batches_join}
+-- After a list each batch has the number that it had, and a stream has at most one more for each entry.
+pub use Rattle.ss_model_laws.proofs.Batches.{stream_grows}
 -- What an entry does to the counts and to the lengths of the streams.
 pub use Rattle.ss_model_laws.proofs.Effects.{effect}
 -- The empty database is in step, and a database stays so.
@@ -14,6 +16,8 @@ pub use Rattle.ss_model_laws.proofs.ListLocality.{list_is_local}
 pub use Rattle.ss_model_laws.proofs.Orders.{matching_stays, replays_orders}
 -- What it says of the inputs that a procedure is ready, or is not.
 pub use Rattle.ss_model_laws.proofs.Readiness.{named}
+-- An entry depends on the parts that it touches and on its input batches alone, and leaves the other parts.
+pub use Rattle.ss_model_laws.proofs.EntryLocality.{entry_is_local}
 -- Settling ends, in one way, where each batch has been taken.
 pub use Rattle.ss_model_laws.proofs.Settled.{at_rest, loop_settles, lower_pending, next_is_ready}
 -- What an entry touches is one of the partitions that run.

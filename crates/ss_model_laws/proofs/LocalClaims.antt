@@ -28,7 +28,6 @@ use Rattle.ss_model.specs.declared.catalog.Inner.TheVariants.{Sql as InnerSql, A
 use Rattle.ss_model.specs.declared.catalog.Step.{Step}
 use Rattle.ss_model.specs.declared.catalog.Step.TheVariants.{Sql, AbortIf, ForEach, Emit, Return}
 use Rattle.ss_value.specs.Rows.{Row, Rows, column_value}
-use Rattle.ss_value.specs.Order.{values_equal, value_cmp}
 use Rattle.ss_model.specs.Contents.{window_owner, table_placement, key_columns, has_split_value, matches_split}
 use Rattle.ss_model.specs.Statements.{Context}
 use Rattle.ss_model.specs.Database.{split_value_for}

@@ -9,6 +9,7 @@ use Rattle.std.specs.declared.cmp.Ordering.TheVariants.{Equal}
 use Rattle.std.specs.FinMap as finite
 use Rattle.std.specs.FinMap.Entries as entries
 use Rattle.ss_lemmas.proofs.Bools.{and_left, and_right, is_false}
+use Rattle.ss_lemmas.proofs.EachOf.{all_with}
 use Rattle.ss_value.specs.declared.schema.Column.{Column}
 use Rattle.ss_value.specs.Rows.{Row, column_values}
 use Rattle.ss_value.specs.Order.{row_cmp}
@@ -31,7 +32,7 @@ use Rattle.ss_plan.specs.Found.{row_seen, rows_seen_in, with_keys, IsInKeyOrder}
 use Rattle.ss_plan.specs.Plans.{HasRows}
 use Rattle.ss_plan.specs.declared.bounds.RangeEnd.TheVariants.{Low, High}
 use Rattle.ss_plan.proofs.Matching.{filter_through, filter_alike, find_own, live_apart}
-use Rattle.ss_plan.proofs.Keyed.{row_found, every}
+use Rattle.ss_plan.proofs.Keyed.{row_found}
 use Rattle.ss_plan.proofs.KeyOrder.{first_in, behind_in, in_cases, in_none}
 use Rattle.ss_plan.proofs.Ranging.{range_so}
 
@@ -250,9 +251,9 @@ module _ (seen : Row → Bool) (live : LiveRows) (key : List ℕ) (keyed : AllBy
     pub found_by_range : Finds params test (filter (λ p. seen p.1) (live_positions live)) rows
     found_by_range =
         let f = found_so all (with_keys key rows) (sorted_seen seen (finite.entries live) (finite.entries_sorted live)) (subst T (sym ordered.rises) tt) are key
-        (all_seen seen (StandsAtKey key) (finite.entries live) (every (StandsAtKey key) (λ e. seen e.1.1 ≡ true → StandsAtKey key e) (finite.entries live) (λ e s on. s) keyed))
+        (all_seen seen (StandsAtKey key) (finite.entries live) (all_with (StandsAtKey key) (λ e. seen e.1.1 ≡ true → StandsAtKey key e) (λ e s on. s) (finite.entries live) keyed))
         params test
         (all_seen seen (λ e. meets_run params test e.1.1 ≡ true → is_there (entries.find row_cmp e.0 (with_keys key rows)) ≡ true) (finite.entries live)
-        (every Own (λ e. seen e.1.1 ≡ true → meets_run params test e.1.1 ≡ true → is_there (entries.find row_cmp e.0 (with_keys key rows)) ≡ true) (finite.entries live) found_one all_own)) in
+        (all_with Own (λ e. seen e.1.1 ≡ true → meets_run params test e.1.1 ≡ true → is_there (entries.find row_cmp e.0 (with_keys key rows)) ≡ true) found_one (finite.entries live) all_own)) in
         subst (λ some. Finds params test (filter (λ p. seen p.1) (live_positions live)) some) (keys_off rows)
         (subst (λ ps. Finds params test ps (map (λ (e : Chosen). e.1) (with_keys key rows))) (sym (filter_through (λ (e : Chosen). e.1) (λ p. seen p.1) (finite.entries live))) f)

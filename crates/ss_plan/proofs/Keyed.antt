@@ -17,6 +17,7 @@ use Rattle.ss_table.specs.Keyed.{StandsAtKey, SlotsDiffer}
 use Rattle.std.proofs.lemmas.Cmp.{tied_itself}
 use Rattle.std.specs.Ordering.{is_eq}
 use Rattle.ss_lemmas.proofs.Bools.{is_false}
+use Rattle.ss_lemmas.proofs.EachOf.{all_with}
 use Rattle.ss_rows.specs.Sources.{Positioned, StandsAt}
 use Rattle.ss_shard.specs.Shards.{HasTables}
 use Rattle.ss_shard.proofs.CallerLemmas.{table_of, same_key, no_entries}
@@ -142,10 +143,6 @@ module _ (P : ℕ × Row → Type 0) where
   all_passing q [] h = tt
   all_passing q (p ∷ ps) h = all_cond (q p) p (filter q ps) h.0 (all_passing q ps h.1)
 
-pub every : (P Q : Live → Type 0) (es : List Live) → ((e : Live) → P e → Q e) → AllByRecursion P es → AllByRecursion Q es
-every P Q [] f h = tt
-every P Q (e ∷ es) f h = (f e h.0, every P Q es f h.1)
-
 itself : (k : Row) → eq_by_cmp row_cmp k k ≡ true
 itself k = ap is_eq (tied_itself row_cmp_total k)
 
@@ -166,7 +163,7 @@ module _ (catalog : Catalog) (tables : List TableValue) (has : HasTables catalog
       let is : key_of columns e.1.1 ≡ key = ap (λ columns. key_of columns e.1.1) (sym same) ∙ sym (same_key h.key e.1.1 s.1) ∙ ap (λ columns. map (column_value e.1.1) columns) same ∙ key_is e.1.1 params test meets columns key sought in
       let no : true ≡ false = sym (itself key) ∙ ap (eq_by_cmp row_cmp key) (sym is) ∙ off in cc) in
       subst (λ o. AllByRecursion P (seen_of catalog split t (live_positions (live_of o)))) (sym here)
-      (all_passing P (λ p. row_is_seen catalog split t p.1) (positioned (finite.entries h.live)) (all_positioned P (finite.entries h.live) (every (StandsAtKey h.key) (λ e. P e.1) (finite.entries h.live) each ((d.2).keyed).keyed)))
+      (all_passing P (λ p. row_is_seen catalog split t p.1) (positioned (finite.entries h.live)) (all_positioned P (finite.entries h.live) (all_with (StandsAtKey h.key) (λ e. P e.1) each (finite.entries h.live) ((d.2).keyed).keyed)))
   others None none sought =
       let P = λ (p : ℕ × Row). has_key columns key p.1 ≡ false → meets_run params test p.1 ≡ false in
       subst (λ o. AllByRecursion P (seen_of catalog split t (live_positions (live_of o)))) (sym none) (subst (λ (es : List Live). AllByRecursion P (seen_of catalog split t (positioned es))) (sym no_entries) tt)

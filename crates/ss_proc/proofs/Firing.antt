@@ -1,5 +1,5 @@
 -- What the functions of the cascade do, by their parts.
-use Rattle.std.proofs.Common.{◌≡◌, ◌≢◌, ◌-◌, ◌+◌, ◌<◌, ◌^◌, nat_le, ℕ, zero, suc, Bool, true, false, cond, List, [], ◌∷◌, length, get_or, drop, refl, sym, ap, subst, ◌∙◌, Ok, arith}
+use Rattle.std.proofs.Common.{◌≡◌, ◌+◌, ◌<◌, ◌^◌, nat_le, ℕ, Bool, true, false, cond, List, [], ◌∷◌, length, get_or, drop, refl, sym, ap, subst, ◌∙◌, Ok}
 use Rattle.std.specs.List.{filter}
 use Rattle.std.proofs.lemmas.List.{at_drop_more}
 use Rattle.ss_value.specs.Rows.{Row, Rows}
@@ -12,7 +12,7 @@ use Rattle.ss_model.specs.declared.catalog.TriggerDef.{TriggerDef}
 use Rattle.ss_model.specs.declared.entry.Reason.TheVariants.{WindowFull}
 use Rattle.ss_model.specs.Results.{OrAbort, ◌>>=◌, try_fold, abort_when}
 use Rattle.ss_model.specs.Contents.{Contents, window_units, append_unit}
-use Rattle.ss_model.specs.Statements.{Context, Execution, Cascade, when_moved, close_unit, stage_row, apply_effect, execute_statement, statement_effect, run_triggers, cascade_to_depth, is_on_window}
+use Rattle.ss_model.specs.Statements.{Context, Execution, Cascade, when_moved, close_unit, stage_row, apply_effect, execute_statement, statement_effect, run_triggers}
 use Rattle.ss_model.specs.declared.run_error.RunError.{RunError}
 use Rattle.ss_model.specs.Stops.{StopsAs}
 use Rattle.ss_shard.specs.ShardValue.{ShardValue}
@@ -23,15 +23,6 @@ use Rattle.ss_plan.specs.Statements.{FitsTables, FitsTarget, WroteTo, WroteBy, e
 use Rattle.ss_proc.specs.declared.work.Work.{Work}
 use Rattle.ss_proc.specs.Executions.{execution_of}
 use Rattle.ss_model.proofs.CallerLemmas.{stops_before, stops_same}
-
--- ---- the triggers of a window at one depth less
-
-pub one_less : (depth : ℕ) (context : Context) (n : ℕ) (w : Execution) → depth ≢ 0 →
-    cascade_to_depth depth context n w ≡ run_triggers context (cascade_to_depth (depth - 1) context) [] (filter (λ t. is_on_window n t.on) (context.catalog).triggers) w
-one_less zero context n w h = absurd (h refl)
-one_less (suc depth) context n w h =
-    let e : suc depth - 1 ≡ depth = omega arith in
-    rw e refl
 
 -- ---- a unit that is closed
 

@@ -1,6 +1,6 @@
 -- Bodies and triggers of an accepted catalogue may run.
-use Rattle.std.proofs.Common.{◌≡◌, ◌∙◌, ◌<◌, ◌≤◌, ◌==◌, ◌||◌, ℕ, zero, suc, Bool, true, false, not, List, [], ◌∷◌, ◌++◌, length, slice_get, unwrap_or, Option, Some, refl, ap, sym, subst}
-use Rattle.std.proofs.lemmas.Bool.{eqb-false, ltb-true, leb-true}
+use Rattle.std.proofs.Common.{◌≡◌, ◌∙◌, ◌<◌, ◌==◌, ◌||◌, ℕ, zero, suc, Bool, true, false, not, List, [], ◌∷◌, ◌++◌, length, slice_get, unwrap_or, Option, Some, refl, ap, sym, subst}
+use Rattle.std.proofs.lemmas.Bool.{eqb-false, ltb-true}
 use Rattle.std.proofs.lemmas.List.{length-map}
 use Rattle.std.specs.List.{AllByRecursion, list_all}
 use Rattle.std.specs.Option.{option_map}
@@ -21,11 +21,11 @@ use Rattle.ss_model.specs.declared.catalog.Step.{Step}
 use Rattle.ss_model.specs.declared.catalog.Step.TheVariants.{Sql, AbortIf, ForEach, Emit, Return}
 use Rattle.ss_model.specs.declared.catalog.TableDef.{TableDef}
 use Rattle.ss_model.specs.Accepted.{Accepted}
-use Rattle.ss_model.specs.CatalogForm.{has_form, numbers_in_range, is_within_limits}
+use Rattle.ss_model.specs.CatalogForm.{numbers_in_range}
 use Rattle.ss_model.specs.Contents.{key_columns}
 use Rattle.ss_model.specs.Scopes.{procedure_in_scope, trigger_in_scope, is_on_a_stream, step_in_scope, inner_in_scope, statement_in_scope, target_in_scope}
 use Rattle.ss_model.specs.Typing.{procedure_typed, trigger_typed, trigger_schema, input_schema, schemas_of, step_typed, inner_typed, target_schema}
-use Rattle.ss_model.proofs.CallerLemmas.{numbers_of, limits_of}
+use Rattle.ss_model.proofs.CallerLemmas.{few_triggers, numbers_of}
 use Rattle.ss_lemmas.proofs.Bools.{first_of_two, second_of_two, at_index}
 use Rattle.ss_plan.specs.Statements.{FitsTables, FitsTarget}
 use Rattle.ss_proc.specs.Executions.{InnerRuns, StepRuns, MayRun}
@@ -37,14 +37,6 @@ key_in_range d = list_all (λ c. nat_lt c (length d.schema)) d.key
 
 keys_of : (catalog : Catalog) → numbers_in_range catalog ≡ true → list_all key_in_range catalog.tables ≡ true
 keys_of catalog h = first_of_two _ _ (first_of_two _ _ (first_of_two _ _ (first_of_two _ _ h)))
-
--- the first five of the twelve counts
-counts_of : (catalog : Catalog) → is_within_limits catalog ≡ true → (length catalog.streams ≤ 32) × (length catalog.windows ≤ 32) × (length catalog.triggers ≤ 64)
-counts_of catalog h =
-    let five = first_of_two _ _ (first_of_two _ _ (first_of_two _ _ (first_of_two _ _ (first_of_two _ _ (first_of_two _ _ (first_of_two _ _ h)))))) in
-    let four = first_of_two _ _ five in
-    let three = first_of_two _ _ four in
-    (leb-true _ _ (second_of_two _ _ (first_of_two _ _ three)), leb-true _ _ (second_of_two _ _ three), leb-true _ _ (second_of_two _ _ four))
 
 -- ---- what typing says
 
@@ -137,18 +129,12 @@ module _ (catalog : Catalog) (accepted : Accepted catalog) where
   all_keys : list_all key_in_range catalog.tables ≡ true
   all_keys = keys_of catalog (numbers_of catalog accepted.form)
 
-  pub few_streams : length catalog.streams ≤ 32
-  few_streams = (counts_of catalog (limits_of catalog accepted.form)).0
-
-  pub few_windows : length catalog.windows ≤ 32
-  few_windows = (counts_of catalog (limits_of catalog accepted.form)).1
-
   -- executions may run
   pub may_run : MayRun catalog
   may_run = record {
     keyed = accepted.structure.keyed;
     triggers = triggers_fit catalog all_keys catalog.triggers (second_of_two _ _ accepted.typed) (second_of_two _ _ accepted.in_scope);
-    few = (counts_of catalog (limits_of catalog accepted.form)).2;
+    few = few_triggers catalog accepted.form;
   }
 
   -- each step of each procedure may run

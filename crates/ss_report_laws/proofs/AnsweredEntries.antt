@@ -33,7 +33,7 @@ use Rattle.ss_report_laws.proofs.SameIndices.{indices, same_indices}
 
 -- ---- what an entry that has an outcome is
 
-applied_of : (o : Option Applied) (outcome : Outcome) → option_map (λ (a : Applied). a.outcome) o ≡ Some outcome → (a : Applied) × (o ≡ Some a)
+pub applied_of : (o : Option Applied) (outcome : Outcome) → option_map (λ (a : Applied). a.outcome) o ≡ Some outcome → (a : Applied) × (o ≡ Some a)
 applied_of None outcome e = absurd (cc)
 applied_of (Some a) outcome e = (a, refl)
 

@@ -8,3 +8,5 @@ pub use Rattle.ss_report_laws.proofs.OneMore.{answered_nothing, answered_refused
 pub use Rattle.ss_report_laws.proofs.AnswersInOrder.{before, count_here}
 -- What is reported client by client is reported in the order of the input.
 pub use Rattle.ss_report_laws.proofs.Weaving.{answer_asked, answered_report}
+-- An entry with an outcome has a value.
+pub use Rattle.ss_report_laws.proofs.AnsweredEntries.{applied_of}

@@ -5,6 +5,7 @@ use Rattle.std.specs.Option.{option_map}
 use Rattle.std.specs.declared.result.Result.{Result}
 use Rattle.std.specs.Prelude.{Ok, Err, IfOk, IfSome}
 use Rattle.ss_lemmas.proofs.LoopItem.{get_last}
+use Rattle.ss_report_laws.proofs.CallerLemmas.{applied_of}
 use Rattle.ss_value.specs.Rows.{Rows}
 use Rattle.ss_model.specs.declared.catalog.Catalog.{Catalog}
 use Rattle.ss_model.specs.declared.entry.Entry.{Entry}
@@ -75,16 +76,12 @@ module _ (catalog : Catalog) (accepted : Accepted catalog) where
       let many = (few_batches list).counts q in
       omega arith
 
-  value_of : (x : Option Applied) (o : Outcome) → option_map (λ (a : Applied). a.outcome) x ≡ Some o → (a : Applied) × (x ≡ Some a)
-  value_of None o e = cc
-  value_of (Some a) o e = (a, refl)
-
   -- a step that joined a list leaves one less to run
   pub joined_lowers : (list new : List Listed) (q r : ℕ) → Replays catalog (empty_database catalog) new → Joined list new (StepEntry q r)
       → pending_steps catalog (database_at catalog new) + 1 ≡ pending_steps catalog (database_at catalog list)
   joined_lowers list new q r behind joined =
       let last = ((goes_on catalog (empty_database catalog) list (record { entry = StepEntry q r; outcome = joined.outcome } ∷ [])).splits (subst (Replays catalog (empty_database catalog)) joined.joined behind)).1 in
-      let (a, is) = value_of _ joined.outcome last.0 in
+      let (a, is) = applied_of _ joined.outcome last.0 in
       rw (joined.joined, after_one list (StepEntry q r) joined.outcome a is) (lower_pending catalog accepted (database_at catalog list) (in_step list) q r a is)
 
 -- once it is committed, the shard stands for what the entry leaves

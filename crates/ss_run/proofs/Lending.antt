@@ -1,12 +1,11 @@
 -- What a ready entry takes from the streams of a database.
-use Rattle.std.proofs.Common.{◌≡◌, ◌≢◌, ◌⊎◌, inl, inr, ◌≤◌, ◌<◌, ◌+◌, ◌-◌, ◌∙◌, ◌||◌, ◌==◌, ℕ, zero, suc, nat_lt, Bool, true, false, cond, List, [], ◌∷◌, map, length, drop, get_or, slice_get, unwrap_or, Some, None, arith, ap, sym, subst, refl}
-use Rattle.std.proofs.lemmas.Bool.{ltb-true, le-ltb, cases_eq}
+use Rattle.std.proofs.Common.{◌≡◌, ◌<◌, ◌∙◌, ◌||◌, ◌==◌, ℕ, nat_lt, Bool, true, false, List, [], ◌∷◌, map, length, get_or, slice_get, unwrap_or, Some, None, arith, ap, sym, refl}
+use Rattle.std.proofs.lemmas.Bool.{ltb-true}
 use Rattle.std.proofs.lemmas.Bool.Decides.{Decides-eqb}
 use Rattle.std.proofs.lemmas.Option.{slice_get-get_or, slice_get_within}
-use Rattle.std.proofs.lemmas.List.{length-drop, get_or-drop}
 use Rattle.std.specs.declared.option.Option.{Option}
 use Rattle.std.specs.Option.{option_map}
-use Rattle.std.specs.List.{AllByRecursion, filter, list_any, list_all, range_with_len}
+use Rattle.std.specs.List.{AllByRecursion, list_any, list_all}
 use Rattle.ss_value.specs.Rows.{Rows}
 use Rattle.ss_model.specs.declared.catalog.Procedure.{Procedure}
 use Rattle.ss_model.specs.declared.catalog.Catalog.{Catalog}
@@ -16,43 +15,16 @@ use Rattle.ss_model.specs.Accepted.{Accepted}
 use Rattle.ss_model.specs.Database.{Database, batch_count, stream_batches, is_ready, is_ready_entry, takes_stream}
 use Rattle.ss_model.specs.Orders.{procedure_takes}
 use Rattle.ss_lemmas.proofs.Bools.{first_of_two, second_of_two}
-use Rattle.ss_stream.specs.Pending.{cursor_at, least_passed, pending_batch}
+use Rattle.ss_stream.specs.Pending.{pending_batch}
 use Rattle.ss_stream.specs.Streams.{ReservedStreams, stream_at}
-use Rattle.ss_stream.specs.OfDatabase.{AreStreamsOf, consumer_cursors, kept_stream}
-use Rattle.ss_sched.proofs.CallerLemmas.{inputs_below}
+use Rattle.ss_stream.specs.OfDatabase.{AreStreamsOf}
+use Rattle.ss_sched.proofs.CallerLemmas.{inputs_below, kept_at, kept_batch, kept_many}
 use Rattle.ss_shard.specs.ShardValue.{ShardValue}
 use Rattle.ss_shard.specs.Windows.{HoldsDatabase}
 use Rattle.ss_proc.specs.Entries.{AreAtHand, IsNext}
 use Rattle.ss_run.specs.Stands.{HasBatch, HasBatches, batch_at, batches_for}
-use Rattle.ss_run.proofs.Progress.{kept_at, kept_many}
 
 module _ (catalog : Catalog) (db : Database) where
-  -- no consumer is before the first batch that is kept
-  least_filtered : (n : ℕ) (count : ℕ → ℕ) (test : ℕ → Bool) (a k q : ℕ) → test q ≡ true → a ≤ q → q < a + k → least_passed n (map (λ p. cursor_at (count p) p) (filter test (range_with_len a k))) ≤ count q
-  least_filtered n count test a zero q is from to = absurd (omega arith)
-  least_filtered n count test a (suc k) q is from to = by (cases_eq a q) (λ ne. least_filtered n count test (a + 1) k q is (omega arith) (omega arith))
-    where
-      kept : (b : Bool) (rest : List ℕ) → least_passed n (map (λ p. cursor_at (count p) p) rest) ≤ count q → least_passed n (map (λ p. cursor_at (count p) p) (cond b (a ∷ rest) rest)) ≤ count q
-      kept true rest le = omega arith
-      kept false rest le = le
-
-      by : (a ≡ q) ⊎ (a ≡ q → ⊥) → (a ≢ q → least_passed n (map (λ p. cursor_at (count p) p) (filter test (range_with_len (a + 1) k))) ≤ count q)
-          → least_passed n (map (λ p. cursor_at (count p) p) (filter test (range_with_len a (suc k)))) ≤ count q
-      by (inl e) later = let here : test a ≡ true = subst (λ x. test x ≡ true) (sym e) is in let same = ap count e in rw here (omega arith)
-      by (inr ne) later = kept (test a) (filter test (range_with_len (a + 1) k)) (later ne)
-
-  -- a batch that a consumer has still to take is kept
-  kept_batch : (q s r : ℕ) → q < length catalog.procedures → procedure_takes catalog q s ≡ true → batch_count db q ≡ r → r < length (stream_batches db s) → pending_batch (kept_stream catalog db s) r ≡ Some (get_or (stream_batches db s) r [])
-  kept_batch q s r within tk count below =
-      let bs = stream_batches db s in
-      let least : ℕ = least_passed (0 + length bs) (consumer_cursors catalog db s) in
-      let first_le : least ≤ batch_count db q = least_filtered (0 + length bs) (batch_count db) (λ q. procedure_takes catalog q s) 0 (length catalog.procedures) q tk (omega arith) (omega arith) in
-      let not_before : nat_lt r least ≡ false = le-ltb r least (omega arith) in
-      let zero_less : least - 0 ≡ least = omega arith in
-      let there : r - least < length (drop least bs) = simp length-drop (omega arith) in
-      let same : least + (r - least) ≡ r = omega arith in
-      rw (not_before, zero_less) (slice_get-get_or (drop least bs) (r - least) [] there ∙ ap Some (get_or-drop least bs (r - least) [] ∙ ap (λ n. get_or bs n []) same))
-
   module _ (accepted : Accepted catalog) (streams : ReservedStreams) (are : AreStreamsOf catalog db streams.streams) (q r : ℕ) (count : batch_count db q ≡ r) (d : Procedure) (here : slice_get catalog.procedures q ≡ Some d) where
     -- of a stream that the procedure takes, the batch that it takes next
     record Lends (s : ℕ) : Type 0 where
@@ -62,7 +34,7 @@ module _ (catalog : Catalog) (db : Database) where
     lends : (s : ℕ) → takes_stream s d ≡ true → s < length catalog.streams → r < length (stream_batches db s) → Lends s
     lends s tk within below =
         let takes : procedure_takes catalog q s ≡ true = rw here tk in
-        let kept : pending_batch (stream_at streams s) r ≡ Some (get_or (stream_batches db s) r []) = rw (kept_at catalog db streams.streams are s within) (kept_batch q s r (slice_get_within catalog.procedures q d here) takes count below) in
+        let kept : pending_batch (stream_at streams s) r ≡ Some (get_or (stream_batches db s) r []) = rw (kept_at catalog db streams.streams are s within) (kept_batch catalog db q s r (slice_get_within catalog.procedures q d here) takes (omega arith) ∙ slice_get-get_or (stream_batches db s) r [] below) in
         let many = kept_many catalog db streams.streams are in
         record {
           there = (omega arith, rw kept refl);

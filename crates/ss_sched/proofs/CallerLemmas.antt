@@ -1,4 +1,8 @@
 -- What crates above may rely on: the lemmas of this crate that they cite.
 
--- How many procedures and streams an accepted catalogue has, and that inputs are streams.
-pub use Rattle.ss_sched.proofs.Counts.{few_procedures, inputs_below}
+-- The inputs of a procedure are streams.
+pub use Rattle.ss_sched.proofs.Inputs.{inputs_below}
+-- A set of procedures that is filled by rising number, one number further.
+pub use Rattle.ss_sched.proofs.Waking.{marks_more, marks_same}
+-- What the kept streams of a database tell of it: their number, their lengths, and the batches that a consumer has still to take.
+pub use Rattle.ss_sched.proofs.KeptStreams.{kept_at, kept_batch, kept_many, progress}

@@ -1,6 +1,7 @@
 pub mod CallerLemmas
-pub mod Counts
+pub mod Inputs
 pub mod Hints
+pub mod KeptStreams
 pub mod LoopItem
 pub mod NextStep
 pub mod Outputs

@@ -14,7 +14,7 @@ use Rattle.ss_model.specs.Settling.{is_ready_now}
 use Rattle.ss_stream.specs.Pending.{Pending, emitted_count}
 use Rattle.ss_stream.specs.Streams.{no_stream}
 use Rattle.ss_sched.specs.Progress.{HasProgress, AreStreams, all_have, emitted_to}
-use Rattle.ss_sched.proofs.Counts.{inputs_below}
+use Rattle.ss_sched.proofs.Inputs.{inputs_below}
 
 -- the inputs of a procedure are streams
 pub inputs_are_streams : (catalog : Catalog) (streams : List Pending) (q : ℕ) (d : Procedure) → Accepted catalog → length streams ≡ length catalog.streams → slice_get catalog.procedures q ≡ Some d → AreStreams streams d.inputs

@@ -16,19 +16,19 @@ use Rattle.ss_shard.specs.Shards.{Changed}
 use Rattle.ss_plan.specs.Statements.{FitsTables}
 use Rattle.ss_plan.proofs.CallerLemmas.{changed_on}
 use Rattle.ss_proc.specs.Executions.{context_of, execution_of}
-use Rattle.ss_model.proofs.CallerLemmas.{rest_of}
-use Rattle.ss_proc.proofs.Firing.{one_less, close_stops, close_moved, close_still, fires_on, fires_stops, passes_by}
+use Rattle.ss_model.proofs.CallerLemmas.{one_depth_less, rest_of}
+use Rattle.ss_proc.proofs.Firing.{close_stops, close_moved, close_still, fires_on, fires_stops, passes_by}
 use Rattle.ss_proc.proofs.cascade.+cascade.Goals as goal
 use Rattle.ss_proc.proofs.cascade.+cascade.Goals.{run_triggers-then-has+in_ok-run_statements, run_triggers-else-has}
 
 pub cascade-returns-clause-ok : goal.cascade-returns-clause-ok
 cascade-returns-clause-ok t c =
-    rw (one_less c.args.depth (context_of c.args.given.now) c.args.window (execution_of c.args.shard.now c.args.work.now) c.if-depth-eq0.false)
+    rw (one_depth_less c.args.depth (context_of c.args.given.now) c.args.window (execution_of c.args.shard.now c.args.work.now) c.if-depth-eq0.false)
     (rw (c.as_slice.ensures, c.new-nothing.ensures) at c.run_triggers.ensures.ok)
 
 pub cascade-returns-clause-stops : goal.cascade-returns-clause-stops
 cascade-returns-clause-stops t c =
-    rw (one_less c.args.depth (context_of c.args.given.now) c.args.window (execution_of c.args.shard.now c.args.work.now) c.if-depth-eq0.false)
+    rw (one_depth_less c.args.depth (context_of c.args.given.now) c.args.window (execution_of c.args.shard.now c.args.work.now) c.if-depth-eq0.false)
     (rw (c.as_slice.ensures, c.new-nothing.ensures) at c.run_triggers.ensures.stops)
 
 pub close_to_depth-returns-in_err-stage_unit-clause-stops : goal.close_to_depth-returns-in_err-stage_unit-clause-stops

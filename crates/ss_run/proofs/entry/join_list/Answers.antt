@@ -2,7 +2,7 @@ use Rattle.std.proofs.Common.{◌<◌, ◌^◌, ◌∙◌, length, arith}
 use Rattle.ss_flow.proofs.CallerLemmas.{batches_have_streams}
 use Rattle.ss_run.specs.Stands.{database_at}
 use Rattle.ss_run.proofs.Entries.{after_one, replays_one, last_is, advances_at, countable_at, kept_listed}
-use Rattle.ss_run.proofs.Progress.{kept_many}
+use Rattle.ss_sched.proofs.CallerLemmas.{kept_many}
 use Rattle.ss_run.proofs.entry.join_list.Goals as goal
 
 pub make_room-requires : goal.make_room-requires

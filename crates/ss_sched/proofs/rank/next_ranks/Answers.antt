@@ -2,7 +2,8 @@ use Rattle.std.proofs.Common.{◌≡◌, ◌<◌, ◌+◌, ◌∙◌, Some, leng
 use Rattle.std.proofs.Math.ListN.{length-set}
 use Rattle.ss_model.specs.Settling.{rank_from}
 use Rattle.ss_sched.proofs.LoopItem.{item_there}
-use Rattle.ss_sched.proofs.Counts.{few_procedures, few_streams, inputs_below}
+use Rattle.ss_model.proofs.CallerLemmas.{few_procedures, few_streams}
+use Rattle.ss_sched.proofs.Inputs.{inputs_below}
 use Rattle.ss_sched.proofs.Ranking.{written, written_below, rank_step, rank_within}
 use Rattle.ss_sched.proofs.rank.next_ranks.Goals as goal
 
@@ -12,13 +13,13 @@ next_rank-requires-clause-streams c =
     let n = c.loop-number.number in
     let d = c.procedure-item.result in
     let here : slice_get catalog.procedures n ≡ Some d = item_there _ catalog.procedures n d c.as_slice-procedure-items.ensures c.loop-number-test.true c.procedure-item.is in
-    let few = few_streams catalog c.requires.accepted in
+    let few = few_streams catalog c.requires.accepted.form in
     let long : length c.args.emitters.now ≡ 32 = c.told-emitters in
     inputs_below catalog c.requires.accepted (length c.args.emitters.now) n d (omega arith) here
 
 pub bounds-by_number-number : goal.bounds-by_number-number
 bounds-by_number-number c =
-    let few = few_procedures c.args.catalog.now c.requires.accepted in
+    let few = few_procedures c.args.catalog.now c.requires.accepted.form in
     let long = ap length c.as_slice-procedure-items.ensures in
     omega arith
 
@@ -29,7 +30,7 @@ loop-number-preserved c =
     let d = c.procedure-item.result in
     let within : n < length catalog.procedures = rw (← c.as_slice-procedure-items.ensures) c.loop-number-test.true in
     let here : slice_get catalog.procedures n ≡ Some d = item_there _ catalog.procedures n d c.as_slice-procedure-items.ensures c.loop-number-test.true c.procedure-item.is in
-    let few = few_procedures catalog c.requires.accepted in
+    let few = few_procedures catalog c.requires.accepted.form in
     let long = c.loop-number.invariant.long in
     let inputs = inputs_below catalog c.requires.accepted (length catalog.streams) n d (omega arith) here in
     record {

@@ -3,20 +3,21 @@ use Rattle.std.specs.Int.{IsBitSet}
 use Rattle.ss_model.specs.Wakes.{wakes}
 use Rattle.ss_sched.proofs.Waking.{woken_is, wakes_within, marks_more, marks_same}
 use Rattle.ss_sched.proofs.LoopItem.{item_there}
-use Rattle.ss_sched.proofs.Counts.{few_procedures, few_streams, inputs_below}
+use Rattle.ss_model.proofs.CallerLemmas.{few_procedures, few_streams}
+use Rattle.ss_sched.proofs.Inputs.{inputs_below}
 use Rattle.ss_sched.proofs.wake.wake_list.Goals as goal
 use Rattle.ss_sched.proofs.wake.wake_list.Goals.{then-takes_any, else-takes_any}
 
 pub overflow_cast-number : goal.overflow_cast-number
 overflow_cast-number c =
-    let few = few_procedures c.args.catalog.now c.requires.accepted in
+    let few = few_procedures c.args.catalog.now c.requires.accepted.form in
     let long = ap length c.as_slice-procedure-items.ensures in
     let lt : c.loop-number.number < 256 = omega arith in
     search rules
 
 pub insert-requires : goal.insert-requires
 insert-requires c =
-    let few = few_procedures c.args.catalog.now c.requires.accepted in
+    let few = few_procedures c.args.catalog.now c.requires.accepted.form in
     let long = ap length c.as_slice-procedure-items.ensures in
     omega arith
 
@@ -50,5 +51,5 @@ takes_any-requires c =
     let n = c.loop-number.number in
     let d = c.procedure-item.result in
     let here : slice_get catalog.procedures n ≡ Some d = item_there _ catalog.procedures n d c.as_slice-procedure-items.ensures c.loop-number-test.true c.procedure-item.is in
-    let few = few_streams catalog c.requires.accepted in
+    let few = few_streams catalog c.requires.accepted.form in
     inputs_below catalog c.requires.accepted 64 n d (omega arith) here

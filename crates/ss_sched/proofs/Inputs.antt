@@ -1,12 +1,12 @@
--- How many procedures and streams an accepted catalogue has, and that inputs are streams.
+-- That the inputs of a procedure are streams.
 use Rattle.std.proofs.Common.{◌≡◌, ◌≤◌, ◌<◌, ◌&&◌, ℕ, nat_lt, true, List, [], ◌∷◌, length, slice_get, Some, arith}
-use Rattle.std.proofs.lemmas.Bool.{leb-true, ltb-true}
+use Rattle.std.proofs.lemmas.Bool.{ltb-true}
 use Rattle.std.specs.List.{AllByRecursion, list_all}
 use Rattle.ss_model.specs.declared.catalog.Procedure.{Procedure}
 use Rattle.ss_model.specs.declared.catalog.Catalog.{Catalog}
-use Rattle.ss_model.specs.CatalogForm.{counts_within_limits, touch_in_range}
+use Rattle.ss_model.specs.CatalogForm.{touch_in_range}
 use Rattle.ss_model.specs.Accepted.{Accepted}
-use Rattle.ss_model.proofs.CallerLemmas.{limits_of, numbers_of}
+use Rattle.ss_model.proofs.CallerLemmas.{numbers_of}
 use Rattle.ss_lemmas.proofs.Bools.{first_of_two, second_of_two, at_index}
 
 all_below : (n m : ℕ) (xs : List ℕ) → n ≤ m → list_all (λ s. nat_lt s n) xs ≡ true → AllByRecursion (λ s. s < m) xs
@@ -14,15 +14,6 @@ all_below n m [] le all = tt
 all_below n m (x ∷ xs) le all = (let below = ltb-true x n (first_of_two _ _ all) in omega arith, all_below n m xs le (second_of_two (nat_lt x n) _ all))
 
 module _ (catalog : Catalog) (accepted : Accepted catalog) where
-  counts : counts_within_limits catalog ≡ true
-  counts = first_of_two _ _ (limits_of catalog accepted.form)
-
-  pub few_procedures : length catalog.procedures ≤ 64
-  few_procedures = leb-true (length catalog.procedures) 64 (second_of_two _ _ (first_of_two _ _ (first_of_two _ _ (first_of_two _ _ (first_of_two _ _ (first_of_two _ _ (first_of_two _ _ counts)))))))
-
-  pub few_streams : length catalog.streams ≤ 32
-  few_streams = leb-true (length catalog.streams) 32 (second_of_two _ _ (first_of_two _ _ (first_of_two _ _ (first_of_two _ _ (first_of_two _ _ (first_of_two _ _ (first_of_two _ _ (first_of_two _ _ (first_of_two _ _ (first_of_two _ _ counts))))))))))
-
   -- the inputs of a procedure are streams, and so below any number that is not below theirs
   pub inputs_below : (m q : ℕ) (d : Procedure) → length catalog.streams ≤ m → slice_get catalog.procedures q ≡ Some d → AllByRecursion (λ s. s < m) d.inputs
   inputs_below m q d le here =

@@ -1,0 +1,13 @@
+pub mod Beginning
+pub mod BorderStreams
+pub mod CallerLemmas
+pub mod Dealt
+pub mod Desks
+pub mod InAndOut
+pub mod LeastFound
+pub mod Lists
+pub mod Meeting
+pub mod OneList
+pub mod Replaying
+pub mod Steps
+pub mod Values

@@ -1,0 +1,179 @@
+//! The log that threads share.
+
+ghost use Rattle.std.specs.Prelude.{◌≡◌, ◌⊎◌, ◌<◌, ◌≤◌, ◌-◌, ◌↔◌, ℕ, List, IfOk, true, drop, length};
+ghost use Rattle.std.specs.Int.{IsBitSet};
+ghost use Rattle.ss_model.specs.Orders.{Orders, procedure_takes};
+ghost use Rattle.ss_model.specs.Replays.{Replays, after};
+ghost use Rattle.ss_stream.specs.OfDatabase.{AreStreamsOf};
+ghost use Rattle.ss_commitlog.specs.declared.role.Role.TheVariants.{Disk};
+ghost use Rattle.ss_commitlog.specs.declared.rule.Item.{Item};
+ghost use Rattle.ss_commitlog.specs.Meaning.{listed_of, HasClientBelow, HaveClientsBelow};
+ghost use Rattle.ss_commitlog.specs.Reading.{found_batch, IsReadyAt};
+ghost use Rattle.ss_commitlog.specs.Right.{IsRight, known_database};
+ghost use Rattle.ss_commitlog.specs.Committing.{Commits};
+ghost use Rattle.ss_commitlog.specs.Tokens.{known, roles_of, Covers, Follows, Continues, AllContinue, AllSaw, KnowOne, MeetAll};
+
+use crate::committed::Committed;
+use crate::desk::Desk;
+use crate::notes;
+use crate::rule::LogTable;
+use crate::token::{Mark, Marks, Note};
+use ss_model::{Catalog, Emitted, Life, Listed};
+use ss_stream::Streams;
+use ss_value::{NoMemory, ProcSet, Rows, Seq};
+use std::alloc::Global;
+use std::sync::{Mutex, Wait};
+
+/// One list of executions, and the batches that are still to take after it.
+///
+/// Every call but `post` and `see` takes the lock; none of them calls anybody while it holds it. What they cost under
+/// the lock: `commit` a step for each mark, each batch and each input; `look` a copy of the batch; `tail` and `meet_tail`
+/// a copy of the entries; `ready_at` a look at each procedure's home, and at the inputs of those that are at home there;
+/// `meet` and `meet_all` a step or two for each token. No commit looks at the list. Memory: `commit` an entry's and its
+/// batches' room, made before the first step; `look`, `tail` and `meet_tail` their copies; all others none.
+#[derive(Drop)]
+pub struct CommitLog<I: Life> {
+    pub(crate) table: LogTable,
+    pub(crate) desk: Mutex<Desk<I>>,
+    ghost table_is: { (table.shared.table_id ≡ I.table) × (table.shared.key.first ≡ I.first) × (I.table.words ≡ 3) },
+}
+
+impl<I: Life> CommitLog<I> {
+    /// Adds an entry with its batches, under the marks of all that it concerns. It makes its room first, and then can't fail.
+    pub fn commit<R: Wait>(
+        &self,
+        rt: &R,
+        catalog: &Catalog,
+        marks: Marks<I>,
+        listed: Listed,
+        emitted: Seq<Emitted>,
+    ) -> Committed<I>
+        requires catalog { catalog.now ≡ I.catalog }
+        requires covers { Covers I.catalog I.parts (roles_of marks) listed.entry }
+        requires client { HasClientBelow I.clients listed.entry }
+        requires right { IsRight I.catalog I.parts I.opening marks listed emitted }
+        ensures { Commits I.catalog I.parts I.first I.limit marks listed emitted result }
+    {
+        self.desk
+            .lock(rt)
+            .commit(&self.table, catalog, marks, listed, emitted)
+    }
+
+    /// A copy of the batch that a consumer finds in the list that the mark then knows.
+    pub fn look<R: Wait>(
+        &self,
+        rt: &R,
+        alloc: Global,
+        mark: Mark<I>,
+        stream: u16,
+        consumer: u16,
+        r: u64,
+    ) -> (Mark<I>, Result<Option<Rows>, NoMemory>)
+        requires takes { procedure_takes I.catalog consumer stream ≡ true }
+        ensures mark { Follows I.catalog I.parts I.limit mark result.0 }
+        ensures ok { IfOk result.1 (λ found. found ≡ found_batch (known_database I.catalog I.opening result.0) stream consumer r) }
+    {
+        self.desk
+            .lock(rt)
+            .look(&self.table, alloc, mark, stream, consumer, r)
+    }
+
+    /// Copies of the entries from a place on, of the list that the note then knows.
+    pub fn tail<R: Wait>(
+        &self,
+        rt: &R,
+        alloc: Global,
+        note: Note<I>,
+        from: u64,
+    ) -> (Note<I>, Result<Seq<Listed>, NoMemory>)
+        requires from { I.first ≤ from }
+        ensures note { Follows I.catalog I.parts I.limit note result.0 }
+        ensures ok { IfOk result.1 (λ copies. copies ≡ drop (from - I.first) (listed_of result.0.list)) }
+    {
+        self.desk.lock(rt).tail(&self.table, alloc, note, from)
+    }
+
+    /// The procedures that stand at a partition and have their next batch, after the list that the note then knows.
+    pub fn ready_at<R: Wait>(
+        &self,
+        rt: &R,
+        catalog: &Catalog,
+        note: Note<I>,
+        p: u8,
+    ) -> (Note<I>, ProcSet)
+        requires catalog { catalog.now ≡ I.catalog }
+        ensures note { Follows I.catalog I.parts I.limit note result.0 }
+        ensures ready { (q : ℕ) → IsBitSet result.1 q ↔ IsReadyAt I.catalog I.parts (known_database I.catalog I.opening result.0) p q }
+    {
+        self.desk.lock(rt).ready_at(&self.table, catalog, note, p)
+    }
+
+    /// Both tokens then know one list, and have seen the same numbers.
+    pub fn meet<R: Wait>(&self, rt: &R, mark: Mark<I>, note: Note<I>) -> (Mark<I>, Note<I>)
+        ensures mark { Follows I.catalog I.parts I.limit mark result.0 }
+        ensures note { Follows I.catalog I.parts I.limit note result.1 }
+        ensures one { KnowOne result.0 result.1 }
+    {
+        self.desk.lock(rt).meet(&self.table, mark, note)
+    }
+
+    /// All these tokens then know one list. Takes the lock once.
+    pub fn meet_all<R: Wait>(&self, rt: &R, marks: Marks<I>) -> Marks<I>
+        ensures { MeetAll I.catalog I.parts I.limit marks result }
+    {
+        self.desk.lock(rt).meet_all(&self.table, marks)
+    }
+
+    /// Both tokens then know one list, and have seen the same numbers. With it copies of the entries of that list from a place
+    /// on. Takes the lock once.
+    pub fn meet_tail<R: Wait>(
+        &self,
+        rt: &R,
+        alloc: Global,
+        mark: Mark<I>,
+        note: Note<I>,
+        from: u64,
+    ) -> (Mark<I>, Note<I>, Result<Seq<Listed>, NoMemory>)
+        requires from { I.first ≤ from }
+        ensures mark { Follows I.catalog I.parts I.limit mark result.0 }
+        ensures note { Follows I.catalog I.parts I.limit note result.1 }
+        ensures one { KnowOne result.0 result.1 }
+        ensures ok { IfOk result.2 (λ copies. copies ≡ drop (from - I.first) (listed_of result.1.list)) }
+    {
+        self.desk
+            .lock(rt)
+            .meet_tail(&self.table, alloc, mark, note, from)
+    }
+
+    /// Posts a receipted count and the faults of the disk. Needs no lock.
+    pub fn post(&self, note: Note<I>, count: u64, faults: u64) -> Note<I>
+        requires disk { note.role ≡ Disk }
+        requires count { note.count ≤ count }
+        requires faults { (note.faults ≡ 0) ⊎ (note.faults ≡ faults) }
+        ensures { result ≡ known Disk note.list count faults }
+    {
+        notes::post(&self.table, note, count, faults)
+    }
+
+    /// Reads the two posted numbers. Needs no lock.
+    pub fn see(&self, mark: Mark<I>) -> (Mark<I>, u64, u64)
+        ensures seen { result.0 ≡ known mark.role mark.list result.1 result.2 }
+        ensures more { (mark.count ≤ result.1) × ((mark.faults ≡ 0) ⊎ (mark.faults ≡ result.2)) }
+        ensures disk { mark.role ≡ Disk → (result.1 ≡ mark.count) × (result.2 ≡ mark.faults) }
+    {
+        notes::see(&self.table, mark)
+    }
+
+    /// Hands over the list, of which each token knew a beginning, and the streams after it.
+    pub fn close(self, marks: Marks<I>, note: Note<I>) -> (Seq<Listed>, Streams)
+        requires disk { note.role ≡ Disk }
+        ensures list { (list : List Item) × (result.0 ≡ listed_of list) × AllContinue I.catalog I.parts list marks × Continues I.catalog I.parts list note }
+        ensures legal { Replays I.catalog I.opening result.0 × Orders I.catalog I.opening result.0 }
+        ensures clients { HaveClientsBelow I.clients result.0 × (length result.0 ≤ I.limit) }
+        ensures streams { AreStreamsOf I.catalog (after I.catalog I.opening result.0) result.1.streams }
+        ensures seen { AllSaw note marks }
+    {
+        let CommitLog { table, desk } = self;
+        desk.into_inner().close(&table, marks, note)
+    }
+}

@@ -1,0 +1,2 @@
+pub mod Workflow
+pub mod Lives

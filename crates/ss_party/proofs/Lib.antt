@@ -1,0 +1,4 @@
+pub mod CallerLemmas
+pub mod Gathering
+mod Lists
+mod Moves
