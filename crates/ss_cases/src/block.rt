@@ -3,7 +3,7 @@
 use crate::bases::Bases;
 use crate::run::check_run;
 use crate::wrong::Wrong;
-use crate::{examples, executions, inputs, plans, queries, requests, script, sql};
+use crate::{events, examples, executions, inputs, plans, queries, replay, requests, script, sql};
 use std::alloc::Global;
 
 /// The kind of a block. The module that runs it says what its lines mean.
@@ -25,6 +25,9 @@ pub enum BlockKind {
     Queries,
     Bodies,
     Executions,
+    Replay,
+    List,
+    Events,
     Plans,
     Planned,
     Parse,
@@ -50,6 +53,9 @@ impl BlockKind {
             "queries" => Some(BlockKind::Queries),
             "bodies" => Some(BlockKind::Bodies),
             "executions" => Some(BlockKind::Executions),
+            "replay" => Some(BlockKind::Replay),
+            "list" => Some(BlockKind::List),
+            "events" => Some(BlockKind::Events),
             "plans" => Some(BlockKind::Plans),
             "planned" => Some(BlockKind::Planned),
             "parse" => Some(BlockKind::Parse),
@@ -67,6 +73,8 @@ impl BlockKind {
                 | BlockKind::Script
                 | BlockKind::Misfit
                 | BlockKind::Executions
+                | BlockKind::Replay
+                | BlockKind::List
         )
     }
 
@@ -136,6 +144,7 @@ pub fn run_row(
         BlockKind::First => examples::check_first(rt, folder, row),
         BlockKind::Queries => queries::check_query(alloc, base, row),
         BlockKind::Bodies => queries::check_body(alloc, base, row),
+        BlockKind::Events => events::check_events(alloc, base, row),
         BlockKind::Plans => plans::check_plan(alloc, base, row),
         BlockKind::Planned => plans::check_planned(alloc, base, row),
         BlockKind::Parse => sql::check_parsed(alloc, base, row),
@@ -156,6 +165,8 @@ pub fn run_whole(
         BlockKind::Script => script::check_script(rt.alloc(), base, lines),
         BlockKind::Misfit => script::check_misfit(rt.alloc(), base, lines),
         BlockKind::Executions => executions::check_executions(rt.alloc(), base, lines),
+        BlockKind::Replay => replay::check_replay(rt.alloc(), base, lines),
+        BlockKind::List => replay::check_list(rt.alloc(), base, lines),
         _ => Err(Wrong::text(rt.alloc(), "no block")),
     }
 }

@@ -1,4 +1,4 @@
-//! Executions of calls, pushes and steps, one after another on one database.
+//! Executions of calls, pushes and steps, one after another on one database, of 1, 2 and 8 partitions.
 //!
 //! ```text
 //! executions BASE   lines of executions, each with what it comes to
@@ -12,25 +12,26 @@
 //! and behind that of a push that is done its own.
 //! Nothing is scheduled: the batches of a step are those that its line gives.
 
-ghost use Rattle.std.specs.Prelude.{◌≡◌, true, IfOk, slice_get};
+ghost use Rattle.std.specs.Prelude.{◌≡◌, ◌≤◌, true, IfOk, slice_get};
 ghost use Rattle.ss_model.specs.Accepted.{Accepted};
 ghost use Rattle.ss_model.specs.Database.{fits_entry, has_step, is_streaming};
 ghost use Rattle.ss_shard.specs.ShardValue.{ShardValue};
 ghost use Rattle.ss_shard.specs.Shards.{IsCommitted};
 ghost use Rattle.ss_proc.specs.Entries.{IsNext, IsCountable};
 
+use crate::listing::{call_text, outcome_of, push_text};
 use crate::marks::text_of;
+use crate::names::procedure_number;
 use crate::requests::catalog_of;
-use crate::script::outcome_of;
-use crate::wrong::Wrong;
-use serde_json::Value as Json;
+use crate::rows::{batches_in, json_of};
+use crate::wrong::{Wrong, compare};
 use ss_catalog_requests::request_of;
 use ss_model::{Catalog, Entry, Kind, asked_entry};
 use ss_plan::{Batches, Inputs};
 use ss_proc::{Executed, PlainRunner, Runner, commit};
 use ss_report::{outcome_json, rows_json};
 use ss_shard::{Shard, opening};
-use ss_value::{Row, Rows, Seq, Value, text_of as value_text};
+use ss_value::{Rows, Seq};
 use std::alloc::Global;
 
 /// The batch of a step is numbered below this, 2^60: a list has no more entries.
@@ -41,14 +42,6 @@ const BATCHES: u64 = 1_152_921_504_606_846_976;
 struct AskedExecution {
     entry: Entry,
     batches: Seq<Rows>,
-}
-
-/// The JSON value of a text.
-fn json_of(alloc: Global, text: &str) -> Result<Json, Wrong> {
-    match Json::from_str(alloc, text) {
-        Ok(value) => Ok(value),
-        Err(_) => Err(Wrong::text(alloc, "no JSON")),
-    }
 }
 
 // ---- what clients ask for
@@ -78,8 +71,7 @@ fn call_of(
     ensures fits { IfOk result (λ w. fits_entry catalog.now w.entry ≡ true) }
     ensures asked { IfOk result (λ w. (s : ShardValue) → IsNext w.entry s × IsCountable w.entry) }
 {
-    let text = format!(in alloc; "{{\"call\":\"{name}\",\"args\":{args}}}")?;
-    asked_of(alloc, catalog, text.as_str())
+    asked_of(alloc, catalog, call_text(alloc, name, args)?.as_str())
 }
 
 /// The push of a stream, a source, a number and rows.
@@ -87,73 +79,10 @@ fn push_of(alloc: Global, catalog: &Catalog, given: &str) -> Result<AskedExecuti
     ensures ok { IfOk result (λ w. fits_entry catalog.now w.entry ≡ true) }
     ensures asked { IfOk result (λ w. (s : ShardValue) → IsNext w.entry s × IsCountable w.entry) }
 {
-    let (stream, given) = given.split_once(' ').unwrap_or((given, ""));
-    let (source, given) = given.split_once(' ').unwrap_or((given, ""));
-    let (seq, rows) = given.split_once(' ').unwrap_or((given, ""));
-    let text = format!(in alloc;
-        "{{\"push\":\"{stream}\",\"source\":\"{source}\",\"seq\":{seq},\"rows\":{rows}}}"
-    )?;
-    asked_of(alloc, catalog, text.as_str())
+    asked_of(alloc, catalog, push_text(alloc, given)?.as_str())
 }
 
 // ---- steps
-
-/// A value that stands in JSON.
-fn value_of(alloc: Global, value: &Json) -> Result<Value, Wrong> {
-    if let Some(number) = value.as_i64() {
-        return Ok(Value::Int(number));
-    }
-    let text = value.as_str().unwrap_or("");
-    match value_text(alloc, text.as_bytes()) {
-        Ok(text) => Ok(Value::Text(text)),
-        Err(_) => Err(Wrong::text(alloc, "no value")),
-    }
-}
-
-/// The items of an array, and none of another value.
-fn items_of(value: &Json) -> &[Json] {
-    match value.as_array() {
-        Some(items) => items.as_slice(),
-        None => &[],
-    }
-}
-
-/// A row that stands in JSON.
-fn row_of(alloc: Global, value: &Json) -> Result<Row, Wrong> {
-    let mut row = Seq::new(alloc);
-    for item in items_of(value) {
-        row.push(value_of(alloc, item)?)?;
-    }
-    Ok(row)
-}
-
-/// The rows of a batch that stand in JSON.
-fn rows_of(alloc: Global, value: &Json) -> Result<Rows, Wrong> {
-    let mut rows = Seq::new(alloc);
-    for item in items_of(value) {
-        rows.push(row_of(alloc, item)?)?;
-    }
-    Ok(rows)
-}
-
-/// The batches that stand in JSON.
-fn batches_of(alloc: Global, value: &Json) -> Result<Seq<Rows>, Wrong> {
-    let mut batches = Seq::new(alloc);
-    for item in items_of(value) {
-        batches.push(rows_of(alloc, item)?)?;
-    }
-    Ok(batches)
-}
-
-/// The number of a procedure that takes batches.
-fn streaming_named(catalog: &Catalog, name: &str) -> Option<u16> {
-    let number = catalog
-        .procedures
-        .as_slice()
-        .iter()
-        .position(|procedure| procedure.name.as_str() == name)?;
-    u16::try_from(number).ok()
-}
 
 /// Whether a procedure of this kind takes batches.
 fn is_streaming(kind: Kind) -> bool
@@ -186,11 +115,8 @@ fn step_of(
     ensures fits { IfOk result (λ w. fits_entry catalog.now w.entry ≡ true) }
     ensures ok { IfOk result (λ w. IsNext w.entry shard.now × IsCountable w.entry) }
 {
-    let value = json_of(alloc, batches)?;
-    let batches = batches_of(alloc, &value)?;
-    let Some(procedure) = streaming_named(catalog, name) else {
-        return Err(Wrong::text(alloc, "no procedure has that name"));
-    };
+    let batches = batches_in(alloc, batches)?;
+    let procedure = procedure_number(alloc, catalog, name)?;
     let batch = shard.cursor(procedure);
     if !has_step(catalog, procedure) || batch >= BATCHES {
         return Err(Wrong::text(alloc, "no step"));
@@ -290,19 +216,26 @@ fn check_line(alloc: Global, catalog: &Catalog, shard: &mut Shard, line: &str) -
     let asked = text_of(alloc, asked)?;
     let wanted = execution_of(alloc, catalog, shard, asked.as_str())?;
     let came = words_after(alloc, catalog, shard, &wanted)?;
-    if came.as_str() == want.as_str() {
-        return Ok(());
-    }
-    let want = format!(in alloc; "{asked} -> {want}")?;
-    Err(Wrong::answer(alloc, want.as_str(), came.as_str()))
+    compare(alloc, asked.as_str(), want.as_str(), came.as_str())
 }
 
-/// A block `executions`.
-pub fn check_executions(alloc: Global, base: &str, lines: &[String]) -> Result<(), Wrong> {
-    let catalog = catalog_of(alloc, base)?;
-    let mut database = opening(alloc, &catalog)?;
+/// Runs the executions on a database of so many partitions.
+fn check_on(alloc: Global, catalog: &Catalog, parts: u8, lines: &[String]) -> Result<(), Wrong>
+    requires accepted { Accepted catalog.now }
+    requires some { 1 ≤ parts }
+    requires few { parts ≤ 8 }
+{
+    let mut database = opening(alloc, catalog, parts)?;
     for line in lines {
-        check_line(alloc, &catalog, &mut database.whole, line.as_str())?;
+        check_line(alloc, catalog, &mut database.whole, line.as_str())?;
     }
     Ok(())
+}
+
+/// A block `executions`, on 1, 2 and 8 partitions.
+pub fn check_executions(alloc: Global, base: &str, lines: &[String]) -> Result<(), Wrong> {
+    let catalog = catalog_of(alloc, base)?;
+    check_on(alloc, &catalog, 1, lines)?;
+    check_on(alloc, &catalog, 2, lines)?;
+    check_on(alloc, &catalog, 8, lines)
 }

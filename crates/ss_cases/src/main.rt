@@ -11,30 +11,41 @@
 //! - `inputs`, `requests`, `examples`: whole inputs, requests on a catalogue, and inputs in files of their own
 //! - `script`, `queries`: short forms of whole runs over tables, of queries and of bodies
 //! - `executions`: calls, pushes and steps by themselves, with the batches that they take
+//! - `replay`: lists of entries on the definitions, computed, and what they leave
+//! - `events`: events of a store, and what they leave
 //! - `plans`: how the rows are found that a step looks for
-//! - `sql`: texts with their trees, which `parsed_trees` and `typed_trees` print, with `signs` for their operators;
-//!   `scopes` has the names that typed texts may use
+//! - `sql`: texts with their trees, which `parsed_trees` and `typed_trees` print, with `signs` for their operators, or
+//!   with their `tokens`; `scopes` has the names that typed texts may use
 //! - `bases`, `marks`: texts that several cases share, and what stands for bytes that a line can't hold
+//! - `rows`, `names`, `entries`: rows in JSON, the numbers of what a catalogue names, and entries from words
 //! - `run`: one run of the program, and whether it answered as its case says
+//! - `listing`: requests and the report on them, made from short lines
 //! - `wrong`: why a case is wrong
 #![tactic(auto)]
 
 mod bases;
 mod block;
+mod entries;
+mod events;
 mod examples;
 mod executions;
 mod file;
 mod inputs;
+mod listing;
 mod marks;
+mod names;
 mod parsed_trees;
 mod plans;
 mod queries;
+mod replay;
 mod requests;
+mod rows;
 mod run;
 mod scopes;
 mod script;
 mod signs;
 mod sql;
+mod tokens;
 mod typed_trees;
 mod wrong;
 

@@ -15,9 +15,9 @@
 
 use crate::bases::fill_first;
 use crate::block::column;
+use crate::listing::outcome_of;
 use crate::marks::bytes_of;
 use crate::run::{check_run, report_of, run_on};
-use crate::script::outcome_of;
 use crate::wrong::Wrong;
 use std::alloc::{AllocError, Global};
 

@@ -17,29 +17,19 @@
 //! is wrong.
 
 use crate::bases::fill_first;
+use crate::listing::{Listing, outcome_of};
 use crate::marks::text_of;
-use crate::run::{check_report, report_of, run_on};
 use crate::wrong::Wrong;
 use std::alloc::{AllocError, Global};
 
-/// The parts of a script's input and of its report.
+/// The parts of a script.
 #[derive(Drop)]
 struct Script {
     tables: String,
     procedures: String,
     /// Whether the last procedure has no step so far.
     is_bare: bool,
-    requests: String,
-    replies: String,
-    entries: String,
-    rows: String,
-    count: usize,
-}
-
-/// An outcome as the report prints it.
-pub fn outcome_of(alloc: Global, text: &str) -> Result<String, AllocError> {
-    let (word, behind) = text.split_once(' ').unwrap_or((text, ""));
-    format!(in alloc; "[\"{word}\",{behind}]")
+    listing: Listing,
 }
 
 impl Script {
@@ -49,11 +39,7 @@ impl Script {
             tables: String::new(alloc),
             procedures: String::new(alloc),
             is_bare: true,
-            requests: String::new(alloc),
-            replies: String::new(alloc),
-            entries: String::new(alloc),
-            rows: String::new(alloc),
-            count: 0,
+            listing: Listing::new(alloc),
         }
     }
 
@@ -88,34 +74,6 @@ impl Script {
         self.procedures.push_str(step)
     }
 
-    /// Adds a request and its outcome.
-    fn add_call(&mut self, alloc: Global, call: &str, outcome: &str) -> Result<(), AllocError> {
-        let (name, args) = call.split_once(' ').unwrap_or((call, ""));
-        let outcome = outcome_of(alloc, outcome)?;
-        let place = self.count;
-        let line = place.saturating_add(2);
-        let request = format!(in alloc; "{{\"call\":\"{name}\",\"args\":{args}}}\n")?;
-        self.requests.push_str(request.as_str())?;
-        let reply = format!(in alloc; "[\"reply\",{line},{place},{outcome}]\n")?;
-        self.replies.push_str(reply.as_str())?;
-        let entry = format!(in alloc; "[\"call\",{place},0,{place},{outcome}]\n")?;
-        self.entries.push_str(entry.as_str())?;
-        self.count = place.saturating_add(1);
-        Ok(())
-    }
-
-    /// Adds a line of a table or of a row.
-    fn add_row(&mut self, alloc: Global, line: &str) -> Result<(), AllocError> {
-        let (name, behind) = line.split_once(' ').unwrap_or((line, ""));
-        let kind = if behind.starts_with('[') {
-            "row"
-        } else {
-            "table"
-        };
-        let row = format!(in alloc; "[\"{kind}\",\"{name}\",{behind}]\n")?;
-        self.rows.push_str(row.as_str())
-    }
-
     /// Adds a line.
     fn add_line(&mut self, alloc: Global, line: &str) -> Result<(), AllocError> {
         // A call is known by what stands inside its line, so the marks at the front of a line go first.
@@ -126,27 +84,19 @@ impl Script {
         } else if let Some(step) = line.strip_prefix("  ") {
             self.add_step(step)
         } else if let Some((call, outcome)) = line.split_once(" -> ") {
-            self.add_call(alloc, call, outcome)
+            let outcome = outcome_of(alloc, outcome)?;
+            self.listing.add_entry(alloc, call, outcome.as_str())
         } else {
-            self.add_row(alloc, line)
+            self.listing.add_row(alloc, line)
         }
     }
 
-    /// The input.
-    fn input(&self, alloc: Global) -> Result<Vec<u8>, AllocError> {
+    /// The catalogue.
+    fn catalog(&self, alloc: Global) -> Result<String, AllocError> {
         let end = if self.procedures.is_empty() { "" } else { "]}" };
-        let input = format!(in alloc;
-            "{{\"tables\":[{}],\"procedures\":[{}{end}]}}\n{}",
-            self.tables, self.procedures, self.requests
-        )?;
-        Vec::from_slice(alloc, input.as_bytes())
-    }
-
-    /// The report on it.
-    fn report(&self, alloc: Global) -> Result<String, AllocError> {
         format!(in alloc;
-            "{}{}{}[\"done\",{}]\n",
-            self.replies, self.entries, self.rows, self.count
+            "{{\"tables\":[{}],\"procedures\":[{}{end}]}}",
+            self.tables, self.procedures
         )
     }
 }
@@ -167,17 +117,16 @@ fn script_of(alloc: Global, base: &str, lines: &[String]) -> Result<Script, Wron
 /// A block `script`.
 pub fn check_script(alloc: Global, base: &str, lines: &[String]) -> Result<(), Wrong> {
     let script = script_of(alloc, base, lines)?;
-    let ended = run_on(alloc, script.input(alloc)?)?;
-    let written = report_of(alloc, &ended)?;
-    check_report(alloc, written, script.report(alloc)?.as_bytes())
+    script.listing.check(alloc, script.catalog(alloc)?.as_str())
 }
 
 /// A block `misfit`.
 pub fn check_misfit(alloc: Global, base: &str, lines: &[String]) -> Result<(), Wrong> {
     let script = script_of(alloc, base, lines)?;
-    let ended = run_on(alloc, script.input(alloc)?)?;
-    let written = report_of(alloc, &ended)?;
-    if written == script.report(alloc)?.as_str() {
+    let written = script
+        .listing
+        .written(alloc, script.catalog(alloc)?.as_str())?;
+    if written.as_str() == script.listing.report(alloc)?.as_str() {
         return Err(Wrong::text(alloc, "the script is right"));
     }
     Ok(())

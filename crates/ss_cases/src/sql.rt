@@ -2,11 +2,12 @@
 //!
 //! ```text
 //! parse FORM     TEXT ~ TREE, where FORM is `statement`, `query` or `condition`
+//! parse tokens   TEXT ~ TOKENS
 //! type FORM      TEXT ~ TYPED TREE, where it may be `emit` too: a query whose rows go to a stream
 //! ```
 //!
-//! `parsed_trees` and `typed_trees` say how trees, and refusals in place of them, are printed, and `scopes` says what
-//! names stand for.
+//! `parsed_trees` and `typed_trees` say how trees, and refusals in place of them, are printed, `tokens` how tokens are, and
+//! `scopes` says what names stand for.
 
 ghost use Rattle.std.specs.Prelude.{IsTrue};
 ghost use Rattle.ss_sql_type.specs.Queries.{scope_narrow};
@@ -14,12 +15,16 @@ ghost use Rattle.ss_sql_type.specs.Queries.{scope_narrow};
 use crate::block::column;
 use crate::marks::text_of;
 use crate::scopes::scope_of;
+use crate::tokens::tokens_text;
 use crate::wrong::Wrong;
 use crate::{parsed_trees, typed_trees};
 use ss_sql_lex::{ConditionTree, QueryTree, StatementTree};
 use ss_sql_parse::{parse_condition, parse_query, parse_statement};
 use ss_sql_type::{Scope, is_narrow, type_condition, type_query, type_statement};
 use std::alloc::{AllocError, Global};
+
+/// The word for tokens in place of a form.
+const TOKENS: &str = "tokens";
 
 /// What a text is.
 #[derive(Clone, Copy, Debug, PartialEq, Eq, Drop)]
@@ -145,8 +150,12 @@ fn check_tree(alloc: Global, tree: &str, want: &str) -> Result<(), Wrong> {
 /// A row of `parse`.
 pub fn check_parsed(alloc: Global, form: &str, row: &str) -> Result<(), Wrong> {
     let (text, want) = column(alloc, row)?;
-    let form = form_of(alloc, form)?;
-    let tree = parsed_tree(alloc, form, text_of(alloc, text)?.as_str())?;
+    let text = text_of(alloc, text)?;
+    let tree = if form == TOKENS {
+        tokens_text(alloc, text.as_str())?
+    } else {
+        parsed_tree(alloc, form_of(alloc, form)?, text.as_str())?
+    };
     check_tree(alloc, tree.as_str(), want)
 }
 

@@ -4,7 +4,6 @@ pub mod CallerLemmas
 pub mod Dealt
 pub mod Desks
 pub mod InAndOut
-pub mod LeastFound
 pub mod Lists
 pub mod Meeting
 pub mod OneList

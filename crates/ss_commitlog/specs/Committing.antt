@@ -18,7 +18,7 @@ use Rattle.ss_commitlog.specs.declared.rule.View.{View}
 use Rattle.ss_commitlog.specs.declared.committed.Committed.{Committed}
 use Rattle.ss_commitlog.specs.declared.committed.Committed.TheVariants.{Done, NoMemory, ListFull}
 use Rattle.ss_commitlog.specs.Meaning.{IsLegal, listed_of}
-use Rattle.ss_commitlog.specs.Reading.{homes_of}
+use Rattle.ss_partition.specs.Homes.{homes_of}
 use Rattle.ss_commitlog.specs.Tokens.{Known, log_view, roles_of, added, AllKnow, AllContinue}
 
 -- an accepted catalogue on some partitions, with a database of its own

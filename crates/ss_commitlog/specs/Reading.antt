@@ -1,10 +1,10 @@
 -- What is read of the list, and of streams and counts after it.
-use Rattle.std.specs.Prelude.{◌≡◌, ◌<◌, ◌≤◌, ◌==◌, ◌&&◌, nat_lt, ℕ, Bool, true, cond, List, length, get_or, map, slice_get, Option, None}
+use Rattle.std.specs.Prelude.{◌≡◌, ◌<◌, ◌≤◌, ◌==◌, ◌&&◌, nat_lt, ℕ, Bool, true, cond, List, length, get_or, slice_get, Option, None}
 use Rattle.ss_value.specs.Rows.{Rows}
 use Rattle.ss_model.specs.declared.catalog.Catalog.{Catalog}
 use Rattle.ss_model.specs.Database.{Database, batch_count, stream_batches}
 use Rattle.ss_model.specs.Partitions.{home_of}
-use Rattle.ss_model.specs.Settling.{is_ready_now, procedure_numbers}
+use Rattle.ss_model.specs.Settling.{is_ready_now}
 use Rattle.ss_model.specs.Accepted.{Accepted}
 use Rattle.ss_stream.specs.Pending.{Pending, pending_batch}
 use Rattle.ss_stream.specs.Streams.{ReservedStreams, stream_at}
@@ -16,10 +16,6 @@ found_batch d s q r = cond (nat_lt r (batch_count d q)) None (slice_get (stream_
 -- the procedure's home is this partition, and its next batch is there on each of its inputs
 abbrev pub IsReadyAt : Catalog → ℕ → Database → ℕ → ℕ → Type 0
 IsReadyAt catalog parts d p q = (home_of catalog parts q ≡ p) × (is_ready_now catalog d q ≡ true)
-
--- the home of each procedure
-abbrev pub homes_of : Catalog → ℕ → List ℕ
-homes_of catalog parts = map (home_of catalog parts) (procedure_numbers catalog)
 
 -- the batch that a consumer finds, by the streams that are kept and the counts of batches taken
 abbrev pub batch_at_hand : ReservedStreams → List ℕ → ℕ → ℕ → ℕ → Option Rows

@@ -9,7 +9,7 @@
 //!
 //! - `log`, `opening`: the calls; `committed`: what a commit answers
 //! - `token`, `role`: tokens; `blank`: the table before the log has a name
-//! - `desk`, `looking`: what stands behind the lock; `homes`, `reading`: what is read of it
+//! - `desk`, `looking`: what stands behind the lock; `reading`: what is read of it
 //! - `rule`: the rule of the table; `hands`, `notes`: its steps
 //! - `laws`: what callers need to know of lists
 //!
@@ -21,7 +21,6 @@ mod blank;
 mod committed;
 mod desk;
 mod hands;
-mod homes;
 mod laws;
 mod log;
 mod looking;

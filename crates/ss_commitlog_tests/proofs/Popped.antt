@@ -1,25 +1,10 @@
 -- Tokens that are popped one after another.
-use Rattle.std.proofs.Common.{◌≡◌, ◌+◌, ◌∙◌, ℕ, List, [], ◌∷◌, ◌++◌, length, length-append, refl, sym, ap, arith}
+use Rattle.std.proofs.Common.{◌≡◌, ◌∙◌, ℕ, List, [], ◌∷◌, ◌++◌, refl, sym, ap}
+use Rattle.ss_lemmas.proofs.Ends.{ends_alike}
 use Rattle.ss_commitlog.specs.declared.role.Role.{Role}
 use Rattle.ss_commitlog.specs.declared.rule.Item.{Item}
 use Rattle.ss_commitlog.specs.Rule.{numbered}
 use Rattle.ss_commitlog.specs.Tokens.{AllKnow, Known, known, at_opening, roles_of}
-
-pub ends_alike : {A : Type 0} (xs ys : List A) (x y : A) → xs ++ x ∷ [] ≡ ys ++ y ∷ [] → (xs ≡ ys) × (x ≡ y)
-ends_alike [] [] x y e = (refl, cc)
-ends_alike [] (b ∷ bs) x y e =
-    let l : length (x ∷ []) ≡ length (b ∷ (bs ++ y ∷ [])) = ap length e in
-    let m = length-append bs (y ∷ []) in
-    absurd (omega arith)
-ends_alike (a ∷ as') [] x y e =
-    let l : length (a ∷ (as' ++ x ∷ [])) ≡ length (y ∷ []) = ap length e in
-    let m = length-append as' (x ∷ []) in
-    absurd (omega arith)
-ends_alike (a ∷ as') (b ∷ bs) x y e =
-    let h : a ≡ b = cc in
-    let t : as' ++ x ∷ [] ≡ bs ++ y ∷ [] = cc in
-    let r = ends_alike as' bs x y t in
-    (λ i. h i ∷ r.0 i, r.1)
 
 -- two tokens at the opening, the last one first
 pub two_popped : (f : ℕ → Role) (first n : ℕ) (tokens l m : List Known) (w x : Known) → n ≡ 2 → tokens ≡ at_opening first (numbered f 0 n []) → tokens ≡ l ++ w ∷ [] → l ≡ m ++ x ∷ [] → (x ≡ known (f 0) [] first 0) × (w ≡ known (f 1) [] first 0)

@@ -10,17 +10,25 @@ ghost use Rattle.ss_core.specs.Machine.{Leads, CannotLead};
 use crate::hands::is_holder;
 use crate::machine::{Core, StepError};
 use crate::replayed::comes_to;
-use crate::touched::is_touched;
 use ss_model::{Entry, Listed};
+use ss_partition::touches;
 use ss_value::{NoMemory, Seq};
 use std::alloc::Global;
 
+/// Whether an entry touches one of the core's partitions. Linear in a touch set, and for a push in the procedures and their
+/// inputs.
+fn is_touched(core: &Core, entry: &Entry, part: usize) -> bool
+    ensures { result ≡ is_touched core.now entry.now part }
+{
+    part < usize::from(core.parts) && touches(&core.catalog, entry, core.parts, part as u8)
+}
+
 /// Whether an actor holds each partition that an entry touches.
-fn is_holder_of_touched(alloc: Global, core: &Core, actor: u8, entry: &Entry) -> bool
+fn is_holder_of_touched(core: &Core, actor: u8, entry: &Entry) -> bool
     ensures { IsTrue result ↔ EachTouched core.now entry.now (IsHolder core.now actor) }
 {
     for part in 0..core.parts {
-        if is_touched(alloc, core, entry, usize::from(part)) && !is_holder(core, actor, part) {
+        if is_touched(core, entry, usize::from(part)) && !is_holder(core, actor, part) {
             return false;
         }
     }
@@ -38,13 +46,11 @@ fn known_of(core: &Core, part: usize) -> u64
 }
 
 /// Whether the holders of the partitions that an entry touches know no more than the first `seen` entries.
-fn sees_touched(alloc: Global, core: &Core, entry: &Entry, seen: u64) -> bool
+fn sees_touched(core: &Core, entry: &Entry, seen: u64) -> bool
     ensures { IsTrue result ↔ EachTouched core.now entry.now (λ part. get_or core.now.known part 0 ≤ seen) }
 {
     for part in 0..core.parts {
-        if is_touched(alloc, core, entry, usize::from(part))
-            && known_of(core, usize::from(part)) > seen
-        {
+        if is_touched(core, entry, usize::from(part)) && known_of(core, usize::from(part)) > seen {
             return false;
         }
     }
@@ -113,8 +119,8 @@ fn may_commit(
 {
     let list = core.list.as_slice();
     if seen > list.len() as u64
-        || !is_holder_of_touched(alloc, core, actor, &listed.entry)
-        || !sees_touched(alloc, core, &listed.entry, seen)
+        || !is_holder_of_touched(core, actor, &listed.entry)
+        || !sees_touched(core, &listed.entry, seen)
         || !is_next_index(&listed.entry, since_opening(core))
     {
         return Ok(false);
@@ -129,10 +135,10 @@ fn may_commit(
 }
 
 /// How many entries the holder of a partition knows, once those of the touched ones know `count`.
-fn now_known(alloc: Global, core: &Core, entry: &Entry, count: u64, part: usize, old: u64) -> u64
+fn now_known(core: &Core, entry: &Entry, count: u64, part: usize, old: u64) -> u64
     ensures { result ≡ cond (is_touched core.now entry.now part) count old }
 {
-    if is_touched(alloc, core, entry, part) {
+    if is_touched(core, entry, part) {
         count
     } else {
         old
@@ -145,7 +151,7 @@ fn known_after(alloc: Global, core: &Core, entry: &Entry, count: u64) -> Result<
 {
     let mut known = Seq::new(alloc);
     for (part, old) in core.known.as_slice().iter().enumerate() {
-        let now = now_known(alloc, core, entry, count, part, *old);
+        let now = now_known(core, entry, count, part, *old);
         if known.push(now).is_err() {
             return Err(NoMemory);
         }

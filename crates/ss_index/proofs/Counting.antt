@@ -1,20 +1,19 @@
 -- How often a pair occurs in a list of pairs.
-use Rattle.std.proofs.Common.{◌≡◌, ℕ, zero, suc, ◌+◌, ◌<◌, true, false, cond, List, [], ◌∷◌, map, refl, sym, ap, subst, ◌∙◌, arith, Option, Some, None, slice_get, IsSome}
+use Rattle.std.proofs.Common.{◌≡◌, ℕ, zero, suc, ◌+◌, ◌<◌, Bool, true, false, cond, List, [], ◌∷◌, ◌++◌, refl, sym, ap, subst, ◌∙◌, arith, Option, Some, None, slice_get, IsSome}
 use Rattle.std.specs.List.{prefix_len, AllByRecursion, insert, remove}
 use Rattle.std.specs.Ordering.{eq_by_cmp, is_eq, is_lt, ordering_reverse}
 use Rattle.std.specs.declared.cmp.Ordering.{Ordering}
 use Rattle.std.specs.declared.cmp.Ordering.TheVariants.{Less, Equal, Greater}
 use Rattle.std.specs.FinMap as finite
 use Rattle.ss_lemmas.proofs.Orderings.{less_test}
-use Rattle.ss_index.specs.Pairs.{Pair, Pairs, pair_cmp, AreCounted, times, or_zero, add_pair, drop_pair}
-use Rattle.ss_index.specs.declared.index_entry.IndexEntry.{IndexEntry}
-use Rattle.ss_index.specs.Entries.{pair_in, pairs_in, UpTo, Rises, AreRising, is_before_pair}
-use Rattle.ss_index.proofs.Taking.{pairs_total, pairs_antisymmetric, tied, itself, stands_more, taken_back}
-use Rattle.ss_index.proofs.Rising.{less_up, rank_map, insert_map, remove_map}
+use Rattle.ss_index.specs.Pairs.{Pair, Pairs, pair_cmp, AreCounted, times, with_times, or_zero, add_pair, drop_pair}
+use Rattle.ss_index.specs.Entries.{pairs_in, UpTo, Rises, is_before_pair}
+use Rattle.ss_index.proofs.Taking.{pairs_total, pairs_antisymmetric, tied, itself, stands_more, stands_none, taken_back}
+use Rattle.ss_index.proofs.Rising.{less_up}
 
 -- ---- maps that have each pair as often
 
-none_or_some : (o r : Option ℕ) → (o ≡ Some 0 → ⊥) → (r ≡ Some 0 → ⊥) → or_zero o ≡ or_zero r → o ≡ r
+pub none_or_some : (o r : Option ℕ) → (o ≡ Some 0 → ⊥) → (r ≡ Some 0 → ⊥) → or_zero o ≡ or_zero r → o ≡ r
 none_or_some None None a b e = refl
 none_or_some None (Some zero) a b e = absurd (b refl)
 none_or_some None (Some (suc n)) a b e = absurd (omega (arith, e))
@@ -22,23 +21,28 @@ none_or_some (Some zero) r a b e = absurd (a refl)
 none_or_some (Some (suc m)) None a b e = absurd (omega (arith, e))
 none_or_some (Some (suc m)) (Some n) a b e = ap Some e
 
-same_times : (m n : Pairs) → AreCounted m → AreCounted n → ((q : Pair) → times m q ≡ times n q) → m ≡ n
+pub same_times : (m n : Pairs) → AreCounted m → AreCounted n → ((q : Pair) → times m q ≡ times n q) → m ≡ n
 same_times m n a b h = finite.same_map pairs_total pairs_antisymmetric m n (λ q. none_or_some (finite.get m q) (finite.get n q) (a q) (b q) (h q))
-
-counted_more : (m : Pairs) (p : Pair) → AreCounted m → AreCounted (add_pair m p)
-counted_more m p a q =
-    elim (eq_by_cmp pair_cmp q p) as (λ b. finite.get (add_pair m p) q ≡ cond b (Some (suc (times m p))) (finite.get m q) → finite.get (add_pair m p) q ≡ Some 0 → ⊥) [
-      | true ↦ λ is e. let bad : suc (times m p) ≡ 0 = ap or_zero (sym is ∙ e) in absurd (omega (arith, bad))
-      | false ↦ λ is e. a q (sym is ∙ e)
-    ] (stands_more m p (times m p) q)
 
 nowhere : (o : Option ℕ) → o ≡ None → o ≡ Some 0 → ⊥
 nowhere None a b = cc
 nowhere (Some n) a b = cc
 
+pub counted_times : (m : Pairs) (p : Pair) (n : ℕ) → AreCounted m → AreCounted (with_times m p n)
+counted_times m p zero a q =
+    elim (eq_by_cmp pair_cmp q p) as (λ b. finite.get (with_times m p zero) q ≡ cond b None (finite.get m q) → finite.get (with_times m p zero) q ≡ Some 0 → ⊥) [
+      | true ↦ λ is e. nowhere _ is e
+      | false ↦ λ is e. a q (sym is ∙ e)
+    ] (stands_none m p q)
+counted_times m p (suc n) a q =
+    elim (eq_by_cmp pair_cmp q p) as (λ b. finite.get (with_times m p (suc n)) q ≡ cond b (Some (suc n)) (finite.get m q) → finite.get (with_times m p (suc n)) q ≡ Some 0 → ⊥) [
+      | true ↦ λ is e. let bad : suc n ≡ 0 = ap or_zero (sym is ∙ e) in absurd (omega (arith, bad))
+      | false ↦ λ is e. a q (sym is ∙ e)
+    ] (stands_more m p n q)
+
 pub counted_in : (ps : List Pair) → AreCounted (pairs_in ps)
 counted_in [] q e = nowhere (finite.get (pairs_in []) q) (finite.get-empty pair_cmp q) e
-counted_in (p ∷ ps) q e = counted_more (pairs_in ps) p (counted_in ps) q e
+counted_in (p ∷ ps) q e = counted_times (pairs_in ps) p (suc (times (pairs_in ps) p)) (counted_in ps) q e
 
 -- ---- counts
 
@@ -49,23 +53,32 @@ abbrev pub occurs : Pair → List Pair → ℕ
 occurs q [] = 0
 occurs q (p ∷ ps) = one q p + occurs q ps
 
+or_zero_cond : (b : Bool) (x y : Option ℕ) → or_zero (cond b x y) ≡ cond b (or_zero x) (or_zero y)
+or_zero_cond true x y = refl
+or_zero_cond false x y = refl
+
+pub times_with : (m : Pairs) (p : Pair) (n : ℕ) (q : Pair) → times (with_times m p n) q ≡ cond (eq_by_cmp pair_cmp q p) n (times m q)
+times_with m p zero q = ap or_zero (stands_none m p q) ∙ or_zero_cond (eq_by_cmp pair_cmp q p) None (finite.get m q)
+times_with m p (suc n) q = ap or_zero (stands_more m p n q) ∙ or_zero_cond (eq_by_cmp pair_cmp q p) (Some (suc n)) (finite.get m q)
+
 plus_added : (m : Pairs) (p q : Pair) → times (add_pair m p) q ≡ one q p + times m q
 plus_added m p q =
-    elim (eq_by_cmp pair_cmp q p) as (λ b. eq_by_cmp pair_cmp q p ≡ b → finite.get (add_pair m p) q ≡ cond b (Some (suc (times m p))) (finite.get m q) → times (add_pair m p) q ≡ cond b 1 0 + times m q) [
-      | true ↦ λ t is. let same : times m q ≡ times m p = ap (times m) (tied q p t) in let now : times (add_pair m p) q ≡ suc (times m p) = ap or_zero is in omega (arith, same, now)
-      | false ↦ λ t is. let now : times (add_pair m p) q ≡ times m q = ap or_zero is in omega (arith, now)
-    ] refl (stands_more m p (times m p) q)
+    times_with m p (suc (times m p)) q
+    ∙ elim (eq_by_cmp pair_cmp q p) as (λ b. eq_by_cmp pair_cmp q p ≡ b → cond b (suc (times m p)) (times m q) ≡ cond b 1 0 + times m q) [
+      | true ↦ λ t. let same : times m q ≡ times m p = ap (times m) (tied q p t) in omega (arith, same)
+      | false ↦ λ t. omega arith
+    ] refl
 
-times_in : (ps : List Pair) (q : Pair) → times (pairs_in ps) q ≡ occurs q ps
+pub times_in : (ps : List Pair) (q : Pair) → times (pairs_in ps) q ≡ occurs q ps
 times_in [] q = ap or_zero (finite.get-empty pair_cmp q)
 times_in (p ∷ ps) q = plus_added (pairs_in ps) p q ∙ ap (λ n. one q p + n) (times_in ps q)
 
-occurs_insert : (q : Pair) (ps : List Pair) (n : ℕ) (p : Pair) → occurs q (insert ps n p) ≡ one q p + occurs q ps
+pub occurs_insert : (q : Pair) (ps : List Pair) (n : ℕ) (p : Pair) → occurs q (insert ps n p) ≡ one q p + occurs q ps
 occurs_insert q ps zero p = refl
 occurs_insert q [] (suc n) p = refl
 occurs_insert q (x ∷ xs) (suc n) p = let rest : occurs q (insert xs n p) ≡ one q p + occurs q xs = occurs_insert q xs n p in omega (arith, rest)
 
-occurs_remove : (q : Pair) (ps : List Pair) (n : ℕ) (p : Pair) → slice_get ps n ≡ Some p → occurs q ps ≡ one q p + occurs q (remove ps n)
+pub occurs_remove : (q : Pair) (ps : List Pair) (n : ℕ) (p : Pair) → slice_get ps n ≡ Some p → occurs q ps ≡ one q p + occurs q (remove ps n)
 occurs_remove q [] n p e = cc
 occurs_remove q (x ∷ xs) zero p e = let same : x ≡ p = cc in ap (λ y. one q y + occurs q xs) same
 occurs_remove q (x ∷ xs) (suc n) p e = let rest : occurs q xs ≡ one q p + occurs q (remove xs n) = occurs_remove q xs n p e in omega (arith, rest)
@@ -86,24 +99,53 @@ stands_where ps q often = by (finite.get (pairs_in ps) q) (times_in ps q)
     by None is = absurd (omega (arith, is, often))
     by (Some n) is = refl
 
-pub more_pairs : (ps : List Pair) (n : ℕ) (p : Pair) → pairs_in (insert ps n p) ≡ add_pair (pairs_in ps) p
-more_pairs ps n p =
-    same_times _ _ (counted_in (insert ps n p)) (counted_more (pairs_in ps) p (counted_in ps))
-    (λ q. times_in (insert ps n p) q ∙ occurs_insert q ps n p ∙ sym (plus_added (pairs_in ps) p q ∙ ap (λ k. one q p + k) (times_in ps q)))
+-- what doesn't occur doesn't stand
+pub stands_nowhere : (ps : List Pair) (q : Pair) → occurs q ps ≡ 0 → finite.get (pairs_in ps) q ≡ None
+stands_nowhere ps q e = none_or_some (finite.get (pairs_in ps) q) None (counted_in ps q) (λ no. cc) (times_in ps q ∙ e)
 
-pub less_pairs : (ps : List Pair) (n : ℕ) (p : Pair) → slice_get ps n ≡ Some p → pairs_in (remove ps n) ≡ drop_pair (pairs_in ps) p
-less_pairs ps n p e =
-    let back : pairs_in ps ≡ add_pair (pairs_in (remove ps n)) p =
-    same_times _ _ (counted_in ps) (counted_more (pairs_in (remove ps n)) p (counted_in (remove ps n)))
-    (λ q. times_in ps q ∙ occurs_remove q ps n p e ∙ sym (plus_added (pairs_in (remove ps n)) p q ∙ ap (λ k. one q p + k) (times_in (remove ps n) q))) in
-    sym (ap (λ m. drop_pair m p) back ∙ taken_back (pairs_in (remove ps n)) p (counted_in (remove ps n)))
+-- a pair more, and a pair less
+pub added_pairs : (ps qs : List Pair) (p : Pair) → ((q : Pair) → occurs q qs ≡ one q p + occurs q ps) → pairs_in qs ≡ add_pair (pairs_in ps) p
+added_pairs ps qs p h =
+    same_times _ _ (counted_in qs) (counted_times (pairs_in ps) p (suc (times (pairs_in ps) p)) (counted_in ps))
+    (λ q. times_in qs q ∙ h q ∙ sym (plus_added (pairs_in ps) p q ∙ ap (λ k. one q p + k) (times_in ps q)))
+
+pub dropped_pairs : (ps qs : List Pair) (p : Pair) → ((q : Pair) → occurs q ps ≡ one q p + occurs q qs) → pairs_in qs ≡ drop_pair (pairs_in ps) p
+dropped_pairs ps qs p h = sym (ap (λ m. drop_pair m p) (added_pairs qs ps p h) ∙ taken_back (pairs_in qs) p (counted_in qs))
+
+-- two lists behind one another
+pub occurs_append : (q : Pair) (ps qs : List Pair) → occurs q (ps ++ qs) ≡ occurs q ps + occurs q qs
+occurs_append q [] qs = omega arith
+occurs_append q (p ∷ ps) qs = let rest : occurs q (ps ++ qs) ≡ occurs q ps + occurs q qs = occurs_append q ps qs in omega (arith, rest)
+
+-- what occurs is one of those of which something holds
+pub none_of : (P : Pair → Type 0) (p : Pair) → (P p → ⊥) → (ps : List Pair) → AllByRecursion P ps → occurs p ps ≡ 0
+none_of P p not [] a = refl
+none_of P p not (x ∷ xs) a =
+    elim (eq_by_cmp pair_cmp p x) as (λ b. eq_by_cmp pair_cmp p x ≡ b → cond b 1 0 + occurs p xs ≡ 0) [
+      | true ↦ λ t. absurd (not (subst P (sym (tied p x t)) a.0))
+      | false ↦ λ t. let rest : occurs p xs ≡ 0 = none_of P p not xs a.1 in omega (arith, rest)
+    ] refl
+
+pub holds_of : (P : Pair → Type 0) (ps : List Pair) → AllByRecursion P ps → (p : Pair) → 0 < occurs p ps → P p
+holds_of P [] a p often = absurd (omega (arith, often))
+holds_of P (x ∷ xs) a p often =
+    elim (eq_by_cmp pair_cmp p x) as (λ b. eq_by_cmp pair_cmp p x ≡ b → 0 < cond b 1 0 + occurs p xs → P p) [
+      | true ↦ λ t l. subst P (sym (tied p x t)) a.0
+      | false ↦ λ t l. holds_of P xs a.1 p (omega (arith, l))
+    ] refl often
+
+pub all_occurring : (P : Pair → Type 0) (ps : List Pair) → ((p : Pair) → 0 < occurs p ps → P p) → AllByRecursion P ps
+all_occurring P [] f = tt
+all_occurring P (x ∷ xs) f =
+    let here : one x x ≡ 1 = ap (λ b. cond b 1 0) (itself x) in
+    (f x (omega (arith, here)), all_occurring P xs (λ p often. f p (omega (arith, often))))
 
 -- ---- where a pair stands in a list that rises
 
-not_one : (q p : Pair) → pair_cmp q p ≡ Less → one q p ≡ 0
+pub not_one : (q p : Pair) → pair_cmp q p ≡ Less → one q p ≡ 0
 not_one q p e = ap (λ r. cond (is_eq r) 1 0) e
 
-none_behind : (p x : Pair) (ps : List Pair) → pair_cmp p x ≡ Less → AllByRecursion (UpTo x) ps → occurs p ps ≡ 0
+pub none_behind : (p x : Pair) (ps : List Pair) → pair_cmp p x ≡ Less → AllByRecursion (UpTo x) ps → occurs p ps ≡ 0
 none_behind p x [] l a = refl
 none_behind p x (y ∷ ys) l a =
     let here : one p y ≡ 0 = not_one p y (less_up pairs_total p x y l a.0) in
@@ -139,15 +181,8 @@ some_times None s a = cc
 some_times (Some zero) s a = absurd (a refl)
 some_times (Some (suc n)) s a = omega arith
 
-pub stands_in : (p : Pair) (ps : List Pair) → Rises ps → IsSome (finite.get (pairs_in ps) p) → slice_get ps (prefix_len (is_before_pair p) ps) ≡ Some p
-stands_in p ps r s = stands_at p ps r (let there = some_times (finite.get (pairs_in ps) p) s (counted_in ps p) in let is = times_in ps p in omega (arith, there, is))
+pub occurs_there : (p : Pair) (ps : List Pair) → IsSome (finite.get (pairs_in ps) p) → 0 < occurs p ps
+occurs_there p ps s = let there = some_times (finite.get (pairs_in ps) p) s (counted_in ps p) in let is = times_in ps p in omega (arith, there, is)
 
--- ---- the same of entries
-
-pub more_entries : (es : List IndexEntry) (n : ℕ) (e : IndexEntry) (p : Pair) → pair_in e ≡ p → pairs_in (map pair_in (insert es n e)) ≡ add_pair (pairs_in (map pair_in es)) p
-more_entries es n e p is = ap pairs_in (insert_map es n e) ∙ more_pairs (map pair_in es) n (pair_in e) ∙ ap (add_pair (pairs_in (map pair_in es))) is
-
-pub less_entries : (es : List IndexEntry) (p : Pair) → AreRising es → IsSome (finite.get (pairs_in (map pair_in es)) p) → pairs_in (map pair_in (remove es (prefix_len (λ x. is_before_pair p (pair_in x)) es))) ≡ drop_pair (pairs_in (map pair_in es)) p
-less_entries es p r s =
-    ap pairs_in (remove_map es (prefix_len (λ x. is_before_pair p (pair_in x)) es) ∙ ap (remove (map pair_in es)) (rank_map (is_before_pair p) es))
-    ∙ less_pairs (map pair_in es) (prefix_len (is_before_pair p) (map pair_in es)) p (stands_in p (map pair_in es) r s)
+pub occurs_nowhere : (p : Pair) (ps : List Pair) → finite.get (pairs_in ps) p ≡ None → occurs p ps ≡ 0
+occurs_nowhere p ps e = sym (times_in ps p) ∙ ap or_zero e

@@ -1,9 +1,10 @@
 -- The indexes of one table.
-use Rattle.std.specs.Prelude.{ℕ, List, map, IsSome}
+use Rattle.std.specs.Prelude.{◌≡◌, ℕ, List, [], ◌∷◌, map, IsSome}
 use Rattle.std.specs.List.{AllByRecursion}
 use Rattle.std.specs.FinMap as finite
 use Rattle.ss_value.specs.Rows.{Row}
 use Rattle.ss_index.specs.Pairs.{IndexValue, pair_of, add_pair, drop_pair, with_pairs}
+use Rattle.ss_index.specs.Parts.{MayJoin, joined, shell, IsLastShell, WasParted}
 
 -- an index with the pair of a row in a slot once more
 abbrev pub with_row : Row → ℕ → IndexValue → IndexValue
@@ -28,3 +29,32 @@ HasPair row slot h = IsSome (finite.get h.pairs (pair_of h.columns row slot))
 -- each index has the pair of a row in a slot
 abbrev pub HavePair : Row → ℕ → List IndexValue → Type 0
 HavePair row slot hs = AllByRecursion (HasPair row slot) hs
+
+-- each index may take in its fellow, and there are as many
+abbrev pub MayJoinAll : List IndexValue → List IndexValue → Type 0
+MayJoinAll [] ks = ks ≡ []
+MayJoinAll (i ∷ is) [] = ⊥
+MayJoinAll (i ∷ is) (k ∷ ks) = MayJoin i k × MayJoinAll is ks
+
+-- each index with the pairs and the parts of its fellow
+abbrev pub joined_all : List IndexValue → List IndexValue → List IndexValue
+joined_all [] ks = []
+joined_all (i ∷ is) [] = i ∷ is
+joined_all (i ∷ is) (k ∷ ks) = joined i k ∷ joined_all is ks
+
+-- the shell of each
+abbrev pub shells : List IndexValue → List IndexValue
+shells ks = map shell ks
+
+-- each is the shell of its fellow's last part, and there are as many
+abbrev pub AreLastShells : List IndexValue → List IndexValue → Type 0
+AreLastShells [] ks = ks ≡ []
+AreLastShells (i ∷ is) [] = ⊥
+AreLastShells (i ∷ is) (k ∷ ks) = IsLastShell i k × AreLastShells is ks
+
+-- each has come apart
+abbrev pub WereParted : List IndexValue → List IndexValue → List IndexValue → Type 0
+WereParted [] news backs = (news ≡ []) × (backs ≡ [])
+WereParted (old ∷ olds) [] backs = ⊥
+WereParted (old ∷ olds) (new ∷ news) [] = ⊥
+WereParted (old ∷ olds) (new ∷ news) (back ∷ backs) = WasParted old new back × WereParted olds news backs

@@ -2,7 +2,7 @@
 
 ghost use Rattle.std.specs.Prelude.{◌≡◌, List, [], ◌∷◌, ◌++◌, OnOk, OnErr, slice_get};
 ghost use Rattle.std.specs.Option.{option_copied};
-ghost use Rattle.ss_index.specs.Indexes.{with_rows, without_rows, HavePair};
+ghost use Rattle.ss_index.specs.Indexes.{with_rows, without_rows, HavePair, MayJoinAll, joined_all, shells, AreLastShells, WereParted};
 
 use crate::index::Index;
 use ss_value::{NoMemory, Row, Slot};
@@ -63,6 +63,45 @@ fn add_pairs(indexes: &mut [Index], row: &Row, slot: Slot) -> Result<(), NoMemor
     }
 }
 
+/// Takes in the fellow of each index. Out of memory releases those again that were taken in.
+fn absorb_all(indexes: &mut [Index], others: &mut [Index]) -> Result<(), NoMemory>
+    requires { MayJoinAll indexes.old others.old }
+    ensures ok { OnOk result ((indexes.new ≡ joined_all indexes.old others.old) × (others.new ≡ shells others.old)) }
+    ensures err { OnErr result ((indexes.new ≡ indexes.old) × (others.new ≡ others.old)) }
+{
+    let Some((index, behind)) = indexes.split_first_mut() else {
+        return Ok(());
+    };
+    let Some((other, fellows)) = others.split_first_mut() else {
+        unreachable!()
+    };
+    // The laws by which what is taken in and released gives the same indexes back.
+    index.holds_a_part();
+    index.pairs_are_counted();
+    other.pairs_are_counted();
+    index.absorb(other)?;
+    if absorb_all(behind, fellows).is_err() {
+        index.release(other);
+        return Err(NoMemory);
+    }
+    Ok(())
+}
+
+/// Gives the last part of each index back to its fellow.
+fn release_all(indexes: &mut [Index], backs: &mut [Index])
+    requires { AreLastShells indexes.old backs.old }
+    ensures { WereParted indexes.old indexes.new backs.new }
+{
+    let Some((index, behind)) = indexes.split_first_mut() else {
+        return;
+    };
+    let Some((back, fellows)) = backs.split_first_mut() else {
+        unreachable!()
+    };
+    index.release(back);
+    release_all(behind, fellows)
+}
+
 impl Indexes {
     /// The indexes of a table that has none. Takes no memory.
     pub fn new(alloc: Global) -> Indexes
@@ -103,5 +142,22 @@ impl Indexes {
         ensures { self.new ≡ without_rows row.now slot self.old }
     {
         drop_pairs(self.items.as_mut_slice(), row, slot)
+    }
+
+    /// Takes in the indexes of another part, each its fellow. Out of memory changes none.
+    pub fn absorb(&mut self, other: &mut Indexes) -> Result<(), NoMemory>
+        requires { MayJoinAll self.old other.old }
+        ensures ok { OnOk result ((self.new ≡ joined_all self.old other.old) × (other.new ≡ shells other.old)) }
+        ensures err { OnErr result ((self.new ≡ self.old) × (other.new ≡ other.old)) }
+    {
+        absorb_all(self.items.as_mut_slice(), other.items.as_mut_slice())
+    }
+
+    /// Gives the last part of each index back to its shell. Takes no memory.
+    pub fn release(&mut self, back: &mut Indexes)
+        requires { AreLastShells self.old back.old }
+        ensures { WereParted self.old self.new back.new }
+    {
+        release_all(self.items.as_mut_slice(), back.items.as_mut_slice())
     }
 }

@@ -2,6 +2,7 @@ pub mod Bools
 pub mod Counts
 pub mod Dropped
 pub mod EachOf
+pub mod Ends
 pub mod Filtered
 pub mod Firsts
 pub mod LoopItem

@@ -10,6 +10,8 @@ pub use Rattle.ss_model.proofs.Folds.{at_binary, at_col, at_lit, at_param, at_un
 pub use Rattle.ss_model.proofs.FormParts.{few_procedures, few_streams, few_triggers, few_windows, limits_of, numbers_of}
 -- Groups by key.
 pub use Rattle.ss_model.proofs.Grouping.{grouped, grouped_onto, into_group, members_of, new_group}
+-- The partition of a value and a home are partitions that run.
+pub use Rattle.ss_model.proofs.HomesBelow.{home_below, value_part_below}
 -- What a function of the index and the item gives of each item of a list, one item more.
 pub use Rattle.ss_model.proofs.Indexed.{indexed_more, indexed_push}
 -- What each expression means by its sides, and the type of a parameter and of a column.

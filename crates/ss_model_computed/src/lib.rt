@@ -12,7 +12,7 @@
 //! - `bodies`: what a procedure's body does; `entries`: databases, and what an entry does to one
 //! - `lists`: lists, read and changed at an index
 //!
-//! The tests are in `ss_model_computed_tests`, which runs all of this from SQL texts.
+//! The program `ss_cases` runs all of this on lists of entries.
 //!
 //! Every call that takes `alloc` may answer that it is out of memory in place of its answer. Each call copies what it
 //! needs, so it costs time linear in the values that it reads, unless its page says otherwise. A number that would leave
@@ -37,3 +37,4 @@ pub use entries::apply;
 pub use statements::{context_query, execute_statement};
 pub use table::{Entry, Table};
 pub use triggers::{WINDOW_UNIT_LIMIT, close_unit, run_stream_triggers};
+pub use windows::visible_rows;

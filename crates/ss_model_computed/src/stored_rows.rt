@@ -6,7 +6,7 @@ ghost use Rattle.std.specs.Option.{option_copied};
 ghost use Rattle.std.specs.FinMap as finmap;
 ghost use Rattle.ss_value.specs.Rows.{column_value, column_values};
 ghost use Rattle.ss_value.specs.Order.{values_equal};
-ghost use Rattle.ss_model.specs.Contents.{table_at, table_placement, row_key, key_position, has_split_value, matches_split, put_entries, remove_entries};
+ghost use Rattle.ss_model.specs.Contents.{table_at, table_placement, row_key, has_split_value, matches_split, put_entries, remove_entries};
 ghost use Rattle.ss_model.specs.Statements.{insert_row, is_table_full};
 ghost use Rattle.ss_model.specs.Stops.{StopsAs};
 ghost use Rattle.ss_model_computed.specs.State.{contents_of, context_of};
@@ -44,18 +44,6 @@ fn row_key(alloc: Global, catalog: &Catalog, table: u16, row: &Row) -> Result<Ro
     }
 }
 
-/// Which column of a key this column is, from 0, and the key's length where it is none.
-fn key_position(column: u8, key: &[u8]) -> usize
-    ensures { result ≡ key_position column key.now }
-{
-    for (position, at) in key.iter().enumerate() {
-        if column == *at {
-            return position;
-        }
-    }
-    key.len()
-}
-
 /// Whether a column of a row has this value; past the row's end the value is 0.
 fn has_value(row: &Row, column: usize, value: &Value) -> bool
     ensures { result ≡ values_equal (column_value row.now column) value.now }
@@ -72,10 +60,7 @@ fn has_split_value(def: &TableDef, value: &Value, key: &Row) -> bool
 {
     match def.placement {
         Placement::Part(_) => true,
-        Placement::By(column) => {
-            let position = key_position(column, def.key.as_slice());
-            has_value(key, position, value)
-        }
+        Placement::By(column) => has_value(key, def.key_position(column), value),
     }
 }
 

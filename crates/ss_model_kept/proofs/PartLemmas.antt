@@ -37,11 +37,11 @@ module _ (catalog : Catalog) (n : ℕ) where
   at_part : (t p : ℕ) → Row → Bool
   at_part t p key = row_partition catalog n t key == p
 
-  part_table : (db : Database) (p t : ℕ) → get_or ((part catalog n p db).tables) t finmap.empty ≡ finmap.retain_keys (table_at db.contents t) (λ key. row_partition catalog n t key == p)
+  pub part_table : (db : Database) (p t : ℕ) → get_or ((part catalog n p db).tables) t finmap.empty ≡ finmap.retain_keys (table_at db.contents t) (λ key. row_partition catalog n t key == p)
   unfolding part table_at
   part_table db p t = slot (λ t m. finmap.retain_keys m (λ key. row_partition catalog n t key == p)) db.contents.tables t finmap.empty finmap.empty (cut_empty _)
 
-  part_window : (db : Database) (p w : ℕ) → get_or ((part catalog n p db).windows) w [] ≡ cond (window_partition catalog n w == p) (window_units db.contents w) []
+  pub part_window : (db : Database) (p w : ℕ) → get_or ((part catalog n p db).windows) w [] ≡ cond (window_partition catalog n w == p) (window_units db.contents w) []
   unfolding part window_units
   part_window db p w = slot (λ w us. cond (window_partition catalog n w == p) us []) db.contents.windows w [] [] (same_both (window_partition catalog n w == p) [])
 

@@ -22,7 +22,8 @@ module _ {A : Type 0} (mine : ℕ → Bool) (d : A) where
       same_slots blank (set cs q v) cs d (length-set cs q v) (λ i.
       set_one (λ c. blank i c ≡ blank i (get_or cs i d)) cs q i v d refl (λ e. same_at (mine i) _ _ (λ t. let g : true ≡ false = sym t ∙ ap mine (sym e) ∙ m in cc)))
 
-  blank_slot : (cs : List A) (i : ℕ) → get_or (map_indexed blank cs) i d ≡ blank i (get_or cs i d)
+  -- what stands at an index, and a blank where the index is of another part
+  pub blank_slot : (cs : List A) (i : ℕ) → get_or (map_indexed blank cs) i d ≡ blank i (get_or cs i d)
   blank_slot cs i = slot blank cs i d d (own (mine i))
     where
       own : (b : Bool) → cond b d d ≡ d

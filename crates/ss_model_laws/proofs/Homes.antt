@@ -16,7 +16,8 @@ use Rattle.ss_model.specs.Contents.{window_owner}
 use Rattle.ss_model.specs.Database.{is_call, is_streaming}
 use Rattle.ss_model.specs.Orders.{procedure_has}
 use Rattle.ss_model.specs.Claims.{UsesOnly}
-use Rattle.ss_model.specs.Partitions.{in_touch_set, home_partition, home_of, value_partition}
+use Rattle.ss_value.specs.ValuePartition.{value_partition}
+use Rattle.ss_model.specs.Partitions.{in_touch_set, home_partition, home_of}
 use Rattle.ss_model.specs.Accepted.{Accepted, IsArg, IsSomewhere}
 use Rattle.ss_model.specs.Locality.{UsesTouched, inside_scope, touched_keys, touched_windows, context_of}
 use Rattle.ss_model_laws.proofs.TouchedUses.{call_covered, stream_covered}

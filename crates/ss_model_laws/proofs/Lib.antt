@@ -2,6 +2,7 @@ pub mod Aborted
 pub mod AcceptedBodies
 pub mod Advanced
 pub mod Batches
+pub mod BesideBlanks
 pub mod BlankItems
 pub mod BodiesAside
 pub mod BodySound
@@ -10,6 +11,7 @@ pub mod ChangedBodies
 pub mod Depth
 pub mod Effects
 pub mod EntryLocality
+pub mod HeldParts
 pub mod Homes
 pub mod InStep
 pub mod KeptLists
@@ -17,15 +19,18 @@ pub mod ListLocality
 pub mod LocalClaims
 pub mod Orders
 pub mod PartLocality
+pub mod PartsAreAll
 pub mod QuerySound
 pub mod Readiness
 pub mod Settled
 pub mod Slides
 pub mod Sound
+pub mod SplitParts
 pub mod StatementSound
 pub mod TableRows
 pub mod TouchedRun
 pub mod TouchedUses
+pub mod UntouchedStay
 pub mod ValueSound
 pub mod Wakes
 pub mod WholeChanges

@@ -32,8 +32,9 @@ use Rattle.ss_model.specs.Contents.{window_owner, table_placement, key_columns, 
 use Rattle.ss_model.specs.Statements.{Context}
 use Rattle.ss_model.specs.Database.{split_value_for}
 use Rattle.ss_model.specs.Claims.{Claims, SourceClaim, JoinClaim, QueryClaim, StatementClaim, TriggerClaim, InnerClaim, StepClaim, UsesOnly}
-use Rattle.ss_model.specs.Partitions.{value_partition, key_partition, in_touch_set, home_of, home_of_owner, may_use, local_claims}
-use Rattle.ss_model_laws.proofs.TouchedRun.{value_part_below}
+use Rattle.ss_value.specs.ValuePartition.{value_partition}
+use Rattle.ss_model.specs.Partitions.{key_partition, in_touch_set, home_of, home_of_owner, may_use, local_claims}
+use Rattle.ss_model.proofs.CallerLemmas.{value_part_below}
 use Rattle.ss_model.proofs.CallerLemmas.{when_ok_map, anything, all_of}
 use Rattle.ss_model.specs.Results.{try_map}
 use Rattle.ss_model.specs.Expressions.{expr_value}

@@ -1,4 +1,5 @@
 pub mod Examples
+pub mod HeldPremises
 pub mod Nested
 pub mod Premises
 pub mod Trials

@@ -8,3 +8,5 @@ pub mod Standing
 pub mod Pushing
 pub mod Fitting
 pub mod Premises
+pub mod OnParts
+pub mod PartsPremises

@@ -1,3 +1,4 @@
 pub mod Executions
 pub mod Meanings
 pub mod Entries
+pub mod Parts

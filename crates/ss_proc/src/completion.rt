@@ -1,11 +1,12 @@
 //! What follows an execution: a commit or a rollback.
 
-ghost use Rattle.std.specs.Prelude.{◌≡◌};
+ghost use Rattle.std.specs.Prelude.{◌≡◌, map};
 ghost use Rattle.ss_model.specs.Database.{Database};
 ghost use Rattle.ss_model.specs.declared.catalog.Catalog.{Catalog};
 ghost use Rattle.ss_model.specs.Contents.{Contents};
 ghost use Rattle.ss_shard.specs.ShardValue.{ShardValue};
 ghost use Rattle.ss_shard.specs.Shards.{IsOf, CanRollBack, Same, IsCommitted};
+ghost use Rattle.ss_shard.specs.Parts.{dealing_of};
 ghost use Rattle.ss_shard.specs.Windows.{Holds, HoldsDatabase};
 ghost use Rattle.ss_proc.specs.Entries.{counts_after, number_raised, numbers_after, HasSourceEntry, IsCountable, EntryHasSource, Commits};
 
@@ -79,6 +80,7 @@ pub fn commit(shard: &mut Shard, entry: &Entry, outcome: &Outcome)
     ensures counts { shard.new.cursors ≡ counts_after entry.now shard.old.cursors }
     ensures numbers { shard.new.sources ≡ numbers_after entry.now outcome.now shard.old.sources }
     ensures unchanged { shard.new.number ≡ shard.old.number }
+    ensures dealt { map dealing_of shard.new.tables ≡ map dealing_of shard.old.tables }
     ensures committed { (catalog : Catalog) → IsOf catalog shard.old → IsCommitted catalog shard.new }
 {
     // Counts and numbers last: a shard whose counts have moved can't be rolled back, and `Shard::commit` asks for one that can.

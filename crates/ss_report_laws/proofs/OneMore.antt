@@ -39,7 +39,7 @@ requests_more k (x ∷ rs) r = by (x.client == k) (requests_more k rs r)
     by true h = ap (λ xs. x ∷ xs) h
     by false h = h
 
-expected_more : (k n : ℕ) (rs : List Request) (answers : List Answer) (r : Request) (a : Answer) → length answers ≡ length rs → expected_entries k n (rs ++ r ∷ []) (answers ++ a ∷ []) ≡ expected_entries k n rs answers ++ expected_entries k (n + length answers) (r ∷ []) (a ∷ [])
+pub expected_more : (k n : ℕ) (rs : List Request) (answers : List Answer) (r : Request) (a : Answer) → length answers ≡ length rs → expected_entries k n (rs ++ r ∷ []) (answers ++ a ∷ []) ≡ expected_entries k n rs answers ++ expected_entries k (n + length answers) (r ∷ []) (a ∷ [])
 expected_more k n [] [] r a h = let same : n + 0 ≡ n = omega arith in ap (λ m. expected_entries k m (r ∷ []) (a ∷ [])) (sym same)
 expected_more k n [] (b ∷ answers) r a h = absurd (omega (arith, h))
 expected_more k n (x ∷ rs) [] r a h = absurd (omega (arith, h))

@@ -1,11 +1,9 @@
 pub mod RequestEntries
 pub mod BySteps
-pub mod CallerLemmas
 pub mod Entries
 pub mod Lending
 pub mod NextSteps
 pub mod OneReplied
-pub mod Opening
 pub mod Premises
 pub mod Progress
 pub mod PushPremises

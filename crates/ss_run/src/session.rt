@@ -101,6 +101,6 @@ pub fn run_requests(
     ensures whole { IfOk result (λ s. IsWhole catalog.now s.database) }
     ensures stands { IfOk result (λ s. StandsFor catalog.now s.database (database_at catalog.now s.list)) }
 {
-    let database = opening(alloc, catalog)?;
+    let database = opening(alloc, catalog, 1)?;
     run_from(alloc, catalog, requests, database)
 }

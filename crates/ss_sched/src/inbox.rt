@@ -77,6 +77,13 @@ impl<J> Inbox<J> {
         self.hints.is_empty() && self.jobs.is_empty()
     }
 
+    /// Whether there is room for one job more.
+    pub fn has_room(&self) -> bool
+        ensures { IsTrue result ↔ (length self.now.jobs < self.now.room) }
+    {
+        self.jobs.len() < self.jobs.capacity()
+    }
+
     /// Puts a job behind the others.
     pub fn put_job(&mut self, job: J)
         requires { length self.old.jobs < self.old.room }

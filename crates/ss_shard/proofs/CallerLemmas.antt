@@ -4,6 +4,8 @@
 pub use Rattle.ss_shard.proofs.ByKey.{entries_by_key}
 -- One change of a shard, noted.
 pub use Rattle.ss_shard.proofs.Changing.{at_some, at_table}
+-- How the rows of tables are dealt to parts, after changes of them.
+pub use Rattle.ss_shard.proofs.Dealt.{dealt_after, dealt_same, still_dealt}
 -- What an insert of a row is to the model.
 pub use Rattle.ss_shard.proofs.Inserting.{same_key}
 -- A database before the first execution.

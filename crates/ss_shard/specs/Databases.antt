@@ -1,44 +1,78 @@
 -- A database that one shard holds.
-use Rattle.std.specs.Prelude.{◌≡◌, ◌≤◌, ℕ, List, map}
+use Rattle.std.specs.Prelude.{◌≡◌, ◌≤◌, ℕ, ◌%◌, List, [], ◌∷◌, map, length, replicate}
 use Rattle.std.specs.FinMap as finite
+use Rattle.ss_model.specs.declared.catalog.Placement.{Placement}
+use Rattle.ss_model.specs.declared.catalog.Placement.TheVariants.{Part, By}
 use Rattle.ss_model.specs.declared.catalog.TableDef.{TableDef}
 use Rattle.ss_model.specs.declared.catalog.WindowDef.{WindowDef}
 use Rattle.ss_model.specs.declared.catalog.Catalog.{Catalog}
+use Rattle.ss_model.specs.Contents.{key_position}
 use Rattle.ss_model.specs.Database.{Database as Model, empty_database}
 use Rattle.ss_model.specs.WholeDatabase.{WholeDatabase}
+use Rattle.ss_table.specs.declared.route.Route.{Route}
+use Rattle.ss_table.specs.declared.route.Route.TheVariants.{Placed, Split}
 use Rattle.ss_table.specs.TableValue.{TableValue}
+use Rattle.ss_table.specs.Joins.{shell_of}
 use Rattle.ss_index.specs.Pairs.{IndexValue as Index}
 use Rattle.ss_undo.specs.Indexed.{Group}
 use Rattle.ss_window.specs.WindowValue.{WindowValue, empty_window}
 use Rattle.ss_stream.specs.OfDatabase.{AreStreamsOf}
-use Rattle.ss_shard.specs.Shards.{IsCommitted}
+use Rattle.ss_shard.specs.ShardValue.{ShardValue}
+use Rattle.ss_shard.specs.Shards.{HasIndexes, IsCommitted}
 use Rattle.ss_shard.specs.Windows.{HoldsDatabase}
 use Rattle.ss_shard.specs.declared.database.Database.{Database}
 use Rattle.ss_shard.specs.Contents.{row_limit}
 
--- the table of a definition, without a row
-abbrev pub empty_table : TableDef → TableValue
-empty_table d = record { key = d.key; limit = row_limit d.placement; live = finite.empty; dead = finite.empty }
+-- how the rows of a table of this key and placement are dealt to so many parts
+abbrev pub route_at : ℕ → List ℕ → Placement → Route
+route_at n key (Part y) = Placed (y % n)
+route_at n key (By c) = Split (key_position c key) n
+
+-- the table of a definition, without a row, of one part of so many
+abbrev pub empty_table : ℕ → ℕ → TableDef → TableValue
+empty_table n part d = record {
+  key = d.key;
+  limit = row_limit d.placement;
+  live = finite.empty;
+  dead = finite.empty;
+  route = route_at n d.key d.placement;
+  parts = part ∷ [];
+}
 
 -- the tables of a catalogue before the first execution
-abbrev pub empty_tables : List TableDef → List TableValue
-empty_tables defs = map empty_table defs
+abbrev pub empty_tables : ℕ → ℕ → List TableDef → List TableValue
+empty_tables n part defs = map (empty_table n part) defs
 
--- an index without a pair, on these columns
-abbrev pub empty_index : List ℕ → Index
-empty_index columns = record { columns = columns; pairs = finite.empty }
+-- what is left of these tables where their rows, and their keys with them, are lent
+abbrev pub shell_tables : ℕ → ℕ → List TableDef → List TableValue
+shell_tables n part defs = map (λ d. shell_of (empty_table n part d)) defs
+
+-- an index without a pair, of one part, on these columns
+abbrev pub empty_index : ℕ → List ℕ → Index
+empty_index part columns = record { columns = columns; pairs = finite.empty; parts = part ∷ [] }
 
 -- indexes without a pair, each on its columns
-abbrev pub empty_group : List (List ℕ) → Group
-empty_group listed = map empty_index listed
+abbrev pub empty_group : ℕ → List (List ℕ) → Group
+empty_group part listed = map (empty_index part) listed
 
 -- the indexes of a catalogue's tables before the first execution
-abbrev pub empty_indexes : List TableDef → List Group
-empty_indexes defs = map (λ (d : TableDef). empty_group d.indexes) defs
+abbrev pub empty_indexes : ℕ → List TableDef → List Group
+empty_indexes part defs = map (λ (d : TableDef). empty_group part d.indexes) defs
 
 -- the windows of a catalogue before the first execution
 abbrev pub empty_windows : List WindowDef → List WindowValue
 empty_windows defs = map (λ d. empty_window d.unit d.size d.slide) defs
+
+-- a shard has these tables, indexes on the columns that the catalogue lists, nothing to take back, and else only blanks: no unit
+-- in a window, no batch taken and no next number
+pub record HasBlanksBeside (catalog : Catalog) (part : ℕ) (made : List TableValue) (shard : ShardValue) : Type 0 where
+  pub number : shard.number ≡ part
+  pub tables : shard.tables ≡ made
+  pub changes : shard.changes ≡ []
+  pub indexes : HasIndexes catalog shard
+  pub windows : shard.windows ≡ empty_windows catalog.windows
+  pub cursors : shard.cursors ≡ replicate (length catalog.procedures) 0
+  pub sources : shard.sources ≡ replicate (length catalog.streams) finite.empty
 
 -- a window shows at least one unit, and moves on by no more than it shows
 abbrev pub WindowIsSound : WindowDef → Type 0

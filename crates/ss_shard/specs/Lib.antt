@@ -6,4 +6,9 @@ pub mod Shards
 pub mod Windows
 pub mod Changes
 pub mod Databases
+pub mod Joins
+pub mod Parts
+pub mod Unions
+pub mod Splits
+pub mod Exchanges
 pub mod Laws

@@ -13,7 +13,10 @@ ghost use Rattle.ss_shard.specs.Rows.{IsKeyed, HasSlot, HasKeyOf, refusal_of};
 ghost use Rattle.ss_shard.specs.Shards.{IsOf, CanRollBack, Changed, Same, IsCommitted, AllInvariant};
 ghost use Rattle.ss_shard.specs.Sources.{number_in, HasSource, SameNumbers, with_number};
 ghost use Rattle.ss_shard.specs.Windows.{kept_part, HoldsDatabase};
+ghost use Rattle.ss_shard.specs.Parts.{dealing_of};
 ghost use Rattle.ss_shard.specs.Changes.{RowInserted, InsertStops, SlotTaken, SlotPut, UnitStaged, StagingStops};
+
+mod joining;
 
 use crate::pairs::{add_pairs, insert_indexed};
 use crate::sources::Sources;
@@ -344,6 +347,7 @@ impl Shard {
         ensures sources { self.new.sources ≡ self.old.sources }
         ensures number { self.new.number ≡ self.old.number }
         ensures columns { self.new.columns ≡ self.old.columns }
+        ensures dealt { map dealing_of self.new.tables ≡ map dealing_of self.old.tables }
         ensures committed { (catalog : Catalog) → IsOf catalog self.old → IsCommitted catalog self.new }
     {
         self.undo

@@ -1,23 +1,4 @@
--- The live slot behind a slot. Of a hint nothing is said.
-use Rattle.std.specs.Prelude.{◌≡◌, ℕ, List, ◌∷◌, ◌++◌, Option}
-use Rattle.std.specs.Option.{option_map}
-use Rattle.std.specs.List.{find}
-use Rattle.ss_chunks.specs.declared.rest.Hint.{Hint}
-use Rattle.ss_table.specs.declared.cell.Cell.{Cell}
-use Rattle.ss_table.specs.declared.mark.Mark.{Mark}
-use Rattle.ss_table.specs.Chunks.{slots_of}
-use Rattle.ss_table.specs.Cells.{is_live}
+-- A slot with a hint. Of the hint nothing is said.
 
 -- the slot that is found, without its hint
-abbrev pub without_hint : Option (ℕ × Hint) → Option ℕ
-without_hint found = option_map (λ p. p.0) found
-
--- a slot has one of these marks, and this is the first live slot behind it
-abbrev pub IsBehind : List Mark → ℕ → List Cell → Option ℕ → Type 0
-IsBehind marks slot cells found =
-    (front back : List Mark) × (mark : Mark) × (marks ≡ front ++ mark ∷ back) × (mark.slot ≡ slot) × (found ≡ find (is_live cells) (slots_of back))
-
--- the first of these marks is a slot's, and this is the first live slot behind it
-abbrev pub IsBehindFirst : List Mark → ℕ → List Cell → Option ℕ → Type 0
-IsBehindFirst marks slot cells found =
-    (back : List Mark) × (mark : Mark) × (marks ≡ mark ∷ back) × (mark.slot ≡ slot) × (found ≡ find (is_live cells) (slots_of back))
+pub use Rattle.ss_fragment.specs.Near.{without_hint}

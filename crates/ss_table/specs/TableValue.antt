@@ -1,69 +1,30 @@
--- What a table is to contracts: its live rows by key, each with its slot, and its dead slots.
-use Rattle.std.specs.Prelude.{ℕ, ◌<◌, ◌==◌, nat_le, List, [], ◌∷◌, length, Bool, true, false, Option, Some, None, slice_get, option_map, refl, if◌then◌else◌}
-use Rattle.std.specs.List.{find, filter_map, AllByRecursion}
-use Rattle.std.specs.Ordering.{nat_cmp}
+-- What a table is to contracts: its live rows by key, each with its slot, its dead slots, and the parts that it has.
+use Rattle.std.specs.Prelude.{ℕ, nat_le, List, Bool, false, Option, Some, None, refl}
 use Rattle.std.specs.FinMap as finite
-use Rattle.std.specs.FinMap.Entries as entries
 use Rattle.std.specs.Coded.{Coded, code_by, coded×, coded_ℕ, coded_list, coded_option}
 use Rattle.ss_value.specs.RowCodes.{coded_row}
 use Rattle.ss_value.specs.Rows.{Row}
-use Rattle.ss_value.specs.Order.{row_cmp}
+use Rattle.ss_table.specs.declared.route.Route.{Route}
+use Rattle.ss_table.specs.contracts.route.Route as route
+-- rows by key are to a table what they are to each of its fragments
+pub use Rattle.ss_fragment.specs.FragmentValue.{key_of, HasKey, LiveRows, DeadRows, row_among, row_at, first_in, after_in}
 
--- the values of a row in the columns of a key
-abbrev pub key_of : List ℕ → Row → Row
-key_of key row = filter_map (λ column. slice_get row column) key
-
--- a row has every column of a key
-abbrev pub HasKey : List ℕ → Row → Type 0
-HasKey key row = AllByRecursion (λ column. column < length row) key
-
--- the live rows by key, each with its slot
-abbrev pub LiveRows : Type 0
-LiveRows = finite.FinMap row_cmp (ℕ × Row)
-
--- the rows of the dead slots, by slot
-abbrev pub DeadRows : Type 0
-DeadRows = finite.FinMap nat_cmp Row
-
--- a table: its key columns, the most live rows that it may have, and its rows
+-- a table: its key columns, the most live rows that it may have, its rows, how they are dealt to parts, and its parts
 pub record TableValue : Type 0 where
   pub key : List ℕ
   pub limit : Option ℕ
   pub live : LiveRows
   pub dead : DeadRows
+  pub route : Route
+  pub parts : List ℕ
 
 -- how tables are compared
 abbrev pub coded_table : Coded TableValue
-coded_table = code_by (List ℕ × (Option ℕ × (LiveRows × DeadRows)))
-    (coded× (coded_list coded_ℕ) (coded× (coded_option coded_ℕ) (coded× (finite.code coded_row (coded× coded_ℕ coded_row)) (finite.code coded_ℕ coded_row))))
-    (λ h. (h.key, (h.limit, (h.live, h.dead)))) (λ p. record { key = p.0; limit = p.1.0; live = p.1.1.0; dead = p.1.1.1 }) (λ _. refl)
-
--- the row of a slot, among entries
-abbrev pub row_among : List (Row × (ℕ × Row)) → ℕ → Option Row
-row_among es slot = option_map (λ e. e.1.1) (find (λ e. e.1.0 == slot) es)
-
--- the row of a live slot
-abbrev pub row_at : LiveRows → ℕ → Option Row
-row_at live slot = row_among (finite.entries live) slot
-
--- the slot of the first entry
-abbrev pub first_in : List (Row × (ℕ × Row)) → Option ℕ
-first_in [] = None
-first_in (e ∷ es) = Some e.1.0
-
--- the slot of the entry behind a slot's
-abbrev pub after_in : List (Row × (ℕ × Row)) → ℕ → Option ℕ
-after_in [] slot = None
-after_in (e ∷ es) slot = if e.1.0 == slot then first_in es else after_in es slot
-
--- the key that is sought, by the key itself or by a row
-abbrev pub sought_key : Bool → List ℕ → Row → Row
-sought_key true key sought = sought
-sought_key false key sought = key_of key sought
-
--- the slot that a list of live rows has at a key
-abbrev pub slot_with : Row → List (Row × (ℕ × Row)) → Option ℕ
-slot_with k es = option_map (λ p. p.0) (entries.find row_cmp k es)
+coded_table = code_by (List ℕ × (Option ℕ × (LiveRows × (DeadRows × (Route × List ℕ)))))
+    (coded× (coded_list coded_ℕ) (coded× (coded_option coded_ℕ) (coded× (finite.code coded_row (coded× coded_ℕ coded_row))
+    (coded× (finite.code coded_ℕ coded_row) (coded× route.the_row.coded (coded_list coded_ℕ))))))
+    (λ h. (h.key, (h.limit, (h.live, (h.dead, (h.route, h.parts))))))
+    (λ p. record { key = p.0; limit = p.1.0; live = p.1.1.0; dead = p.1.1.1.0; route = p.1.1.1.1.0; parts = p.1.1.1.1.1 }) (λ _. refl)
 
 -- whether n rows reach the limit, if there is one
 abbrev pub is_at_limit : Option ℕ → ℕ → Bool

@@ -5,7 +5,7 @@ pub use Rattle.ss_undo.proofs.Back.{came_more, one_changed, set_same, some_and}
 -- What a commit leaves of tables and windows.
 pub use Rattle.ss_undo.proofs.Final.{all_are_committed}
 -- What the indexes of a table hold, change by change.
-pub use Rattle.ss_undo.proofs.Holding.{hold_at_first, rows_are_there}
+pub use Rattle.ss_undo.proofs.Holding.{hold_at_first, more_there, no_pairs, nothing_kept, rows_are_there}
 -- What the indexes of several tables hold, where one change is noted or is no longer.
 pub use Rattle.ss_undo.proofs.Indexed.{columns_added, deleted_indexed, found_as, inserted_indexed, replaced_indexed, reported_as, unit_noted}
 -- Windows taken back, and made final.

@@ -24,11 +24,7 @@ use Rattle.ss_index.specs.Entries.{pairs_in}
 use Rattle.ss_index.specs.Indexes.{with_rows}
 use Rattle.ss_undo.specs.Holding.{Noted, live_pair, live_pairs, dead_pair, dead_pairs, noted_pairs, all_pairs, HoldAll}
 use Rattle.ss_undo.specs.IndexLaws.{DropsTo, HoldAtFirst, InsertAdds, DeleteLeaves, ReplaceAddsAndNotes, InsertGoesBack, DeleteGoesBack, ReplaceGoesBack, PurgeDrops, NoteDrops, RowsAreThere}
-use Rattle.ss_index.proofs.CallerLemmas.{one, occurs, same_pairs, counted_in, some_added, stands_where, taken_back, itself}
-
-occurs_append : (q : Pair) (ps qs : List Pair) → occurs q (ps ++ qs) ≡ occurs q ps + occurs q qs
-occurs_append q [] qs = omega arith
-occurs_append q (p ∷ ps) qs = let rest : occurs q (ps ++ qs) ≡ occurs q ps + occurs q qs = occurs_append q ps qs in omega (arith, rest)
+use Rattle.ss_index.proofs.CallerLemmas.{one, occurs, occurs_append, same_pairs, counted_in, some_added, stands_where, taken_back, itself}
 
 -- ---- the pairs of a map's entries
 
@@ -45,7 +41,7 @@ module _ {K X : Type 0} {R : K → K → Ordering} (total : IsTotalOrder R) (sam
       by rests Equal n = cc
       by rests Greater n = let rest : occurs q (map f (entries.put R k v es)) ≡ one q (f (k, v)) + occurs q (map f es) = rests n in omega (arith, rest)
 
-  more_there : (m : finite.FinMap R X) (k : K) (v : X) → finite.get m k ≡ None → occurs q (map f (finite.entries (finite.insert m k v))) ≡ one q (f (k, v)) + occurs q (map f (finite.entries m))
+  pub more_there : (m : finite.FinMap R X) (k : K) (v : X) → finite.get m k ≡ None → occurs q (map f (finite.entries (finite.insert m k v))) ≡ one q (f (k, v)) + occurs q (map f (finite.entries m))
   more_there m k v none = ap (λ es. occurs q (map f es)) (finite.entries-insert total m k v) ∙ put_more k v (finite.entries m) (sym (finite.get-entries m k) ∙ none)
 
   -- the entry at a key is one more than those at others
@@ -159,17 +155,20 @@ module _ (columns : List ℕ) (q : Pair) where
 
 -- ---- all indexes of a table, by what occurs
 
-module _ (old new : Table) (before after : Noted) where
+module _ (old new : Table) (before after : Noted) (same : old.parts ≡ new.parts) where
   kept_all : ((columns : List ℕ) (q : Pair) → in_all columns q new after ≡ in_all columns q old before) → (indexes : List IndexValue) → HoldAll old before indexes → HoldAll new after indexes
   kept_all counts [] held = tt
-  kept_all counts (i ∷ is) held = (held.0 ∙ same_pairs _ _ (λ q. sym (counts i.columns q)), kept_all counts is held.1)
+  kept_all counts (i ∷ is) held = (record { pairs = (held.0).pairs ∙ same_pairs _ _ (λ q. sym (counts i.columns q)); parts = (held.0).parts ∙ same }, kept_all counts is held.1)
 
   module _ (row : Row) (slot : ℕ) where
     added_all : ((columns : List ℕ) (q : Pair) → in_all columns q new after ≡ one q (pair_of columns row slot) + in_all columns q old before)
         → (indexes : List IndexValue) → HoldAll old before indexes → HoldAll new after (with_rows row slot indexes)
     added_all counts [] held = tt
     added_all counts (i ∷ is) held = (
-      ap (λ m. add_pair m (pair_of i.columns row slot)) held.0 ∙ same_pairs (pair_of i.columns row slot ∷ all_pairs i.columns old before) (all_pairs i.columns new after) (λ q. sym (counts i.columns q)),
+      record {
+        pairs = ap (λ m. add_pair m (pair_of i.columns row slot)) (held.0).pairs ∙ same_pairs (pair_of i.columns row slot ∷ all_pairs i.columns old before) (all_pairs i.columns new after) (λ q. sym (counts i.columns q));
+        parts = (held.0).parts ∙ same;
+      },
       added_all counts is held.1,
     )
 
@@ -179,10 +178,10 @@ module _ (old new : Table) (before after : Noted) where
     dropped_all counts (i ∷ is) held =
         let p : Pair = pair_of i.columns row slot in
         let rest = all_pairs i.columns new after in
-        let all : i.pairs ≡ add_pair (pairs_in rest) p = held.0 ∙ same_pairs (all_pairs i.columns old before) (p ∷ rest) (counts i.columns) in
+        let all : i.pairs ≡ add_pair (pairs_in rest) p = (held.0).pairs ∙ same_pairs (all_pairs i.columns old before) (p ∷ rest) (counts i.columns) in
         let more = dropped_all counts is held.1 in (
           (subst (λ m. IsSome (finite.get m p)) (sym all) (some_added (pairs_in rest) p), more.0),
-          (ap (λ m. drop_pair m p) all ∙ taken_back (pairs_in rest) p (counted_in rest), more.1),
+          (record { pairs = ap (λ m. drop_pair m p) all ∙ taken_back (pairs_in rest) p (counted_in rest); parts = (held.0).parts ∙ same }, more.1),
         )
 
 -- ---- a live row stands at its key
@@ -209,47 +208,57 @@ stands_at_key h slot row k e = finite.get-entries h.live (key_of h.key row) ∙ 
 
 -- ---- the laws
 
-no_pairs : {A : Type 0} (f : A → Pair) (es : List A) → length es ≡ 0 → map f es ≡ []
+pub no_pairs : {A : Type 0} (f : A → Pair) (es : List A) → length es ≡ 0 → map f es ≡ []
 no_pairs f [] e = refl
 no_pairs f (x ∷ es) e = absurd (omega (arith, e))
 
-nothing_kept : (columns : List ℕ) (h : Table) → h.live ≡ finite.empty → h.dead ≡ finite.empty → all_pairs columns h [] ≡ []
+-- a table without a row has no pair
+pub nothing_kept : (columns : List ℕ) (h : Table) → h.live ≡ finite.empty → h.dead ≡ finite.empty → all_pairs columns h [] ≡ []
 nothing_kept columns h live dead =
     let no_live : live_pairs columns h.live ≡ [] = no_pairs (live_pair columns) (finite.entries h.live) (sym (finite.len-entries h.live) ∙ ap finite.len live ∙ finite.len-empty _ _) in
     let no_dead : dead_pairs columns h.dead ≡ [] = no_pairs (dead_pair columns) (finite.entries h.dead) (sym (finite.len-entries h.dead) ∙ ap finite.len dead ∙ finite.len-empty _ _) in
     λ i. no_live i ++ (no_dead i ++ [])
 
+-- the parts stay where a row is freed or comes to life again
+freed_parts : (h : Table) (o : Option Row) → h.parts ≡ (remove_fresh_row h o).parts
+freed_parts h None = refl
+freed_parts h (Some row) = refl
+
+unmarked_parts : (h : Table) (slot : ℕ) (o : Option Row) → h.parts ≡ (unmark_row h slot o).parts
+unmarked_parts h slot None = refl
+unmarked_parts h slot (Some row) = refl
+
 pub hold_at_first : HoldAtFirst
 hold_at_first h [] live dead e = tt
-hold_at_first h (i ∷ is) live dead e = (e.0 ∙ ap pairs_in (sym (nothing_kept i.columns h live dead)), hold_at_first h is live dead e.1)
+hold_at_first h (i ∷ is) live dead e = (record { pairs = e.0.0 ∙ ap pairs_in (sym (nothing_kept i.columns h live dead)); parts = e.0.1 }, hold_at_first h is live dead e.1)
 
 pub insert_adds : InsertAdds
-insert_adds old new slot noted indexes was = added_all old new noted noted was.row slot (λ columns q. insert_counts columns q old new slot noted was) indexes
+insert_adds old new slot noted indexes was = added_all old new noted noted (sym (ap (λ (x : Table). x.parts) was.is)) was.row slot (λ columns q. insert_counts columns q old new slot noted was) indexes
 
 pub delete_leaves : DeleteLeaves
-delete_leaves old new slot noted indexes was = kept_all old new noted noted (λ columns q. delete_counts columns q old new slot noted was) indexes
+delete_leaves old new slot noted indexes was = kept_all old new noted noted (sym (ap (λ (x : Table). x.parts) was.is)) (λ columns q. delete_counts columns q old new slot noted was) indexes
 
 pub replace_adds_and_notes : ReplaceAddsAndNotes
 replace_adds_and_notes old new slot before noted indexes was =
-    added_all old new noted (noted ++ (before, slot) ∷ []) was.row slot (λ columns q. replace_counts columns q old new slot before noted was) indexes
+    added_all old new noted (noted ++ (before, slot) ∷ []) (sym (ap (λ (x : Table). x.parts) was.is)) was.row slot (λ columns q. replace_counts columns q old new slot before noted was) indexes
 
 pub insert_goes_back : InsertGoesBack
 insert_goes_back h slot row noted indexes keyed here =
-    dropped_all h (remove_fresh h slot) noted noted row slot (λ columns q. remove_counts columns q h slot row noted here (stands_at_key h slot row keyed here)) indexes
+    dropped_all h (remove_fresh h slot) noted noted (freed_parts h (row_at h.live slot)) row slot (λ columns q. remove_counts columns q h slot row noted here (stands_at_key h slot row keyed here)) indexes
 
 pub delete_goes_back : DeleteGoesBack
-delete_goes_back h slot row noted indexes here free = kept_all h (unmark h slot) noted noted (λ columns q. unmark_counts columns q h slot row noted here free) indexes
+delete_goes_back h slot row noted indexes here free = kept_all h (unmark h slot) noted noted (unmarked_parts h slot (finite.get h.dead slot)) (λ columns q. unmark_counts columns q h slot row noted here free) indexes
 
 pub replace_goes_back : ReplaceGoesBack
 replace_goes_back h slot row before noted indexes keyed here alike =
-    dropped_all h (replace h slot before) (noted ++ (before, slot) ∷ []) noted row slot
+    dropped_all h (replace h slot before) (noted ++ (before, slot) ∷ []) noted refl row slot
     (λ columns q. put_back_counts columns q h slot row before noted (stands_at_key h slot row keyed here) alike) indexes
 
 pub purge_drops : PurgeDrops
-purge_drops h slot row noted indexes here = dropped_all h (purge h slot) noted noted row slot (λ columns q. purge_counts columns q h slot row noted here) indexes
+purge_drops h slot row noted indexes here = dropped_all h (purge h slot) noted noted refl row slot (λ columns q. purge_counts columns q h slot row noted here) indexes
 
 pub note_drops : NoteDrops
-note_drops h slot row noted indexes = dropped_all h h (noted ++ (row, slot) ∷ []) noted row slot (λ columns q. note_counts columns q h slot row noted) indexes
+note_drops h slot row noted indexes = dropped_all h h (noted ++ (row, slot) ∷ []) noted refl row slot (λ columns q. note_counts columns q h slot row noted) indexes
 
 one_itself : (p : Pair) → one p p ≡ 1
 one_itself p = ap (λ b. cond b 1 0) (itself p)
@@ -262,4 +271,4 @@ rows_are_there h noted (i ∷ is) held key slot row there =
     let all = parts i.columns p h noted in
     let here = one_itself p in
     let often : 0 < occurs p (all_pairs i.columns h noted) = omega (arith, live, all, here) in
-    (subst (λ m. IsSome (finite.get m p)) (sym held.0) (stands_where (all_pairs i.columns h noted) p often), rows_are_there h noted is held.1 key slot row there)
+    (subst (λ m. IsSome (finite.get m p)) (sym (held.0).pairs) (stands_where (all_pairs i.columns h noted) p often), rows_are_there h noted is held.1 key slot row there)

@@ -36,11 +36,16 @@ noted_pairs columns noted = map (λ o. pair_of columns o.0 o.1) noted
 abbrev pub all_pairs : List ℕ → Table → Noted → List Pair
 all_pairs columns h noted = live_pairs columns h.live ++ (dead_pairs columns h.dead ++ noted_pairs columns noted)
 
--- an index has just these pairs, each as often as there are rows of it
-abbrev pub Holds : Table → Noted → IndexValue → Type 0
-Holds h noted i = i.pairs ≡ pairs_in (all_pairs i.columns h noted)
+-- an index has just these pairs, each as often as there are rows of it, and the parts of its table
+pub record Holds (h : Table) (noted : Noted) (i : IndexValue) : Type 0 where
+  pub pairs : i.pairs ≡ pairs_in (all_pairs i.columns h noted)
+  pub parts : i.parts ≡ h.parts
 
--- each index of a table has just the pairs of its rows and its notes
+-- an index of these parts has no pair
+abbrev pub HasNone : List ℕ → IndexValue → Type 0
+HasNone parts i = (i.pairs ≡ finite.empty) × (i.parts ≡ parts)
+
+-- each index of a table has its parts, and just the pairs of its rows and its notes
 abbrev pub HoldAll : Table → Noted → List IndexValue → Type 0
 HoldAll h noted indexes = AllByRecursion (Holds h noted) indexes
 

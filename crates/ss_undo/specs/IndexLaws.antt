@@ -8,15 +8,15 @@ use Rattle.ss_table.specs.Keyed.{AreKeyed}
 use Rattle.ss_table.specs.Steps.{WasInserted, WasDeleted, WasReplaced}
 use Rattle.ss_index.specs.Pairs.{IndexValue}
 use Rattle.ss_index.specs.Indexes.{with_rows, without_rows, HavePair}
-use Rattle.ss_undo.specs.Holding.{Noted, HoldAll, HaveRows}
+use Rattle.ss_undo.specs.Holding.{Noted, HasNone, HoldAll, HaveRows}
 
 -- the indexes have the pairs of a row, and once these are dropped they hold the pairs of this table and these notes
 abbrev pub DropsTo : Row → ℕ → Table → Noted → List IndexValue → Type 0
 DropsTo row slot h noted indexes = HavePair row slot indexes × HoldAll h noted (without_rows row slot indexes)
 
--- indexes without a pair hold the pairs of a table without a row
+-- indexes without a pair, of the parts of a table without a row, hold its pairs
 abbrev pub HoldAtFirst : Type 0
-HoldAtFirst = (h : Table) (indexes : List IndexValue) → h.live ≡ finite.empty → h.dead ≡ finite.empty → AllByRecursion (λ i. i.pairs ≡ finite.empty) indexes → HoldAll h [] indexes
+HoldAtFirst = (h : Table) (indexes : List IndexValue) → h.live ≡ finite.empty → h.dead ≡ finite.empty → AllByRecursion (HasNone h.parts) indexes → HoldAll h [] indexes
 
 -- where a row is inserted, its pairs are added
 abbrev pub InsertAdds : Type 0

@@ -3,7 +3,7 @@
 ghost use Rattle.ss_undo.specs.IndexLaws.{HoldAtFirst, InsertAdds, DeleteLeaves, ReplaceAddsAndNotes};
 ghost use Rattle.ss_undo.specs.IndexLaws.{InsertGoesBack, DeleteGoesBack, ReplaceGoesBack, PurgeDrops, NoteDrops, RowsAreThere};
 
-/// Indexes without a pair hold the pairs of a table without a row.
+/// Indexes without a pair, of the parts of a table without a row, hold its pairs.
 pub fn hold_at_first()
     ensures { HoldAtFirst }
 {}

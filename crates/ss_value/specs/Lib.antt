@@ -9,3 +9,4 @@ pub mod ValueOrder
 pub mod Refusals
 pub mod RowCodes
 pub mod FaultCounts
+pub mod ValuePartition

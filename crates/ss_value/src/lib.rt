@@ -8,6 +8,7 @@
 //! - `boxed`: a box, for types that hold themselves
 //! - `text`, `value`, `schema`: texts and names, values and rows, columns
 //! - `order`: the order of values and rows; `laws`: what holds of it
+//! - `partition`: the partition of a value
 //! - `copies`: exact copies at any depth
 //! - `sets`: small sets of partitions and of procedures
 //!
@@ -19,6 +20,7 @@ mod boxed;
 mod copies;
 mod laws;
 mod order;
+mod partition;
 mod reserved;
 mod schema;
 mod seq;
@@ -30,6 +32,7 @@ pub use boxed::Boxed;
 pub use copies::Copies;
 pub use laws::{row_order_is_total, value_order_is_total};
 pub use order::{compare, compare_rows};
+pub use partition::value_partition;
 pub use reserved::Reserved;
 pub use schema::{ColType, Column, Schema, fits, is_of};
 pub use seq::Seq;

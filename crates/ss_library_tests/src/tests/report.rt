@@ -3,12 +3,11 @@
 ghost use Rattle.std.specs.Prelude.{◌≡◌, ◌<◌, IfOk, length};
 ghost use Rattle.ss_report.specs.Reported.{HasEndTables};
 
-use super::number_row;
 use ss_model::{
     Answer, Asked, Catalog, Entry, Listed, Outcome, Placement, Reason, Request, TableDef,
 };
 use ss_report::{End, write_report};
-use ss_value::{Seq, name_of};
+use ss_value::{Seq, Value, name_of};
 use std::alloc::Global;
 use std::test::Fail;
 
@@ -70,8 +69,8 @@ fn requests(alloc: Global) -> Result<Seq<Request>, Fail> {
 
 /// One row.
 fn done(alloc: Global) -> Result<Outcome, Fail> {
-    let rows = vec![in alloc; number_row(alloc, &[1, -5])?]?;
-    Ok(Outcome::Done(Seq::from_vec(rows)))
+    let row = Seq::from_vec(vec![in alloc; Value::Int(1), Value::Int(-5)]?);
+    Ok(Outcome::Done(Seq::from_vec(vec![in alloc; row]?)))
 }
 
 /// The second call of client 0 found no memory, and the second one of client 1 has no answer. The first calls are in the

@@ -100,9 +100,11 @@ fn gets_alike(alloc: Global, table: &Table, map: &Plain, keys: &Seq<Row>) -> Res
     Ok(true)
 }
 
-/// How many of the first slots are live.
+/// How many of the first slots of each part are live: a slot is eight times its place in the part, and the part.
 pub fn live_below(table: &Table, slots: usize) -> usize {
-    (0..slots).filter(|slot| table.row(*slot).is_some()).count()
+    (0..slots.saturating_mul(8))
+        .filter(|slot| table.row(*slot).is_some())
+        .count()
 }
 
 /// What a table and a map differ in, asked for these keys and among the first `slots` slots. The empty text where they hold

@@ -8,7 +8,7 @@ ghost use Rattle.ss_table_tests.specs.Runs.{AreKeyed, IsLive, CanReplace};
 
 use crate::tests::plain::key_of;
 use crate::tests::words::add;
-use ss_table::{Table, TableError};
+use ss_table::{Route, Table, TableError};
 use ss_undo::{Change, Undo, a_note_more, a_staging_more, committed_at_first, one_table_changed};
 use ss_value::{Copies, Row, Seq, Slot, compare_rows, row_order_is_total};
 use ss_window::Window;
@@ -152,8 +152,11 @@ impl Real {
     /// Two tables without a row.
     pub fn new(alloc: Global, key: Seq<u8>, limit: Option<usize>) -> Result<Real, Fail> {
         let mut tables = Seq::new(alloc);
-        add(&mut tables, Table::new(alloc, key.duplicate(alloc)?, limit))?;
-        add(&mut tables, Table::new(alloc, key.duplicate(alloc)?, limit))?;
+        let route = Route::Placed(0);
+        let first = Table::new(alloc, key.duplicate(alloc)?, limit, route, 0);
+        add(&mut tables, first)?;
+        let second = Table::new(alloc, key.duplicate(alloc)?, limit, route, 0);
+        add(&mut tables, second)?;
         let windows = Seq::new(alloc);
         let undo = Undo::new(alloc);
         Ok(Real {

@@ -1,16 +1,13 @@
 use Rattle.ss_model.specs.Database.{empty_database}
-use Rattle.ss_model.proofs.CallerLemmas.{few_procedures}
 use Rattle.ss_model_laws.proofs.CallerLemmas.{matching_stays, replays_orders, empty_whole, whole_after}
 use Rattle.ss_run.specs.Stands.{database_at}
 use Rattle.ss_run.proofs.Entries.{if_ok}
-use Rattle.ss_run.proofs.Opening.{sound_windows}
 use Rattle.ss_run.proofs.session.run_requests.Goals as goal
 
-pub opening-requires-clause-sound : goal.opening-requires-clause-sound
-opening-requires-clause-sound c = sound_windows c.args.catalog.now c.requires.accepted
-
-pub opening-requires-clause-few : goal.opening-requires-clause-few
-opening-requires-clause-few c = few_procedures c.args.catalog.now c.requires.accepted.form
+pub run_from-requires-clause-at : goal.run_from-requires-clause-at
+run_from-requires-clause-at c =
+    let is = c.in_ok-database.ensures.is_whole in
+    record { replays = tt; committed = is.parts.committed; number = is.number; stands = c.in_ok-database.ensures.stands }
 
 pub returns-clause-orders : goal.returns-clause-orders
 returns-clause-orders c =

@@ -7,7 +7,7 @@ use Rattle.ss_commitlog.specs.declared.rule.View.{View}
 use Rattle.ss_commitlog.specs.declared.rule.Opening.{Opening}
 use Rattle.ss_commitlog.specs.Committing.{IsFlow}
 use Rattle.ss_commitlog.specs.Meaning.{listed_of}
-use Rattle.ss_commitlog.specs.Reading.{homes_of}
+use Rattle.ss_partition.specs.Homes.{homes_of}
 use Rattle.ss_commitlog.specs.Rule.{numbered, reader, opening_view}
 use Rattle.ss_commitlog.specs.Tokens.{at_opening, known}
 use Rattle.ss_commitlog.proofs.Dealt.{log_alone, nothing_legal, at_first, parts_enough, parts_given, behind_parts, clients_enough, clients_given, behind_clients, notes_enough, notes_given, behind_notes, disk_enough, disk_is, behind_disk}

@@ -9,11 +9,19 @@ use Rattle.ss_shard.specs.ShardValue.{ShardValue}
 use Rattle.ss_shard.specs.Windows.{kept_part}
 use Rattle.ss_shard.specs.Shards.{HasTables, HasWindows, AllInvariant, IsOf}
 use Rattle.ss_shard.proofs.Committing.{tables_final, all_settled, windows_settled, same_parts}
+use Rattle.ss_shard.specs.Parts.{dealing_of}
+use Rattle.ss_shard.proofs.Dealt.{dealt_final}
 use Rattle.ss_shard.proofs.Tables.{final_tables}
 use Rattle.ss_shard.proofs.shard.Shard.commit.Goals as goal
 
 pub returns-clause-tables : goal.returns-clause-tables
 returns-clause-tables c = ap tables_of c.commit.ensures.tables ∙ final_tables c.self.inside.tables ∙ ap (λ (s : ShardValue). tables_of s.tables) c.self.view_is
+
+pub returns-clause-dealt : goal.returns-clause-dealt
+returns-clause-dealt c =
+    ap (map dealing_of) c.commit.ensures.tables
+    ∙ dealt_final c.self.inside.tables
+    ∙ ap (λ (s : ShardValue). map dealing_of s.tables) c.self.view_is
 
 pub returns-clause-windows : goal.returns-clause-windows
 returns-clause-windows c = λ held.

@@ -1,103 +1,143 @@
-use Rattle.std.proofs.Common.{◌≡◌, refl, sym, ap, subst, ◌∙◌, ℕ, List, slice_get, Some, arith}
-use Rattle.std.specs.FinMap as finite
-use Rattle.std.proofs.lemmas.Option.{slice_get_within}
-use Rattle.ss_table.specs.declared.cell.Cell.TheVariants.{Free, Live}
-use Rattle.ss_table.specs.Cells.{live_row, dead_row}
-use Rattle.ss_table.specs.Targets.{linked_order}
-use Rattle.ss_table.specs.Chunks.{slots_of}
-use Rattle.ss_table.specs.TableValue.{TableValue, HasKey, key_of, row_at}
-use Rattle.ss_table.specs.Invariant.{table_of}
-use Rattle.ss_table.proofs.Cells.{get_set_same}
-use Rattle.ss_table.proofs.Answered.{row_at_is, dead_at_is}
-use Rattle.ss_table.proofs.Cases.{on_ok, on_err}
-use Rattle.ss_table.proofs.Turned.{count_below}
-use Rattle.ss_table.proofs.Putting.{grown_step, none_from_key, put_step}
+use Rattle.std.proofs.Common.{◌≡◌, ◌<◌, suc, List, ◌∷◌, length, refl, sym, subst, slice_set}
+use Rattle.ss_table.specs.declared.part.Part.{Part}
+use Rattle.ss_table.specs.TableValue.{key_of}
+use Rattle.ss_table.specs.Parts.{key_home, IsPart}
+use Rattle.ss_table.proofs.Wide.{each_at}
+use Rattle.ss_table.proofs.Own.{has_there, free_in_part}
+use Rattle.ss_table.proofs.Inserted.{Tried, tried, home_is}
 use Rattle.ss_table.proofs.table.Table.put_new.Goals as goal
+
+pub unreachable-requires : goal.unreachable-requires
+unreachable-requires c =
+    let t = c.self.inside in
+    let within : c.in-Some.at < length t.others = subst (λ l. c.in-Some.at < length l) c.as_slice.ensures c.in-Some.ensures.some.1 in
+    let no = c.in-None-get_mut.ensures.within.1 within in
+    cc
+
+pub put_new-requires : goal.put_new-requires
+put_new-requires c =
+    let t = c.self.inside in
+    let h = c.args.self.now in
+    let key = t.first.rows.key in
+    let fs : List Part = t.first ∷ t.others in
+    let home : key_home t.route fs (key_of t.first.rows.key c.args.row) ≡ 0 = home_is t.limit t.route t.first t.others c.as_slice.result.now h c.self.view_is c.args.number c.args.row 0 c.as_slice.ensures c.requires.own c.in-None.ensures.none in
+    record { below = (each_at (IsPart t.first.rows.key) fs 0 t.first c.self.invariant.each refl).below; has_key = has_there t.limit t.route t.first.rows.key fs c.self.invariant h c.self.view_is c.args.row c.requires.has_key c.requires.free 0 home t.first refl; free = free_in_part t.limit t.route t.first.rows.key fs c.self.invariant h c.self.view_is c.args.row c.requires.has_key c.requires.free 0 home t.first refl }
 
 pub invariant_of-self : goal.invariant_of-self
 invariant_of-self c =
     let t = c.self.inside in
-    (grown_step t.key t.limit t.cells.items c.make_free.new.cells.items t.order t.count t.spare c.make_free.new.spare c.args.self.now c.self.invariant c.self.view_is c.make_free.ensures.grown).kept
+    let h = c.args.self.now in
+    let key = t.first.rows.key in
+    let fs : List Part = t.first ∷ t.others in
+    let home : key_home t.route fs (key_of t.first.rows.key c.args.row) ≡ 0 = home_is t.limit t.route t.first t.others c.as_slice.result.now h c.self.view_is c.args.number c.args.row 0 c.as_slice.ensures c.requires.own c.in-None.ensures.none in
+    let both = tried t.limit t.route t.first.rows.key fs c.self.invariant h c.self.view_is c.args.row c.requires.has_key c.requires.free 0 home t.first refl c.put_new.new.self c.put_new.ensures.number c.put_new.result c.put_new.ensures.ok c.put_new.ensures.err in
+    let b : Tried t.limit t.route c.put_new.new.self.rows.key (c.put_new.new.self ∷ t.others) h c.args.row c.put_new.result = subst (λ k. Tried t.limit t.route k (c.put_new.new.self ∷ t.others) h c.args.row c.put_new.result) (sym both.0) both.1 in
+    b.kept
 
-pub returns-then-is_err-clause-err : goal.returns-then-is_err-clause-err
-returns-then-is_err-clause-err c =
+pub returns-in-None-clause-ok : goal.returns-in-None-clause-ok
+returns-in-None-clause-ok c =
     let t = c.self.inside in
-    ((grown_step t.key t.limit t.cells.items c.make_free.new.cells.items t.order t.count t.spare c.make_free.new.spare c.args.self.now c.self.invariant c.self.view_is c.make_free.ensures.grown).view, refl)
+    let h = c.args.self.now in
+    let key = t.first.rows.key in
+    let fs : List Part = t.first ∷ t.others in
+    let home : key_home t.route fs (key_of t.first.rows.key c.args.row) ≡ 0 = home_is t.limit t.route t.first t.others c.as_slice.result.now h c.self.view_is c.args.number c.args.row 0 c.as_slice.ensures c.requires.own c.in-None.ensures.none in
+    let both = tried t.limit t.route t.first.rows.key fs c.self.invariant h c.self.view_is c.args.row c.requires.has_key c.requires.free 0 home t.first refl c.put_new.new.self c.put_new.ensures.number c.put_new.result c.put_new.ensures.ok c.put_new.ensures.err in
+    let b : Tried t.limit t.route c.put_new.new.self.rows.key (c.put_new.new.self ∷ t.others) h c.args.row c.put_new.result = subst (λ k. Tried t.limit t.route k (c.put_new.new.self ∷ t.others) h c.args.row c.put_new.result) (sym both.0) both.1 in
+    b.ok
 
-pub link-requires : goal.link-requires
-link-requires c =
+pub returns-in-None-clause-fresh : goal.returns-in-None-clause-fresh
+returns-in-None-clause-fresh c =
     let t = c.self.inside in
-    let b = grown_step t.key t.limit t.cells.items c.make_free.new.cells.items t.order t.count t.spare c.make_free.new.spare c.args.self.now c.self.invariant c.self.view_is c.make_free.ensures.grown in
-    let here : t.key ≡ c.args.self.now.key = ap (λ (x : TableValue). x.key) c.self.view_is in
-    let P : List ℕ → Type 0 = λ k. HasKey k c.args.row in
-    record {
-      table = rw (c.as_slice.ensures.value, c.as_slice-2.ensures) b.kept.table;
-      marked = rw (c.as_slice.ensures.value, c.as_slice-2.ensures) b.kept.marked;
-      has_key = rw (c.as_slice-2.ensures, c.as_slice-3.ensures) (subst P (sym here) c.requires.has_key);
-    }
+    let h = c.args.self.now in
+    let key = t.first.rows.key in
+    let fs : List Part = t.first ∷ t.others in
+    let home : key_home t.route fs (key_of t.first.rows.key c.args.row) ≡ 0 = home_is t.limit t.route t.first t.others c.as_slice.result.now h c.self.view_is c.args.number c.args.row 0 c.as_slice.ensures c.requires.own c.in-None.ensures.none in
+    let both = tried t.limit t.route t.first.rows.key fs c.self.invariant h c.self.view_is c.args.row c.requires.has_key c.requires.free 0 home t.first refl c.put_new.new.self c.put_new.ensures.number c.put_new.result c.put_new.ensures.ok c.put_new.ensures.err in
+    let b : Tried t.limit t.route c.put_new.new.self.rows.key (c.put_new.new.self ∷ t.others) h c.args.row c.put_new.result = subst (λ k. Tried t.limit t.route k (c.put_new.new.self ∷ t.others) h c.args.row c.put_new.result) (sym both.0) both.1 in
+    b.fresh
 
-pub invariant_of-self-then-is_err-2 : goal.invariant_of-self-then-is_err-2
-invariant_of-self-then-is_err-2 c =
+pub returns-in-None-clause-step : goal.returns-in-None-clause-step
+returns-in-None-clause-step c =
     let t = c.self.inside in
-    let b = grown_step t.key t.limit t.cells.items c.make_free.new.cells.items t.order t.count t.spare c.make_free.new.spare c.args.self.now c.self.invariant c.self.view_is c.make_free.ensures.grown in
-    let same : c.link.new.order ≡ t.order = on_err c.link.result (c.link.new.order ≡ t.order) (sym c.is_err-2.ensures.value ∙ c.if-is_err-2.true) c.link.ensures.err in
-    rw same b.kept
+    let h = c.args.self.now in
+    let key = t.first.rows.key in
+    let fs : List Part = t.first ∷ t.others in
+    let home : key_home t.route fs (key_of t.first.rows.key c.args.row) ≡ 0 = home_is t.limit t.route t.first t.others c.as_slice.result.now h c.self.view_is c.args.number c.args.row 0 c.as_slice.ensures c.requires.own c.in-None.ensures.none in
+    let both = tried t.limit t.route t.first.rows.key fs c.self.invariant h c.self.view_is c.args.row c.requires.has_key c.requires.free 0 home t.first refl c.put_new.new.self c.put_new.ensures.number c.put_new.result c.put_new.ensures.ok c.put_new.ensures.err in
+    let b : Tried t.limit t.route c.put_new.new.self.rows.key (c.put_new.new.self ∷ t.others) h c.args.row c.put_new.result = subst (λ k. Tried t.limit t.route k (c.put_new.new.self ∷ t.others) h c.args.row c.put_new.result) (sym both.0) both.1 in
+    b.step
 
-pub returns-then-is_err-2-clause-err : goal.returns-then-is_err-2-clause-err
-returns-then-is_err-2-clause-err c =
+pub returns-in-None-clause-err : goal.returns-in-None-clause-err
+returns-in-None-clause-err c =
     let t = c.self.inside in
-    let b = grown_step t.key t.limit t.cells.items c.make_free.new.cells.items t.order t.count t.spare c.make_free.new.spare c.args.self.now c.self.invariant c.self.view_is c.make_free.ensures.grown in
-    let same : c.link.new.order ≡ t.order = on_err c.link.result (c.link.new.order ≡ t.order) (sym c.is_err-2.ensures.value ∙ c.if-is_err-2.true) c.link.ensures.err in
-    ((ap (λ m. table_of t.key t.limit c.make_free.new.cells.items (slots_of m)) same ∙ b.view), refl)
+    let h = c.args.self.now in
+    let key = t.first.rows.key in
+    let fs : List Part = t.first ∷ t.others in
+    let home : key_home t.route fs (key_of t.first.rows.key c.args.row) ≡ 0 = home_is t.limit t.route t.first t.others c.as_slice.result.now h c.self.view_is c.args.number c.args.row 0 c.as_slice.ensures c.requires.own c.in-None.ensures.none in
+    let both = tried t.limit t.route t.first.rows.key fs c.self.invariant h c.self.view_is c.args.row c.requires.has_key c.requires.free 0 home t.first refl c.put_new.new.self c.put_new.ensures.number c.put_new.result c.put_new.ensures.ok c.put_new.ensures.err in
+    let b : Tried t.limit t.route c.put_new.new.self.rows.key (c.put_new.new.self ∷ t.others) h c.args.row c.put_new.result = subst (λ k. Tried t.limit t.route k (c.put_new.new.self ∷ t.others) h c.args.row c.put_new.result) (sym both.0) both.1 in
+    b.err
 
-pub fill-self-inside-requires : goal.fill-self-inside-requires
-fill-self-inside-requires c =
-    let ok = on_ok c.make_free.result ((n : ℕ) × (slice_get c.make_free.new.cells.items c.make_free.new.free ≡ Some (Free n))) (sym c.is_err.ensures.value ∙ c.if-is_err.false) c.make_free.ensures.ok in
-    slice_get_within c.make_free.new.cells.items c.make_free.new.free (Free ok.0) ok.1
-
-pub overflow_add-self : goal.overflow_add-self
-overflow_add-self c =
+pub put_new-requires-in-Some-get_mut : goal.put_new-requires-in-Some-get_mut
+put_new-requires-in-Some-get_mut c =
     let t = c.self.inside in
-    let below = count_below t.key t.cells.items t.order t.count t.spare c.self.invariant in
-    omega (arith, below, t.cells.ok.0, t.cells.ok.1, t.cells.small)
+    let h = c.args.self.now in
+    let key = t.first.rows.key in
+    let fs : List Part = t.first ∷ t.others in
+    let home : key_home t.route fs (key_of t.first.rows.key c.args.row) ≡ (suc c.in-Some.at) = home_is t.limit t.route t.first t.others c.as_slice.result.now h c.self.view_is c.args.number c.args.row (suc c.in-Some.at) c.as_slice.ensures c.requires.own c.in-Some.ensures.some.0 in
+    record { below = (each_at (IsPart t.first.rows.key) fs (suc c.in-Some.at) c.in-Some-get_mut.part.now c.self.invariant.each c.in-Some-get_mut.ensures.item).below; has_key = has_there t.limit t.route t.first.rows.key fs c.self.invariant h c.self.view_is c.args.row c.requires.has_key c.requires.free (suc c.in-Some.at) home c.in-Some-get_mut.part.now c.in-Some-get_mut.ensures.item; free = free_in_part t.limit t.route t.first.rows.key fs c.self.invariant h c.self.view_is c.args.row c.requires.has_key c.requires.free (suc c.in-Some.at) home c.in-Some-get_mut.part.now c.in-Some-get_mut.ensures.item }
 
-pub invariant_of-self-2 : goal.invariant_of-self-2
-invariant_of-self-2 c =
+pub invariant_of-self-in-Some : goal.invariant_of-self-in-Some
+invariant_of-self-in-Some c =
     let t = c.self.inside in
-    (put_step t.key t.limit t.cells.items c.make_free.new.cells.items c.fill-self-inside.new.cells.items t.order c.link.new.order _ t.count t.spare c.make_free.new.spare c.args.self.now c.make_free.new.free c.args.row
-    c.make_free.result c.link.result c.self.invariant c.self.view_is c.make_free.ensures.grown c.requires.has_key c.requires.free (sym c.is_err.ensures.value ∙ c.if-is_err.false) c.make_free.ensures.ok c.make_free.ensures.some c.fill-self-inside.ensures
-    (sym c.is_err-2.ensures.value ∙ c.if-is_err-2.false) c.link.ensures.ok (λ i. linked_order (c.as_slice.ensures.value i) (c.as_slice-2.ensures i) (c.as_slice-3.ensures i) c.make_free.new.free t.order)).kept
+    let h = c.args.self.now in
+    let key = t.first.rows.key in
+    let fs : List Part = t.first ∷ t.others in
+    let home : key_home t.route fs (key_of t.first.rows.key c.args.row) ≡ (suc c.in-Some.at) = home_is t.limit t.route t.first t.others c.as_slice.result.now h c.self.view_is c.args.number c.args.row (suc c.in-Some.at) c.as_slice.ensures c.requires.own c.in-Some.ensures.some.0 in
+    let both = tried t.limit t.route t.first.rows.key fs c.self.invariant h c.self.view_is c.args.row c.requires.has_key c.requires.free (suc c.in-Some.at) home c.in-Some-get_mut.part.now c.in-Some-get_mut.ensures.item c.put_new-in-Some-get_mut.new.self c.put_new-in-Some-get_mut.ensures.number c.put_new-in-Some-get_mut.result c.put_new-in-Some-get_mut.ensures.ok c.put_new-in-Some-get_mut.ensures.err in
+    let b = both.1 in
+    b.kept
 
-pub returns-clause-ok : goal.returns-clause-ok
-returns-clause-ok c =
+pub returns-in-Some-get_mut-clause-ok : goal.returns-in-Some-get_mut-clause-ok
+returns-in-Some-get_mut-clause-ok c =
     let t = c.self.inside in
-    (put_step t.key t.limit t.cells.items c.make_free.new.cells.items c.fill-self-inside.new.cells.items t.order c.link.new.order _ t.count t.spare c.make_free.new.spare c.args.self.now c.make_free.new.free c.args.row
-    c.make_free.result c.link.result c.self.invariant c.self.view_is c.make_free.ensures.grown c.requires.has_key c.requires.free (sym c.is_err.ensures.value ∙ c.if-is_err.false) c.make_free.ensures.ok c.make_free.ensures.some c.fill-self-inside.ensures
-    (sym c.is_err-2.ensures.value ∙ c.if-is_err-2.false) c.link.ensures.ok (λ i. linked_order (c.as_slice.ensures.value i) (c.as_slice-2.ensures i) (c.as_slice-3.ensures i) c.make_free.new.free t.order)).view
+    let h = c.args.self.now in
+    let key = t.first.rows.key in
+    let fs : List Part = t.first ∷ t.others in
+    let home : key_home t.route fs (key_of t.first.rows.key c.args.row) ≡ (suc c.in-Some.at) = home_is t.limit t.route t.first t.others c.as_slice.result.now h c.self.view_is c.args.number c.args.row (suc c.in-Some.at) c.as_slice.ensures c.requires.own c.in-Some.ensures.some.0 in
+    let both = tried t.limit t.route t.first.rows.key fs c.self.invariant h c.self.view_is c.args.row c.requires.has_key c.requires.free (suc c.in-Some.at) home c.in-Some-get_mut.part.now c.in-Some-get_mut.ensures.item c.put_new-in-Some-get_mut.new.self c.put_new-in-Some-get_mut.ensures.number c.put_new-in-Some-get_mut.result c.put_new-in-Some-get_mut.ensures.ok c.put_new-in-Some-get_mut.ensures.err in
+    let b = both.1 in
+    b.ok
 
-pub returns-clause-fresh : goal.returns-clause-fresh
-returns-clause-fresh c =
+pub returns-in-Some-get_mut-clause-fresh : goal.returns-in-Some-get_mut-clause-fresh
+returns-in-Some-get_mut-clause-fresh c =
     let t = c.self.inside in
-    let b = grown_step t.key t.limit t.cells.items c.make_free.new.cells.items t.order t.count t.spare c.make_free.new.spare c.args.self.now c.self.invariant c.self.view_is c.make_free.ensures.grown in
-    let ok = on_ok c.make_free.result ((n : ℕ) × (slice_get c.make_free.new.cells.items c.make_free.new.free ≡ Some (Free n))) (sym c.is_err.ensures.value ∙ c.if-is_err.false) c.make_free.ensures.ok in (
-      (sym (ap (λ (x : TableValue). row_at x.live c.make_free.new.free) b.view) ∙ row_at_is t.key c.make_free.new.cells.items (slots_of t.order) c.make_free.new.free b.kept.table ∙ ap live_row ok.1),
-      (sym (ap (λ (x : TableValue). finite.get x.dead c.make_free.new.free) b.view) ∙ dead_at_is t.key c.make_free.new.cells.items (slots_of t.order) c.make_free.new.free b.kept.table ∙ ap dead_row ok.1),
-    )
+    let h = c.args.self.now in
+    let key = t.first.rows.key in
+    let fs : List Part = t.first ∷ t.others in
+    let home : key_home t.route fs (key_of t.first.rows.key c.args.row) ≡ (suc c.in-Some.at) = home_is t.limit t.route t.first t.others c.as_slice.result.now h c.self.view_is c.args.number c.args.row (suc c.in-Some.at) c.as_slice.ensures c.requires.own c.in-Some.ensures.some.0 in
+    let both = tried t.limit t.route t.first.rows.key fs c.self.invariant h c.self.view_is c.args.row c.requires.has_key c.requires.free (suc c.in-Some.at) home c.in-Some-get_mut.part.now c.in-Some-get_mut.ensures.item c.put_new-in-Some-get_mut.new.self c.put_new-in-Some-get_mut.ensures.number c.put_new-in-Some-get_mut.result c.put_new-in-Some-get_mut.ensures.ok c.put_new-in-Some-get_mut.ensures.err in
+    let b = both.1 in
+    b.fresh
 
-pub returns-clause-step : goal.returns-clause-step
-returns-clause-step c =
+pub returns-in-Some-get_mut-clause-step : goal.returns-in-Some-get_mut-clause-step
+returns-in-Some-get_mut-clause-step c =
     let t = c.self.inside in
-    let ok = on_ok c.make_free.result ((n : ℕ) × (slice_get c.make_free.new.cells.items c.make_free.new.free ≡ Some (Free n))) (sym c.is_err.ensures.value ∙ c.if-is_err.false) c.make_free.ensures.ok in
-    let here : t.key ≡ c.args.self.now.key = ap (λ (x : TableValue). x.key) c.self.view_is in
-    let s =
-    put_step t.key t.limit t.cells.items c.make_free.new.cells.items c.fill-self-inside.new.cells.items t.order c.link.new.order _ t.count t.spare c.make_free.new.spare c.args.self.now c.make_free.new.free c.args.row
-    c.make_free.result c.link.result c.self.invariant c.self.view_is c.make_free.ensures.grown c.requires.has_key c.requires.free (sym c.is_err.ensures.value ∙ c.if-is_err.false) c.make_free.ensures.ok c.make_free.ensures.some c.fill-self-inside.ensures
-    (sym c.is_err-2.ensures.value ∙ c.if-is_err-2.false) c.link.ensures.ok (λ i. linked_order (c.as_slice.ensures.value i) (c.as_slice-2.ensures i) (c.as_slice-3.ensures i) c.make_free.new.free t.order) in
-    let made_row : row_at (table_of t.key t.limit c.fill-self-inside.new.cells.items (slots_of c.link.new.order)).live c.make_free.new.free ≡ Some c.args.row =
-    row_at_is t.key c.fill-self-inside.new.cells.items (slots_of c.link.new.order) c.make_free.new.free s.kept.table ∙ ap (λ l. live_row (slice_get l c.make_free.new.free)) c.fill-self-inside.ensures ∙ ap live_row (get_set_same c.make_free.new.cells.items c.make_free.new.free (Live c.args.row) (Free ok.0) ok.1) in
-    record {
-      row = c.args.row;
-      free = ap (λ k. finite.get c.args.self.now.live (key_of k c.args.row)) (sym here) ∙ none_from_key t.key c.args.self.now c.args.row here c.requires.free;
-      there = made_row;
-      is = s.view;
-    }
+    let h = c.args.self.now in
+    let key = t.first.rows.key in
+    let fs : List Part = t.first ∷ t.others in
+    let home : key_home t.route fs (key_of t.first.rows.key c.args.row) ≡ (suc c.in-Some.at) = home_is t.limit t.route t.first t.others c.as_slice.result.now h c.self.view_is c.args.number c.args.row (suc c.in-Some.at) c.as_slice.ensures c.requires.own c.in-Some.ensures.some.0 in
+    let both = tried t.limit t.route t.first.rows.key fs c.self.invariant h c.self.view_is c.args.row c.requires.has_key c.requires.free (suc c.in-Some.at) home c.in-Some-get_mut.part.now c.in-Some-get_mut.ensures.item c.put_new-in-Some-get_mut.new.self c.put_new-in-Some-get_mut.ensures.number c.put_new-in-Some-get_mut.result c.put_new-in-Some-get_mut.ensures.ok c.put_new-in-Some-get_mut.ensures.err in
+    let b = both.1 in
+    b.step
+
+pub returns-in-Some-get_mut-clause-err : goal.returns-in-Some-get_mut-clause-err
+returns-in-Some-get_mut-clause-err c =
+    let t = c.self.inside in
+    let h = c.args.self.now in
+    let key = t.first.rows.key in
+    let fs : List Part = t.first ∷ t.others in
+    let home : key_home t.route fs (key_of t.first.rows.key c.args.row) ≡ (suc c.in-Some.at) = home_is t.limit t.route t.first t.others c.as_slice.result.now h c.self.view_is c.args.number c.args.row (suc c.in-Some.at) c.as_slice.ensures c.requires.own c.in-Some.ensures.some.0 in
+    let both = tried t.limit t.route t.first.rows.key fs c.self.invariant h c.self.view_is c.args.row c.requires.has_key c.requires.free (suc c.in-Some.at) home c.in-Some-get_mut.part.now c.in-Some-get_mut.ensures.item c.put_new-in-Some-get_mut.new.self c.put_new-in-Some-get_mut.ensures.number c.put_new-in-Some-get_mut.result c.put_new-in-Some-get_mut.ensures.ok c.put_new-in-Some-get_mut.ensures.err in
+    let b = both.1 in
+    b.err

@@ -4,5 +4,5 @@ use Rattle.ss_table_tests.proofs.tests.real.Real.new.Goals as goal
 
 pub invariant_of-result : goal.invariant_of-result
 invariant_of-result c =
-    started c.args.key c.new.result c.new-2.result c.new-tables.result c.add.new.list c.add-2.new.list c.new-windows.result c.new-undo.result.items c.new-windows.ensures c.new-tables.ensures c.in_ok-add.ensures c.in_ok-add-2.ensures c.new-undo.ensures
-    (c.new.ensures.key ∙ c.in_ok-duplicate.ensures) (c.new-2.ensures.key ∙ c.in_ok-duplicate-2.ensures) c.new.ensures.dead c.new-2.ensures.dead
+    started c.args.key c.new-first.result c.new-second.result c.new-tables.result c.add.new.list c.add-2.new.list c.new-windows.result c.new-undo.result.items c.new-windows.ensures c.new-tables.ensures c.in_ok-add.ensures c.in_ok-add-2.ensures c.new-undo.ensures
+    (c.new-first.ensures.key ∙ c.in_ok-duplicate.ensures) (c.new-second.ensures.key ∙ c.in_ok-duplicate-2.ensures) c.new-first.ensures.dead c.new-second.ensures.dead

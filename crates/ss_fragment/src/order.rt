@@ -1,0 +1,166 @@
+//! Slots in the order of their rows' keys.
+
+ghost use Rattle.std.specs.Prelude.{◌≡◌, List, [], IfSome, OnOk, OnErr, option_map, drop};
+ghost use Rattle.std.specs.List.{insert, remove, find};
+ghost use Rattle.std.specs.List.Sorted.{IsPartitionedBy};
+ghost use Rattle.ss_chunks.specs.Chunks.{rest_items};
+ghost use Rattle.ss_fragment.specs.Targets.{target_of, is_before, rank, stops, target_mark};
+ghost use Rattle.ss_fragment.specs.Cells.{is_live};
+ghost use Rattle.ss_fragment.specs.Chunks.{slots_of};
+ghost use Rattle.ss_fragment.specs.Near.{without_hint, IsBehind, IsBehindFirst};
+
+use crate::cell::{Cell, is_live};
+use crate::mark::Mark;
+use crate::search::{Aim, stops};
+use ss_chunks::{Chunked, Hint, Rest};
+use ss_value::NoMemory;
+use std::alloc::Global;
+use std::marker::Model;
+
+/// The slots with a row, live and dead, by key and at equal keys by slot: marks of 16 bytes, in chunks.
+#[derive(Drop)]
+pub struct Order {
+    marks: Chunked<Mark>,
+}
+
+impl Model for Order {
+    ghost use Rattle.std.specs.Prelude.{List};
+    ghost use Rattle.ss_fragment.specs.declared.mark.Mark.{Mark};
+
+    ghost Value = { List Mark };
+
+    ghost view = { λ o. o.marks };
+}
+
+/// The first live slot of some marks.
+fn live_in(rest: Rest<'_, Mark>, cells: &[Cell]) -> Option<usize>
+    ensures { result ≡ find (is_live cells.now) (slots_of (rest_items rest.entry)) }
+{
+    let mut behind = rest;
+    while let Some(mark) = behind.next() {
+        if is_live(cells, mark.slot) {
+            return Some(mark.slot);
+        }
+    }
+    None
+}
+
+/// The first live slot of some marks, with a hint where it stands.
+fn live_near(rest: Rest<'_, Mark>, cells: &[Cell]) -> Option<(usize, Hint)>
+    ensures { without_hint result ≡ find (is_live cells.now) (slots_of (rest_items rest.entry)) }
+{
+    let mut behind = rest;
+    let mut hint = behind.hint;
+    while let Some(mark) = behind.next() {
+        if is_live(cells, mark.slot) {
+            return Some((mark.slot, hint));
+        }
+        hint = behind.hint;
+    }
+    None
+}
+
+/// The first live slot behind the first of some marks, with a hint where it stands, and None where the first mark is not
+/// that of this slot.
+fn live_behind(rest: Rest<'_, Mark>, slot: usize, cells: &[Cell]) -> Option<Option<(usize, Hint)>>
+    ensures { IfSome result (λ found. IsBehindFirst (rest_items rest.entry) slot cells.now (without_hint found)) }
+{
+    let mut behind = rest;
+    match behind.next() {
+        None => None,
+        Some(mark) => {
+            if mark.slot == slot {
+                Some(live_near(behind, cells))
+            } else {
+                None
+            }
+        }
+    }
+}
+
+/// The first slot of some marks at which a search for a live row with a key ends.
+fn stop_in(rest: Rest<'_, Mark>, aim: &Aim) -> Option<usize>
+    ensures { let a = target_of aim.now in result ≡ option_map (λ m. m.slot) (find (stops a) (rest_items rest.entry)) }
+{
+    let mut behind = rest;
+    while let Some(mark) = behind.next() {
+        if stops(aim, mark) {
+            return Some(mark.slot);
+        }
+    }
+    None
+}
+
+impl Order {
+    /// The order of no slot. Takes no memory.
+    pub fn new(alloc: Global) -> Order
+        ensures { result ≡ [] }
+    {
+        Order {
+            marks: Chunked::new(alloc),
+        }
+    }
+
+    /// The first live slot. One step for each dead slot before it.
+    pub fn first_live(&self, cells: &[Cell]) -> Option<usize>
+        ensures { result ≡ find (is_live cells.now) (slots_of self.now) }
+    {
+        live_in(self.marks.all(), cells)
+    }
+
+    /// The first live slot, with a hint where it stands. One step for each dead slot before it.
+    pub fn first_near(&self, cells: &[Cell]) -> Option<(usize, Hint)>
+        ensures { without_hint result ≡ find (is_live cells.now) (slots_of self.now) }
+    {
+        live_near(self.marks.all(), cells)
+    }
+
+    /// The first live slot behind a slot that stands at a hint, with a hint where it stands, and None where the slot
+    /// doesn't stand there. One step for each dead slot between.
+    pub fn behind(&self, slot: usize, hint: Hint, cells: &[Cell]) -> Option<Option<(usize, Hint)>>
+        ensures { IfSome result (λ found. IsBehind self.now slot cells.now (without_hint found)) }
+    {
+        match self.marks.rest_at(hint) {
+            None => None,
+            Some(rest) => live_behind(rest, slot, cells),
+        }
+    }
+
+    /// The first live slot that doesn't stand before an aim. A search, and one step for each dead slot between.
+    pub fn next_live(&self, aim: &Aim) -> Option<usize>
+        requires { IsPartitionedBy (is_before (target_of aim.now)) self.now }
+        ensures { let a = target_of aim.now in result ≡ find (is_live a.cells) (slots_of (drop (rank a self.now) self.now)) }
+    {
+        live_in(self.marks.rest(aim), aim.cells)
+    }
+
+    /// The first slot that doesn't stand before an aim and is live or has another key. A search, and one step for
+    /// each dead slot with the key.
+    pub fn next_stop(&self, aim: &Aim) -> Option<usize>
+        requires { IsPartitionedBy (is_before (target_of aim.now)) self.now }
+        ensures { let a = target_of aim.now in result ≡ option_map (λ m. m.slot) (find (stops a) (drop (rank a self.now) self.now)) }
+    {
+        stop_in(self.marks.rest(aim), aim)
+    }
+
+    /// Puts the aim's slot in front of the first that doesn't stand before it. Out of memory changes nothing.
+    pub fn insert(&mut self, aim: &Aim) -> Result<(), NoMemory>
+        requires { IsPartitionedBy (is_before (target_of aim.now)) self.old }
+        ensures ok { let a = target_of aim.now in OnOk result (self.new ≡ insert self.old (rank a self.old) (target_mark a)) }
+        ensures err { OnErr result (self.new ≡ self.old) }
+    {
+        let mark = Mark {
+            prefix: aim.prefix,
+            slot: aim.slot,
+        };
+        self.marks.insert(aim, mark)
+    }
+
+    /// Takes out the first slot that doesn't stand before an aim, if there is one. Takes no memory.
+    pub fn remove(&mut self, aim: &Aim)
+        requires { IsPartitionedBy (is_before (target_of aim.now)) self.old }
+        ensures { let a = target_of aim.now in self.new ≡ remove self.old (rank a self.old) }
+    {
+        self.marks.remove(aim)
+    }
+}

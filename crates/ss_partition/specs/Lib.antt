@@ -1,0 +1,2 @@
+pub mod PartSets
+pub mod Homes
