@@ -15,7 +15,7 @@ use Rattle.ss_model.specs.declared.entry.Entry.TheVariants.{Call, Push, Step as 
 use Rattle.ss_model.specs.declared.entry.Listed.{Listed}
 use Rattle.ss_model.specs.declared.entry.Outcome.TheVariants.{Done, Duplicate, Gap}
 use Rattle.ss_model.specs.Database.{Database, Applied, apply, apply_call, apply_step, accept_batch, append_batches, emits_to, is_border_stream, next_number, stream_batches}
-use Rattle.ss_model.specs.ListLocality.{Untouched}
+use Rattle.ss_model.specs.parts.ListLocality.{Untouched}
 use Rattle.ss_model.specs.Orders.{IsWired, procedure_emits}
 use Rattle.ss_model.specs.Partitions.{touches}
 use Rattle.ss_model.specs.Replays.{after, database_after}

@@ -14,7 +14,7 @@ use Rattle.ss_model.specs.declared.entry.Listed.{Listed}
 use Rattle.ss_model.specs.Accepted.{Accepted}
 use Rattle.ss_model.specs.Batches.{emitted_batches, output_batches, pushed_batch}
 use Rattle.ss_model.specs.Database.{Database, Applied, apply, apply_step, is_ready, stream_batches}
-use Rattle.ss_model.specs.Locality.{SameApplied}
+use Rattle.ss_model.specs.parts.Locality.{SameApplied}
 use Rattle.ss_model.specs.Partitions.{part, touches}
 use Rattle.ss_model.specs.Replays.{after}
 use Rattle.ss_model_laws.proofs.CallerLemmas.{entry_is_local}

@@ -13,8 +13,8 @@ use Rattle.ss_model.specs.declared.entry.Emitted.{Emitted}
 use Rattle.ss_model.specs.Database.{Database, Applied, apply, stream_batches}
 use Rattle.ss_model.specs.Replays.{Replays, after}
 use Rattle.ss_model.specs.Partitions.{part}
-use Rattle.ss_model.specs.ListLocality.{Untouched}
-use Rattle.ss_model.specs.Locality.{SameInputs}
+use Rattle.ss_model.specs.parts.ListLocality.{Untouched}
+use Rattle.ss_model.specs.parts.Locality.{SameInputs}
 use Rattle.ss_model.specs.Accepted.{Accepted}
 use Rattle.ss_model.proofs.CallerLemmas.{goes_on}
 use Rattle.ss_model_laws.proofs.CallerLemmas.{list_is_local, stream_grows}

@@ -4,7 +4,7 @@ use Rattle.ss_model.specs.declared.catalog.Catalog.{Catalog}
 use Rattle.ss_model.specs.declared.entry.Listed.{Listed}
 use Rattle.ss_model.specs.Accepted.{Accepted}
 use Rattle.ss_model.specs.Database.{Database, is_border_stream, stream_batches}
-use Rattle.ss_model.specs.ListLocality.{Untouched}
+use Rattle.ss_model.specs.parts.ListLocality.{Untouched}
 use Rattle.ss_model.specs.Partitions.{border_procedure, home_partition}
 use Rattle.ss_model.specs.Replays.{after}
 

@@ -11,7 +11,7 @@ use Rattle.ss_model.specs.Batches.{emitted_batches}
 use Rattle.ss_model.specs.Database.{Database, Applied, apply, stream_batches}
 use Rattle.ss_model.specs.Replays.{after}
 use Rattle.ss_model.specs.Partitions.{part}
-use Rattle.ss_model.specs.Locality.{SameInputs}
+use Rattle.ss_model.specs.parts.Locality.{SameInputs}
 use Rattle.ss_commitlog.specs.declared.role.Role.TheVariants.{Part}
 use Rattle.ss_commitlog.specs.Roles.{In}
 use Rattle.ss_commitlog.specs.Meaning.{listed_of}

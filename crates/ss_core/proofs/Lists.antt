@@ -15,8 +15,8 @@ use Rattle.ss_model.specs.Database.{Database, Applied, apply, empty_database}
 use Rattle.ss_model.specs.Replays.{Replays, after, entry_outcome}
 use Rattle.ss_model.specs.Report.{client_index, Rising}
 use Rattle.ss_model.specs.Partitions.{touches}
-use Rattle.ss_model.specs.ListLocality.{Untouched, IsApart}
-use Rattle.ss_model.specs.Locality.{SameApplied}
+use Rattle.ss_model.specs.parts.ListLocality.{Untouched, IsApart}
+use Rattle.ss_model.specs.parts.Locality.{SameApplied}
 use Rattle.ss_lemmas.proofs.Bools.{first_of_two, second_of_two}
 use Rattle.ss_lemmas.proofs.Dropped.{drop_longer, drop_one_more, all_left_later, all_left_more}
 use Rattle.ss_lemmas.proofs.Results.{map_some}

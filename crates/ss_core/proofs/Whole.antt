@@ -9,7 +9,7 @@ use Rattle.ss_model.specs.declared.entry.Listed.{Listed}
 use Rattle.ss_model.specs.Database.{empty_database}
 use Rattle.ss_model.specs.Replays.{Replays}
 use Rattle.ss_model.specs.Report.{client_index, Rising}
-use Rattle.ss_model.specs.ListLocality.{Untouched}
+use Rattle.ss_model.specs.parts.ListLocality.{Untouched}
 use Rattle.ss_model.specs.Accepted.{Accepted}
 use Rattle.ss_model_laws.proofs.CallerLemmas.{replays_orders, matching_stays}
 use Rattle.ss_core.specs.declared.machine.Core.{Core}

@@ -6,7 +6,7 @@ use Rattle.ss_model.specs.declared.entry.Listed.{Listed}
 use Rattle.ss_model.specs.Database.{empty_database}
 use Rattle.ss_model.specs.Replays.{Replays}
 use Rattle.ss_model.specs.Report.{client_index, Rising}
-use Rattle.ss_model.specs.ListLocality.{Untouched}
+use Rattle.ss_model.specs.parts.ListLocality.{Untouched}
 use Rattle.ss_model.specs.Accepted.{Accepted}
 use Rattle.ss_core.specs.declared.machine.Core.{Core}
 use Rattle.ss_core.specs.declared.machine.Half.{Half}

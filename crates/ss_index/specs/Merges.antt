@@ -1,12 +1,13 @@
 -- What is sought in a part, and how the parts of an index are read side by side.
 use Rattle.std.specs.Prelude.{Option, Some, None, List, [], ◌∷◌, map, cond, drop}
 use Rattle.std.specs.List.{AllByRecursion, flat_map, prefix_len}
-use Rattle.std.specs.Option.{option_copied}
+use Rattle.std.specs.Option.{option_copied, option_map}
 use Rattle.std.specs.Ordering.{is_lt, eq_by_cmp}
 use Rattle.ss_chunks.specs.Chunks.{rest_items}
 use Rattle.ss_value.specs.Rows.{Row}
 use Rattle.ss_index.specs.Pairs.{Pair, pair_cmp, pair_of}
-use Rattle.ss_index.specs.Entries.{Rises, is_before_end, ahead}
+use Rattle.ss_index.specs.declared.index_entry.IndexEntry.{IndexEntry}
+use Rattle.ss_index.specs.Entries.{Rises, is_before_end, ahead, pair_in}
 use Rattle.ss_index.specs.Parts.{PartValue}
 use Rattle.ss_index.specs.declared.merge.Head.{Head}
 use Rattle.ss_index.specs.declared.search.PairAim.{PairAim}
@@ -35,6 +36,10 @@ AllRise ls = AllByRecursion Rises ls
 abbrev pub first_in : List Pair → Option Pair
 first_in [] = None
 first_in (p ∷ ps) = Some p
+
+-- the pair of an entry that may be missing
+abbrev pub pair_at : Option IndexEntry → Option Pair
+pair_at e = option_map pair_in e
 
 -- the lesser of two pairs that may be missing
 abbrev pub lesser : Option Pair → Option Pair → Option Pair

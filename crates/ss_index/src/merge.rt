@@ -1,10 +1,10 @@
 //! The entries of several parts side by side, in one order.
 
-ghost use Rattle.std.specs.Prelude.{◌≡◌, [], ◌∷◌, IfOk, map, option_copied, option_map};
+ghost use Rattle.std.specs.Prelude.{◌≡◌, [], ◌∷◌, IfOk, map, option_copied};
 ghost use Rattle.ss_chunks.specs.Chunks.{rest_items};
 ghost use Rattle.ss_index.specs.Pairs.{slots_in};
 ghost use Rattle.ss_index.specs.Entries.{pair_in, pairs_in, ahead};
-ghost use Rattle.ss_index.specs.Merges.{ahead_of, fronts, in_front, AllRise, lesser, least_of, skip_pair, skip_all, from_end};
+ghost use Rattle.ss_index.specs.Merges.{ahead_of, fronts, in_front, AllRise, lesser, least_of, skip_pair, skip_all, from_end, pair_at};
 
 use crate::index_entry::IndexEntry;
 use crate::part::IndexPart;
@@ -51,7 +51,7 @@ fn lesser<'a>(
     first: Option<&'a IndexEntry>,
     second: Option<&'a IndexEntry>,
 ) -> Option<&'a IndexEntry>
-    ensures { option_map pair_in (option_copied result) ≡ lesser (option_map pair_in (option_copied first.entry)) (option_map pair_in (option_copied second.entry)) }
+    ensures { pair_at (option_copied result) ≡ lesser (pair_at (option_copied first.entry)) (pair_at (option_copied second.entry)) }
 {
     match (first, second) {
         (None, other) => other,
@@ -68,7 +68,7 @@ fn lesser<'a>(
 
 /// The least entry that is next in its part.
 fn least<'a>(heads: &[Head<'a>]) -> Option<&'a IndexEntry>
-    ensures { option_map pair_in (option_copied result) ≡ least_of (fronts heads.now) }
+    ensures { pair_at (option_copied result) ≡ least_of (fronts heads.now) }
 {
     match heads.split_first() {
         None => None,

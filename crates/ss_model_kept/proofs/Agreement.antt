@@ -14,7 +14,7 @@ use Rattle.ss_model.proofs.CallerLemmas.{get_cut, get_put, get_drop, same_table,
 use Rattle.ss_model_kept.proofs.ListItems.{set_two}
 use Rattle.ss_model_kept.proofs.Related.{Related, equal_test_abort}
 use Rattle.ss_model_kept.proofs.Respects.{Respects}
-use Rattle.ss_model.specs.Locality.{Agree, IsPlaced, IsVisibleRow, inside_scope}
+use Rattle.ss_model.specs.parts.Locality.{Agree, IsPlaced, IsVisibleRow, inside_scope}
 
 under : (b : Bool) {x y : Option Row} → cond b x None ≡ cond b y None → (f : Option Row → Option Row) → (b ≡ true → x ≡ y → f x ≡ f y) → cond b (f x) None ≡ cond b (f y) None
 under true e f h = h refl e

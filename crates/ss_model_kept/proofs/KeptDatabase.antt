@@ -19,7 +19,7 @@ use Rattle.ss_model.specs.Contents.{Contents, Window, window_def, kept_units, wi
 use Rattle.ss_model.specs.Database.{Database, Applied, run_procedure, only_when, apply, apply_call, apply_step, accept_batch, numbered_push, next_number, batch_count, stream_batches, is_ready, is_streaming, append_batches, input_batches, stepped_on, takes_stream, emits_to}
 use Rattle.ss_model.specs.Orders.{procedure_takes, procedure_has}
 use Rattle.ss_model.specs.Settling.{Kept, kept, least_count, procedure_numbers, SameKeptEffect, SameKeptApplied}
-use Rattle.ss_model.specs.Locality.{context_of, BodyResultRelated}
+use Rattle.ss_model.specs.parts.Locality.{context_of, BodyResultRelated}
 use Rattle.ss_model.specs.KeptRuns.{SameKept}
 use Rattle.ss_model_kept.proofs.ListItems.{set_one, set_two, get_or-map_index, length-map_index}
 use Rattle.ss_model_kept.proofs.PartLemmas.{slot, same_slots}

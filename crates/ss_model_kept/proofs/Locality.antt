@@ -19,7 +19,7 @@ use Rattle.ss_model_kept.proofs.Related.{Related}
 use Rattle.ss_model_kept.proofs.Respects.{ExecutionRelated, body_related}
 use Rattle.ss_model_kept.proofs.Agreement.{agree_respects}
 use Rattle.ss_model_kept.proofs.Unchanged.{Held, held_respects}
-use Rattle.ss_model.specs.Locality.{Agree, Unchanged, IsVisibleRow, context_of, inside_scope, BodyResultRelated, RunIsLocal}
+use Rattle.ss_model.specs.parts.Locality.{Agree, Unchanged, IsVisibleRow, context_of, inside_scope, BodyResultRelated, RunIsLocal}
 use Rattle.ss_lemmas.proofs.Bools.{first_of_two}
 
 passes_on : {A : Type 0} (test : A → Bool) (x : A) (xs : List A) (b : Bool) → test x ≡ b → AllByRecursion (λ x. test x ≡ true) xs → AllByRecursion (λ x. test x ≡ true) (cond b (x ∷ xs) xs)

@@ -11,7 +11,7 @@ use Rattle.ss_model.specs.Contents.{Contents, Table, Window, table_at, window_un
 use Rattle.ss_model.specs.Database.{Database}
 use Rattle.ss_model.specs.Partitions.{row_partition, window_partition, part}
 use Rattle.ss_model.proofs.CallerLemmas.{get_cut, same_table, cut_within}
-use Rattle.ss_model.specs.Locality.{Agree, Unchanged}
+use Rattle.ss_model.specs.parts.Locality.{Agree, Unchanged}
 use Rattle.ss_model_kept.proofs.ListItems.{length-map_index}
 use Rattle.ss_model_kept.proofs.Agreement.{inside_get}
 

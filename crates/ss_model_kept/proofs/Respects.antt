@@ -36,7 +36,7 @@ use Rattle.ss_model.specs.Claims.{Claims, SourceClaim, JoinClaim, QueryClaim, Va
 use Rattle.ss_model_kept.proofs.Related.{Related, related_then, equal_first_then, related_try_fold, equal_test_abort, same_test_abort, same_first_then}
 use Rattle.ss_model.proofs.CallerLemmas.{when_ok_at, try_filter_when_ok, try_map_when_ok, when_ok_then, when_ok_map, all_of, anything}
 use Rattle.ss_model_kept.proofs.VisibleEntries.{all_seen}
-use Rattle.ss_model.specs.Locality.{IsVisible}
+use Rattle.ss_model.specs.parts.Locality.{IsVisible}
 
 -- the triggers on a window of the claims meet them
 abbrev pub TriggersClaimed : Claims → Catalog → Type 0

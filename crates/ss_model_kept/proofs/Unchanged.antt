@@ -15,7 +15,7 @@ use Rattle.ss_model.proofs.CallerLemmas.{get_cut, get_put, get_drop, same_table}
 use Rattle.ss_model_kept.proofs.ListItems.{set_one}
 use Rattle.ss_model_kept.proofs.Related.{Related, same_test_abort}
 use Rattle.ss_model_kept.proofs.Respects.{Respects}
-use Rattle.ss_model.specs.Locality.{IsVisible, IsVisibleRow, Unchanged, inside_scope}
+use Rattle.ss_model.specs.parts.Locality.{IsVisible, IsVisibleRow, Unchanged, inside_scope}
 
 -- a key that fails the test makes no difference to the cut
 cut_apart : (p : Row → Bool) (k : Row) (v : Option Row) (m a : Table) → p k ≡ false → ((q : Row) → finmap.get a q ≡ cond (eq_by_cmp row_cmp q k) v (finmap.get m q)) → finmap.retain_keys a p ≡ finmap.retain_keys m p

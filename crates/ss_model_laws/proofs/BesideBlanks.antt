@@ -11,8 +11,8 @@ use Rattle.ss_model.specs.declared.entry.Outcome.{Outcome}
 use Rattle.ss_model.specs.declared.entry.Outcome.TheVariants.{Done, Duplicate, Gap}
 use Rattle.ss_model.specs.Database.{Database, Applied, apply, apply_call, apply_step, accept_batch, append_batches, next_number}
 use Rattle.ss_model.specs.Accepted.{Accepted}
-use Rattle.ss_model.specs.Locality.{SameApplied}
-use Rattle.ss_model.specs.HeldParts.{elsewhere_blank, blank_after, HoldsTouched}
+use Rattle.ss_model.specs.parts.Locality.{SameApplied}
+use Rattle.ss_model.specs.parts.HeldParts.{elsewhere_blank, blank_after, HoldsTouched}
 use Rattle.ss_lemmas.proofs.Bools.{some_same}
 use Rattle.ss_model_laws.proofs.Effects.{of_when}
 use Rattle.ss_model_laws.proofs.HeldParts.{held_is_enough, same_effect, blanks_stay}

@@ -15,7 +15,7 @@ use Rattle.ss_model.specs.declared.entry.Outcome.TheVariants.{Done, Duplicate, G
 use Rattle.ss_model.specs.Database.{Database, Applied, only_when, apply, apply_call, apply_step, accept_batch, numbered_push, next_number, batch_count, stream_batches, is_ready, is_streaming, input_batches, stepped_on}
 use Rattle.ss_model.specs.Partitions.{part, home_of, home_partition, border_procedure, in_touch_set, touches, procedure_touches}
 use Rattle.ss_model.specs.Accepted.{Accepted}
-use Rattle.ss_model.specs.Locality.{SameInputs, SameEffect, SameApplied, LeavesParts, EntryIsLocal}
+use Rattle.ss_model.specs.parts.Locality.{SameInputs, SameEffect, SameApplied, LeavesParts, EntryIsLocal}
 use Rattle.ss_model_laws.proofs.PartLocality.{leaves_parts, depends_on_parts, same_part}
 use Rattle.ss_model_laws.proofs.BlankItems.{set_apart, set_both, read_both, count_from, next_from, count_apart, count_both}
 use Rattle.ss_model_laws.proofs.Homes.{uses_touched, touched_partition}

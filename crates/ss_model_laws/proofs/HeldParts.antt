@@ -14,8 +14,8 @@ use Rattle.ss_model.specs.Contents.{Table, Window}
 use Rattle.ss_model.specs.Database.{Database, NextNumbers, Applied, apply, stream_batches}
 use Rattle.ss_model.specs.Partitions.{row_partition, window_partition, home_of, home_partition, border_procedure, touches, part}
 use Rattle.ss_model.specs.Accepted.{Accepted}
-use Rattle.ss_model.specs.Locality.{SameInputs, SameApplied, SameEffect, LeavesParts}
-use Rattle.ss_model.specs.HeldParts.{elsewhere_blank, HoldsTouched}
+use Rattle.ss_model.specs.parts.Locality.{SameInputs, SameApplied, SameEffect, LeavesParts}
+use Rattle.ss_model.specs.parts.HeldParts.{elsewhere_blank, HoldsTouched}
 use Rattle.ss_model.proofs.CallerLemmas.{cut_within, get_cut, same_table}
 use Rattle.ss_model_kept.proofs.CallerLemmas.{length-map_index}
 use Rattle.ss_model_laws.proofs.PartLocality.{same_part}

@@ -19,7 +19,7 @@ use Rattle.ss_model.specs.Claims.{UsesOnly}
 use Rattle.ss_value.specs.ValuePartition.{value_partition}
 use Rattle.ss_model.specs.Partitions.{in_touch_set, home_partition, home_of}
 use Rattle.ss_model.specs.Accepted.{Accepted, IsArg, IsSomewhere}
-use Rattle.ss_model.specs.Locality.{UsesTouched, inside_scope, touched_keys, touched_windows, context_of}
+use Rattle.ss_model.specs.parts.Locality.{UsesTouched, inside_scope, touched_keys, touched_windows, context_of}
 use Rattle.ss_model_laws.proofs.TouchedUses.{call_covered, stream_covered}
 
 -- some partition is touched

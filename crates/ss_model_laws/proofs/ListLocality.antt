@@ -13,8 +13,8 @@ use Rattle.ss_model.specs.Database.{Database, Applied, apply, apply_step, stream
 use Rattle.ss_model.specs.Replays.{after, database_after}
 use Rattle.ss_model.specs.Partitions.{touches, part}
 use Rattle.ss_model.specs.Accepted.{Accepted}
-use Rattle.ss_model.specs.Locality.{SameInputs, SameApplied, LeavesParts}
-use Rattle.ss_model.specs.ListLocality.{Untouched, IsApart, ListIsLocal}
+use Rattle.ss_model.specs.parts.Locality.{SameInputs, SameApplied, LeavesParts}
+use Rattle.ss_model.specs.parts.ListLocality.{Untouched, IsApart, ListIsLocal}
 use Rattle.ss_lemmas.proofs.Bools.{first_of_two, second_of_two}
 use Rattle.ss_lemmas.proofs.LoopItem.{some_at}
 use Rattle.ss_model_laws.proofs.Batches.{stream_grows}

@@ -41,7 +41,7 @@ use Rattle.ss_model.specs.Expressions.{expr_value}
 use Rattle.ss_model.specs.Queries.{query_result}
 use Rattle.ss_value.proofs.CallerLemmas.{same_value}
 use Rattle.ss_model.specs.Accepted.{IsArg}
-use Rattle.ss_model.specs.Locality.{IsPlaced, context_of, inside_scope, touched_keys, touched_windows}
+use Rattle.ss_model.specs.parts.Locality.{IsPlaced, context_of, inside_scope, touched_keys, touched_windows}
 
 -- from stronger claims to weaker ones, under parameters of which C holds
 pub record Implies (C : Row → Type 0) (u v : Claims) : Type 0 where

@@ -7,7 +7,7 @@ use Rattle.ss_model.specs.Database.{Database, run_procedure}
 use Rattle.ss_model.specs.Claims.{UsesOnly}
 use Rattle.ss_model.specs.Partitions.{DatabasePart, part, in_touch_set}
 use Rattle.ss_model_kept.proofs.CallerLemmas.{run_depends, run_leaves, parts_agree, agree_tables, agree_windows, unchanged_tables, unchanged_windows, part_store}
-use Rattle.ss_model.specs.Locality.{context_of, inside_scope, touched_keys, touched_windows}
+use Rattle.ss_model.specs.parts.Locality.{context_of, inside_scope, touched_keys, touched_windows}
 
 pub same_part : (a b : DatabasePart) → a.tables ≡ b.tables → a.windows ≡ b.windows → a.counts ≡ b.counts → a.next_numbers ≡ b.next_numbers → a ≡ b
 same_part a b t w c m = λ i. record { tables = t i; windows = w i; counts = c i; next_numbers = m i }

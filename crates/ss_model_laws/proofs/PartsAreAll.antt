@@ -6,7 +6,7 @@ use Rattle.ss_model.specs.declared.catalog.Catalog.{Catalog}
 use Rattle.ss_model.specs.Contents.{table_at, window_units}
 use Rattle.ss_model.specs.Database.{Database}
 use Rattle.ss_model.specs.Partitions.{home_of, home_partition, border_procedure, part}
-use Rattle.ss_model.specs.HeldParts.{SameButStreams}
+use Rattle.ss_model.specs.parts.HeldParts.{SameButStreams}
 use Rattle.ss_model.proofs.CallerLemmas.{retain_all}
 use Rattle.ss_model_kept.proofs.CallerLemmas.{parts_agree}
 use Rattle.ss_lemmas.proofs.Numbers.{eqb_self}

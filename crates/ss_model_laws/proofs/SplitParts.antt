@@ -14,8 +14,8 @@ use Rattle.ss_model.specs.declared.catalog.Placement.TheVariants.{Part as Placed
 use Rattle.ss_model.specs.Contents.{Table, table_at, window_units, window_owner, table_placement, key_columns, key_position}
 use Rattle.ss_model.specs.Database.{Database, batch_count}
 use Rattle.ss_model.specs.Partitions.{key_partition, row_partition, window_partition, home_of, home_of_owner, home_partition, border_procedure, DatabasePart, part}
-use Rattle.ss_model.specs.HeldParts.{SameButStreams}
-use Rattle.ss_model.specs.SplitParts.{split_parts, StandsOnce, EachStandsOnce}
+use Rattle.ss_model.specs.parts.HeldParts.{SameButStreams}
+use Rattle.ss_model.specs.parts.SplitParts.{split_parts, StandsOnce, EachStandsOnce}
 use Rattle.ss_model.proofs.CallerLemmas.{get_cut, home_below, same_table, value_part_below}
 use Rattle.ss_model_kept.proofs.CallerLemmas.{part_table, part_window, same_slots}
 use Rattle.ss_lemmas.proofs.Numbers.{eqb_apart}

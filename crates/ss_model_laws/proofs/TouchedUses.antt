@@ -26,7 +26,7 @@ use Rattle.ss_model.specs.Partitions.{in_touch_set, home_of, may_use, GivesArgum
 use Rattle.ss_model.proofs.CallerLemmas.{when_ok_map, anything, all_of, values_at, context_query, key_column, same_self}
 use Rattle.ss_model_laws.proofs.LocalClaims.{Implies, table_inside, query_implied, statement_implied, uses_implied, local_implied}
 use Rattle.ss_model.specs.Accepted.{IsArg, IsCallStep, Keyed}
-use Rattle.ss_model.specs.Locality.{context_of, inside_scope, touched_keys, touched_windows}
+use Rattle.ss_model.specs.parts.Locality.{context_of, inside_scope, touched_keys, touched_windows}
 
 -- the row's key is one that a procedure with these arguments sees
 abbrev pub HasSplitValue : Touch → Option Placement → List ℕ → Row → Row → Type 0

@@ -5,8 +5,8 @@ use Rattle.ss_model.specs.declared.entry.Entry.{Entry}
 use Rattle.ss_model.specs.Database.{Database, Applied, apply}
 use Rattle.ss_model.specs.Partitions.{touches, part}
 use Rattle.ss_model.specs.Accepted.{Accepted}
-use Rattle.ss_model.specs.Locality.{LeavesParts}
-use Rattle.ss_model.specs.HeldParts.{elsewhere_blank, SameButStreams}
+use Rattle.ss_model.specs.parts.Locality.{LeavesParts}
+use Rattle.ss_model.specs.parts.HeldParts.{elsewhere_blank, SameButStreams}
 use Rattle.ss_model_laws.proofs.EntryLocality.{entry_is_local}
 use Rattle.ss_model_laws.proofs.TouchedRun.{touched_run}
 use Rattle.ss_model_laws.proofs.HeldParts.{SameLengths, same_lengths, held_part_stays, blank_alike}

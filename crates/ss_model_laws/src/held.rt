@@ -1,7 +1,7 @@
 //! Databases of which only some partitions are held.
 
-ghost use Rattle.ss_model.specs.HeldParts.{HeldPartsStay, HeldPartsAreEnough, BlanksStay, PartsAreAll, RunsBesideBlanks, UntouchedStay};
-ghost use Rattle.ss_model.specs.SplitParts.{SplitsOnce, SplitsDetermine};
+ghost use Rattle.ss_model.specs.parts.HeldParts.{HeldPartsStay, HeldPartsAreEnough, BlanksStay, PartsAreAll, RunsBesideBlanks, UntouchedStay};
+ghost use Rattle.ss_model.specs.parts.SplitParts.{SplitsOnce, SplitsDetermine};
 
 /// The part of a partition that is held has no blanks.
 pub fn held_parts_stay()

@@ -1,7 +1,7 @@
 //! Partitions: what a run uses and what an entry touches.
 
-ghost use Rattle.ss_model.specs.Locality.{RunsAreLocal, UsesAreTouched, EntriesAreLocal};
-ghost use Rattle.ss_model.specs.ListLocality.{ListsAreLocal};
+ghost use Rattle.ss_model.specs.parts.Locality.{RunsAreLocal, UsesAreTouched, EntriesAreLocal};
+ghost use Rattle.ss_model.specs.parts.ListLocality.{ListsAreLocal};
 ghost use Rattle.ss_model.specs.Partitions.{TouchedRun};
 
 /// A run depends only on the rows and windows that its procedure uses, and changes no others.

@@ -8,7 +8,7 @@ use Rattle.ss_model.specs.declared.entry.Entry.{Entry}
 use Rattle.ss_model.specs.declared.entry.Entry.TheVariants.{Call, Push, Step as StepEntry}
 use Rattle.ss_model.specs.Accepted.{Accepted}
 use Rattle.ss_model.specs.Database.{Database, apply}
-use Rattle.ss_model.specs.HeldParts.{elsewhere_blank, blank_after, RunsBesideBlanks}
+use Rattle.ss_model.specs.parts.HeldParts.{elsewhere_blank, blank_after, RunsBesideBlanks}
 use Rattle.ss_shard.specs.ShardValue.{ShardValue}
 use Rattle.ss_shard.specs.Parts.{is_among}
 use Rattle.ss_proc.specs.Entries.{AreBatchesOf, AreAtHand, Ran, RanOnEach}

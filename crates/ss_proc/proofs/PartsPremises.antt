@@ -12,7 +12,7 @@ use Rattle.ss_model.specs.declared.entry.Entry.TheVariants.{Push}
 use Rattle.ss_model.specs.declared.entry.Outcome.TheVariants.{Done}
 use Rattle.ss_model.specs.Contents.{Table}
 use Rattle.ss_model.specs.Database.{Database, empty_database}
-use Rattle.ss_model.specs.HeldParts.{HoldsTouched, RunsBesideBlanks}
+use Rattle.ss_model.specs.parts.HeldParts.{HoldsTouched, RunsBesideBlanks}
 use Rattle.ss_model.proofs.CallerLemmas.{sliding_seen, accepted, get_cut, same_table}
 use Rattle.ss_lemmas.proofs.Numbers.{eqb_is}
 use Rattle.ss_shard.specs.ShardValue.{ShardValue}

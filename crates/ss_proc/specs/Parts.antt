@@ -5,7 +5,7 @@ use Rattle.ss_model.specs.declared.catalog.Catalog.{Catalog}
 use Rattle.ss_model.specs.declared.entry.Entry.{Entry}
 use Rattle.ss_model.specs.Accepted.{Accepted}
 use Rattle.ss_model.specs.Database.{Database, Applied, apply}
-use Rattle.ss_model.specs.HeldParts.{elsewhere_blank, blank_after, HoldsTouched}
+use Rattle.ss_model.specs.parts.HeldParts.{elsewhere_blank, blank_after, HoldsTouched}
 use Rattle.ss_shard.specs.ShardValue.{ShardValue}
 use Rattle.ss_shard.specs.Parts.{is_among, HoldsParts}
 use Rattle.ss_proc.specs.Entries.{AreAtHand, Ran, RanOnEach}

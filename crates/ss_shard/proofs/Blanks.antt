@@ -12,7 +12,7 @@ use Rattle.ss_model.specs.declared.catalog.Catalog.{Catalog}
 use Rattle.ss_model.specs.Results.{map_indexed}
 use Rattle.ss_model.specs.Contents.{Table, Window, window_owner, table_placement, key_columns, key_position}
 use Rattle.ss_model.specs.Database.{Database, empty_database}
-use Rattle.ss_model.specs.HeldParts.{elsewhere_blank}
+use Rattle.ss_model.specs.parts.HeldParts.{elsewhere_blank}
 use Rattle.ss_model.specs.Partitions.{key_partition, row_partition, window_partition, home_of, home_of_owner, home_partition, border_procedure}
 use Rattle.ss_model.proofs.CallerLemmas.{get_cut, same_table, home_below, value_part_below}
 use Rattle.ss_table.specs.TableValue.{TableValue}

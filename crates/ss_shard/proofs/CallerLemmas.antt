@@ -1,5 +1,7 @@
 -- What crates above may rely on: the lemmas of this crate that they cite.
 
+-- The partitions that run, and a list of shards with one of them changed.
+pub use Rattle.ss_shard.proofs.AllPartitions.{each_set, not_among}
 -- The rows of a table by key, and the live rows with their slots.
 pub use Rattle.ss_shard.proofs.ByKey.{entries_by_key}
 -- One change of a shard, noted.

@@ -7,7 +7,7 @@ use Rattle.ss_model.specs.declared.catalog.Catalog.{Catalog}
 use Rattle.ss_model.specs.Results.{map_indexed}
 use Rattle.ss_model.specs.Contents.{Window}
 use Rattle.ss_model.specs.Database.{Database, NextNumbers}
-use Rattle.ss_model.specs.HeldParts.{elsewhere_blank}
+use Rattle.ss_model.specs.parts.HeldParts.{elsewhere_blank}
 use Rattle.ss_model.specs.Partitions.{window_partition, home_of, home_partition, border_procedure}
 use Rattle.ss_model_kept.proofs.CallerLemmas.{length-map_index}
 use Rattle.ss_shard.specs.Exchanges.{exchanged}

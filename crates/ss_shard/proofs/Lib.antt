@@ -16,7 +16,6 @@ pub mod InTurn
 pub mod Inserting
 pub mod JoinedPairs
 pub mod Joining
-pub mod KeyPlaces
 pub mod Numbers
 pub mod Occurring
 pub mod OpeningLemmas

@@ -6,7 +6,7 @@ use Rattle.ss_model.specs.declared.catalog.TableDef.{TableDef}
 use Rattle.ss_model.specs.declared.catalog.Catalog.{Catalog}
 use Rattle.ss_model.specs.Results.{map_indexed}
 use Rattle.ss_model.specs.Database.{Database}
-use Rattle.ss_model.specs.HeldParts.{elsewhere_blank}
+use Rattle.ss_model.specs.parts.HeldParts.{elsewhere_blank}
 use Rattle.ss_model.specs.Partitions.{window_partition, home_of, home_partition, border_procedure}
 use Rattle.ss_table.specs.declared.route.Route.{Route}
 use Rattle.ss_table.specs.TableValue.{TableValue}
@@ -94,6 +94,10 @@ pub record HasAbsorbed (catalog : Catalog) (n : ℕ) (held : List ℕ) (old othe
   pub shell_number : shell.number ≡ other.number
   pub left : IsShell catalog n shell
 
+-- whatever partitions a shard held that could take in another, it has
+abbrev pub Absorbs : Catalog → ℕ → ShardValue → ShardValue → ShardValue → ShardValue → Type 0
+Absorbs catalog n old other new shell = (held : List ℕ) → MayAbsorb catalog n held old other → HasAbsorbed catalog n held old other new shell
+
 -- a shard of these partitions and of the one of a shell may give the shell its part back
 pub record MayRelease (catalog : Catalog) (n : ℕ) (held : List ℕ) (shard shell : ShardValue) : Type 0 where
   pub parts : HasParts catalog n (held ++ shell.number ∷ []) shard
@@ -109,6 +113,10 @@ pub record HasReleased (catalog : Catalog) (n : ℕ) (held : List ℕ) (old shel
   pub back_number : back.number ≡ shell.number
   pub back_parts : HasParts catalog n (shell.number ∷ []) back
   pub back_holds : (db : Database) → HoldsParts catalog n (held ++ shell.number ∷ []) old db → HoldsParts catalog n (shell.number ∷ []) back db
+
+-- whatever partitions a shard held that could give a shell its part back, it has
+abbrev pub Releases : Catalog → ℕ → ShardValue → ShardValue → ShardValue → ShardValue → Type 0
+Releases catalog n old shell new back = (held : List ℕ) → MayRelease catalog n held old shell → HasReleased catalog n held old shell new back
 
 -- ---- all shards of a database
 

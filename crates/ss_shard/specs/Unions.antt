@@ -42,6 +42,10 @@ pub record WereUnited (catalog : Catalog) (n : ℕ) (held : List ℕ) (old : Sha
   pub numbers : numbers_of shells ≡ numbers_of others
   pub left : AreShells catalog n shells
 
+-- whatever partitions the shard held beside the others
+abbrev pub Unites : Catalog → ℕ → ShardValue → List ShardValue → ShardValue → List ShardValue → Type 0
+Unites catalog n old others new shells = (held : List ℕ) → AreApart catalog n held old others → WereUnited catalog n held old others new shells
+
 -- it could not, and each holds what it held
 pub record AreStillApart (catalog : Catalog) (n : ℕ) (held : List ℕ) (old : ShardValue) (others : List ShardValue) (new : ShardValue) (news : List ShardValue) : Type 0 where
   pub number : new.number ≡ old.number
@@ -49,6 +53,11 @@ pub record AreStillApart (catalog : Catalog) (n : ℕ) (held : List ℕ) (old : 
   pub numbers : numbers_of news ≡ numbers_of others
   pub parts_others : HaveTheirOwn catalog n news
   pub holds : (db : Database) → HoldsParts catalog n held old db → HoldTheirOwn catalog n others db → HoldsParts catalog n held new db × HoldTheirOwn catalog n news db
+
+-- whatever partitions the shard held beside the others
+abbrev pub StayApart : Catalog → ℕ → ShardValue → List ShardValue → ShardValue → List ShardValue → Type 0
+StayApart catalog n old others new news =
+    (held : List ℕ) → 1 ≤ length held → AreApart catalog n held old others → AreStillApart catalog n held old others new news
 
 -- a shard of some partitions and of those of shells may give the shells their parts back
 pub record MayPart (catalog : Catalog) (n : ℕ) (held : List ℕ) (shard : ShardValue) (shells : List ShardValue) : Type 0 where
@@ -64,3 +73,7 @@ pub record WereParted (catalog : Catalog) (n : ℕ) (held : List ℕ) (old : Sha
   pub numbers : numbers_of backs ≡ numbers_of shells
   pub parts_backs : HaveTheirOwn catalog n backs
   pub holds : (db : Database) → HoldsParts catalog n (held ++ numbers_of shells) old db → HoldsParts catalog n held new db × HoldTheirOwn catalog n backs db
+
+-- whatever partitions the shard held beside those of the shells
+abbrev pub Departs : Catalog → ℕ → ShardValue → List ShardValue → ShardValue → List ShardValue → Type 0
+Departs catalog n old shells new backs = (held : List ℕ) → MayPart catalog n held old shells → WereParted catalog n held old shells new backs

@@ -1,8 +1,7 @@
 //! Shards before the first execution, and the shard of all partitions with the streams beside it.
 
-ghost use Rattle.std.specs.Prelude.{◌≡◌, ◌≤◌, ◌<◌, ◌==◌, IfOk, [], length, replicate};
-ghost use Rattle.std.specs.List.{position, AllByRecursion};
-ghost use Rattle.ss_model.specs.Contents.{key_position};
+ghost use Rattle.std.specs.Prelude.{◌≡◌, ◌≤◌, ◌<◌, IfOk, [], length, replicate};
+ghost use Rattle.std.specs.List.{AllByRecursion};
 ghost use Rattle.ss_model.specs.Database.{empty_database};
 ghost use Rattle.ss_shard.specs.Contents.{row_limit};
 ghost use Rattle.ss_model.specs.Accepted.{Accepted};
@@ -45,23 +44,6 @@ fn row_limit(placement: Placement) -> Option<usize>
     }
 }
 
-/// The position of a column in a key, if it is there.
-fn found_in(key: &[u8], column: u8) -> Option<usize>
-    ensures { result ≡ position (λ k. k == column) key.now }
-{
-    key.iter().position(|k| *k == column)
-}
-
-/// The place of a column in a key, and the key's length where it isn't there.
-fn key_position(key: &[u8], column: u8) -> usize
-    ensures { result ≡ key_position column key.now }
-{
-    match found_in(key, column) {
-        None => key.len(),
-        Some(place) => place,
-    }
-}
-
 /// How the rows of a table of this definition are dealt to so many parts.
 fn route_at(parts: u8, table: &TableDef) -> Route
     requires { 1 ≤ parts }
@@ -69,7 +51,7 @@ fn route_at(parts: u8, table: &TableDef) -> Route
 {
     match table.placement {
         Placement::Part(part) => Route::Placed(part % parts),
-        Placement::By(column) => Route::Split(key_position(table.key.as_slice(), column), parts),
+        Placement::By(column) => Route::Split(table.key_position(column), parts),
     }
 }
 

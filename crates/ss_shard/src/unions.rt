@@ -2,7 +2,7 @@
 
 ghost use Rattle.std.specs.Prelude.{◌≡◌, ◌≤◌, length, List, ℕ, OnOk, OnErr};
 ghost use Rattle.ss_model.specs.Accepted.{Accepted};
-ghost use Rattle.ss_shard.specs.Unions.{AreApart, WereUnited, AreStillApart, MayPart, WereParted};
+ghost use Rattle.ss_shard.specs.Unions.{AreApart, Unites, StayApart, MayPart, Departs};
 
 use crate::shard::Shard;
 use ss_model::Catalog;
@@ -22,8 +22,8 @@ pub fn unite(
     requires accepted { Accepted catalog.now }
     requires some { 1 ≤ parts }
     requires apart { (held : List ℕ) × AreApart catalog.now parts held shard.old others.old × (1 ≤ length held) }
-    ensures ok { OnOk result ((held : List ℕ) → AreApart catalog.now parts held shard.old others.old → WereUnited catalog.now parts held shard.old others.old shard.new others.new) }
-    ensures err { OnErr result ((held : List ℕ) → 1 ≤ length held → AreApart catalog.now parts held shard.old others.old → AreStillApart catalog.now parts held shard.old others.old shard.new others.new) }
+    ensures ok { OnOk result (Unites catalog.now parts shard.old others.old shard.new others.new) }
+    ensures err { OnErr result (StayApart catalog.now parts shard.old others.old shard.new others.new) }
 {
     let Some((other, behind)) = others.split_first_mut() else {
         return Ok(());
@@ -45,7 +45,7 @@ pub fn part(alloc: Global, catalog: &Catalog, parts: u8, shard: &mut Shard, shel
     requires accepted { Accepted catalog.now }
     requires some { 1 ≤ parts }
     requires may { (held : List ℕ) × MayPart catalog.now parts held shard.old shells.old }
-    ensures { (held : List ℕ) → MayPart catalog.now parts held shard.old shells.old → WereParted catalog.now parts held shard.old shells.old shard.new shells.new }
+    ensures { Departs catalog.now parts shard.old shells.old shard.new shells.new }
 {
     let Some((back, behind)) = shells.split_first_mut() else {
         return;

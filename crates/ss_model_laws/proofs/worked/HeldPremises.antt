@@ -16,9 +16,9 @@ use Rattle.ss_model.specs.Statements.{insert_row}
 use Rattle.ss_model.specs.Bodies.{run_body}
 use Rattle.ss_model.specs.Database.{Database, Applied, apply, empty_database}
 use Rattle.ss_model.specs.Partitions.{touches, part}
-use Rattle.ss_model.specs.Locality.{SameApplied}
-use Rattle.ss_model.specs.HeldParts.{elsewhere_blank, blank_after, HoldsTouched, SameButStreams}
-use Rattle.ss_model.specs.SplitParts.{split_parts, EachStandsOnce}
+use Rattle.ss_model.specs.parts.Locality.{SameApplied}
+use Rattle.ss_model.specs.parts.HeldParts.{elsewhere_blank, blank_after, HoldsTouched, SameButStreams}
+use Rattle.ss_model.specs.parts.SplitParts.{split_parts, EachStandsOnce}
 use Rattle.ss_lemmas.proofs.Numbers.{eqb_is}
 use Rattle.ss_model.proofs.CallerLemmas.{param_value}
 use Rattle.ss_model.proofs.ByAccount.{by_account, accepted}

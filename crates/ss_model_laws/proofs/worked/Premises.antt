@@ -34,8 +34,8 @@ use Rattle.ss_model.specs.Settled.{AtRest, NextIsReady, SettlesOnce, SettlesOn, 
 use Rattle.ss_model.specs.AcceptedBodies.{with_bodies, AcceptedBody, AcceptedBodies, AcceptedFrame, OwnBodies, BodiesMayChange}
 use Rattle.ss_model.specs.BodiesAside.{SameBodiesAside}
 use Rattle.ss_sql_lex.specs.WellTyped.{IntType, expr_type}
-use Rattle.ss_model.specs.Locality.{BodyResultRelated, EntryIsLocal, RunIsLocal, UsesTouched, touched_keys, touched_windows}
-use Rattle.ss_model.specs.ListLocality.{IsApart, ListIsLocal}
+use Rattle.ss_model.specs.parts.Locality.{BodyResultRelated, EntryIsLocal, RunIsLocal, UsesTouched, touched_keys, touched_windows}
+use Rattle.ss_model.specs.parts.ListLocality.{IsApart, ListIsLocal}
 use Rattle.ss_model.specs.Aborts.{AbortLeaves}
 use Rattle.ss_model.specs.Advances.{StepMovesOn}
 use Rattle.ss_model.specs.Shows.{WindowShows}

@@ -3,7 +3,7 @@
 ghost use Rattle.std.specs.Prelude.{◌≡◌, ◌≤◌, length, List, ℕ, OnOk, OnErr};
 ghost use Rattle.ss_model.specs.Accepted.{Accepted};
 ghost use Rattle.ss_shard.specs.Shards.{AllKeyed};
-ghost use Rattle.ss_shard.specs.Parts.{with_homes, MayAbsorb, HasAbsorbed, MayRelease, HasReleased};
+ghost use Rattle.ss_shard.specs.Parts.{with_homes, MayAbsorb, Absorbs, MayRelease, Releases};
 
 use crate::exchanges::{exchange_cursors, exchange_sources, exchange_windows};
 use crate::joins::{absorb_lists, release_lists};
@@ -77,7 +77,7 @@ impl Shard {
         requires accepted { Accepted catalog.now }
         requires some { 1 ≤ parts }
         requires may { (held : List ℕ) × MayAbsorb catalog.now parts held self.old other.old }
-        ensures ok { OnOk result ((held : List ℕ) → MayAbsorb catalog.now parts held self.old other.old → HasAbsorbed catalog.now parts held self.old other.old self.new other.new) }
+        ensures ok { OnOk result (Absorbs catalog.now parts self.old other.old self.new other.new) }
         ensures err { OnErr result ((self.new ≡ self.old) × (other.new ≡ other.old)) }
     {
         absorb_lists(
@@ -100,7 +100,7 @@ impl Shard {
         requires accepted { Accepted catalog.now }
         requires some { 1 ≤ parts }
         requires may { (held : List ℕ) × MayRelease catalog.now parts held self.old back.old }
-        ensures { (held : List ℕ) → MayRelease catalog.now parts held self.old back.old → HasReleased catalog.now parts held self.old back.old self.new back.new }
+        ensures { Releases catalog.now parts self.old back.old self.new back.new }
     {
         release_lists(
             alloc,

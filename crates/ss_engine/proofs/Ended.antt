@@ -1,0 +1,38 @@
+-- A run that ends by a commit.
+use Rattle.std.proofs.Common.{◌≡◌, ℕ, List, refl, sym, subst, ◌∙◌, map}
+use Rattle.ss_value.specs.Rows.{Rows}
+use Rattle.ss_model.specs.declared.catalog.Catalog.{Catalog}
+use Rattle.ss_model.specs.declared.entry.Emitted.{Emitted}
+use Rattle.ss_model.specs.declared.entry.Listed.{Listed}
+use Rattle.ss_model.specs.Database.{Applied}
+use Rattle.ss_model.specs.parts.HeldParts.{elsewhere_blank}
+use Rattle.ss_proc.specs.Entries.{Commits}
+use Rattle.ss_shard.specs.Parts.{dealing_of, is_among}
+use Rattle.ss_shard.specs.Shards.{IsCommitted}
+use Rattle.ss_shard.specs.ShardValue.{ShardValue}
+use Rattle.ss_shard.specs.Windows.{HoldsDatabase}
+use Rattle.ss_shard.proofs.CallerLemmas.{still_dealt}
+use Rattle.ss_engine.specs.declared.reply.Said.{Said}
+use Rattle.ss_engine.specs.declared.reply.Said.TheVariants.{Listed as ListedSaid}
+use Rattle.ss_engine.specs.Runs.{HasRun, HasCommitted, SaysOnly, EndedAsSaid}
+
+module _ (catalog : Catalog) (n : ℕ) (old now new : ShardValue) (l : Listed) (batches : List Rows) (emitted : List Emitted) (run : HasRun catalog n old now l batches emitted) where
+  committed_so : Commits catalog l.entry l.outcome now new → new.number ≡ now.number → map dealing_of new.tables ≡ map dealing_of now.tables → IsCommitted catalog new → HasCommitted catalog n old new l.entry batches
+  committed_so keeps number dealt committed = record {
+    number = number ∙ run.back.number;
+    parts = λ held has. record { committed = committed; dealt = dealt ∙ still_dealt catalog n held old now run.back has.dealt };
+    holds = λ held touched db stands hand.
+        let beside = run.ran held touched db stands hand in
+        record {
+          applied = beside.applied;
+          value = beside.value;
+          holds = subst (λ (a : Applied). HoldsDatabase catalog new a.db) beside.same (keeps (elsewhere_blank catalog n (is_among held) db) (record { outcome = l.outcome; emitted = emitted }) beside.ran refl);
+        };
+  }
+
+  -- what is said to be listed was committed
+  pub listed_so : (said : Said) (place : ℕ) (copy : Listed) → said ≡ ListedSaid place copy → SaysOnly l said → Commits catalog copy.entry copy.outcome now new → new.number ≡ now.number → map dealing_of new.tables ≡ map dealing_of now.tables
+      → IsCommitted catalog new → EndedAsSaid catalog n old new l.entry batches said
+  listed_so said place copy is says keeps number dealt committed =
+      let same : copy ≡ l = subst (SaysOnly l) is says in
+      subst (EndedAsSaid catalog n old new l.entry batches) (sym is) (committed_so (subst (λ (x : Listed). Commits catalog x.entry x.outcome now new) same keeps) number dealt committed)

@@ -1,0 +1,9 @@
+use Rattle.std.proofs.Common.{◌≤◌, ℕ, List, IfOk, subst}
+use Rattle.ss_value.specs.Rows.{Rows}
+use Rattle.ss_engine.specs.Runs.{HasRun}
+use Rattle.ss_engine.proofs.stepping.run_step.Goals as goal
+
+pub returns-clause-ok : goal.returns-clause-ok
+returns-clause-ok g c =
+    subst (λ (batches : List Rows). IfOk c.run.result (λ x. (n : ℕ) → 1 ≤ n → HasRun c.args.catalog.now n c.args.whole.now c.run.new.whole (record { entry = c.args.entry.now; outcome = x.outcome }) batches x.emitted))
+    c.in-Ok.ensures c.run.ensures.ok

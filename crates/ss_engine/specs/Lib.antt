@@ -1,0 +1,17 @@
+pub mod Mines
+pub mod Told
+pub mod Growing
+pub mod Lanes
+pub mod Replies
+pub mod Owning
+pub mod Answered
+pub mod Pumped
+pub mod Commits
+pub mod Served
+pub mod Executed
+pub mod Stepping
+pub mod Runs
+pub mod Engines
+pub mod Least
+pub mod Tried
+pub mod Serving

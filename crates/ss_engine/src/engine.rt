@@ -1,0 +1,39 @@
+//! The engine that threads share.
+
+use crate::gate::Gate;
+use crate::hub::Hub;
+use ss_hand::Partition;
+use ss_model::{Catalog, Life};
+use ss_party::Bays;
+use ss_proc::Runner;
+use ss_value::Seq;
+use std::marker::Model;
+
+/// A database in partitions, whose executions are one list whatever threads run them.
+///
+/// Clients hand requests to the inboxes of partitions by their lanes (`submit`); whoever pumps an inbox runs what waits there
+/// (`pump`). While an execution runs, no lock is held; its partitions are in hand, and the log's lock is held for the commit
+/// alone.
+#[derive(Drop)]
+pub struct Engine<I: Life, N: Runner + Drop, G: Gate + Drop> {
+    pub(crate) hub: Hub<I>,
+    pub(crate) bays: Bays<Partition<I>>,
+    pub(crate) catalog: Catalog,
+    // The home of each procedure, by number.
+    pub(crate) homes: Seq<u8>,
+    // How many partitions run.
+    pub(crate) parts: u8,
+    pub(crate) runner: N,
+    pub(crate) gate: G,
+}
+
+impl<I: Life, N: Runner + Drop, G: Gate + Drop> Model for Engine<I, N, G> {
+    ghost use Rattle.atomic_table.specs.Seated.{TableId};
+    ghost use Rattle.ss_engine.specs.Engines.{IsEngine};
+
+    ghost Value = { TableId };
+
+    ghost view = { λ e. e.bays };
+
+    ghost invariant = { λ e. IsEngine I.catalog I.parts e.catalog e.homes e.parts e.bays };
+}

@@ -1,0 +1,34 @@
+//! What is told of each execution, for tests that hold one until another one is seen.
+
+use ss_model::Entry;
+
+/// What is told of each execution. It answers nothing, so it changes no run but for the time that it takes.
+///
+/// Two executions on partitions of their own are told at the same time, by the threads that run them.
+pub trait Gate {
+    /// An entry is about to run, whose least partition is `part`: its partitions are in hand.
+    fn before(&self, part: u8, entry: &Entry);
+
+    /// It has run and is listed, and its partitions are back in their bays. What is not listed is not told again.
+    fn after(&self, part: u8, entry: &Entry);
+}
+
+/// A gate that does nothing.
+#[derive(Clone, Copy, Debug, PartialEq, Eq, Drop)]
+pub struct NoGate;
+
+impl Gate for NoGate {
+    fn before(&self, _part: u8, _entry: &Entry) {}
+
+    fn after(&self, _part: u8, _entry: &Entry) {}
+}
+
+impl<G: Gate> Gate for &G {
+    fn before(&self, part: u8, entry: &Entry) {
+        (**self).before(part, entry);
+    }
+
+    fn after(&self, part: u8, entry: &Entry) {
+        (**self).after(part, entry);
+    }
+}

@@ -1,0 +1,106 @@
+//! The inbox of a partition, behind a lock of its own.
+
+ghost use Rattle.std.specs.Prelude.{◌≡◌, ◌<◌, ◌∷◌, [], ◌++◌, length, IfErr, OnOk};
+
+use crate::job::Job;
+use ss_model::Life;
+use ss_sched::{Inbox, Work};
+use ss_value::NoMemory;
+use std::alloc::Global;
+use std::sync::atomic::{AtomicBool, Ordering};
+use std::sync::{Condvar, Mutex, Wait};
+
+/// What stands behind the lock: hints and jobs, and whether nobody is to wait for them any more.
+#[derive(Drop)]
+pub(crate) struct Waiting<I: Life> {
+    work: Inbox<Job<I>>,
+    stopped: bool,
+}
+
+/// Puts a job behind the others. It comes back exactly where there is no room for it.
+fn put_into<I: Life>(work: &mut Inbox<Job<I>>, job: Job<I>) -> Result<(), Job<I>>
+    ensures ok { OnOk result ((length work.old.jobs < work.old.room) × (work.new.jobs ≡ work.old.jobs ++ job ∷ [])) }
+    ensures err { IfErr result (λ j. (j ≡ job) × (length work.old.jobs < work.old.room → ⊥) × (work.new ≡ work.old)) }
+{
+    if !work.has_room() {
+        return Err(job);
+    }
+    work.put_job(job);
+    Ok(())
+}
+
+/// The hints and jobs of a partition, which many threads put in and one or more take out.
+///
+/// No clause can tell how many jobs wait behind the lock, so the room is tested there. Each call takes the lock once, but for
+/// `leave_unserved` and `is_unserved`, which take none. Only `new` takes memory.
+#[derive(Drop)]
+pub(crate) struct SharedInbox<I: Life> {
+    waiting: Mutex<Waiting<I>>,
+    moved: Condvar,
+    unserved: AtomicBool,
+}
+
+impl<I: Life> SharedInbox<I> {
+    /// An empty inbox with room for this many jobs.
+    pub fn new(alloc: Global, jobs: usize) -> Result<SharedInbox<I>, NoMemory> {
+        let work = Inbox::new(alloc, jobs)?;
+        Ok(SharedInbox {
+            waiting: Mutex::new(Waiting {
+                work,
+                stopped: false,
+            }),
+            moved: Condvar::new(),
+            unserved: AtomicBool::new(false),
+        })
+    }
+
+    /// Puts a job behind the others, and wakes one of those who rest here. It comes back where there is no room for it.
+    pub fn put_job<R: Wait>(&self, rt: &R, job: Job<I>) -> Result<(), Job<I>>
+        ensures { IfErr result (λ j. j ≡ job) }
+    {
+        let mut waiting = self.waiting.lock(rt);
+        if let Err(job) = put_into(&mut waiting.work, job) {
+            return Err(job);
+        }
+        self.moved.notify_one();
+        Ok(())
+    }
+
+    /// Puts the hint of a procedure behind the others, where it doesn't wait already, and wakes one of those who rest here.
+    pub fn put_hint<R: Wait>(&self, rt: &R, procedure: u16)
+        requires { procedure < 64 }
+    {
+        let mut waiting = self.waiting.lock(rt);
+        waiting.work.put_hint(procedure);
+        self.moved.notify_one();
+    }
+
+    /// Takes the next item: the first hint where one waits, else the first job.
+    pub fn take<R: Wait>(&self, rt: &R) -> Option<Work<Job<I>>> {
+        self.waiting.lock(rt).work.take()
+    }
+
+    /// Waits while nothing is there and `stop` wasn't called.
+    pub fn rest<R: Wait>(&self, rt: &R) {
+        let _waiting = self.moved.wait_while(rt, self.waiting.lock(rt), |w| {
+            w.work.is_empty() && !w.stopped
+        });
+    }
+
+    /// Ends every rest, those to come too.
+    pub fn stop<R: Wait>(&self, rt: &R) {
+        let mut waiting = self.waiting.lock(rt);
+        waiting.stopped = true;
+        self.moved.notify_all();
+    }
+
+    /// Notes that nobody but clients takes anything out.
+    pub fn leave_unserved(&self) {
+        self.unserved.store(true, Ordering::SeqCst);
+    }
+
+    /// Whether that was noted.
+    pub fn is_unserved(&self) -> bool {
+        self.unserved.load(Ordering::SeqCst)
+    }
+}

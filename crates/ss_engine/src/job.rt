@@ -1,0 +1,24 @@
+//! A client's job, which waits in an inbox.
+
+ghost use Rattle.std.specs.Prelude.{◌≡◌, ◌<◌, true, length};
+ghost use Rattle.ss_model.specs.Database.{fits_entry};
+ghost use Rattle.ss_report_laws.specs.Replies.{is_of};
+ghost use Rattle.ss_commitlog.specs.declared.role.Role.TheVariants.{Client};
+ghost use Rattle.ss_engine.specs.Mines.{mine_in};
+
+use crate::ticket::Ticket;
+use ss_commitlog::Mark;
+use ss_model::{Entry, Life};
+
+/// The entry that a client asks for, with the client's mark and the request's ticket.
+#[derive(Drop)]
+pub struct Job<I: Life> {
+    pub(crate) ticket: Ticket,
+    pub(crate) entry: Entry,
+    pub(crate) mark: Mark<I>,
+    pub(crate) ghost client_is: { ticket.client < I.clients },
+    pub(crate) ghost mark_is: { mark.role ≡ Client ticket.client },
+    pub(crate) ghost counted: { ticket.count ≡ length (mine_in ticket.client I.first mark.list) },
+    pub(crate) ghost own: { is_of ticket.client entry ≡ true },
+    pub(crate) ghost fits: { fits_entry I.catalog entry ≡ true },
+}

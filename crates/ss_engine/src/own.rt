@@ -1,0 +1,111 @@
+//! Whether a reply is the one that is waited for.
+
+ghost use Rattle.std.specs.Prelude.{◌≡◌, ◌↔◌, IsTrue};
+ghost use Rattle.ss_model.specs.declared.entry.Entry.TheVariants.{Call, Push};
+ghost use Rattle.ss_model.specs.Report.{asked_entry};
+ghost use Rattle.ss_engine.specs.Owning.{IsOwn};
+
+use crate::reply::{Reply, Said};
+use crate::ticket::Ticket;
+use ss_model::{Asked, Entry, Life};
+use ss_value::{Name, Row, Rows};
+
+/// Whether two rows are equal. Linear in the shorter one.
+fn same_row(a: &Row, b: &Row) -> bool
+    ensures { IsTrue result ↔ (a.now ≡ b.now) }
+{
+    a == b
+}
+
+/// Whether two lists of rows are equal. Linear in the shorter one.
+fn same_rows(a: &Rows, b: &Rows) -> bool
+    ensures { IsTrue result ↔ (a.now ≡ b.now) }
+{
+    a == b
+}
+
+/// Whether two names are equal.
+fn same_name(a: &Name, b: &Name) -> bool
+    ensures { IsTrue result ↔ (a.now ≡ b.now) }
+{
+    a.as_bytes() == b.as_bytes()
+}
+
+/// Whether an entry is this call. Linear in the arguments.
+fn is_call(entry: &Entry, client: u8, index: u64, procedure: u16, args: &Row) -> bool
+    ensures { IsTrue result ↔ (entry.now ≡ Call client index procedure args.now) }
+{
+    match entry {
+        Entry::Call {
+            client: by,
+            index: number,
+            procedure: called,
+            args: given,
+        } => *by == client && *number == index && *called == procedure && same_row(given, args),
+        _ => false,
+    }
+}
+
+/// Whether an entry is this push. Linear in the rows and the name.
+fn is_push(
+    entry: &Entry,
+    client: u8,
+    index: u64,
+    stream: u16,
+    source: &Name,
+    seq: u64,
+    rows: &Rows,
+) -> bool
+    ensures { IsTrue result ↔ (entry.now ≡ Push client index stream source.now seq rows.now) }
+{
+    match entry {
+        Entry::Push {
+            client: by,
+            index: number,
+            stream: into,
+            source: from,
+            seq: numbered,
+            rows: given,
+        } => {
+            *by == client
+                && *number == index
+                && *into == stream
+                && *numbered == seq
+                && same_name(from, source)
+                && same_rows(given, rows)
+        }
+        _ => false,
+    }
+}
+
+/// Whether an entry is what a client asks for with the request of this index, in each value and name. Linear in these.
+fn is_entry_of(entry: &Entry, client: u8, index: u64, what: &Asked) -> bool
+    ensures { IsTrue result ↔ (entry.now ≡ asked_entry client index what.now) }
+{
+    match what {
+        Asked::Call { procedure, args } => is_call(entry, client, index, *procedure, args),
+        Asked::Push {
+            stream,
+            source,
+            seq,
+            rows,
+        } => is_push(entry, client, index, *stream, source, *seq, rows),
+    }
+}
+
+/// Whether a reply answers what was asked for with a ticket. Linear in the values and names of a listed entry.
+pub(crate) fn is_own<I: Life>(reply: &Reply<I>, ticket: &Ticket, what: &Asked) -> bool
+    ensures { IsTrue result ↔ IsOwn ticket.now what.now reply.now }
+{
+    if reply.ticket.client != ticket.client || reply.ticket.index != ticket.index {
+        return false;
+    }
+    match &reply.said {
+        Said::Listed { listed, .. } => {
+            reply.ticket.count > ticket.count
+                && reply.ticket.count - ticket.count == 1
+                && is_entry_of(&listed.entry, ticket.client, ticket.index, what)
+        }
+        _ => reply.ticket.count == ticket.count,
+    }
+}

@@ -1,0 +1,14 @@
+//! What the work of an inbox came to.
+
+/// What one call of a pump did.
+#[derive(Drop)]
+pub enum Pumped {
+    /// It ran one execution, whose entry stands at this place.
+    Ran(u64),
+    /// The inbox was empty, and no procedure at home there was ready.
+    Idle,
+    /// There was no memory for what it took.
+    NoMemory,
+    /// The list holds as many entries as it may, which is this many, so what it took wasn't run.
+    ListFull(u64),
+}

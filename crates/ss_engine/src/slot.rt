@@ -1,0 +1,64 @@
+//! The slot of a client, in which its reply waits behind a lock of its own.
+
+ghost use Rattle.std.specs.Prelude.{◌≡◌, IfSome, IfNone, Some, None};
+ghost use Rattle.ss_engine.specs.Owning.{IsOwn};
+
+use crate::own::is_own;
+use crate::reply::Reply;
+use crate::ticket::Ticket;
+use ss_model::{Asked, Life};
+use std::sync::{Condvar, Mutex, Wait};
+
+/// The slot of one client. It has room for one reply, since a client waits for one request at a time.
+///
+/// Each call takes the lock once and no memory.
+#[derive(Drop)]
+pub(crate) struct Slot<I: Life> {
+    reply: Mutex<Option<Reply<I>>>,
+    moved: Condvar,
+}
+
+impl<I: Life> Slot<I> {
+    /// An empty slot.
+    pub fn new() -> Slot<I> {
+        Slot {
+            reply: Mutex::new(None),
+            moved: Condvar::new(),
+        }
+    }
+
+    /// Puts a reply in, and wakes the client.
+    pub fn put<R: Wait>(&self, rt: &R, reply: Reply<I>) {
+        let mut found = self.reply.lock(rt);
+        *found = Some(reply);
+        self.moved.notify_all();
+    }
+
+    /// Takes the reply that is there where it answers what was asked for with this ticket, and else leaves it.
+    pub fn take<R: Wait>(&self, rt: &R, ticket: &Ticket, what: &Asked) -> Option<Reply<I>>
+        ensures { IfSome result (IsOwn ticket.now what.now) }
+    {
+        let mut found = self.reply.lock(rt);
+        taken(&mut *found, ticket, what)
+    }
+
+    /// Waits while no reply is there.
+    pub fn rest<R: Wait>(&self, rt: &R) {
+        let _found = self
+            .moved
+            .wait_while(rt, self.reply.lock(rt), |r| r.is_none());
+    }
+}
+
+/// Takes a reply exactly where it answers what was asked for with this ticket, and else leaves it.
+fn taken<I: Life>(found: &mut Option<Reply<I>>, ticket: &Ticket, what: &Asked) -> Option<Reply<I>>
+    ensures own { IfSome result (λ r. IsOwn ticket.now what.now r × (found.old ≡ Some r) × (found.new ≡ None)) }
+    ensures left { IfNone result ((found.new ≡ found.old) × IfSome found.old (λ r. IsOwn ticket.now what.now r → ⊥)) }
+{
+    let reply = found.take()?;
+    if is_own(&reply, ticket, what) {
+        return Some(reply);
+    }
+    *found = Some(reply);
+    None
+}

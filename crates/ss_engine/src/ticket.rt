@@ -1,0 +1,12 @@
+//! The three numbers by which a reply is tied to its request.
+
+/// The numbers that go out with a request and come back with its reply.
+#[derive(Clone, Copy, Drop)]
+pub struct Ticket {
+    /// The client's number.
+    pub client: u8,
+    /// The request's number among those of its client, from 0.
+    pub index: u64,
+    /// How many entries of the client stand in the list that its mark knows.
+    pub count: u64,
+}

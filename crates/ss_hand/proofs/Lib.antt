@@ -1,0 +1,8 @@
+pub mod CallerLemmas
+pub mod Carrying
+pub mod GoingOn
+mod InOrder
+mod Tokens
+mod Turned
+mod Uniting
+mod Partitions

@@ -1,0 +1,4 @@
+pub mod Partitions
+pub mod Apart
+pub mod Meetings
+pub mod Hands

@@ -1,0 +1,70 @@
+//! Partitions apart: their shards beside one another, each with its own part.
+
+ghost use Rattle.std.specs.Prelude.{◌≡◌, ℕ, suc, [], ◌∷◌, ◌++◌, IfOk};
+ghost use Rattle.ss_hand.specs.Apart.{shards_of, AreSetApart, IsRoom, HasRoom};
+
+use crate::partition::Partition;
+use ss_commitlog::Mark;
+use ss_model::Life;
+use ss_shard::Shard;
+use ss_value::NoMemory;
+use std::alloc::Global;
+
+/// Lists with room for the shards and the marks of some partitions.
+#[derive(Drop)]
+pub(crate) struct Room<I: Life> {
+    pub(crate) shards: Vec<Shard>,
+    pub(crate) marks: Vec<Mark<I>>,
+}
+
+/// Some partitions in rising order: the shard of the first and those of the others, and the mark of each.
+#[derive(Drop)]
+pub(crate) struct Apart<I: Life> {
+    pub(crate) first: Shard,
+    pub(crate) others: Vec<Shard>,
+    pub(crate) marks: Vec<Mark<I>>,
+}
+
+/// Makes room for so many partitions.
+pub(crate) fn make_room<I: Life>(alloc: Global, count: usize) -> Result<Room<I>, NoMemory>
+    ensures { IfOk result (λ room. IsRoom count room) }
+{
+    let shards = Vec::with_capacity(alloc, count)?;
+    let marks = Vec::with_capacity(alloc, count)?;
+    Ok(Room { shards, marks })
+}
+
+impl<I: Life> Apart<I> {
+    /// One partition alone. Takes no memory.
+    pub(crate) fn of_one(room: Room<I>, partition: Partition<I>) -> Apart<I>
+        requires { (count : ℕ) × IsRoom (suc count) room }
+        ensures are { AreSetApart I.catalog I.parts I.opening result }
+        ensures shards { shards_of result ≡ partition.shard ∷ [] }
+        ensures room { (count : ℕ) → IsRoom (suc count) room → HasRoom count result }
+    {
+        let (first, mark) = partition.into_parts();
+        let Room {
+            shards: others,
+            mut marks,
+        } = room;
+        marks.push_reserved(mark);
+        Apart {
+            first,
+            others,
+            marks,
+        }
+    }
+
+    /// One partition more, behind the others. Takes no memory.
+    pub(crate) fn add(&mut self, partition: Partition<I>)
+        requires are { AreSetApart I.catalog I.parts I.opening self.old }
+        requires room { (count : ℕ) × HasRoom (suc count) self.old }
+        ensures are { AreSetApart I.catalog I.parts I.opening self.new }
+        ensures shards { shards_of self.new ≡ shards_of self.old ++ partition.shard ∷ [] }
+        ensures room { (count : ℕ) → HasRoom (suc count) self.old → HasRoom count self.new }
+    {
+        let (shard, mark) = partition.into_parts();
+        self.others.push_reserved(shard);
+        self.marks.push_reserved(mark);
+    }
+}

@@ -1,0 +1,19 @@
+//! What is in hand.
+
+use ss_commitlog::Marks;
+use ss_model::Life;
+use ss_shard::Shard;
+
+/// The parts of some partitions in one hand: one shard that has them all, what is left of the shards that lent theirs to it, and
+/// the marks of all of them, in rising order of partitions.
+///
+/// Memory: the lists of shells and marks, each of eight at most.
+#[derive(Drop)]
+pub struct Hand<I: Life> {
+    /// The shard with all the parts. Its number is the least one.
+    pub whole: Shard,
+    /// What is left of the shards of the other partitions.
+    pub shells: Vec<Shard>,
+    /// The mark of each partition.
+    pub marks: Marks<I>,
+}

@@ -1,0 +1,36 @@
+//! Parts of a database in one hand: what bays have, taken out for one execution and put back.
+//!
+//! A bay has a *partition*: the shard of one partition with the partition's mark in the commit log. By its type the shard
+//! holds its part of the database after the list that the mark knows. Who takes the partitions that an entry touches gets
+//! them in one *hand*: one shard that has all their parts, with their marks. There is then one database of which that shard
+//! has these parts, and of which each mark's list leaves its own part as it is there. With the hand come the turns of the
+//! bays, which can't be let go of; so what was taken is put back.
+//!
+//! Source: H-Store's partitions, each run by one executor at a time (Stonebraker et al., VLDB 2007); multi-partition
+//! transactions hold all partitions that they touch (Meehan et al., PVLDB 8, 2015, section 3). That marks of a commit log
+//! say of which list a part is, is this project's own rule.
+//!
+//! - `partition`: what a bay has; `hand`: what is in hand
+//! - `taking`, `putting`: the two calls; `closing`: all partitions, once there are no bays any more
+//! - `meeting`: marks in hand that go on to the log's list
+//! - `apart`, `joining`: partitions beside one another, and how they come into one hand
+//!
+//! In `specs/`: `Partitions` (what a bay has), `Apart` (partitions beside one another), `Meetings` (tokens that go on),
+//! `Hands` (what is in hand).
+#![tactic(auto)]
+
+mod apart;
+mod closing;
+mod hand;
+mod joining;
+mod meeting;
+mod partition;
+mod putting;
+mod taking;
+
+pub use closing::in_one_hand;
+pub use hand::Hand;
+pub use meeting::meet_note;
+pub use partition::Partition;
+pub use putting::put_parts;
+pub use taking::take_parts;

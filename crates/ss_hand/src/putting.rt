@@ -1,0 +1,80 @@
+//! Partitions back into their bays.
+
+ghost use Rattle.std.specs.Prelude.{◌≡◌, ◌≤◌, List, ℕ, map};
+ghost use Rattle.ss_model.specs.Accepted.{Accepted};
+ghost use Rattle.ss_party.specs.Turns.{turn_of};
+ghost use Rattle.ss_hand.specs.Apart.{numbers_in, AreSetApart};
+ghost use Rattle.ss_hand.specs.Hands.{IsInHand};
+
+use crate::apart::Apart;
+use crate::hand::Hand;
+use crate::partition::Partition;
+use ss_model::{Catalog, Life};
+use ss_party::{Bays, Turn};
+use ss_shard::part;
+use std::alloc::Global;
+
+/// Puts each partition into its bay, the last one first. Takes no memory and waits for nobody.
+pub(crate) fn put_back<I: Life>(
+    bays: &Bays<Partition<I>>,
+    apart: Apart<I>,
+    turns: Vec<Turn<Partition<I>>>,
+)
+    requires are { AreSetApart I.catalog I.parts I.opening apart }
+    requires turns { turns.items ≡ map (turn_of bays.now) (numbers_in apart) }
+{
+    let Apart {
+        first,
+        mut others,
+        mut marks,
+    } = apart;
+    let mut turns = turns;
+    while let Some(shard) = others.pop() {
+        let Some(mark) = marks.pop() else {
+            unreachable!()
+        };
+        let Some(turn) = turns.pop() else {
+            unreachable!()
+        };
+        bays.put(turn, Partition::new(shard, mark));
+    }
+    let Some(mark) = marks.pop() else {
+        unreachable!()
+    };
+    let Some(turn) = turns.pop() else {
+        unreachable!()
+    };
+    bays.put(turn, Partition::new(first, mark));
+    turns.destroy_empty();
+}
+
+/// Gives each partition its part back, and puts it into its bay, the last one first. `parts` is how many partitions run, and the
+/// turns are those that came with the hand.
+///
+/// A step for each bay, and for each partition but the first what `release` takes, whatever the rows. Takes no memory.
+pub fn put_parts<I: Life>(
+    alloc: Global,
+    catalog: &Catalog,
+    parts: u8,
+    bays: &Bays<Partition<I>>,
+    hand: Hand<I>,
+    turns: Vec<Turn<Partition<I>>>,
+)
+    requires catalog { catalog.now ≡ I.catalog }
+    requires accepted { Accepted I.catalog }
+    requires parts { (parts ≡ I.parts) × (1 ≤ parts) }
+    requires in_hand { (held : List ℕ) × IsInHand I.catalog I.parts I.opening held hand × (turns.items ≡ map (turn_of bays.now) held) }
+{
+    let Hand {
+        mut whole,
+        mut shells,
+        marks,
+    } = hand;
+    part(alloc, catalog, parts, &mut whole, shells.as_mut_slice());
+    let apart = Apart {
+        first: whole,
+        others: shells,
+        marks: marks.into_vec(),
+    };
+    put_back(bays, apart, turns);
+}

@@ -1,0 +1,100 @@
+//! Partitions out of their bays, in one hand.
+
+ghost use Rattle.std.specs.Prelude.{◌≡◌, ◌≤◌, ◌<◌, ℕ, IfOk, OnOk};
+ghost use Rattle.std.specs.Int.{IsBitSet};
+ghost use Rattle.ss_model.specs.Accepted.{Accepted};
+ghost use Rattle.ss_commitlog.specs.Tokens.{Follows};
+ghost use Rattle.ss_party.specs.Turns.{bay_count};
+ghost use Rattle.ss_hand.specs.Apart.{WereTakenOut};
+ghost use Rattle.ss_hand.specs.Hands.{WereTaken};
+ghost use Rattle.ss_hand.specs.Meetings.{MayFollow};
+
+use crate::apart::{Apart, make_room};
+use crate::hand::Hand;
+use crate::joining::join_all;
+use crate::partition::Partition;
+use crate::putting::put_back;
+use ss_commitlog::{CommitLog, Note};
+use ss_model::{Catalog, Life};
+use ss_party::{Bays, Turn};
+use ss_value::{NoMemory, PartSet};
+use std::alloc::Global;
+use std::sync::Wait;
+
+/// Takes the partitions of a set out of their bays, in rising order, and waits at each whose bay is empty. With them come the
+/// turns of the bays. Out of memory has taken nothing.
+fn take_out<I: Life, R: Wait>(
+    rt: &R,
+    alloc: Global,
+    parts: u8,
+    bays: &Bays<Partition<I>>,
+    set: PartSet,
+) -> Result<(Apart<I>, Vec<Turn<Partition<I>>>), NoMemory>
+    requires bays { bay_count bays.now ≡ parts }
+    requires some { (p : ℕ) × IsBitSet set p }
+    requires below { (p : ℕ) → IsBitSet set p → p < parts }
+    ensures { IfOk result (λ taken. WereTakenOut I.catalog I.parts I.opening bays.now set taken.0 taken.1.items) }
+{
+    // All room is made before the first bay is taken.
+    let room = make_room(alloc, usize::from(parts))?;
+    let mut turns = Vec::with_capacity(alloc, usize::from(parts))?;
+    let Ok(gathered) = bays.gather(rt, alloc, set) else {
+        turns.destroy_empty();
+        return Err(NoMemory);
+    };
+    let mut list = gathered.into_vec();
+    list.as_mut_slice().reverse();
+    let Some((first, turn)) = list.pop() else {
+        unreachable!()
+    };
+    turns.push_reserved(turn);
+    let mut apart = Apart::of_one(room, first);
+    while let Some((partition, turn)) = list.pop() {
+        apart.add(partition);
+        turns.push_reserved(turn);
+    }
+    list.destroy_empty();
+    Ok((apart, turns))
+}
+
+/// Takes the partitions of a set out of their bays, in rising order, and waits at each whose bay is empty. Then their marks and
+/// the note know one list, and one shard has all their parts. With the hand come the turns of the bays, in the same order.
+/// `parts` is how many partitions run.
+///
+/// A turn can't be let go of, so whoever has taken parts puts them back. Out of memory has put back what it took. Takes the
+/// log's lock once, a step for each bay, and for each partition but the first what `absorb` takes, whatever the rows.
+pub fn take_parts<I: Life, R: Wait>(
+    rt: &R,
+    alloc: Global,
+    log: &CommitLog<I>,
+    catalog: &Catalog,
+    parts: u8,
+    bays: &Bays<Partition<I>>,
+    set: PartSet,
+    note: Note<I>,
+) -> (
+    Note<I>,
+    Result<(Hand<I>, Vec<Turn<Partition<I>>>), NoMemory>,
+)
+    requires catalog { catalog.now ≡ I.catalog }
+    requires accepted { Accepted I.catalog }
+    requires parts { (parts ≡ I.parts) × (1 ≤ parts) }
+    requires bays { bay_count bays.now ≡ I.parts }
+    requires some { (p : ℕ) × IsBitSet set p }
+    requires below { (p : ℕ) → IsBitSet set p → p < I.parts }
+    ensures note { MayFollow I.catalog I.parts I.limit note result.0 }
+    ensures follows { OnOk result.1 (Follows I.catalog I.parts I.limit note result.0) }
+    ensures ok { IfOk result.1 (λ taken. WereTaken I.catalog I.parts I.opening bays.now set result.0 taken.0 taken.1.items) }
+{
+    let Ok((apart, turns)) = take_out(rt, alloc, parts, bays, set) else {
+        return (note, Err(NoMemory));
+    };
+    let (note, joined) = join_all(rt, alloc, log, catalog, parts, apart, note);
+    match joined {
+        Ok(hand) => (note, Ok((hand, turns))),
+        Err(apart) => {
+            put_back(bays, apart, turns);
+            (note, Err(NoMemory))
+        }
+    }
+}

@@ -1,0 +1,4 @@
+pub mod Locality
+pub mod ListLocality
+pub mod HeldParts
+pub mod SplitParts

@@ -1,0 +1,34 @@
+//! The catalogue of the tests.
+
+ghost use Rattle.std.specs.Prelude.{IfSome};
+ghost use Rattle.ss_model.specs.Accepted.{Accepted};
+
+use serde_json::Value as Json;
+use ss_catalog::read_catalog;
+use ss_model::Catalog;
+use std::alloc::Global;
+
+/// A table that is split by its key, with an index; one that is on one part; a stream with a window behind it, on another; and
+/// calls that touch the partition of an argument, one part, and all.
+const TEXT: &str =
+    r#"{"tables":[{"name":"acct","columns":[["id","int"],["owner","text"],["bal","int"]],"key":["id"],"by":"id","indexes":[["owner"]]},{"name":"total","columns":[["id","int"],["n","int"]],"key":["id"],"part":1}],"streams":[{"name":"ticks","columns":[["n","int"]]}],"windows":[{"name":"last","columns":[["n","int"]],"owner":"tick","unit":"rows","size":2,"slide":1}],"procedures":[{"name":"open","kind":"call","args":[["id","int"],["owner","text"],["bal","int"]],"touch":{"arg":"id"},"body":[{"sql":"INSERT INTO acct VALUES (:id, :owner, :bal)"}]},{"name":"count","kind":"call","touch":"all","body":[{"sql":"DELETE FROM total"},{"sql":"INSERT INTO total SELECT 1, COUNT(*) FROM acct"}]},{"name":"walk","kind":"call","touch":"all","body":[{"return":"SELECT id FROM acct"}]},{"name":"of","kind":"call","args":[["owner","text"]],"touch":"all","body":[{"return":"SELECT id FROM acct WHERE owner = :owner"}]},{"name":"sum","kind":"call","touch":{"part":1},"body":[{"return":"SELECT n FROM total"}]},{"name":"tick","kind":"border","inputs":["ticks"],"touch":{"part":3},"body":[{"sql":"INSERT INTO last SELECT n FROM ticks"}]}]}"#;
+
+/// The catalogue, or None without memory.
+pub(crate) fn catalog(alloc: Global) -> Option<Catalog>
+    ensures { IfSome result Accepted }
+{
+    let value = Json::from_str(alloc, TEXT).ok()?;
+    read_catalog(alloc, &value).ok()
+}
+
+/// A table of accounts that is split by its key, calls that touch the partition of an argument, and a transfer that touches all.
+const ACCOUNTS: &str =
+    r#"{"tables":[{"name":"acct","columns":[["id","int"],["bal","int"]],"key":["id"],"by":"id"}],"procedures":[{"name":"open","kind":"call","args":[["id","int"],["bal","int"]],"touch":{"arg":"id"},"body":[{"sql":"INSERT INTO acct VALUES (:id, :bal)"}]},{"name":"move","kind":"call","args":[["a","int"],["b","int"],["n","int"]],"touch":"all","body":[{"abort_if":"(SELECT COUNT(*) FROM acct WHERE id = :a AND bal >= :n) = 0","code":1},{"abort_if":"(SELECT COUNT(*) FROM acct WHERE id = :b) = 0","code":2},{"sql":"UPDATE acct SET bal = bal - :n WHERE id = :a"},{"sql":"UPDATE acct SET bal = bal + :n WHERE id = :b"}]},{"name":"balances","kind":"call","touch":"all","body":[{"return":"SELECT bal FROM acct"}]}]}"#;
+
+/// The catalogue of accounts, or None without memory.
+pub(crate) fn accounts(alloc: Global) -> Option<Catalog>
+    ensures { IfSome result Accepted }
+{
+    let value = Json::from_str(alloc, ACCOUNTS).ok()?;
+    read_catalog(alloc, &value).ok()
+}
