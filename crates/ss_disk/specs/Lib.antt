@@ -8,3 +8,4 @@ pub mod RunLaws
 pub mod Happened
 pub mod Steps
 pub mod Calls
+pub mod Folder

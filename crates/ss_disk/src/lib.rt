@@ -7,7 +7,7 @@
 //! - `disk`: what a disk is; `laws`: how its calls are put together into runs
 //! - `write`: a write that lasts
 //! - `contents`: the bytes of three files; `events`: what has happened to them; `memory`: a disk of both
-//! - `crash`: what a crash leaves of a disk in memory
+//! - `crash`: what a crash leaves of a disk in memory; `folder`: a disk in a folder of the file system
 //!
 //! `MemoryDisk::crash` and the calls that write or cut may answer `NoMemory`. A call of the disk in memory takes time in
 //! the bytes that it reads or writes, and in the number of the calls that are to fail.
@@ -17,12 +17,14 @@ mod contents;
 mod crash;
 mod disk;
 mod events;
+mod folder;
 mod laws;
 mod memory;
 mod write;
 
 pub use crash::Torn;
 pub use disk::{Disk, DiskError, FileNo};
+pub use folder::FolderDisk;
 pub use laws::{Claim, runs_compose};
 pub use memory::MemoryDisk;
 pub use write::write_synced;

@@ -7,6 +7,7 @@
 //! The crate has tests alone:
 //!
 //! - `steps`: takes steps on any disk, and tells what is in its files; `crashes`: a case, with its crashes
+//! - `folders`: a disk in a folder of the file system
 //! - `runs`: a claim about each moment of two writes, by the laws on runs of calls
 #![tactic(auto)]
 

@@ -1,5 +1,6 @@
 //! What stands behind steps, as a person decides it from the rules.
 
 mod crashes;
+mod folders;
 mod runs;
 mod steps;

@@ -84,6 +84,10 @@ module _ {I : Type 0} (catalog : Catalog) (accepted : Accepted catalog) (n : ℕ
   behind : (list : List Item) → AllContinue catalog n list hand.marks → AgreesWith catalog n db hand.marks (after catalog db (listed_of list))
   behind list all = own_part catalog accepted n some db list hand.marks all
 
+  -- it holds its parts behind each list that goes on from what the marks know
+  pub holds_behind : (list : List Item) → AllContinue catalog n list hand.marks → HoldsParts catalog n held hand.whole (after catalog db (listed_of list))
+  holds_behind list all = holds_where (after catalog db (listed_of list)) (behind list all)
+
   -- nothing changed
   pub still_in_hand : (whole : ShardValue) → HasStayed catalog n hand.whole whole → IsInHand catalog n db held (record hand { whole = whole })
   still_in_hand whole stays = record {

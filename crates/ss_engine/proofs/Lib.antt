@@ -20,3 +20,8 @@ pub mod OwnEntries
 pub mod Trying
 pub mod SmallSets
 pub mod Serves
+pub mod Fresh
+pub mod Looks
+pub mod WholeList
+pub mod LanesApart
+pub mod HandedOver

@@ -15,6 +15,28 @@ use Rattle.ss_engine.specs.Growing.{GoesOn}
 use Rattle.ss_engine.specs.Stepping.{AllGoOn}
 use Rattle.ss_engine.proofs.Growing.{on_and_on, on_itself}
 
+-- marks that came back as they were
+pub all_on_itself : (catalog : Catalog) (parts : ℕ) (ks : List Known) → AllGoOn catalog parts ks ks
+all_on_itself catalog parts [] = tt
+all_on_itself catalog parts (k ∷ ks) = (on_itself catalog parts k, all_on_itself catalog parts ks)
+
+pub all_on_and_on : (catalog : Catalog) (parts : ℕ) (ks ls ms : List Known) → AllGoOn catalog parts ks ls → AllGoOn catalog parts ls ms → AllGoOn catalog parts ks ms
+all_on_and_on catalog parts [] [] ms a b = b
+all_on_and_on catalog parts [] (l ∷ ls) ms a b = absurd a
+all_on_and_on catalog parts (k ∷ ks) [] ms a b = absurd a
+all_on_and_on catalog parts (k ∷ ks) (l ∷ ls) [] a b = absurd b
+all_on_and_on catalog parts (k ∷ ks) (l ∷ ls) (m ∷ ms) a b = (on_and_on catalog parts k l m a.0 b.0, all_on_and_on catalog parts ks ls ms a.1 b.1)
+
+-- marks that know a list which goes on from what each of them knew
+pub all_met : (catalog : Catalog) (parts : ℕ) (list : List Item) (ks ls : List Known) → AllKnow list ks ls → AllContinue catalog parts list ks → AllGoOn catalog parts ks ls
+all_met catalog parts list [] [] know on = tt
+all_met catalog parts list [] (l ∷ ls) know on = absurd know
+all_met catalog parts list (k ∷ ks) [] know on = absurd know
+all_met catalog parts list (k ∷ ks) (l ∷ ls) know on = (
+  record { role = know.0.role; sees = know.0.sees; on = subst (λ (x : List Item). Continues catalog parts x k) (sym know.0.list_is) (on k (inl refl)) },
+  all_met catalog parts list ks ls know.1 (λ m i. on m (inr i)),
+)
+
 go_on_last : (catalog : Catalog) (parts : ℕ) (ks : List Known) (k l : Known) → GoesOn catalog parts k l → AllGoOn catalog parts (ks ++ k ∷ []) (ks ++ l ∷ [])
 go_on_last catalog parts [] k l on = (on, tt)
 go_on_last catalog parts (x ∷ ks) k l on = (on_itself catalog parts x, go_on_last catalog parts ks k l on)
@@ -30,7 +52,7 @@ roles_go_on catalog parts (k ∷ ks) [] all = absurd all
 roles_go_on catalog parts (k ∷ ks) (l ∷ ls) all = λ i. all.0.role i ∷ roles_go_on catalog parts ks ls all.1 i
 
 -- the mark that it was
-went_in : (catalog : Catalog) (parts : ℕ) (ks ls : List Known) → AllGoOn catalog parts ks ls → (l : Known) → In l ls → (k : Known) × In k ks × GoesOn catalog parts k l
+pub went_in : (catalog : Catalog) (parts : ℕ) (ks ls : List Known) → AllGoOn catalog parts ks ls → (l : Known) → In l ls → (k : Known) × In k ks × GoesOn catalog parts k l
 went_in catalog parts [] [] all l i = absurd i
 went_in catalog parts [] (x ∷ ls) all l i = absurd all
 went_in catalog parts (k ∷ ks) [] all l i = absurd all
@@ -70,7 +92,7 @@ looked_in_hand catalog accepted n some db held hand ks all in_hand = record {
 -- ---- a commit of marks that had gone on
 
 -- a mark whose list would go on to this one
-reaching : (catalog : Catalog) (parts : ℕ) (list : List Item) (k : Known) → Continues catalog parts list k → GoesOn catalog parts k (known k.role list k.count k.faults)
+pub reaching : (catalog : Catalog) (parts : ℕ) (list : List Item) (k : Known) → Continues catalog parts list k → GoesOn catalog parts k (known k.role list k.count k.faults)
 reaching catalog parts list k on = record { role = refl; sees = record { count = omega arith; faults = omega arith; disk = λ d. (refl, refl) }; on = on }
 
 pub continue_through : (catalog : Catalog) (parts : ℕ) (list : List Item) (ks ls : List Known) → AllGoOn catalog parts ks ls → AllContinue catalog parts list ls → AllContinue catalog parts list ks

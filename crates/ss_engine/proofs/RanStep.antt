@@ -17,17 +17,17 @@ use Rattle.ss_engine.specs.Executed.{IsStepped}
 use Rattle.ss_engine.specs.Runs.{SaysOnly}
 use Rattle.ss_engine.specs.Stepping.{AllGoOn, CommitsStep, HadBatches, LacksWhereNotReady, stepped_of}
 use Rattle.ss_engine.proofs.InHand.{Came}
-use Rattle.ss_engine.proofs.MarksOn.{continue_through, know_through, roles_go_on}
+use Rattle.ss_engine.proofs.MarksOn.{all_on_and_on, all_on_itself, continue_through, know_through, roles_go_on}
 
 -- what its commit says, and the marks as they come back
 module _ (catalog : Catalog) (n first limit : ℕ) (ks : List Known) (l : model.Listed) (ks' : List Known) where
   pub says_step : (said : Said) → CommitsStep catalog n first limit ks l ks' said → SaysOnly l said
-  says_step (Listed place copy) done = let (list, at, same, know, all) = done in same
+  says_step (Listed place copy) done = let (list, at, small, same, know, all) = done in same
   says_step NoMemory done = tt
   says_step (ListFull count) done = tt
 
   pub came_step : (said : Said) → CommitsStep catalog n first limit ks l ks' said → Came catalog n ks l ks' said
-  came_step (Listed place copy) done = let (list, at, same, know, all) = done in (list, roles_of ks, know, all)
+  came_step (Listed place copy) done = let (list, at, small, same, know, all) = done in (list, roles_of ks, know, all)
   came_step NoMemory done = done
   came_step (ListFull count) done = let (list, count_is, full, know, all) = done in (list, know, all)
 
@@ -55,23 +55,24 @@ step_there ps q has = by (slice_get ps q) refl has
 pub stepped_so : (catalog : Catalog) (parts first limit q r : ℕ) (ks ms : List Known) (l : model.Listed) → l.entry ≡ StepEntry q r → (said : Said) → CommitsStep catalog parts first limit ks l ms said
     → IsStepped catalog parts first limit q ks ms (stepped_of said)
 stepped_so catalog parts first limit q r ks ms l is (Listed place copy) done =
-    let (list, at, same, know, all) = done in
-    (list, r, at, ap (λ (x : model.Listed). x.entry) same ∙ is, subst (λ (x : model.Listed). AllKnow (added list (roles_of ks) x) ks ms) (sym same) know, all)
-stepped_so catalog parts first limit q r ks ms l is NoMemory done = tt
+    let (list, at, small, same, know, all) = done in
+    (list, r, at, small, ap (λ (x : model.Listed). x.entry) same ∙ is, subst (λ (x : model.Listed). AllKnow (added list (roles_of ks) x) ks ms) (sym same) know, all)
+stepped_so catalog parts first limit q r ks ms l is NoMemory done = subst (λ (x : List Known). AllGoOn catalog parts ks x) (sym done) (all_on_itself catalog parts ks)
 stepped_so catalog parts first limit q r ks ms l is (ListFull count) done = done
 
 pub stepped_through : (catalog : Catalog) (parts first limit q : ℕ) (ks ls ms : List Known) → AllGoOn catalog parts ks ls → (did : Stepped) → IsStepped catalog parts first limit q ls ms did → IsStepped catalog parts first limit q ks ms did
 stepped_through catalog parts first limit q ks ls ms all (stepped.Ran place l) done =
-    let (list, r, at, is, know, on) = done in (
+    let (list, r, at, small, is, know, on) = done in (
       list,
       r,
       at,
+      small,
       is,
       know_through catalog parts (added list (roles_of ks) l) ks ls ms all (subst (λ (rs : List Role). AllKnow (added list rs l) ls ms) (roles_go_on catalog parts ks ls all) know),
       continue_through catalog parts list ks ls all on,
     )
-stepped_through catalog parts first limit q ks ls ms all stepped.NotReady done = tt
-stepped_through catalog parts first limit q ks ls ms all stepped.NoMemory done = tt
+stepped_through catalog parts first limit q ks ls ms all stepped.NotReady done = all_on_and_on catalog parts ks ls ms all done
+stepped_through catalog parts first limit q ks ls ms all stepped.NoMemory done = all_on_and_on catalog parts ks ls ms all done
 stepped_through catalog parts first limit q ks ls ms all (stepped.ListFull count) done =
     let (list, count_is, long, know, on) = done in
     (list, count_is, long, know_through catalog parts list ks ls ms all know, continue_through catalog parts list ks ls all on)

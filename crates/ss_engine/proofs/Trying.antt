@@ -60,7 +60,7 @@ each_knows list (k ∷ ks) [] m all i = absurd all
 each_knows list (k ∷ ks) (l ∷ ls) m all i = ⊎_elim (λ (e : m ≡ l). ap (λ (x : Known). x.list) e ∙ all.0.list_is) (λ (j : In m ls). each_knows list ks ls m all.1 j) i
 
 pub own_procedure : (catalog : Catalog) (n first limit q : ℕ) (ks ls : List Known) (s : Stepped) → IsStepped catalog n first limit q ks ls s → IsOfProcedure q s
-own_procedure catalog n first limit q ks ls (Ran place l) done = let (list, r, at, step, all, on) = done in (r, step)
+own_procedure catalog n first limit q ks ls (Ran place l) done = let (list, r, at, small, step, all, on) = done in (r, step)
 own_procedure catalog n first limit q ks ls NotReady done = tt
 own_procedure catalog n first limit q ks ls NoMemory done = tt
 own_procedure catalog n first limit q ks ls (ListFull count) done = tt
@@ -73,7 +73,7 @@ module _ (catalog : Catalog) (n : ℕ) (db : Database) (first limit p q : ℕ) (
 
   tried_is : (s : Stepped) → IsStepped catalog n first limit q ks ls s → IfSome (tried_of s) (AfterPump catalog n db first limit p shown end)
   tried_is (Ran place l) done =
-      let (list, r, at, step, all, on) = done in
+      let (list, r, at, small, step, all, on) = done in
       let it : Item = item l (roles_of ks ++ Log ∷ []) in
       let (m, m_in, more) = last in
       let m_is : m.list ≡ list ++ it ∷ [] = each_knows (list ++ it ∷ []) ks ls m all m_in in

@@ -1,5 +1,5 @@
 -- An entry that ran on the parts in hand.
-use Rattle.std.specs.Prelude.{◌≡◌, ℕ, ◌+◌, List, length}
+use Rattle.std.specs.Prelude.{◌≡◌, ℕ, ◌+◌, ◌<◌, ◌^◌, List, length}
 use Rattle.ss_model.specs.declared.catalog.Catalog.{Catalog}
 use Rattle.ss_model.specs.declared.entry.Entry.{Entry}
 use Rattle.ss_model.specs.declared.entry.Entry.TheVariants.{Call, Push, Step as StepEntry}
@@ -17,6 +17,7 @@ use Rattle.ss_engine.specs.declared.execution.Stepped.{Stepped}
 use Rattle.ss_engine.specs.declared.execution.Stepped.TheVariants.{Ran, NotReady, NoMemory, ListFull}
 use Rattle.ss_engine.specs.declared.reply.Said.{Said}
 use Rattle.ss_engine.specs.Commits.{CommitsAsked}
+use Rattle.ss_engine.specs.Stepping.{AllGoOn}
 
 -- the entry is what a client asked for, whose role this is
 abbrev pub IsOfRole : Role → Entry → Type 0
@@ -44,8 +45,9 @@ pub record RanAsked (catalog : Catalog) (n first limit : ℕ) (e : Entry) (ks : 
 -- place, behind a list that goes on from what each mark knew; or, where it did not run, the marks know no less than before
 abbrev pub IsStepped : Catalog → ℕ → ℕ → ℕ → ℕ → List Known → List Known → Stepped → Type 0
 IsStepped catalog n first limit q ks ks' (Ran place l) =
-    (list : List Item) × (r : ℕ) × (place ≡ first + length list) × (l.entry ≡ StepEntry q r) × AllKnow (added list (roles_of ks) l) ks ks' × AllContinue catalog n list ks
-IsStepped catalog n first limit q ks ks' NotReady = Unit {0}
-IsStepped catalog n first limit q ks ks' NoMemory = Unit {0}
+    (list : List Item) × (r : ℕ) × (place ≡ first + length list) × (place < 2 ^ 60) × (l.entry ≡ StepEntry q r)
+    × AllKnow (added list (roles_of ks) l) ks ks' × AllContinue catalog n list ks
+IsStepped catalog n first limit q ks ks' NotReady = AllGoOn catalog n ks ks'
+IsStepped catalog n first limit q ks ks' NoMemory = AllGoOn catalog n ks ks'
 IsStepped catalog n first limit q ks ks' (ListFull count) =
     (list : List Item) × (count ≡ limit) × (length list ≡ limit) × AllKnow list ks ks' × AllContinue catalog n list ks

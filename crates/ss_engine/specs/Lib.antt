@@ -15,3 +15,5 @@ pub mod Engines
 pub mod Least
 pub mod Tried
 pub mod Serving
+pub mod Openings
+pub mod Closings

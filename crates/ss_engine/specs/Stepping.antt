@@ -1,5 +1,5 @@
 -- The batches of a step, and its commit.
-use Rattle.std.specs.Prelude.{◌≡◌, ℕ, ◌+◌, List, [], ◌∷◌, map, length, slice_get, Some, None}
+use Rattle.std.specs.Prelude.{◌≡◌, ℕ, ◌+◌, ◌<◌, ◌^◌, List, [], ◌∷◌, map, length, slice_get, Some, None}
 use Rattle.ss_model.specs.declared.catalog.Catalog.{Catalog}
 use Rattle.ss_model.specs.declared.catalog.Procedure.{Procedure}
 use Rattle.ss_model.specs.declared.entry.Entry.TheVariants.{Step as StepEntry}
@@ -65,7 +65,8 @@ HadBatches (stepped.ListFull count) = Unit {0}
 -- at its place behind a list that goes on from what each mark knew, and all marks know the list that ends with it
 abbrev pub CommitsStep : Catalog → ℕ → ℕ → ℕ → List Known → model.Listed → List Known → Said → Type 0
 CommitsStep catalog parts first limit ks l ks' (Listed place copy) =
-    (list : List Item) × (place ≡ first + length list) × (copy ≡ l) × AllKnow (added list (roles_of ks) l) ks ks' × AllContinue catalog parts list ks
+    (list : List Item) × (place ≡ first + length list) × (place < 2 ^ 60) × (copy ≡ l) × AllKnow (added list (roles_of ks) l) ks ks'
+    × AllContinue catalog parts list ks
 CommitsStep catalog parts first limit ks l ks' NoMemory = ks' ≡ ks
 CommitsStep catalog parts first limit ks l ks' (ListFull count) =
     (list : List Item) × (count ≡ limit) × (length list ≡ limit) × AllKnow list ks ks' × AllContinue catalog parts list ks

@@ -14,17 +14,19 @@
 //! - `ticket`, `job`, `reply`: what travels; `inbox`, `slot`: where it waits
 //! - `own`: whether a reply is the one that is waited for
 //! - `pump`: what the work of an inbox came to; `asking`: the commit of what a client asked for
-//! - `engine`: what threads share; `submitting`: its calls for clients; `pumping`: it runs the work of its inboxes
+//! - `engine`: what threads share; `opening`: one with an empty list, and a lane for each client; `closing`: what it leaves
+//! - `submitting`: its calls for clients; `pumping`: it runs the work of its inboxes; `settling`: its own last steps
 //! - `serving`: a job; `hints`: a procedure that may be ready; `waking`: hints of what an entry may have made ready
 //! - `holding`: partitions in and out of bays; `gate`: what is told of an execution; `least`: small sets
 //! - `execution`: an entry on the parts in hand; `running`: its run and its end; `stepping`: the batches and the commit of a step
 //!
 //! In `specs/`: `Mines` and `Told` (the entries of a client, and what answers tell of them), `Lanes`, `Replies`, `Owning`,
 //! `Answered`, `Growing` (tokens whose lists go on), `Pumped`, `Commits`, `Served`, `Engines`, `Executed`, `Runs`, `Stepping`,
-//! `Serving`, `Tried`, `Least`.
+//! `Serving`, `Tried`, `Least`, `Openings`, `Closings`.
 #![tactic(auto)]
 
 mod asking;
+mod closing;
 mod engine;
 mod execution;
 mod gate;
@@ -36,21 +38,26 @@ mod job;
 mod lane;
 mod laws;
 mod least;
+mod opening;
 mod own;
 mod pump;
 mod pumping;
 mod reply;
 mod running;
 mod serving;
+mod settling;
 mod slot;
 mod stepping;
 mod submitting;
 mod ticket;
 mod waking;
 
+pub use closing::Closed;
 pub use engine::Engine;
 pub use gate::{Gate, NoGate};
 pub use hub::Hub;
 pub use lane::Lane;
 pub use laws::lanes_serve;
+pub use opening::Opened;
 pub use pump::Pumped;
+pub use settling::Settling;

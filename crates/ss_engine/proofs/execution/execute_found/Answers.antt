@@ -3,6 +3,7 @@ use Rattle.ss_engine.specs.declared.execution.Stepped.{Stepped}
 use Rattle.ss_engine.specs.Executed.{IsStepped}
 use Rattle.ss_engine.specs.Stepping.{HadBatches}
 use Rattle.ss_engine.proofs.Marks.{covers_step}
+use Rattle.ss_engine.proofs.MarksOn.{all_on_itself}
 use Rattle.ss_engine.proofs.RanStep.{came_step, had_batches, says_step, stepped_so}
 use Rattle.ss_engine.proofs.RunsInHand.{right_of_run, run_in_hand, run_may_end, stays_in_hand}
 use Rattle.ss_engine.proofs.execution.execute_found.Goals as goal
@@ -31,6 +32,9 @@ end-requires g c =
     c.in-Ok.executed.emitted c.run_step.new.whole (c.in-Ok.ensures.ok g.I.Life.parts c.requires.some) out.0 out.1
     (says_step g.I.Life.catalog g.I.Life.parts g.I.Life.first g.I.Life.limit c.args.hand.marks _ out.0 out.1 c.commit_step-marks.ensures)
     (came_step g.I.Life.catalog g.I.Life.parts g.I.Life.first g.I.Life.limit c.args.hand.marks _ out.0 out.1 c.commit_step-marks.ensures)
+
+pub returns-in_default-clause-stepped : goal.returns-in_default-clause-stepped
+returns-in_default-clause-stepped g c = all_on_itself g.I.Life.catalog g.I.Life.parts c.args.hand.marks
 
 pub returns-clause-in_hand : goal.returns-clause-in_hand
 returns-clause-in_hand g c =

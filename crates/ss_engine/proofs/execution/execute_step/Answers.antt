@@ -3,7 +3,7 @@ use Rattle.ss_model.specs.declared.catalog.Catalog.{Catalog}
 use Rattle.ss_engine.specs.declared.stepping.Found.{Found}
 use Rattle.ss_engine.specs.Stepping.{AreFoundFor, LacksInput}
 use Rattle.ss_engine.proofs.Marks.{some_marks}
-use Rattle.ss_engine.proofs.MarksOn.{looked_in_hand}
+use Rattle.ss_engine.proofs.MarksOn.{all_on_itself, looked_in_hand}
 use Rattle.ss_engine.proofs.RanStep.{lacks_nothing, step_there, stepped_through}
 use Rattle.ss_engine.proofs.execution.execute_step.Goals as goal
 
@@ -33,6 +33,9 @@ execute_found-requires-clause-holds g c =
 
 pub execute_found-requires-clause-given : goal.execute_found-requires-clause-given
 execute_found-requires-clause-given g c = subst (λ (found : Found). AreFoundFor g.I.Life.catalog g.I.Life.opening c.look_for-marks.result.0 c.args.procedure c.in-Some.r found) c.in-All.is c.look_for-marks.ensures.found
+
+pub returns-in_default-clause-stepped : goal.returns-in_default-clause-stepped
+returns-in_default-clause-stepped g c = all_on_itself g.I.Life.catalog g.I.Life.parts c.args.hand.marks
 
 pub returns-in-All-clause-in_hand : goal.returns-in-All-clause-in_hand
 returns-in-All-clause-in_hand g c = λ held in_hand.

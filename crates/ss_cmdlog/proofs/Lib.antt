@@ -1,0 +1,14 @@
+pub mod Opened
+pub mod ReadWhole
+pub mod EntriesRead
+pub mod ReadAgain
+pub mod ReadTakes
+pub mod Spelled
+pub mod Torn
+pub mod Refused
+pub mod Split
+pub mod Logs
+pub mod Adding
+pub mod Filled
+pub mod Formatted
+pub mod Flat

@@ -1,0 +1,28 @@
+use Rattle.std.proofs.Common.{◌≡◌, ◌∙◌, ◌-◌, length, refl, arith}
+use Rattle.ss_cmdlog.proofs.Formatted.{formatted, fresh_open}
+use Rattle.ss_cmdlog.proofs.log.CmdLog.format.Goals as goal
+
+pub returns-in-Err-write_synced-clause-moments : goal.returns-in-Err-write_synced-clause-moments
+returns-in-Err-write_synced-clause-moments g c = λ honest.
+    let tells = g.met.D.Disk.honest_tells honest in
+    formatted g.D.Disk.moment g.D.Disk.images c.args.disk c.fill_both.new.disk c.write_synced.new.disk (g.D.Disk.seen c.args.disk) (g.D.Disk.seen c.fill_both.new.disk) c.args.image.now c.as_slice.result.now
+    (c.requires.settled honest) (c.requires.empty tells) c.in-Ok.ensures.long (c.as_slice.ensures.value ∙ c.in-Ok.ensures.spelled)
+    (c.in_default-fill_both.ensures.filled tells) (c.in_default-fill_both.ensures.durable honest) (c.fill_both.ensures.moments honest) (c.write_synced.ensures.moments honest)
+
+pub returns-clause-moments : goal.returns-clause-moments
+returns-clause-moments g c = λ honest.
+    let tells = g.met.D.Disk.honest_tells honest in
+    formatted g.D.Disk.moment g.D.Disk.images c.args.disk c.fill_both.new.disk c.write_synced.new.disk (g.D.Disk.seen c.args.disk) (g.D.Disk.seen c.fill_both.new.disk) c.args.image.now c.as_slice.result.now
+    (c.requires.settled honest) (c.requires.empty tells) c.in-Ok.ensures.long (c.as_slice.ensures.value ∙ c.in-Ok.ensures.spelled)
+    (c.in_default-fill_both.ensures.filled tells) (c.in_default-fill_both.ensures.durable honest) (c.fill_both.ensures.moments honest) (c.write_synced.ensures.moments honest)
+
+pub returns-clause-open : goal.returns-clause-open
+returns-clause-open g c =
+    let place : c.len.result - 1 ≡ length c.as_slice.result.now - 1 = omega arith in
+    record {
+      going = refl;
+      at = λ tells. fresh_open c.args.image.now c.as_slice.result.now _ (g.D.Disk.seen c.fill_both.new.disk) _ _ c.in-Ok.ensures.long (c.as_slice.ensures.value ∙ c.in-Ok.ensures.spelled) (c.requires.empty tells)
+          (c.in_default-fill_both.ensures.filled tells) (c.in_default-write_synced.ensures.ok tells) place;
+      count = λ tells. refl;
+      only = λ honest. c.in_default-write_synced.ensures.durable honest;
+    }

@@ -1,0 +1,82 @@
+-- A log, and what its calls leave on the disk.
+use Rattle.std.specs.Prelude.{◌≡◌, ◌≢◌, ◌⊎◌, ℕ, ◌≤◌, List, [], ◌∷◌, ◌++◌, length, take, Option, Some, None, Result, OnOk, IsErrOf}
+use Rattle.ss_model.specs.declared.entry.Entry.{Entry}
+use Rattle.ss_disk.specs.declared.disk.FileNo.{FileNo}
+use Rattle.ss_disk.specs.Files.{Files, file}
+use Rattle.ss_disk.specs.Crash.{Only}
+use Rattle.ss_disk.specs.Moments.{LeavesOnly}
+use Rattle.ss_value.specs.FaultCounts.{Rose}
+use Rattle.ss_cmdlog.specs.declared.log.CmdLog.{CmdLog}
+use Rattle.ss_cmdlog.specs.declared.log.LogError.{LogError}
+use Rattle.ss_cmdlog.specs.declared.log.LogError.TheVariants.{NoMemory, DiskFault, Foreign, Halted}
+use Rattle.ss_cmdlog.specs.Generation.{Stood, IsStood, front_bytes}
+use Rattle.ss_cmdlog.specs.Store.{StandsFor, StandsForPart, current_file, count_of, with_groups}
+use Rattle.ss_cmdlog.specs.Groups.{groups_of}
+
+-- the files stand for this, in this file, whose closed gate stands at this place
+pub record IsOpenAt (disk : Files) (current : FileNo) (gate : ℕ) (s : Stood) : Type 0 where
+  pub stood : IsStood s
+  pub byte : ℕ
+  pub selector : disk.selector ≡ byte ∷ []
+  pub named : current ≡ current_file byte
+  pub place : gate ≡ length (front_bytes s)
+  pub shut : ℕ
+  pub closed : shut ≢ 1
+  pub rest : List ℕ
+  pub bytes : file current disk ≡ front_bytes s ++ shut ∷ rest
+
+-- what a crash now may leave
+abbrev pub present : {D : Type 0} → (D → ℕ) → (D → ℕ → Files → Type 0) → D → Files → Type 0
+present moment images disk = images disk (moment disk)
+
+-- a crash now leaves what a read gives
+abbrev pub IsSettled : {D : Type 0} → (D → Files) → (D → Files → Type 0) → D → Type 0
+IsSettled seen present disk = Only (seen disk) (present disk)
+
+-- the log goes on, its disk stands for this, and all of that is on the disk
+pub record IsOpen {D : Type 0} (tells honest : Type 0) (seen : D → Files) (present : D → Files → Type 0) (log : CmdLog D) (s : Stood) : Type 0 where
+  pub going : log.halted ≡ None
+  pub at : tells → IsOpenAt (seen log.disk) log.file log.gate s
+  pub count : tells → log.count ≡ count_of s
+  pub only : honest → Only (seen log.disk) (present log.disk)
+
+-- each present image of a disk stands for this count at least
+abbrev pub IsReceipted : {D : Type 0} → (D → Files → Type 0) → ℕ → D → Type 0
+IsReceipted present n disk = (image : Files) → present disk image → (s : Stood) × StandsFor image s × (n ≤ count_of s)
+
+-- a group is added whole, or not at all
+pub record AddsGroup {D : Type 0} (tells honest : Type 0) (seen : D → Files) (moment : D → ℕ) (images : D → ℕ → Files → Type 0) (old new : CmdLog D) (result : Result (Unit {0}) LogError) (s : Stood)
+    (entries : List Entry) : Type 0 where
+  pub done : OnOk result (IsOpen tells honest seen (λ disk. images disk (moment disk)) new (with_groups s (entries ∷ [])))
+  pub kept : IsErrOf result NoMemory → IsOpen tells honest seen (λ disk. images disk (moment disk)) new s
+  pub moments : honest → LeavesOnly moment images old.disk new.disk (λ image. StandsFor image s ⊎ StandsFor image (with_groups s (entries ∷ [])))
+
+-- the first groups of the entries are added: all of them, or so many as had room
+pub record AddsEntries {D : Type 0} (tells honest : Type 0) (seen : D → Files) (moment : D → ℕ) (images : D → ℕ → Files → Type 0) (old new : CmdLog D) (ok no_memory : Type 0) (s : Stood)
+    (entries : List Entry) : Type 0 where
+  pub done : ok → IsOpen tells honest seen (λ disk. images disk (moment disk)) new (with_groups s (groups_of entries))
+  pub kept : no_memory → (j : ℕ) × (j ≤ length (groups_of entries)) × IsOpen tells honest seen (λ disk. images disk (moment disk)) new (with_groups s (take j (groups_of entries)))
+  pub moments : honest → LeavesOnly moment images old.disk new.disk (StandsForPart s (groups_of entries))
+
+-- each image at each moment of a call stands for this count at least
+abbrev pub KeepsReceipts : {D : Type 0} → (D → ℕ) → (D → ℕ → Files → Type 0) → ℕ → D → D → Type 0
+KeepsReceipts moment images n old new = LeavesOnly moment images old new (λ image. (s : Stood) × StandsFor image s × (n ≤ count_of s))
+
+-- a fault is answered only where the disk's count rose, and is kept; nothing else halts the log
+pub record HasLogCause {T : Type 0} (before now : ℕ) (old new : Option ℕ) (result : Result T LogError) : Type 0 where
+  pub later : before ≤ now
+  pub rose : IsErrOf result DiskFault → Rose before now
+  pub keeps : IsErrOf result DiskFault → new ≡ Some now
+  pub goes_on : (IsErrOf result DiskFault → ⊥) → new ≡ old
+
+-- a fault is answered only where the disk's count rose
+pub record HasCallCause (before now : ℕ) (refused : LogError) : Type 0 where
+  pub later : before ≤ now
+  pub rose : refused ≡ DiskFault → Rose before now
+
+-- what a log that goes on may refuse
+abbrev pub IsAddRefusal : LogError → Type 0
+IsAddRefusal NoMemory = Unit {0}
+IsAddRefusal DiskFault = Unit {0}
+IsAddRefusal (Foreign which at) = ⊥
+IsAddRefusal (Halted faults) = ⊥

@@ -1,0 +1,100 @@
+//! A new store.
+
+ghost use Rattle.std.specs.Prelude.{◌≡◌, ◌≢◌, ◌+◌, ◌<◌, ◌^◌, ◌⊎◌, [], ◌∷◌, ◌++◌, length, OnOk, IfOk, IfErr};
+ghost use Rattle.ss_disk.specs.Files.{file, with_file};
+ghost use Rattle.ss_disk.specs.Moments.{LeavesOnly};
+ghost use Rattle.ss_cmdlog.specs.Errors.{HasWriteCause};
+ghost use Rattle.ss_cmdlog.specs.Generation.{head_bytes};
+ghost use Rattle.ss_cmdlog.specs.Log.{IsSettled, present};
+ghost use Rattle.ss_cmdlog.specs.Formatting.{KeepsSelector};
+
+use crate::log::{CmdLog, LogError};
+use ss_disk::{Disk, DiskError, FileNo, write_synced};
+use ss_record::push_u64;
+use ss_value::NoMemory;
+use std::alloc::Global;
+
+/// The bytes in front of every generation.
+const MAGIC: [u8; 8] = [83, 83, 84, 79, 82, 69, 49, 10];
+
+/// A generation without groups: its head, and a closed gate.
+#[tactic(auto, unfolding(crate::specs::Generation::head_bytes))]
+pub(crate) fn generation(alloc: Global, first: u64, image: &[u8]) -> Result<Vec<u8>, NoMemory>
+    ensures spelled { IfOk result (λ bytes. bytes.items ≡ head_bytes first image.now ++ 0 ∷ []) }
+    ensures long { IfOk result (λ bytes. length image.now < 2 ^ 64) }
+{
+    let mut bytes = Vec::from_slice(alloc, &MAGIC)?;
+    push_u64(&mut bytes, first)?;
+    push_u64(&mut bytes, image.len() as u64)?;
+    bytes.extend_from_slice(image)?;
+    bytes.push(0)?;
+    Ok(bytes)
+}
+
+/// Puts other bytes into a generation's file, without a sync.
+pub(crate) fn refill<D: Disk>(disk: &mut D, which: FileNo, bytes: &[u8]) -> Result<(), DiskError>
+    requires { which ≢ FileNo.Selector }
+    ensures filled { D.tells → OnOk result (D.seen disk.new ≡ with_file which bytes.now (D.seen disk.old)) }
+    ensures moments { D.honest → LeavesOnly D.moment D.images disk.old disk.new (KeepsSelector (present D.moment D.images disk.old)) }
+    ensures cause { HasWriteCause (D.faults disk.old) (D.faults disk.new) result }
+{
+    disk.cut(which, 0)?;
+    disk.write_at(which, 0, bytes)
+}
+
+/// Puts one generation into both of its files, and syncs.
+pub(crate) fn fill_both<D: Disk>(disk: &mut D, bytes: &[u8]) -> Result<(), DiskError>
+    ensures filled { D.tells → OnOk result (D.seen disk.new ≡ record { selector = (D.seen disk.old).selector; first = bytes.now; second = bytes.now }) }
+    ensures durable { D.honest → OnOk result (IsSettled D.seen (present D.moment D.images) disk.new) }
+    ensures moments { D.honest → LeavesOnly D.moment D.images disk.old disk.new (KeepsSelector (present D.moment D.images disk.old)) }
+    ensures cause { HasWriteCause (D.faults disk.old) (D.faults disk.new) result }
+{
+    refill(disk, FileNo::First, bytes)?;
+    refill(disk, FileNo::Second, bytes)?;
+    match disk.sync() {
+        Ok(()) => Ok(()),
+        Err(_) => Err(DiskError::Failed),
+    }
+}
+
+impl<D: Disk> CmdLog<D> {
+    ghost use Rattle.std.specs.Prelude.{MatchResult, ◌≤◌};
+    ghost use Rattle.ss_cmdlog.specs.Store.{StandsFor, IsEmpty};
+    ghost use Rattle.ss_cmdlog.specs.Log.{IsOpen, IsAddRefusal, HasCallCause};
+    ghost use Rattle.ss_cmdlog.specs.Formatting.{fresh};
+
+    /// Makes a store of an image on an empty disk of which nothing is unsynced, at place 0.
+    ///
+    /// A crash at any moment leaves a disk that is still empty, or one that stands for the image. `DiskFault` comes only
+    /// where the disk counted a fault. There are seven calls of the disk. Time is linear in the image, of which there is one copy.
+    pub fn format(alloc: Global, mut disk: D, image: &[u8]) -> Result<CmdLog<D>, (LogError, D)>
+        requires empty { D.tells → IsEmpty (D.seen disk) }
+        requires settled { D.honest → IsSettled D.seen (present D.moment D.images) disk }
+        ensures open { IfOk result (λ log. IsOpen D.tells D.honest D.seen (present D.moment D.images) log (fresh image.now)) }
+        ensures count { IfOk result (λ log. log.count ≡ 0) }
+        ensures moments { D.honest → MatchResult result
+            (λ log. LeavesOnly D.moment D.images disk log.disk (λ crashed. IsEmpty crashed ⊎ StandsFor crashed (fresh image.now)))
+            (λ refused. LeavesOnly D.moment D.images disk refused.1 (λ crashed. IsEmpty crashed ⊎ StandsFor crashed (fresh image.now))) }
+        ensures cause { IfErr result (λ refused. HasCallCause (D.faults disk) (D.faults refused.1) refused.0) }
+        ensures later { IfOk result (λ log. D.faults disk ≤ D.faults log.disk) }
+        ensures refusals { IfErr result (λ refused. IsAddRefusal refused.0) }
+    {
+        let Ok(bytes) = generation(alloc, 0, image) else {
+            return Err((LogError::NoMemory, disk));
+        };
+        if let Err(refused) = fill_both(&mut disk, bytes.as_slice()) {
+            return Err((LogError::from(refused), disk));
+        }
+        if let Err(refused) = write_synced(&mut disk, FileNo::Selector, 0, &[0]) {
+            return Err((LogError::from(refused), disk));
+        }
+        Ok(CmdLog {
+            disk,
+            alloc,
+            file: FileNo::First,
+            gate: (bytes.len() - 1) as u64,
+            count: 0,
+            halted: None,
+        })
+    }
+}

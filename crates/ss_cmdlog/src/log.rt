@@ -1,0 +1,169 @@
+//! The log.
+
+ghost use Rattle.std.specs.Prelude.{◌≡◌, ◌≤◌, ◌<◌, ◌+◌, ◌^◌, List, [], length, None, OnOk, IsOk, IfOk, IfErr, IsErrOf, All, ℕ};
+ghost use Rattle.ss_model.specs.declared.entry.Entry.{Entry};
+ghost use Rattle.ss_record.specs.Spelling.{records};
+
+use crate::group::add_group;
+use crate::next::{behind_gate, next_group};
+use ss_disk::{Disk, DiskError, FileNo};
+use ss_model::Entry;
+use ss_value::{NoMemory, Seq};
+use std::alloc::Global;
+
+/// That all executions at places below a count are on the disk, whatever a crash leaves of it from then on.
+#[derive(Clone, Copy, Debug, PartialEq, Eq, Drop)]
+pub struct Receipt {
+    pub count: u64,
+}
+
+/// Why a call of a log was refused.
+#[derive(Clone, Copy, Debug, PartialEq, Eq, Drop)]
+pub enum LogError {
+    /// Want of memory. What was on the disk is there, and what was added by then.
+    NoMemory,
+    /// The disk failed, and counted it, in this call.
+    DiskFault,
+    /// The disk holds no store: the file's number, and in it the first byte that can't be. `open` alone answers it.
+    Foreign { file: u8, at: u64 },
+    /// The disk had failed in an earlier call, and had this count of faults then. `flush` alone answers it.
+    Halted { faults: u64 },
+}
+
+impl From<NoMemory> for LogError {
+    ghost use Rattle.ss_cmdlog.specs.declared.log.LogError.TheVariants.{NoMemory};
+
+    ghost from_gives = { λ _ e. e ≡ NoMemory };
+
+    fn from(_: NoMemory) -> LogError {
+        LogError::NoMemory
+    }
+}
+
+impl From<DiskError> for LogError {
+    ghost use Rattle.std.specs.Prelude.{◌≡◌};
+    ghost use Rattle.ss_cmdlog.specs.Errors.{log_error};
+
+    ghost from_gives = { λ refused e. e ≡ log_error refused };
+
+    fn from(refused: DiskError) -> LogError {
+        match refused {
+            DiskError::NoMemory => LogError::NoMemory,
+            DiskError::Failed => LogError::DiskFault,
+        }
+    }
+}
+
+/// The current generation of a store, behind which groups of entries are added. It takes the memory of its disk, and a few words.
+#[derive(Drop)]
+pub struct CmdLog<D: Disk> {
+    pub(crate) disk: D,
+    pub(crate) alloc: Global,
+    pub(crate) file: FileNo,
+    pub(crate) gate: u64,
+    pub(crate) count: u64,
+    pub(crate) halted: Option<u64>,
+}
+
+impl<D: Disk> CmdLog<D> {
+    ghost use Rattle.ss_cmdlog.specs.Generation.{Stood, IsGroup, max_body};
+    ghost use Rattle.ss_record.specs.Bounds.{IsRecordable};
+    ghost use Rattle.ss_cmdlog.specs.Log.{IsOpenAt, IsOpen, AddsGroup, AddsEntries, HasLogCause, IsAddRefusal, present, IsReceipted, KeepsReceipts};
+
+    /// Adds the group of these records.
+    pub(crate) fn write_group(&mut self, body: &[u8], number: usize) -> Result<(), LogError>
+        requires going { self.old.halted ≡ None }
+        requires open { D.tells → (s : Stood) × IsOpenAt (D.seen self.old.disk) self.old.file self.old.gate s }
+        requires body { length body.now ≤ max_body }
+        requires number { number ≤ max_body }
+        requires within { self.old.count + number ≤ 2 ^ 60 }
+        ensures adds { (s : Stood) (entries : List Entry) → IsOpen D.tells D.honest D.seen (present D.moment D.images) self.old s → IsGroup entries
+            → body.now ≡ records entries → number ≡ length entries → AddsGroup D.tells D.honest D.seen D.moment D.images self.old self.new result s entries }
+        ensures count { OnOk result (self.new.count ≡ self.old.count + number) }
+        ensures refusals { IfErr result IsAddRefusal }
+        ensures cause { HasLogCause (D.faults self.old.disk) (D.faults self.new.disk) self.old.halted self.new.halted result }
+    {
+        let bytes = behind_gate(self.alloc, body, number)?;
+        let Some(gate) = self.gate.checked_add(bytes.len() as u64) else {
+            return Err(LogError::NoMemory);
+        };
+        match add_group(&mut self.disk, self.file, self.gate, bytes.as_slice()) {
+            Ok(()) => {
+                self.gate = gate;
+                self.count += number as u64;
+                Ok(())
+            }
+            Err(DiskError::NoMemory) => Err(LogError::NoMemory),
+            Err(DiskError::Failed) => {
+                self.halted = Some(self.disk.faults());
+                Err(LogError::DiskFault)
+            }
+        }
+    }
+
+    /// Adds entries, group by group.
+    fn add_entries(&mut self, entries: &[Entry]) -> Result<(), LogError>
+        requires going { self.old.halted ≡ None }
+        requires open { (s : Stood) × IsOpen D.tells D.honest D.seen (present D.moment D.images) self.old s }
+        requires recordable { All IsRecordable entries.now }
+        requires within { self.old.count + length entries.now ≤ 2 ^ 60 }
+        ensures adds { (s : Stood) → IsOpen D.tells D.honest D.seen (present D.moment D.images) self.old s
+            → AddsEntries D.tells D.honest D.seen D.moment D.images self.old self.new (IsOk result) (IsErrOf result LogError.NoMemory) s entries.now }
+        ensures count { OnOk result (self.new.count ≡ self.old.count + length entries.now) }
+        ensures cause { HasLogCause (D.faults self.old.disk) (D.faults self.new.disk) self.old.halted self.new.halted result }
+        ensures refusals { IfErr result IsAddRefusal }
+        ensures nothing { entries.now ≡ [] → self.new ≡ self.old }
+    {
+        let mut rest = entries;
+        while !rest.is_empty() {
+            let next = next_group(self.alloc, rest)?;
+            self.write_group(next.body.as_slice(), next.number)?;
+            let (_, behind) = rest.split_at(next.number);
+            rest = behind;
+        }
+        Ok(())
+    }
+
+    /// Adds entries behind those that are there, and answers a receipt of all of them: group commit of the command log
+    /// (Malviya et al., ICDE 2014, section 3).
+    ///
+    /// Each group takes as many entries as fit 8,388,608 bytes of records, so entries whose records fit are one group. A
+    /// crash at any moment leaves the entries of the first of the groups: none of them, some or all. After `NoMemory` the
+    /// log goes on behind the groups that are on the disk. `DiskFault` comes only where the disk counted a fault; the log
+    /// answers `Halted` with that count from then on, and touches the disk no more.
+    ///
+    /// No entries are a receipt of what is there, without a call on the disk. Else there are four calls of the disk for
+    /// each group: its bytes behind the present gate, a sync, the gate, a sync. Time is linear in the bytes of the records,
+    /// each of which is spelled into a buffer of its own and copied into its group, and with it once more behind the
+    /// group's head; the entry that begins the next group is spelled twice.
+    pub fn flush(&mut self, entries: &Seq<Entry>) -> Result<Receipt, LogError>
+        requires open { self.old.halted ≡ None → (s : Stood) × IsOpen D.tells D.honest D.seen (present D.moment D.images) self.old s }
+        requires recordable { All IsRecordable entries.now }
+        requires within { self.old.count + length entries.now ≤ 2 ^ 60 }
+        ensures adds { (s : Stood) → IsOpen D.tells D.honest D.seen (present D.moment D.images) self.old s
+            → AddsEntries D.tells D.honest D.seen D.moment D.images self.old self.new (IsOk result) (IsErrOf result LogError.NoMemory) s entries.now }
+        ensures count { IfOk result (λ receipt. (receipt.count ≡ self.old.count + length entries.now) × (self.new.count ≡ receipt.count)) }
+        ensures cause { HasLogCause (D.faults self.old.disk) (D.faults self.new.disk) self.old.halted self.new.halted result }
+        ensures receipt { D.honest → IfOk result (λ receipt. IsReceipted (present D.moment D.images) receipt.count self.new.disk) }
+        ensures receipts { D.honest → (n : ℕ) → n ≤ self.old.count → IsReceipted (present D.moment D.images) n self.old.disk
+            → KeepsReceipts D.moment D.images n self.old.disk self.new.disk }
+        ensures halted { (faults : ℕ) → self.old.halted ≡ Some faults → (result ≡ Err (LogError.Halted faults)) × (self.new ≡ self.old) }
+        ensures halted_only { (faults : ℕ) → result ≡ Err (LogError.Halted faults) → self.old.halted ≡ Some faults }
+        ensures own { (file at : ℕ) → result ≡ Err (LogError.Foreign file at) → ⊥ }
+        ensures nothing { entries.now ≡ [] → self.new ≡ self.old }
+    {
+        if let Some(faults) = self.halted {
+            return Err(LogError::Halted { faults });
+        }
+        self.add_entries(entries.as_slice())?;
+        Ok(Receipt { count: self.count })
+    }
+
+    /// The disk, as the log left it.
+    pub fn into_disk(self) -> D
+        ensures { result ≡ self.disk }
+    {
+        let CmdLog { disk, .. } = self;
+        disk
+    }
+}

@@ -1,0 +1,142 @@
+//! An old store.
+
+ghost use Rattle.std.specs.Prelude.{◌≡◌, ◌≤◌, ◌≢◌, ℕ, [], IfOk, IfErr, Ok, Err};
+ghost use Rattle.ss_disk.specs.Files.{file};
+ghost use Rattle.ss_cmdlog.specs.Generation.{Stood};
+ghost use Rattle.ss_cmdlog.specs.Store.{current_file};
+ghost use Rattle.ss_cmdlog.specs.Reading.{generation_at};
+ghost use Rattle.ss_cmdlog.specs.Log.{HasCallCause};
+ghost use Rattle.ss_cmdlog.specs.Opening.{number_of, store_at, ReadsGeneration, ReadsStore, IsLoaded, OnlyReads};
+
+use crate::contents::{bytes_of, selector_of};
+use crate::log::{CmdLog, LogError};
+use crate::read::{Generation, ReadError, generation_in};
+use ss_disk::{Disk, FileNo};
+use ss_model::Entry;
+use ss_value::Seq;
+use std::alloc::Global;
+
+/// What a store holds: the image, the place behind it, and the entries from there on.
+#[derive(Drop)]
+pub struct Loaded {
+    pub first: u64,
+    pub image: Seq<u8>,
+    pub entries: Seq<Entry>,
+}
+
+/// The file that a selector's byte names.
+fn named(byte: u8) -> FileNo
+    ensures { result ≡ current_file byte }
+{
+    if byte % 2 == 0 {
+        FileNo::First
+    } else {
+        FileNo::Second
+    }
+}
+
+/// The number of a file.
+fn number(which: FileNo) -> u8
+    ensures { result ≡ number_of which }
+{
+    match which {
+        FileNo::Selector => 0,
+        FileNo::First => 1,
+        FileNo::Second => 2,
+    }
+}
+
+/// Reads a file as a generation.
+fn generation_of<D: Disk>(
+    alloc: Global,
+    disk: &mut D,
+    which: FileNo,
+) -> Result<Generation, LogError>
+    ensures found { IfOk result (λ g. ReadsGeneration D.tells (file which (D.seen disk.old)) g.loaded g.gate) }
+    ensures foreign { D.tells → (n at : ℕ) → result ≡ Err (LogError.Foreign n at) → generation_at (file which (D.seen disk.old)) ≡ Err at }
+    ensures numbered { (n at : ℕ) → result ≡ Err (LogError.Foreign n at) → n ≡ number_of which }
+    ensures halted { (faults : ℕ) → result ≡ Err (LogError.Halted faults) → ⊥ }
+    ensures reads { OnlyReads D.tells D.honest D.seen D.moment D.images disk.old disk.new }
+    ensures cause { IfErr result (λ refused. HasCallCause (D.faults disk.old) (D.faults disk.new) refused) }
+    ensures later { D.faults disk.old ≤ D.faults disk.new }
+{
+    let bytes = bytes_of(alloc, disk, which)?;
+    match generation_in(alloc, bytes.as_slice()) {
+        Ok(read) => Ok(read),
+        Err(ReadError::NoMemory) => Err(LogError::NoMemory),
+        Err(ReadError::Foreign { left }) => Err(LogError::Foreign {
+            file: number(which),
+            at: bytes.len().saturating_sub(left) as u64,
+        }),
+    }
+}
+
+/// What is read of a store, and the file that it stands in.
+#[derive(Drop)]
+struct Current {
+    generation: Generation,
+    file: FileNo,
+}
+
+/// Reads the current generation. Four calls of the disk.
+fn current_of<D: Disk>(alloc: Global, disk: &mut D) -> Result<Current, LogError>
+    requires stored { D.tells → (D.seen disk.old).selector ≢ [] }
+    ensures found { IfOk result (λ c. ReadsStore D.tells (D.seen disk.old) c.generation.loaded c.file c.generation.gate) }
+    ensures foreign { D.tells → (which at : ℕ) → result ≡ Err (LogError.Foreign which at) → store_at (D.seen disk.old) ≡ Err (which, at) }
+    ensures halted { (faults : ℕ) → result ≡ Err (LogError.Halted faults) → ⊥ }
+    ensures reads { OnlyReads D.tells D.honest D.seen D.moment D.images disk.old disk.new }
+    ensures cause { IfErr result (λ refused. HasCallCause (D.faults disk.old) (D.faults disk.new) refused) }
+    ensures later { D.faults disk.old ≤ D.faults disk.new }
+{
+    let byte = selector_of(disk)?;
+    let file = named(byte);
+    let generation = generation_of(alloc, disk, file)?;
+    Ok(Current { generation, file })
+}
+
+impl<D: Disk> CmdLog<D> {
+    ghost use Rattle.std.specs.Prelude.{MatchResult};
+    ghost use Rattle.ss_disk.specs.Moments.{LeavesOnly};
+    ghost use Rattle.ss_cmdlog.specs.Log.{IsOpen, present};
+    ghost use Rattle.ss_cmdlog.specs.Opening.{IsOpenRefusal, IsForeignAt, StandForLoaded};
+
+    /// Opens the store on a disk that isn't empty, and gives what it holds.
+    ///
+    /// It begins with a sync, and then reads: there are five calls of the disk, none of which changes it. A crash at any
+    /// moment leaves what it could leave before. `Foreign` tells the first byte that can't be, where the image is taken as
+    /// bytes; `DiskFault` comes only where the disk counted a fault. Time is linear in the current file, which is read whole
+    /// into one buffer; the image is copied out of it, and each entry.
+    pub fn open(alloc: Global, mut disk: D) -> Result<(CmdLog<D>, Loaded), (LogError, D)>
+        requires stored { D.tells → (D.seen disk).selector ≢ [] }
+        ensures open { IfOk result (λ r. (s : Stood) × (D.tells → store_at (D.seen disk) ≡ Ok s)
+            × IsOpen D.tells D.honest D.seen (present D.moment D.images) r.0 s × IsLoaded r.1 s) }
+        ensures foreign { D.tells → IfErr result (λ refused. IsForeignAt (D.seen disk) refused.0) }
+        ensures moments { D.honest → MatchResult result
+            (λ r. LeavesOnly D.moment D.images disk r.0.disk (present D.moment D.images disk))
+            (λ refused. LeavesOnly D.moment D.images disk refused.1 (present D.moment D.images disk)) }
+        ensures stands { D.honest → IfOk result (λ r. StandForLoaded (present D.moment D.images r.0.disk) r.1) }
+        ensures cause { IfErr result (λ refused. HasCallCause (D.faults disk) (D.faults refused.1) refused.0) }
+        ensures later { IfOk result (λ r. D.faults disk ≤ D.faults r.0.disk) }
+        ensures refusals { IfErr result (λ refused. IsOpenRefusal refused.0) }
+    {
+        if disk.sync().is_err() {
+            return Err((LogError::DiskFault, disk));
+        }
+        match current_of(alloc, &mut disk) {
+            Ok(Current { generation, file }) => {
+                let Generation { loaded, gate } = generation;
+                let count = loaded.first + loaded.entries.len() as u64;
+                let log = CmdLog {
+                    disk,
+                    alloc,
+                    file,
+                    gate: gate as u64,
+                    count,
+                    halted: None,
+                };
+                Ok((log, loaded))
+            }
+            Err(refused) => Err((refused, disk)),
+        }
+    }
+}

@@ -1,0 +1,260 @@
+//! A generation from bytes.
+
+ghost use Rattle.std.specs.Prelude.{◌≡◌, ◌≤◌, ◌+◌, length, IfOk, IfErr, Ok};
+ghost use Rattle.ss_record.specs.Reading.{number_at};
+ghost use Rattle.ss_cmdlog.specs.Generation.{Stood, max_body};
+ghost use Rattle.ss_cmdlog.specs.Reading.{whole, magic_at, first_at, bytes_at, image_at, head_at, body_length_at, count_at, entry_at, group_entry_at, entries_at, group_at, gate_at, groups_at, stood_at, generation_at, with_front};
+ghost use Rattle.ss_cmdlog.specs.Read.{field_error, flat, Reads, Refuses};
+ghost use Rattle.ss_cmdlog.specs.Opening.{IsGatedAt, IsLoaded};
+
+use crate::next::MAX_BODY;
+use crate::open::Loaded;
+use ss_model::Entry;
+use ss_record::{RecordError, byte_of, entry_in, u32_of, u64_of};
+use ss_value::{Seq, ValueError};
+use std::alloc::Global;
+
+/// The number that the bytes in front of every generation spell.
+const MAGIC: u64 = 0x5353_544F_5245_310A;
+
+/// The greatest first place.
+const LAST_PLACE: u64 = 1 << 60;
+
+/// Why bytes aren't read as a generation.
+#[derive(Clone, Copy, Debug, PartialEq, Eq, Drop)]
+pub(crate) enum ReadError {
+    /// Want of memory.
+    NoMemory,
+    /// So many bytes are left from the first on that can't be.
+    Foreign { left: usize },
+}
+
+impl From<ValueError> for ReadError {
+    ghost use Rattle.std.specs.Prelude.{◌≡◌};
+    ghost use Rattle.ss_cmdlog.specs.Read.{number_error};
+
+    ghost from_gives = { λ refused e. e ≡ number_error refused };
+
+    fn from(refused: ValueError) -> ReadError {
+        match refused {
+            ValueError::NoMemory => ReadError::NoMemory,
+            _ => ReadError::Foreign { left: 0 },
+        }
+    }
+}
+
+/// The refusal of a record.
+fn refused_record(bytes: &[u8], refused: RecordError) -> ReadError
+    ensures { result ≡ field_error bytes.now refused }
+{
+    match refused {
+        RecordError::NoMemory => ReadError::NoMemory,
+        RecordError::Truncated => ReadError::Foreign { left: 0 },
+        _ => ReadError::Foreign { left: bytes.len() },
+    }
+}
+
+#[tactic(auto, unfolding(crate::specs::Reading::gate_at))]
+fn gate_in(bytes: &[u8]) -> Result<(u8, &[u8]), ReadError>
+    ensures { Reads (λ x. (x.0, x.1.now)) result (gate_at bytes.now) }
+{
+    match byte_of(bytes) {
+        Ok(gate) => Ok(gate),
+        Err(refused) => Err(ReadError::from(refused)),
+    }
+}
+
+fn u64_in(bytes: &[u8]) -> Result<(u64, &[u8]), ReadError>
+    ensures { Reads (λ x. (x.0, x.1.now)) result (whole (number_at 8 bytes.now)) }
+{
+    match u64_of(bytes) {
+        Ok(number) => Ok(number),
+        Err(refused) => Err(ReadError::from(refused)),
+    }
+}
+
+fn u32_in(bytes: &[u8]) -> Result<(u32, &[u8]), ReadError>
+    ensures { Reads (λ x. (x.0, x.1.now)) result (whole (number_at 4 bytes.now)) }
+{
+    match u32_of(bytes) {
+        Ok(number) => Ok(number),
+        Err(refused) => Err(ReadError::from(refused)),
+    }
+}
+
+#[tactic(auto, unfolding(crate::specs::Reading::magic_at))]
+fn magic_in(bytes: &[u8]) -> Result<&[u8], ReadError>
+    ensures { Reads (λ x. x.now) result (magic_at bytes.now) }
+{
+    let (number, rest) = u64_in(bytes)?;
+    if number != MAGIC {
+        return Err(ReadError::Foreign { left: bytes.len() });
+    }
+    Ok(rest)
+}
+
+#[tactic(auto, unfolding(crate::specs::Reading::first_at))]
+fn first_in(bytes: &[u8]) -> Result<(u64, &[u8]), ReadError>
+    ensures { Reads (λ x. (x.0, x.1.now)) result (first_at bytes.now) }
+{
+    let (first, rest) = u64_in(bytes)?;
+    if first > LAST_PLACE {
+        return Err(ReadError::Foreign { left: bytes.len() });
+    }
+    Ok((first, rest))
+}
+
+#[tactic(auto, unfolding(crate::specs::Reading::image_at, crate::specs::Reading::bytes_at))]
+fn image_in(bytes: &[u8]) -> Result<(&[u8], &[u8]), ReadError>
+    ensures { Reads (λ x. (x.0.now, x.1.now)) result (image_at bytes.now) }
+{
+    let (count, rest) = u64_in(bytes)?;
+    if (rest.len() as u64) < count {
+        return Err(ReadError::Foreign { left: 0 });
+    }
+    Ok(rest.split_at(count as usize))
+}
+
+#[tactic(auto, unfolding(crate::specs::Reading::body_length_at))]
+fn body_length_in(bytes: &[u8]) -> Result<(u32, &[u8]), ReadError>
+    ensures read { Reads (λ x. (x.0, x.1.now)) result (body_length_at bytes.now) }
+    ensures short { IfOk result (λ x. x.0 ≤ max_body) }
+{
+    let (body, rest) = u32_in(bytes)?;
+    if body as usize > MAX_BODY {
+        return Err(ReadError::Foreign { left: bytes.len() });
+    }
+    Ok((body, rest))
+}
+
+#[tactic(auto, unfolding(crate::specs::Reading::count_at))]
+fn count_in(bytes: &[u8]) -> Result<(u32, &[u8]), ReadError>
+    ensures { Reads (λ x. (x.0, x.1.now)) result (count_at bytes.now) }
+{
+    let (count, rest) = u32_in(bytes)?;
+    if count == 0 {
+        return Err(ReadError::Foreign { left: bytes.len() });
+    }
+    Ok((count, rest))
+}
+
+#[tactic(auto, unfolding(crate::specs::Reading::entry_at))]
+fn entry_of(alloc: Global, bytes: &[u8]) -> Result<(Entry, &[u8]), ReadError>
+    ensures { Reads (λ x. (x.0, x.1.now)) result (entry_at bytes.now) }
+{
+    match entry_in(alloc, bytes) {
+        Ok(entry) => Ok(entry),
+        Err(refused) => Err(refused_record(bytes, refused)),
+    }
+}
+
+/// An entry with so many more behind it in its group. The last of them ends where the length of the body says.
+#[tactic(auto, unfolding(crate::specs::Reading::group_entry_at))]
+fn group_entry_in(
+    alloc: Global,
+    bytes: &[u8],
+    more: u32,
+    body: u32,
+    total: usize,
+) -> Result<(Entry, &[u8]), ReadError>
+    requires { body ≤ max_body }
+    ensures { Reads (λ x. (x.0, x.1.now)) result (group_entry_at more body total bytes.now) }
+{
+    let (entry, rest) = entry_of(alloc, bytes)?;
+    if more == 0 && body as usize + rest.len() != total {
+        return Err(ReadError::Foreign { left: bytes.len() });
+    }
+    Ok((entry, rest))
+}
+
+/// So many entries, behind those that were read.
+fn entries_in(
+    alloc: Global,
+    mut entries: Seq<Entry>,
+    bytes: &[u8],
+    count: u32,
+    body: u32,
+) -> Result<(Seq<Entry>, &[u8]), ReadError>
+    requires { body ≤ max_body }
+    ensures { Reads (λ x. (x.0, x.1.now)) result (with_front entries (entries_at count body (length bytes.now) bytes.now)) }
+{
+    let mut rest = bytes;
+    for done in 0..count {
+        let (entry, behind) = group_entry_in(alloc, rest, count - done - 1, body, bytes.len())?;
+        if entries.push(entry).is_err() {
+            return Err(ReadError::NoMemory);
+        }
+        rest = behind;
+    }
+    Ok((entries, rest))
+}
+
+/// The entries of a group, behind those that were read.
+#[tactic(auto, unfolding(crate::specs::Reading::group_at))]
+fn group_in(
+    alloc: Global,
+    entries: Seq<Entry>,
+    bytes: &[u8],
+) -> Result<(Seq<Entry>, &[u8]), ReadError>
+    ensures { Reads (λ x. (x.0, x.1.now)) result (with_front entries (group_at bytes.now)) }
+{
+    let (body, rest) = body_length_in(bytes)?;
+    let (count, rest) = count_in(rest)?;
+    entries_in(alloc, entries, rest, count, body)
+}
+
+/// The entries of all groups, and the bytes from the closed gate on. Each group takes a byte at least.
+fn groups_in(alloc: Global, bytes: &[u8]) -> Result<(Seq<Entry>, &[u8]), ReadError>
+    ensures { Reads (λ x. (x.0, x.1.now)) result (flat (groups_at (length bytes.now) bytes.now)) }
+{
+    let mut entries = Seq::new(alloc);
+    let mut rest = bytes;
+    for _ in 0..bytes.len() {
+        let (gate, behind) = gate_in(rest)?;
+        if gate != 1 {
+            return Ok((entries, rest));
+        }
+        let (more, after) = group_in(alloc, entries, behind)?;
+        entries = more;
+        rest = after;
+    }
+    Err(ReadError::Foreign { left: 0 })
+}
+
+/// The first place, the image and the bytes behind it.
+#[tactic(auto, unfolding(crate::specs::Reading::head_at))]
+fn head_in(bytes: &[u8]) -> Result<(u64, &[u8], &[u8]), ReadError>
+    ensures { Reads (λ x. (x.0, x.1.now, x.2.now)) result (head_at bytes.now) }
+{
+    let rest = magic_in(bytes)?;
+    let (first, rest) = first_in(rest)?;
+    let (image, rest) = image_in(rest)?;
+    Ok((first, image, rest))
+}
+
+/// What is read of a generation, and the place of its closed gate.
+#[derive(Drop)]
+pub(crate) struct Generation {
+    pub loaded: Loaded,
+    pub gate: usize,
+}
+
+/// Reads a generation: linear in the bytes in front of its closed gate. There is one copy of the image.
+pub(crate) fn generation_in(alloc: Global, bytes: &[u8]) -> Result<Generation, ReadError>
+    ensures found { IfOk result (λ g. (s : Stood) × (generation_at bytes.now ≡ Ok s) × IsGatedAt bytes.now g.gate s × IsLoaded g.loaded s) }
+    ensures refused { IfErr result (λ e. Refuses e (stood_at bytes.now)) }
+{
+    let (first, image, rest) = head_in(bytes)?;
+    let (entries, behind) = groups_in(alloc, rest)?;
+    let Ok(image) = Vec::from_slice(alloc, image) else {
+        return Err(ReadError::NoMemory);
+    };
+    Ok(Generation {
+        loaded: Loaded {
+            first,
+            image: Seq::from_vec(image),
+            entries,
+        },
+        gate: bytes.len() - behind.len(),
+    })
+}

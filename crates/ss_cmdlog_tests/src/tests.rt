@@ -1,0 +1,6 @@
+//! What bytes mean, as a person decides it from the formats.
+
+mod crashes;
+mod damage;
+mod records;
+mod stores;

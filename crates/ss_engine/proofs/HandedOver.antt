@@ -1,0 +1,171 @@
+-- What a list leaves, once the marks of all partitions know it.
+--
+-- The log's list goes on from what the marks of all lanes and of all partitions knew. So it has no other entry of a lane's client than
+-- the lane knew; and no entry behind what a partition's mark knew touches that partition, so the shard in hand, which had each part as
+-- its mark's list leaves it, has it as the whole list leaves it.
+use Rattle.std.proofs.Common.{◌≡◌, ◌≤◌, ◌<◌, ◌+◌, inl, inr, ⊎_elim, ℕ, zero, suc, Bool, true, false, List, [], ◌∷◌, ◌++◌, map, length, slice_get, Some, refl, sym, ap, ◌∙◌, subst, arith, length-append}
+use Rattle.std.proofs.lemmas.List.{length-map}
+use Rattle.std.proofs.lemmas.List.FromFn.{length-map-range_with_len}
+use Rattle.std.proofs.lemmas.Option.{slice_get-map}
+use Rattle.std.specs.Option.{option_map}
+use Rattle.std.specs.List.{AllByRecursion, range_with_len}
+use Rattle.ss_model.specs.declared.catalog.Catalog.{Catalog}
+use Rattle.ss_model.specs.declared.entry.Answer.{Answer}
+use Rattle.ss_model.specs.declared.entry.Listed.{Listed}
+use Rattle.ss_model.specs.Accepted.{Accepted}
+use Rattle.ss_model.specs.Database.{Database}
+use Rattle.ss_model.specs.Orders.{Orders}
+use Rattle.ss_model.specs.Partitions.{home_of, touches}
+use Rattle.ss_model.specs.Replays.{Replays, after, database_after}
+use Rattle.ss_model.specs.Report.{is_step}
+use Rattle.ss_model.specs.Settled as model
+use Rattle.ss_model.specs.Settling.{is_ready_now}
+use Rattle.ss_model.proofs.CallerLemmas.{applied_fits, home_below}
+use Rattle.ss_model_laws.proofs.CallerLemmas.{at_rest, in_step_after}
+use Rattle.ss_report_laws.proofs.CallerLemmas.{applied_of}
+use Rattle.ss_stream.specs.OfDatabase.{AreStreamsOf}
+use Rattle.ss_stream.specs.Streams.{ReservedStreams}
+use Rattle.ss_shard.specs.Parts.{all_partitions, is_among, IsWholeShard}
+use Rattle.ss_shard.specs.Windows.{HoldsDatabase}
+use Rattle.ss_shard.proofs.AllPartitions.{among_all}
+use Rattle.ss_shard.proofs.Blanks.{nothing_blank}
+use Rattle.ss_commitlog.specs.declared.role.Role.{Role}
+use Rattle.ss_commitlog.specs.declared.role.Role.TheVariants.{Part, Client}
+use Rattle.ss_commitlog.specs.declared.rule.Item.{Item}
+use Rattle.ss_commitlog.specs.Meaning.{listed_of, HaveClientsBelow}
+use Rattle.ss_commitlog.specs.Roles.{In}
+use Rattle.ss_commitlog.specs.Tokens.{Known, AllContinue, Continues, role_of, roles_of}
+use Rattle.ss_commitlog.proofs.CallerLemmas.{in_left, in_right, length-listed_of, listed_of-append}
+use Rattle.ss_hand.specs.Hands.{IsInHand}
+use Rattle.ss_hand.specs.declared.hand.Hand.{Hand}
+use Rattle.ss_engine.specs.declared.settling.Settling.{Settling}
+use Rattle.ss_engine.specs.declared.settling.Settling.TheVariants.{Done, NoMemory, ListFull}
+use Rattle.ss_engine.specs.Closings.{AddsSteps, AreMarksOf, AreOfClients, EachTouches, EndedWith, EndsWithSteps, IsClosed, IsOfLane, MayBeWhole, SettledTo}
+use Rattle.ss_engine.specs.Lanes.{LaneView}
+use Rattle.ss_engine.specs.Mines.{mine_in}
+use Rattle.ss_engine.specs.Pumped.{NoneReady}
+use Rattle.ss_engine.proofs.InHand.{holds_behind}
+use Rattle.ss_engine.proofs.Mines.{mine_own}
+use Rattle.ss_engine.proofs.Touching.{some_touched}
+
+-- ---- lanes
+
+-- the mark of a lane among those of all
+mark_at : (lanes : List LaneView) (ms : List Known) → AreMarksOf lanes ms → (k : ℕ) (lane : LaneView) → slice_get lanes k ≡ Some lane → (m : Known) × In m ms × (m.role ≡ Client lane.client) × (m.list ≡ lane.list)
+mark_at [] ms are k lane is = absurd (cc)
+mark_at (x ∷ xs) [] are k lane is = absurd are
+mark_at (x ∷ xs) (m ∷ ms) are zero lane is =
+    let same : x ≡ lane = cc in
+    (m, inl refl, are.0 ∙ ap (λ (l : LaneView). Client l.client) same, are.1 ∙ ap (λ (l : LaneView). l.list) same)
+mark_at (x ∷ xs) (m ∷ ms) are (suc k) lane is = let (y, there, role, list) = mark_at xs ms are.2 k lane is in (y, inr there, role, list)
+
+-- a list that all marks of lanes are at the beginning of
+of_lane : (catalog : Catalog) (n first : ℕ) (lanes : List LaneView) (ms rest : List Known) (list : List Item) (answers : List (List Answer)) → AreMarksOf lanes ms → AllContinue catalog n list (ms ++ rest)
+    → answers ≡ map (λ (l : LaneView). l.answers) lanes → (k : ℕ) (lane : LaneView) → slice_get lanes k ≡ Some lane → lane.client ≡ k → IsOfLane first k lane (listed_of list) answers
+of_lane catalog n first lanes ms rest list answers are on is k lane there client =
+    let (m, in_ms, role, same) = mark_at lanes ms are k lane there in
+    let b = on m (in_left m ms rest in_ms) in
+    let whole : list ≡ lane.list ++ b.rest = b.is ∙ ap (λ (l : List Item). l ++ b.rest) same in
+    record {
+      rest = listed_of b.rest;
+      begins = ap listed_of whole ∙ listed_of-append lane.list b.rest;
+      longer = (let a = ap (λ (l : List Item). length l) whole in let d = length-append lane.list b.rest in let e = length-listed_of list in omega arith);
+      own = mine_own catalog n k first list m b (role ∙ ap Client client) ∙ ap (mine_in k first) same;
+      answers_are = ap (λ (xs : List (List Answer)). slice_get xs k) is ∙ (slice_get-map (λ (l : LaneView). l.answers) lanes k ∙ ap (option_map (λ (l : LaneView). l.answers)) there);
+    }
+
+-- as many marks as lanes
+pub lane_marks : (lanes : List LaneView) (ms : List Known) → AreMarksOf lanes ms → length ms ≡ length lanes
+lane_marks [] [] are = refl
+lane_marks [] (m ∷ ms) are = absurd are
+lane_marks (x ∷ xs) [] are = absurd are
+lane_marks (x ∷ xs) (m ∷ ms) are = ap suc (lane_marks xs ms are.2)
+
+-- and as partitions
+pub part_marks : (n : ℕ) (ks : List Known) → roles_of ks ≡ map Part (all_partitions n) → length ks ≡ n
+part_marks n ks roles = sym (length-map ks role_of) ∙ ap (λ (rs : List Role). length rs) roles ∙ length-map-range_with_len Part 0 n
+
+-- ---- steps at the end
+
+all_listed : (rest : List Item) → AllByRecursion (λ (i : Item). is_step i.listed.entry ≡ true) rest → AllByRecursion (λ (l : Listed). is_step l.entry ≡ true) (listed_of rest)
+all_listed [] all = tt
+all_listed (i ∷ is) all = (all.0, all_listed is all.1)
+
+ends_with : (old list : List Item) (count : ℕ) → AddsSteps old list count → EndsWithSteps (listed_of list) count
+ends_with old list count added = record {
+  front = listed_of old;
+  steps = listed_of added.rest;
+  is = ap listed_of added.is ∙ listed_of-append old added.rest;
+  many = length-listed_of added.rest ∙ added.many;
+  all_steps = all_listed added.rest added.steps;
+}
+
+-- ---- the whole shard
+
+zero_first : (n : ℕ) → 1 ≤ n → (x : ℕ) (xs : List ℕ) → x ∷ xs ≡ range_with_len 0 n → x ≡ 0
+zero_first zero some x xs e = absurd (omega arith)
+zero_first (suc n) some x xs e = cc
+
+is_whole : {I : Type 0} (catalog : Catalog) (n : ℕ) (db : Database) → 1 ≤ n → (hand : Hand I) → IsInHand catalog n db (all_partitions n) hand → IsWholeShard catalog n hand.whole
+is_whole catalog n db some hand is = record { number = zero_first n some hand.whole.number _ is.numbers; parts = is.parts }
+
+module _ (catalog : Catalog) (accepted : Accepted catalog) (n : ℕ) (some : 1 ≤ n) where
+  -- each entry of a list that replays fits, so it touches some partition
+  each_touches : (db : Database) (list : List Item) → Replays catalog db (listed_of list) → EachTouches catalog n list
+  each_touches db [] replays i there = absurd there
+  each_touches db (x ∷ xs) replays i there =
+      let (a, is) = applied_of _ x.listed.outcome replays.0 in
+      ⊎_elim (λ (e : i ≡ x). subst (λ (y : Item). (p : ℕ) × (touches catalog n y.listed.entry p ≡ true)) (sym e) (some_touched catalog accepted n some x.listed.entry (applied_fits catalog db x.listed.entry a is)))
+      (λ j. each_touches (database_after catalog db x.listed.entry) xs replays.1 i j) there
+
+  -- the shard of all partitions stands for what the whole list leaves
+  whole_holds : {I : Type 0} (db : Database) (hand : Hand I) (list : List Item) → IsInHand catalog n db (all_partitions n) hand → AllContinue catalog n list hand.marks → HoldsDatabase catalog hand.whole (after catalog db (listed_of list))
+  whole_holds db hand list in_hand on =
+      subst (HoldsDatabase catalog hand.whole) (nothing_blank catalog n (is_among (all_partitions n)) some (λ p low. among_all n p low) (after catalog db (listed_of list)))
+      (holds_behind catalog accepted n some db (all_partitions n) hand in_hand list on)
+
+  -- no procedure is ready where none is at its home
+  none_at_home : (d : Database) → ((p : ℕ) → p < n → NoneReady catalog n d p) → model.NoneReady catalog d
+  none_at_home d none q = by (is_ready_now catalog d q) refl
+    where
+      by : (b : Bool) → is_ready_now catalog d q ≡ b → is_ready_now catalog d q ≡ false
+      by true ready = absurd (none (home_of catalog n q) (home_below n (slice_get catalog.procedures q) some) q (refl, ready))
+      by false not_ready = not_ready
+
+  -- how it ended
+  ended : (db : Database) (limit : ℕ) (old list : List Item) (end : Settling) → SettledTo catalog n db limit old list end → EndedWith catalog db limit (listed_of list) end
+  ended db limit old list (Done steps) settled =
+      let d = after catalog db (listed_of list) in
+      let none = none_at_home d settled.1 in
+      (ends_with old list steps settled.0, none, λ in_step. (at_rest catalog accepted d (in_step_after catalog accepted.structure.streams.wired db (listed_of list) in_step)).drained.1 none)
+  ended db limit old list NoMemory settled = tt
+  ended db limit old list (ListFull count) settled = (length-listed_of list ∙ settled.0, settled.1)
+
+  -- what is handed over: the log's list, which goes on from what the marks of all lanes and of all partitions know, and what is in hand
+  pub closes : {I : Type 0} (clients first limit : ℕ) (db : Database) (lanes : List LaneView) (ms : List Known) (hand : Hand I) (old : List Item) (disk : Known) (end : Settling) (list : List Listed) (streams : ReservedStreams)
+      (answers : List (List Answer)) (c : Catalog) → AreOfClients clients lanes → AreMarksOf lanes ms → answers ≡ map (λ (l : LaneView). l.answers) lanes
+      → IsInHand catalog n db (all_partitions n) hand → ((whole : List Item) → MayBeWhole catalog n whole hand.marks → SettledTo catalog n db limit old whole end)
+      → ((items : List Item) × (list ≡ listed_of items) × AllContinue catalog n items (ms ++ hand.marks) × Continues catalog n items disk)
+      → Replays catalog db list × Orders catalog db list → HaveClientsBelow clients list × (length list ≤ limit) → AreStreamsOf catalog (after catalog db list) streams.streams → c ≡ catalog
+      → IsClosed catalog n clients first limit db lanes (record { list = list; database = record { whole = hand.whole; streams = streams }; catalog = c; answers = answers; end = end })
+  closes clients first limit db lanes ms hand old disk end list streams answers c of are answers_are in_hand settled (items, eq, on, on_disk) (replays, orders) (below_all, short) streams_are same =
+      let replayed : Replays catalog db (listed_of items) = subst (λ (l : List Listed). Replays catalog db l) eq replays in
+      let in_all : AllContinue catalog n items hand.marks = λ k there. on k (in_right k ms hand.marks there) in
+      subst (λ (l : List Listed). IsClosed catalog n clients first limit db lanes (record { list = l; database = record { whole = hand.whole; streams = streams }; catalog = c; answers = answers; end = end })) (sym eq)
+      (
+      record {
+        replays = replayed;
+        orders = subst (λ (l : List Listed). Orders catalog db l) eq orders;
+        of_clients = subst (λ (l : List Listed). HaveClientsBelow clients l) eq below_all;
+        within = subst (λ (l : List Listed). length l ≤ limit) eq short;
+        many = ap (λ (xs : List (List Answer)). length xs) answers_are ∙ (length-map lanes (λ (l : LaneView). l.answers) ∙ of.many);
+        each = λ k lane there. of_lane catalog n first lanes ms hand.marks items answers are on answers_are k lane there (of.each k lane there);
+        whole = is_whole catalog n db some hand in_hand;
+        stands = record {
+          shard = whole_holds db hand items in_hand in_all;
+          streams = subst (λ (l : List Listed). AreStreamsOf catalog (after catalog db l) streams.streams) eq streams_are;
+        };
+        catalog_is = same;
+        end = ended db limit old items end (settled items (record { touch = each_touches db items replayed; on = in_all }));
+      }
+      )

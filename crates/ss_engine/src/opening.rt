@@ -1,0 +1,161 @@
+//! The opening of an engine, with a lane for each client.
+
+ghost use Rattle.std.specs.Prelude.{◌≡◌, ◌≤◌, ◌+◌, ◌^◌, ℕ, [], length, IfOk, OnOk};
+ghost use Rattle.ss_model.specs.Database.{stream_batches};
+ghost use Rattle.ss_stream.specs.OfDatabase.{AreStreamsOf};
+ghost use Rattle.ss_party.specs.Tags.{TagsFrom};
+ghost use Rattle.ss_shard.specs.Parts.{IsWholeShard};
+ghost use Rattle.ss_shard.specs.Windows.{HoldsDatabase};
+ghost use Rattle.ss_commitlog.specs.declared.role.Role.TheVariants.{Part, Client, Disk};
+ghost use Rattle.ss_commitlog.specs.Committing.{IsOpening};
+ghost use Rattle.ss_commitlog.specs.Rule.{numbered, reader};
+ghost use Rattle.ss_commitlog.specs.Tokens.{known, at_opening};
+ghost use Rattle.ss_hand.specs.Partitions.{PartitionView};
+ghost use Rattle.ss_engine.specs.Openings.{AreFresh, ArePartitionsFrom};
+
+use crate::engine::Engine;
+use crate::gate::Gate;
+use crate::hub::Hub;
+use crate::lane::Lane;
+use ss_commitlog::{Blank, CommitLog, Marks, Note, Notes, Opening};
+use ss_hand::Partition;
+use ss_model::{Catalog, Life};
+use ss_partition::homes;
+use ss_party::Bays;
+use ss_proc::Runner;
+use ss_shard::{Shard, split};
+use ss_stream::Streams;
+use ss_value::{NoMemory, Seq};
+use std::alloc::Global;
+
+/// An engine that was just opened, with all that its users hold.
+#[derive(Drop)]
+pub struct Opened<I: Life, N: Runner + Drop, G: Gate + Drop> {
+    /// What threads share.
+    pub engine: Engine<I, N, G>,
+    /// The lane of each client, by number.
+    pub lanes: Vec<Lane<I>>,
+    /// As many notes of readers as there are partitions: one for each executor.
+    pub notes: Notes<I>,
+    /// The disk's note.
+    pub disk: Note<I>,
+}
+
+impl<I: Life, N: Runner + Drop, G: Gate + Drop> Engine<I, N, G> {
+    /// An engine with an empty list, over the shard of all partitions and the streams of the opening's database.
+    ///
+    /// Out of memory is its one error. Costs what `split` costs, and as much again for each inbox and slot; no row is moved.
+    pub fn open(
+        blank: Blank,
+        alloc: Global,
+        catalog: Catalog,
+        whole: Shard,
+        streams: Streams,
+        runner: N,
+        gate: G,
+        opening: Opening,
+    ) -> Result<Opened<I, N, G>, NoMemory>
+        requires blank { (blank.opening ≡ opening) × (blank.table.shared.table_id ≡ I.table) }
+        requires numbers { (opening.first ≡ I.first) × (opening.limit ≡ I.limit) × (opening.parts ≡ I.parts) × (opening.clients ≡ I.clients) }
+        requires small { opening.first + opening.limit ≤ 2 ^ 60 }
+        requires catalog { catalog ≡ I.catalog }
+        requires opening { IsOpening I.catalog I.parts I.opening }
+        requires parts { opening.parts ≤ 8 }
+        requires whole { IsWholeShard I.catalog I.parts whole × HoldsDatabase I.catalog whole I.opening }
+        requires streams { AreStreamsOf I.catalog I.opening streams.streams }
+        requires few { (s : ℕ) → length (stream_batches I.opening s) ≤ opening.first }
+        ensures lanes { IfOk result (λ o. AreFresh I.first I.clients o.lanes.items) }
+        ensures notes { IfOk result (λ o. o.notes ≡ at_opening I.first (numbered reader 0 I.parts [])) }
+        ensures disk { IfOk result (λ o. o.disk ≡ known Disk [] I.first 0) }
+    {
+        let counts = counts_of(alloc, &whole)?;
+        let shards = match split(alloc, whole, &catalog, opening.parts) {
+            Ok(shards) => shards,
+            Err((error, _)) => return Err(error),
+        };
+        let homes = homes(alloc, &catalog, opening.parts)?;
+        let ss_commitlog::Opened {
+            log,
+            parts,
+            clients,
+            mut notes,
+            disk,
+        } = CommitLog::open(blank, alloc, &catalog, streams, counts, opening)?;
+        let lanes = fresh_lanes(alloc, opening.clients, clients, &mut notes)?;
+        let bays = match Bays::new(alloc, partitions(alloc, shards, parts)?) {
+            Ok(bays) => bays,
+            Err((error, _)) => return Err(error),
+        };
+        let hub = Hub::new(alloc, log, opening.parts, opening.clients)?;
+        Ok(Opened {
+            engine: Engine {
+                hub,
+                bays,
+                catalog,
+                homes,
+                parts: opening.parts,
+                runner,
+                gate,
+            },
+            lanes,
+            notes,
+            disk,
+        })
+    }
+}
+
+/// A copy of a shard's counts of batches taken. Linear in the procedures.
+fn counts_of(alloc: Global, shard: &Shard) -> Result<Seq<u64>, NoMemory>
+    ensures { IfOk result (λ counts. counts ≡ shard.now.cursors) }
+{
+    let counts: Vec<u64> = shard.cursors().iter().copied().collect(alloc)?;
+    Ok(Seq::from_vec(counts))
+}
+
+/// What each bay is to have: a shard, with the mark of its partition.
+fn partitions<I: Life>(
+    alloc: Global,
+    shards: Seq<Shard>,
+    marks: Marks<I>,
+) -> Result<Seq<Partition<I>>, NoMemory>
+    requires { ArePartitionsFrom I.catalog I.parts I.opening 0 shards marks }
+    ensures tags { IfOk result (TagsFrom (λ (p : PartitionView). p.shard.number) 0) }
+    ensures many { IfOk result (λ made. length made ≡ length shards) }
+{
+    let mut made = Vec::with_capacity(alloc, shards.len())?;
+    let mut left = marks.into_vec().into_iter();
+    for shard in shards.into_vec() {
+        let Some(mark) = left.next() else {
+            unreachable!()
+        };
+        made.push_reserved(Partition::new(shard, mark));
+    }
+    Ok(Seq::from_vec(made))
+}
+
+/// A lane for each client, with its mark and one of the last notes.
+fn fresh_lanes<I: Life>(
+    alloc: Global,
+    clients: u8,
+    marks: Marks<I>,
+    notes: &mut Notes<I>,
+) -> Result<Vec<Lane<I>>, NoMemory>
+    requires clients { clients ≡ I.clients }
+    requires marks { marks ≡ at_opening I.first (numbered Client 0 I.clients []) }
+    requires notes { notes.old ≡ at_opening I.first (numbered reader 0 (I.parts + I.clients) []) }
+    ensures lanes { IfOk result (λ lanes. AreFresh I.first I.clients lanes.items) }
+    ensures notes { OnOk result (notes.new ≡ at_opening I.first (numbered reader 0 I.parts [])) }
+{
+    let mut lanes = Vec::with_capacity(alloc, usize::from(clients))?;
+    let mut left = marks.into_vec().into_iter();
+    for client in 0..clients {
+        let Some(mark) = left.next() else {
+            unreachable!()
+        };
+        let Some(note) = notes.pop() else {
+            unreachable!()
+        };
+        lanes.push_reserved(Lane::new(alloc, client, mark, note));
+    }
+    Ok(lanes)
+}

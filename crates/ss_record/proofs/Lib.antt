@@ -1,0 +1,11 @@
+pub mod CallerLemmas
+pub mod Records
+pub mod Utf8
+pub mod Values
+pub mod Again
+pub mod Takes
+pub mod Decoded
+pub mod RowsRead
+pub mod RecordAgain
+pub mod RecordTakes
+pub mod RecordRead

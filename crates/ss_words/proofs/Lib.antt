@@ -1,0 +1,7 @@
+pub mod Asking
+pub mod CallerLemmas
+pub mod Cuts
+pub mod Parsed
+pub mod Reading
+pub mod Taken
+mod Worked
