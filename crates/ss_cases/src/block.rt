@@ -5,6 +5,9 @@ use crate::run::check_run;
 use crate::wrong::Wrong;
 use crate::{events, examples, executions, inputs, plans, queries, replay, requests, script, sql};
 use std::alloc::Global;
+use std::rt::Files;
+use std::sync::Wait;
+use std::thread::Threads;
 
 /// The kind of a block. The module that runs it says what its lines mean.
 #[derive(Clone, Copy, Debug, PartialEq, Eq, Drop)]
@@ -15,9 +18,11 @@ pub enum BlockKind {
     Alone,
     Fill,
     Edit,
+    Words,
     Both,
     Requests,
     Report,
+    Tables,
     Run,
     First,
     Script,
@@ -43,9 +48,11 @@ impl BlockKind {
             "alone" => Some(BlockKind::Alone),
             "fill" => Some(BlockKind::Fill),
             "edit" => Some(BlockKind::Edit),
+            "words" => Some(BlockKind::Words),
             "both" => Some(BlockKind::Both),
             "requests" => Some(BlockKind::Requests),
             "report" => Some(BlockKind::Report),
+            "tables" => Some(BlockKind::Tables),
             "run" => Some(BlockKind::Run),
             "first" => Some(BlockKind::First),
             "script" => Some(BlockKind::Script),
@@ -70,6 +77,7 @@ impl BlockKind {
             self,
             BlockKind::Base
                 | BlockKind::Report
+                | BlockKind::Tables
                 | BlockKind::Script
                 | BlockKind::Misfit
                 | BlockKind::Executions
@@ -125,8 +133,8 @@ pub fn column(alloc: Global, row: &str) -> Result<(&str, &str), Wrong> {
 }
 
 /// Runs the case of a row. `folder` is that of the case file, with its slash.
-pub fn run_row(
-    rt: &HostRuntime,
+pub fn run_row<R: Files + AllocGlobal + Threads + Wait + Sync>(
+    rt: &R,
     folder: &str,
     kind: BlockKind,
     base: &str,
@@ -134,16 +142,17 @@ pub fn run_row(
 ) -> Result<(), Wrong> {
     let alloc = rt.alloc();
     match kind {
-        BlockKind::Rows => inputs::check_input(alloc, row),
-        BlockKind::Alone => check_run(alloc, base, row),
-        BlockKind::Fill => inputs::check_fill(alloc, base, row),
-        BlockKind::Edit => inputs::check_edit(alloc, base, row),
-        BlockKind::Both => inputs::check_both(alloc, base, row),
-        BlockKind::Requests => requests::check_requests(alloc, base, row),
+        BlockKind::Rows => inputs::check_input(rt, row),
+        BlockKind::Alone => check_run(rt, base, row),
+        BlockKind::Fill => inputs::check_fill(rt, base, row),
+        BlockKind::Edit => inputs::check_edit(rt, base, row),
+        BlockKind::Words => requests::check_command(rt, base, row),
+        BlockKind::Both => inputs::check_both(rt, base, row),
+        BlockKind::Requests => requests::check_requests(rt, base, row),
         BlockKind::Run => examples::check_files(rt, folder, row),
         BlockKind::First => examples::check_first(rt, folder, row),
-        BlockKind::Queries => queries::check_query(alloc, base, row),
-        BlockKind::Bodies => queries::check_body(alloc, base, row),
+        BlockKind::Queries => queries::check_query(rt, base, row),
+        BlockKind::Bodies => queries::check_body(rt, base, row),
         BlockKind::Events => events::check_events(alloc, base, row),
         BlockKind::Plans => plans::check_plan(alloc, base, row),
         BlockKind::Planned => plans::check_planned(alloc, base, row),
@@ -154,19 +163,20 @@ pub fn run_row(
 }
 
 /// Runs the case of a whole block.
-pub fn run_whole(
-    rt: &HostRuntime,
+pub fn run_whole<R: AllocGlobal + Threads + Wait + Sync>(
+    rt: &R,
     kind: BlockKind,
     base: &str,
     lines: &[String],
 ) -> Result<(), Wrong> {
     match kind {
-        BlockKind::Report => requests::check_block(rt.alloc(), base, lines),
-        BlockKind::Script => script::check_script(rt.alloc(), base, lines),
-        BlockKind::Misfit => script::check_misfit(rt.alloc(), base, lines),
+        BlockKind::Report => requests::check_block(rt, base, lines),
+        BlockKind::Tables => requests::check_tables(rt, base, lines),
+        BlockKind::Script => script::check_script(rt, base, lines),
+        BlockKind::Misfit => script::check_misfit(rt, base, lines),
         BlockKind::Executions => executions::check_executions(rt.alloc(), base, lines),
         BlockKind::Replay => replay::check_replay(rt.alloc(), base, lines),
-        BlockKind::List => replay::check_list(rt.alloc(), base, lines),
+        BlockKind::List => replay::check_list(rt, base, lines),
         _ => Err(Wrong::text(rt.alloc(), "no block")),
     }
 }

@@ -25,6 +25,9 @@ use crate::bases::Bases;
 use crate::block::{Block, BlockKind, base_of, run_row, run_whole};
 use crate::wrong::{Wrong, reason_of};
 use std::alloc::Global;
+use std::rt::Files;
+use std::sync::Wait;
+use std::thread::Threads;
 use std::{fs, io};
 
 /// How many cases ran, and how many of them, and of the other parts of files, are wrong.
@@ -49,8 +52,8 @@ impl Count {
 
 /// The file that is being read.
 #[derive(Drop)]
-struct Reader<'a> {
-    rt: &'a HostRuntime,
+struct Reader<'a, R> {
+    rt: &'a R,
     name: &'a str,
     /// The folder of the file, with its slash; empty where the name has none.
     folder: &'a str,
@@ -58,7 +61,7 @@ struct Reader<'a> {
     count: Count,
 }
 
-impl<'a> Reader<'a> {
+impl<'a, R: Print> Reader<'a, R> {
     /// Reports what is wrong at a line, if anything is.
     fn report(&mut self, number: u64, outcome: Result<(), Wrong>) -> io::Result<()> {
         let Err(wrong) = outcome else {
@@ -75,7 +78,9 @@ impl<'a> Reader<'a> {
         self.count.cases = self.count.cases.saturating_add(1);
         self.report(number, outcome)
     }
+}
 
+impl<'a, R: Files + Print + AllocGlobal + Threads + Wait + Sync> Reader<'a, R> {
     /// Runs the rows of a block, each of which is a case.
     fn run_rows(&mut self, block: &Block, base: &str) -> io::Result<()> {
         let mut number = block.number;
@@ -183,7 +188,7 @@ fn line_at(bytes: &[u8], at: usize) -> u64 {
 }
 
 /// The text of a file, or the line at which it can't be read, and why.
-fn text_in(rt: &HostRuntime, name: &str) -> Result<String, (u64, Wrong)> {
+fn text_in<R: Files + AllocGlobal>(rt: &R, name: &str) -> Result<String, (u64, Wrong)> {
     let alloc = rt.alloc();
     let bytes = match fs::read(rt, name) {
         Ok(bytes) => bytes,
@@ -199,7 +204,11 @@ fn text_in(rt: &HostRuntime, name: &str) -> Result<String, (u64, Wrong)> {
 }
 
 /// Runs the cases of a file, and adds its bases. A file without a case is wrong.
-pub fn run_file(rt: &HostRuntime, bases: &mut Bases, name: &str) -> io::Result<Count> {
+pub fn run_file<R: Files + Print + AllocGlobal + Threads + Wait + Sync>(
+    rt: &R,
+    bases: &mut Bases,
+    name: &str,
+) -> io::Result<Count> {
     let mut reader = Reader {
         rt,
         name,

@@ -6,6 +6,8 @@
 use crate::run::{check_report, report_of, run_on};
 use crate::wrong::Wrong;
 use std::alloc::{AllocError, Global};
+use std::sync::Wait;
+use std::thread::Threads;
 
 /// An outcome as the report prints it.
 pub fn outcome_of(alloc: Global, text: &str) -> Result<String, AllocError> {
@@ -125,9 +127,14 @@ impl Listing {
     }
 
     /// What the program writes on these requests behind a catalogue.
-    pub fn written(&self, alloc: Global, catalog: &str) -> Result<String, Wrong> {
+    pub fn written<R: AllocGlobal + Threads + Wait + Sync>(
+        &self,
+        rt: &R,
+        catalog: &str,
+    ) -> Result<String, Wrong> {
+        let alloc = rt.alloc();
         let input = format!(in alloc; "{catalog}\n{}", self.requests)?;
-        let ended = run_on(alloc, Vec::from_slice(alloc, input.as_bytes())?)?;
+        let ended = run_on(rt, Vec::from_slice(alloc, input.as_bytes())?)?;
         Ok(String::from_str(alloc, report_of(alloc, &ended)?)?)
     }
 
@@ -140,8 +147,13 @@ impl Listing {
     }
 
     /// Compares what the program writes on these requests behind a catalogue.
-    pub fn check(&self, alloc: Global, catalog: &str) -> Result<(), Wrong> {
-        let written = self.written(alloc, catalog)?;
+    pub fn check<R: AllocGlobal + Threads + Wait + Sync>(
+        &self,
+        rt: &R,
+        catalog: &str,
+    ) -> Result<(), Wrong> {
+        let alloc = rt.alloc();
+        let written = self.written(rt, catalog)?;
         check_report(alloc, written.as_str(), self.report(alloc)?.as_bytes())
     }
 }

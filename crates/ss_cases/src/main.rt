@@ -52,10 +52,15 @@ mod wrong;
 use bases::Bases;
 use file::{Count, run_file};
 use std::process::ExitCode;
+use std::rt::{Env, Files};
+use std::sync::Wait;
+use std::thread::Threads;
 use std::{env, io};
 
 /// Runs the files in the order of the command line. A base of one file is known in those behind it.
-fn run_files(rt: &HostRuntime) -> io::Result<Count> {
+fn run_files<R: Env + Files + Print + AllocGlobal + Threads + Wait + Sync>(
+    rt: &R,
+) -> io::Result<Count> {
     let mut bases = Bases::new(rt.alloc());
     let mut total = Count::new();
     for name in env::args(rt)?.skip(1) {

@@ -20,6 +20,8 @@ use crate::marks::bytes_of;
 use crate::run::{check_run, report_of, run_on};
 use crate::wrong::Wrong;
 use std::alloc::{AllocError, Global};
+use std::sync::Wait;
+use std::thread::Threads;
 
 /// The reply to the request that inserts the given rows.
 const INSERTED: &str = "[\"reply\",2,0,[\"done\",[]]]";
@@ -48,7 +50,12 @@ fn inserts_of(alloc: Global, given: &str) -> Result<String, AllocError> {
 }
 
 /// A row of `queries`.
-pub fn check_query(alloc: Global, base: &str, row: &str) -> Result<(), Wrong> {
+pub fn check_query<R: AllocGlobal + Threads + Wait + Sync>(
+    rt: &R,
+    base: &str,
+    row: &str,
+) -> Result<(), Wrong> {
+    let alloc = rt.alloc();
     let (given, rest) = column(alloc, row)?;
     let (query, outcome) = column(alloc, rest)?;
     let inserts = inserts_of(alloc, given)?;
@@ -56,7 +63,7 @@ pub fn check_query(alloc: Global, base: &str, row: &str) -> Result<(), Wrong> {
     let input = fill_first(alloc, input.as_str(), query)?;
     let outcome = outcome_of(alloc, outcome)?;
     let want = format!(in alloc; "[\"reply\",3,1,{outcome}]")?;
-    let ended = run_on(alloc, bytes_of(alloc, input.as_str())?)?;
+    let ended = run_on(rt, bytes_of(alloc, input.as_str())?)?;
     check_replies(alloc, report_of(alloc, &ended)?, want.as_str())
 }
 
@@ -96,11 +103,16 @@ fn steps_of(alloc: Global, body: &str) -> Result<String, AllocError> {
 }
 
 /// A row of `bodies`.
-pub fn check_body(alloc: Global, base: &str, row: &str) -> Result<(), Wrong> {
+pub fn check_body<R: AllocGlobal + Threads + Wait + Sync>(
+    rt: &R,
+    base: &str,
+    row: &str,
+) -> Result<(), Wrong> {
+    let alloc = rt.alloc();
     let (body, outcome) = column(alloc, row)?;
     let steps = steps_of(alloc, body)?;
     let input = fill_first(alloc, base, steps.as_str())?;
     let outcome = outcome_of(alloc, outcome)?;
     let want = format!(in alloc; "[\"reply\",2,0,{outcome}]")?;
-    check_run(alloc, input.as_str(), want.as_str())
+    check_run(rt, input.as_str(), want.as_str())
 }

@@ -33,6 +33,8 @@ use ss_report::{outcome_json, row_json, rows_json};
 use ss_value::{NoMemory, Rows, Seq};
 use std::alloc::Global;
 use std::collections::BTreeMap;
+use std::sync::Wait;
+use std::thread::Threads;
 
 /// Lists of more rows than these are printed as their number.
 const LONG: usize = 32;
@@ -218,8 +220,13 @@ pub fn check_replay(alloc: Global, base: &str, lines: &[String]) -> Result<(), W
 }
 
 /// A block `list`.
-pub fn check_list(alloc: Global, base: &str, lines: &[String]) -> Result<(), Wrong> {
+pub fn check_list<R: AllocGlobal + Threads + Wait + Sync>(
+    rt: &R,
+    base: &str,
+    lines: &[String],
+) -> Result<(), Wrong> {
+    let alloc = rt.alloc();
     let base = text_of(alloc, base)?;
     let replay = replayed(alloc, base.as_str(), lines)?;
-    replay.listing.check(alloc, base.as_str())
+    replay.listing.check(rt, base.as_str())
 }

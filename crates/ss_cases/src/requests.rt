@@ -2,33 +2,73 @@
 //!
 //! ```text
 //! requests BASE  REQUESTS ~ LINE: the base, and the requests on the lines behind it
+//! words BASE     WORDS ~ REQUESTS ~ LINE: the same with the words of a command line
 //! report BASE    lines of requests, a line `->`, and the lines of the whole report
+//! tables BASE    the same, with the report's lines from its first table on alone
 //! ```
+//!
+//! Clients run at the same time, so that requests of several clients have one report only where the order of their entries
+//! says nothing. Where they leave one database whatever the order is, `tables` compares that.
 
 ghost use Rattle.std.specs.Prelude.{IfOk};
 ghost use Rattle.ss_model.specs.Accepted.{Accepted};
 
 use crate::block::column;
 use crate::marks::{bytes_of, text_of};
-use crate::run::{check_report, check_run, report_of, run_on};
+use crate::run::{check_report, check_run, check_words, report_of, run_on};
 use crate::wrong::Wrong;
 use serde_json::Value as Json;
 use ss_catalog::read_catalog;
 use ss_model::Catalog;
 use std::alloc::Global;
+use std::sync::Wait;
+use std::thread::Threads;
 
 /// The line between the requests of a block and its report.
 const ARROW: &str = "->";
 
+/// How the line of a table begins.
+const TABLE: &str = "[\"table\",";
+
 /// A row of `requests`.
-pub fn check_requests(alloc: Global, base: &str, row: &str) -> Result<(), Wrong> {
+pub fn check_requests<R: AllocGlobal + Threads + Wait + Sync>(
+    rt: &R,
+    base: &str,
+    row: &str,
+) -> Result<(), Wrong> {
+    let alloc = rt.alloc();
     let (requests, line) = column(alloc, row)?;
     let input = format!(in alloc; "{base}␤{requests}")?;
-    check_run(alloc, input.as_str(), line)
+    check_run(rt, input.as_str(), line)
 }
 
-/// A block `report`.
-pub fn check_block(alloc: Global, base: &str, lines: &[String]) -> Result<(), Wrong> {
+/// A row of `words`.
+pub fn check_command<R: AllocGlobal + Threads + Wait + Sync>(
+    rt: &R,
+    base: &str,
+    row: &str,
+) -> Result<(), Wrong> {
+    let alloc = rt.alloc();
+    let (words, rest) = column(alloc, row)?;
+    let (requests, line) = column(alloc, rest)?;
+    let input = format!(in alloc; "{base}␤{requests}")?;
+    check_words(rt, words, input.as_str(), line)
+}
+
+/// What the program writes on the requests of a block, and what the block has behind them.
+#[derive(Drop)]
+struct Compared {
+    written: String,
+    wanted: Vec<u8>,
+}
+
+/// Runs the requests of a block.
+fn run_block<R: AllocGlobal + Threads + Wait + Sync>(
+    rt: &R,
+    base: &str,
+    lines: &[String],
+) -> Result<Compared, Wrong> {
+    let alloc = rt.alloc();
     let Some(at) = lines.iter().position(|line| line.as_str() == ARROW) else {
         return Err(Wrong::text(alloc, "a block without its report"));
     };
@@ -38,11 +78,40 @@ pub fn check_block(alloc: Global, base: &str, lines: &[String]) -> Result<(), Wr
     };
     let requests = requests.join(alloc, "␤")?;
     let input = format!(in alloc; "{base}␤{requests}␤")?;
-    let ended = run_on(alloc, bytes_of(alloc, input.as_str())?)?;
-    let written = report_of(alloc, &ended)?;
+    let ended = run_on(rt, bytes_of(alloc, input.as_str())?)?;
+    let written = String::from_str(alloc, report_of(alloc, &ended)?)?;
     let report = report.join(alloc, "␤")?;
     let report = format!(in alloc; "{report}␤")?;
-    check_report(alloc, written, bytes_of(alloc, report.as_str())?.as_slice())
+    let wanted = bytes_of(alloc, report.as_str())?;
+    Ok(Compared { written, wanted })
+}
+
+/// A block `report`.
+pub fn check_block<R: AllocGlobal + Threads + Wait + Sync>(
+    rt: &R,
+    base: &str,
+    lines: &[String],
+) -> Result<(), Wrong> {
+    let compared = run_block(rt, base, lines)?;
+    check_report(
+        rt.alloc(),
+        compared.written.as_str(),
+        compared.wanted.as_slice(),
+    )
+}
+
+/// A block `tables`.
+pub fn check_tables<R: AllocGlobal + Threads + Wait + Sync>(
+    rt: &R,
+    base: &str,
+    lines: &[String],
+) -> Result<(), Wrong> {
+    let compared = run_block(rt, base, lines)?;
+    let Some((_, behind)) = compared.written.split_once(TABLE) else {
+        return Err(Wrong::text(rt.alloc(), "a report without a table"));
+    };
+    let tables = format!(in rt.alloc(); "{TABLE}{behind}")?;
+    check_report(rt.alloc(), tables.as_str(), compared.wanted.as_slice())
 }
 
 /// The catalogue of a base, whose marks are taken for what they mean.

@@ -2,10 +2,13 @@
 
 use crate::marks::bytes_of;
 use crate::wrong::Wrong;
+use ss_engine::NoGate;
 use ss_lines::{MemorySink, MemorySource};
 use ss_top::{Status, sstore};
 use ss_value::Seq;
 use std::alloc::Global;
+use std::sync::Wait;
+use std::thread::Threads;
 
 /// The mark of an input whose catalogue is accepted, and so runs.
 const ACCEPTED: &str = "accepted";
@@ -20,23 +23,42 @@ pub struct RunResult {
     pub written: Vec<u8>,
 }
 
-/// Runs `run` on an input.
-pub fn run_on(alloc: Global, input: Vec<u8>) -> Result<RunResult, Wrong> {
+/// Runs the program with the words of a command line, which have blanks between them, on an input.
+pub fn run_with<R: AllocGlobal + Threads + Wait + Sync>(
+    rt: &R,
+    line: &str,
+    input: Vec<u8>,
+) -> Result<RunResult, Wrong> {
+    let alloc = rt.alloc();
     let mut words = Vec::new(alloc);
-    words.push(String::from_str(alloc, "run")?)?;
+    for word in line.split_whitespace() {
+        words.push(String::from_str(alloc, word)?)?;
+    }
     let mut source = MemorySource::new(Seq::from_vec(input));
     let mut sink = MemorySink::new(alloc, ROOM)?;
-    let status = sstore(alloc, &words, &mut source, &mut sink);
+    let status = sstore(rt, alloc, &words, &mut source, &mut sink, NoGate);
     let written = Vec::from_slice(alloc, sink.as_bytes())?;
     Ok(RunResult { status, written })
 }
 
+/// Runs `run` on an input.
+pub fn run_on<R: AllocGlobal + Threads + Wait + Sync>(
+    rt: &R,
+    input: Vec<u8>,
+) -> Result<RunResult, Wrong> {
+    run_with(rt, "run", input)
+}
+
 /// Whether this status goes with what was written: a refusal has a status of its own, and is all that is written.
 fn ends_so(written: &str, status: Status) -> bool {
-    if !written.starts_with("[\"input\",") {
+    let refusal = if written.starts_with("[\"input\",") {
+        Status::Input
+    } else if written.starts_with("[\"usage\"") {
+        Status::Usage
+    } else {
         return status == Status::Done;
-    }
-    status == Status::Input && written.find('\n') == Some(written.len().saturating_sub(1))
+    };
+    status == refusal && written.find('\n') == Some(written.len().saturating_sub(1))
 }
 
 /// What a run wrote, where its status is the one that goes with it.
@@ -73,8 +95,23 @@ pub fn check_line(alloc: Global, written: &str, want: &str) -> Result<(), Wrong>
 }
 
 /// Runs an input, given by its text, and compares what was written.
-pub fn check_run(alloc: Global, input: &str, want: &str) -> Result<(), Wrong> {
-    let ended = run_on(alloc, bytes_of(alloc, input)?)?;
+pub fn check_run<R: AllocGlobal + Threads + Wait + Sync>(
+    rt: &R,
+    input: &str,
+    want: &str,
+) -> Result<(), Wrong> {
+    check_words(rt, "run", input, want)
+}
+
+/// The same with the words of a command line.
+pub fn check_words<R: AllocGlobal + Threads + Wait + Sync>(
+    rt: &R,
+    line: &str,
+    input: &str,
+    want: &str,
+) -> Result<(), Wrong> {
+    let alloc = rt.alloc();
+    let ended = run_with(rt, line, bytes_of(alloc, input)?)?;
     let written = report_of(alloc, &ended)?;
     check_line(alloc, written, want)
 }

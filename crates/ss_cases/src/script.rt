@@ -21,6 +21,8 @@ use crate::listing::{Listing, outcome_of};
 use crate::marks::text_of;
 use crate::wrong::Wrong;
 use std::alloc::{AllocError, Global};
+use std::sync::Wait;
+use std::thread::Threads;
 
 /// The parts of a script.
 #[derive(Drop)]
@@ -115,17 +117,25 @@ fn script_of(alloc: Global, base: &str, lines: &[String]) -> Result<Script, Wron
 }
 
 /// A block `script`.
-pub fn check_script(alloc: Global, base: &str, lines: &[String]) -> Result<(), Wrong> {
+pub fn check_script<R: AllocGlobal + Threads + Wait + Sync>(
+    rt: &R,
+    base: &str,
+    lines: &[String],
+) -> Result<(), Wrong> {
+    let alloc = rt.alloc();
     let script = script_of(alloc, base, lines)?;
-    script.listing.check(alloc, script.catalog(alloc)?.as_str())
+    script.listing.check(rt, script.catalog(alloc)?.as_str())
 }
 
 /// A block `misfit`.
-pub fn check_misfit(alloc: Global, base: &str, lines: &[String]) -> Result<(), Wrong> {
+pub fn check_misfit<R: AllocGlobal + Threads + Wait + Sync>(
+    rt: &R,
+    base: &str,
+    lines: &[String],
+) -> Result<(), Wrong> {
+    let alloc = rt.alloc();
     let script = script_of(alloc, base, lines)?;
-    let written = script
-        .listing
-        .written(alloc, script.catalog(alloc)?.as_str())?;
+    let written = script.listing.written(rt, script.catalog(alloc)?.as_str())?;
     if written.as_str() == script.listing.report(alloc)?.as_str() {
         return Err(Wrong::text(alloc, "the script is right"));
     }

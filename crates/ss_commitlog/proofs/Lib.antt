@@ -10,3 +10,4 @@ pub mod OneList
 pub mod Replaying
 pub mod Steps
 pub mod Values
+pub mod Crossing

@@ -3,12 +3,12 @@
 -- The log's list goes on from what the marks of all lanes and of all partitions knew. So it has no other entry of a lane's client than
 -- the lane knew; and no entry behind what a partition's mark knew touches that partition, so the shard in hand, which had each part as
 -- its mark's list leaves it, has it as the whole list leaves it.
-use Rattle.std.proofs.Common.{◌≡◌, ◌≤◌, ◌<◌, ◌+◌, inl, inr, ⊎_elim, ℕ, zero, suc, Bool, true, false, List, [], ◌∷◌, ◌++◌, map, length, slice_get, Some, refl, sym, ap, ◌∙◌, subst, arith, length-append}
+use Rattle.std.proofs.Common.{◌≡◌, ◌≤◌, ◌<◌, inl, inr, ⊎_elim, ℕ, zero, suc, Bool, true, false, List, [], ◌∷◌, ◌++◌, map, length, slice_get, Some, refl, sym, ap, ◌∙◌, subst, arith, length-append}
 use Rattle.std.proofs.lemmas.List.{length-map}
 use Rattle.std.proofs.lemmas.List.FromFn.{length-map-range_with_len}
 use Rattle.std.proofs.lemmas.Option.{slice_get-map}
 use Rattle.std.specs.Option.{option_map}
-use Rattle.std.specs.List.{AllByRecursion, range_with_len}
+use Rattle.std.specs.List.{range_with_len}
 use Rattle.ss_model.specs.declared.catalog.Catalog.{Catalog}
 use Rattle.ss_model.specs.declared.entry.Answer.{Answer}
 use Rattle.ss_model.specs.declared.entry.Listed.{Listed}
@@ -17,7 +17,6 @@ use Rattle.ss_model.specs.Database.{Database}
 use Rattle.ss_model.specs.Orders.{Orders}
 use Rattle.ss_model.specs.Partitions.{home_of, touches}
 use Rattle.ss_model.specs.Replays.{Replays, after, database_after}
-use Rattle.ss_model.specs.Report.{is_step}
 use Rattle.ss_model.specs.Settled as model
 use Rattle.ss_model.specs.Settling.{is_ready_now}
 use Rattle.ss_model.proofs.CallerLemmas.{applied_fits, home_below}
@@ -40,7 +39,7 @@ use Rattle.ss_hand.specs.Hands.{IsInHand}
 use Rattle.ss_hand.specs.declared.hand.Hand.{Hand}
 use Rattle.ss_engine.specs.declared.settling.Settling.{Settling}
 use Rattle.ss_engine.specs.declared.settling.Settling.TheVariants.{Done, NoMemory, ListFull}
-use Rattle.ss_engine.specs.Closings.{AddsSteps, AreMarksOf, AreOfClients, EachTouches, EndedWith, EndsWithSteps, IsClosed, IsOfLane, MayBeWhole, SettledTo}
+use Rattle.ss_engine.specs.Closings.{AreMarksOf, AreOfClients, EachTouches, EndedWith, IsClosed, IsOfLane, MayBeWhole, SettledTo}
 use Rattle.ss_engine.specs.Lanes.{LaneView}
 use Rattle.ss_engine.specs.Mines.{mine_in}
 use Rattle.ss_engine.specs.Pumped.{NoneReady}
@@ -85,21 +84,6 @@ lane_marks (x ∷ xs) (m ∷ ms) are = ap suc (lane_marks xs ms are.2)
 pub part_marks : (n : ℕ) (ks : List Known) → roles_of ks ≡ map Part (all_partitions n) → length ks ≡ n
 part_marks n ks roles = sym (length-map ks role_of) ∙ ap (λ (rs : List Role). length rs) roles ∙ length-map-range_with_len Part 0 n
 
--- ---- steps at the end
-
-all_listed : (rest : List Item) → AllByRecursion (λ (i : Item). is_step i.listed.entry ≡ true) rest → AllByRecursion (λ (l : Listed). is_step l.entry ≡ true) (listed_of rest)
-all_listed [] all = tt
-all_listed (i ∷ is) all = (all.0, all_listed is all.1)
-
-ends_with : (old list : List Item) (count : ℕ) → AddsSteps old list count → EndsWithSteps (listed_of list) count
-ends_with old list count added = record {
-  front = listed_of old;
-  steps = listed_of added.rest;
-  is = ap listed_of added.is ∙ listed_of-append old added.rest;
-  many = length-listed_of added.rest ∙ added.many;
-  all_steps = all_listed added.rest added.steps;
-}
-
 -- ---- the whole shard
 
 zero_first : (n : ℕ) → 1 ≤ n → (x : ℕ) (xs : List ℕ) → x ∷ xs ≡ range_with_len 0 n → x ≡ 0
@@ -133,22 +117,22 @@ module _ (catalog : Catalog) (accepted : Accepted catalog) (n : ℕ) (some : 1 �
       by false not_ready = not_ready
 
   -- how it ended
-  ended : (db : Database) (limit : ℕ) (old list : List Item) (end : Settling) → SettledTo catalog n db limit old list end → EndedWith catalog db limit (listed_of list) end
-  ended db limit old list (Done steps) settled =
+  ended : (db : Database) (limit : ℕ) (list : List Item) (end : Settling) → SettledTo catalog n db limit list end → EndedWith catalog db limit (listed_of list) end
+  ended db limit list Done settled =
       let d = after catalog db (listed_of list) in
-      let none = none_at_home d settled.1 in
-      (ends_with old list steps settled.0, none, λ in_step. (at_rest catalog accepted d (in_step_after catalog accepted.structure.streams.wired db (listed_of list) in_step)).drained.1 none)
-  ended db limit old list NoMemory settled = tt
-  ended db limit old list (ListFull count) settled = (length-listed_of list ∙ settled.0, settled.1)
+      let none = none_at_home d settled in
+      (none, λ in_step. (at_rest catalog accepted d (in_step_after catalog accepted.structure.streams.wired db (listed_of list) in_step)).drained.1 none)
+  ended db limit list NoMemory settled = tt
+  ended db limit list (ListFull count) settled = (length-listed_of list ∙ settled.0, settled.1, settled.2)
 
   -- what is handed over: the log's list, which goes on from what the marks of all lanes and of all partitions know, and what is in hand
-  pub closes : {I : Type 0} (clients first limit : ℕ) (db : Database) (lanes : List LaneView) (ms : List Known) (hand : Hand I) (old : List Item) (disk : Known) (end : Settling) (list : List Listed) (streams : ReservedStreams)
+  pub closes : {I : Type 0} (clients first limit : ℕ) (db : Database) (lanes : List LaneView) (ms : List Known) (hand : Hand I) (disk : Known) (end : Settling) (list : List Listed) (streams : ReservedStreams)
       (answers : List (List Answer)) (c : Catalog) → AreOfClients clients lanes → AreMarksOf lanes ms → answers ≡ map (λ (l : LaneView). l.answers) lanes
-      → IsInHand catalog n db (all_partitions n) hand → ((whole : List Item) → MayBeWhole catalog n whole hand.marks → SettledTo catalog n db limit old whole end)
+      → IsInHand catalog n db (all_partitions n) hand → ((whole : List Item) → MayBeWhole catalog n whole hand.marks → SettledTo catalog n db limit whole end)
       → ((items : List Item) × (list ≡ listed_of items) × AllContinue catalog n items (ms ++ hand.marks) × Continues catalog n items disk)
       → Replays catalog db list × Orders catalog db list → HaveClientsBelow clients list × (length list ≤ limit) → AreStreamsOf catalog (after catalog db list) streams.streams → c ≡ catalog
       → IsClosed catalog n clients first limit db lanes (record { list = list; database = record { whole = hand.whole; streams = streams }; catalog = c; answers = answers; end = end })
-  closes clients first limit db lanes ms hand old disk end list streams answers c of are answers_are in_hand settled (items, eq, on, on_disk) (replays, orders) (below_all, short) streams_are same =
+  closes clients first limit db lanes ms hand disk end list streams answers c of are answers_are in_hand settled (items, eq, on, on_disk) (replays, orders) (below_all, short) streams_are same =
       let replayed : Replays catalog db (listed_of items) = subst (λ (l : List Listed). Replays catalog db l) eq replays in
       let in_all : AllContinue catalog n items hand.marks = λ k there. on k (in_right k ms hand.marks there) in
       subst (λ (l : List Listed). IsClosed catalog n clients first limit db lanes (record { list = l; database = record { whole = hand.whole; streams = streams }; catalog = c; answers = answers; end = end })) (sym eq)
@@ -166,6 +150,6 @@ module _ (catalog : Catalog) (accepted : Accepted catalog) (n : ℕ) (some : 1 �
           streams = subst (λ (l : List Listed). AreStreamsOf catalog (after catalog db l) streams.streams) eq streams_are;
         };
         catalog_is = same;
-        end = ended db limit old items end (settled items (record { touch = each_touches db items replayed; on = in_all }));
+        end = ended db limit items end (settled items (record { touch = each_touches db items replayed; on = in_all }));
       }
       )

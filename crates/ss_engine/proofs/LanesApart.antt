@@ -1,5 +1,5 @@
 -- Lanes that are taken apart.
-use Rattle.std.proofs.Common.{◌≡◌, ◌+◌, ℕ, List, [], ◌∷◌, ◌++◌, map, length, refl, sym, ap, ◌∙◌, subst, append_assoc, append-nil}
+use Rattle.std.proofs.Common.{◌≡◌, ℕ, List, [], ◌∷◌, ◌++◌, map, refl, sym, ap, ◌∙◌, subst, append_assoc, append-nil}
 use Rattle.std.proofs.lemmas.List.{map-append}
 use Rattle.ss_model.specs.declared.entry.Answer.{Answer}
 use Rattle.ss_commitlog.specs.declared.role.Role.TheVariants.{Client}

@@ -20,8 +20,13 @@ pub mod OwnEntries
 pub mod Trying
 pub mod SmallSets
 pub mod Serves
+pub mod Making
+pub mod ByClient
+pub mod Sessions
 pub mod Fresh
 pub mod Looks
+pub mod Ranked
 pub mod WholeList
 pub mod LanesApart
 pub mod HandedOver
+pub mod Crossing

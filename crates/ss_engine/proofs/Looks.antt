@@ -1,5 +1,6 @@
 -- Looks at the procedures that are ready, partition by partition.
-use Rattle.std.proofs.Common.{◌≡◌, ◌<◌, ◌+◌, ◌↔◌, ℕ, true, below_more}
+use Rattle.std.proofs.Common.{◌≡◌, ◌<◌, ◌≤◌, ◌+◌, ◌↔◌, ⊎_elim, ℕ, List, true, Some, None, IfSome, IfNone, subst, arith, below_more}
+use Rattle.std.specs.declared.option.Option.{Option}
 use Rattle.std.specs.Int.{IsBitSet}
 use Rattle.ss_model.specs.declared.catalog.Catalog.{Catalog}
 use Rattle.ss_model.specs.declared.entry.Entry.TheVariants.{Step as StepEntry}
@@ -8,10 +9,11 @@ use Rattle.ss_model.specs.Database.{Database, fits_entry}
 use Rattle.ss_commitlog.specs.Reading.{IsReadyAt}
 use Rattle.ss_commitlog.specs.Right.{known_database}
 use Rattle.ss_commitlog.specs.Tokens.{Known}
-use Rattle.ss_engine.specs.Closings.{WasIdle}
+use Rattle.ss_engine.specs.Closings.{StepsWhenFound, WasIdle}
 use Rattle.ss_engine.specs.Growing.{GoesOn}
 use Rattle.ss_engine.specs.Least.{NoneBelow}
 use Rattle.ss_engine.specs.Pumped.{NoneReady}
+use Rattle.ss_engine.specs.Ranking.{IsFirstRanked}
 use Rattle.ss_engine.proofs.Growing.{on_itself, on_and_on}
 use Rattle.ss_engine.proofs.Trying.{ready_below, ready_steps}
 
@@ -29,3 +31,31 @@ module _ (catalog : Catalog) (n : ℕ) (db : Database) (p : ℕ) (mark : Known) 
       below_more _ _
       (λ r low. let w = was r low in record { between = w.between; since = w.since; till = on_and_on catalog n w.between mid mark w.till next; idle = w.idle })
       (record { between = mark; since = on_and_on catalog n old mid mark on next; till = on_itself catalog n mark; idle = none_ready accepted none })
+
+  -- what is first of it and of what was found before was ready behind a list on the way
+  pub first_ready : (ranks : List ℕ) (old mid : Known) → GoesOn catalog n old mid → GoesOn catalog n mid mark → (found : Option ℕ) → IfSome found (StepsWhenFound catalog n db old mid)
+      → (first : Option ℕ) → IfSome first (IsFirstRanked ranks 64 set found) → IfSome first (StepsWhenFound catalog n db old mark)
+  first_ready ranks old mid on next found was None is = tt
+  first_ready ranks old mid on next found was (Some q) is = ⊎_elim (λ (has : IsBitSet set q). here has) (λ (e : found ≡ Some q). later (subst (λ (o : Option ℕ). IfSome o (StepsWhenFound catalog n db old mid)) e was)) is.one
+    where
+      here : IsBitSet set q → StepsWhenFound catalog n db old mark q
+      here has = record { fits = fits_ready q has; between = mark; since = on_and_on catalog n old mid mark on next; till = on_itself catalog n mark; ready = ((tells q).0 has).1 }
+
+      later : StepsWhenFound catalog n db old mid q → StepsWhenFound catalog n db old mark q
+      later w = record { fits = w.fits; between = w.between; since = w.since; till = on_and_on catalog n w.between mid mark w.till next; ready = w.ready }
+
+  -- where neither is anything, no procedure was ready at any partition so far
+  pub idle_still : Accepted catalog → (old mid : Known) → GoesOn catalog n old mid → GoesOn catalog n mid mark → (found : Option ℕ) → IfNone found ((r : ℕ) → r < p → WasIdle catalog n db r old mid)
+      → (first : Option ℕ) → IfNone first (NoneBelow 64 set × (found ≡ None)) → IfNone first ((r : ℕ) → r < p + 1 → WasIdle catalog n db r old mark)
+  idle_still accepted old mid on next found was (Some q) none = tt
+  idle_still accepted old mid on next found was None none = idle_so_far accepted none.0 old mid on next (subst (λ (o : Option ℕ). IfNone o ((r : ℕ) → r < p → WasIdle catalog n db r old mid)) none.1 was)
+
+-- what is first is below 64
+pub first_low : (ranks : List ℕ) (set : ℕ) (found first : Option ℕ) → IfSome first (IsFirstRanked ranks 64 set found) → IfSome first (λ q. q < 64)
+first_low ranks set found None is = tt
+first_low ranks set found (Some q) is = is.low
+
+-- at all partitions, once each had its look
+pub idle_to : (catalog : Catalog) (n : ℕ) (db : Database) (old new : Known) (p : ℕ) → n ≤ p → (found : Option ℕ) → IfNone found ((r : ℕ) → r < p → WasIdle catalog n db r old new) → IfNone found ((r : ℕ) → r < n → WasIdle catalog n db r old new)
+idle_to catalog n db old new p all (Some q) was = tt
+idle_to catalog n db old new p all None was = λ r low. was r (omega (arith, low, all))

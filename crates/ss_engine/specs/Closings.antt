@@ -1,17 +1,17 @@
 -- The close of an engine: settling with all partitions in hand, and what is handed over.
-use Rattle.std.specs.Prelude.{◌≡◌, ◌<◌, ◌≤◌, ◌+◌, ◌^◌, ℕ, true, List, [], ◌∷◌, ◌++◌, length, slice_get, Some, Result, Ok, Err}
+use Rattle.std.specs.Prelude.{◌≡◌, ◌<◌, ◌≤◌, ℕ, true, List, [], ◌∷◌, ◌++◌, length, slice_get, Some, Result, Ok, Err}
 use Rattle.std.specs.List.{AllByRecursion}
 use Rattle.ss_model.specs.declared.catalog.Catalog.{Catalog}
 use Rattle.ss_model.specs.declared.entry.Answer.{Answer}
 use Rattle.ss_model.specs.declared.entry.Listed.{Listed}
-use Rattle.ss_model.specs.Database.{Database}
+use Rattle.ss_model.specs.declared.entry.Entry.TheVariants.{Step as StepEntry}
+use Rattle.ss_model.specs.Database.{Database, fits_entry}
 use Rattle.ss_model.specs.InStep.{IsInStep}
 use Rattle.ss_model.specs.Orders.{Orders}
 use Rattle.ss_model.specs.Partitions.{touches}
 use Rattle.ss_model.specs.Replays.{Replays, after}
-use Rattle.ss_model.specs.Report.{is_step}
 use Rattle.ss_model.specs.Settled as model
-use Rattle.ss_model.specs.Settling.{Drained}
+use Rattle.ss_model.specs.Settling.{Drained, is_ready_now}
 use Rattle.ss_report_laws.specs.Replies.{mine}
 use Rattle.ss_shard.specs.Databases.{StandsFor}
 use Rattle.ss_shard.specs.Parts.{IsWholeShard}
@@ -57,32 +57,35 @@ pub record WasIdle (catalog : Catalog) (n : ℕ) (db : Database) (p : ℕ) (old 
   pub till : GoesOn catalog n between new
   pub idle : NoneReady catalog n (known_database catalog db between) p
 
--- the second list is the first with so many entries behind it, each a step
-pub record AddsSteps (old new : List Item) (count : ℕ) : Type 0 where
-  pub rest : List Item
-  pub is : new ≡ old ++ rest
-  pub many : length rest ≡ count
-  pub steps : AllByRecursion (λ i. is_step i.listed.entry ≡ true) rest
+-- some procedure is ready
+abbrev pub SomeReady : Catalog → Database → Type 0
+SomeReady catalog d = (q : ℕ) × (is_ready_now catalog d q ≡ true)
 
--- how settling ended that went from one list to another
-abbrev pub SettledTo : Catalog → ℕ → Database → ℕ → List Item → List Item → Settling → Type 0
-SettledTo catalog n db limit old new (Done steps) = AddsSteps old new steps × NoneReadyBehind catalog n db new
-SettledTo catalog n db limit old new NoMemory = Unit {0}
-SettledTo catalog n db limit old new (ListFull count) = (length new ≡ limit) × (count ≡ limit)
+-- a procedure takes steps; and while a token went from one list to another, there was one behind which it was ready
+pub record StepsWhenFound (catalog : Catalog) (n : ℕ) (db : Database) (old new : Known) (q : ℕ) : Type 0 where
+  pub fits : fits_entry catalog (StepEntry q 0) ≡ true
+  pub between : Known
+  pub since : GoesOn catalog n old between
+  pub till : GoesOn catalog n between new
+  pub ready : is_ready_now catalog (known_database catalog db between) q ≡ true
 
--- a step that ran can be counted behind so many
-abbrev pub MayCount : Stepped → ℕ → Type 0
-MayCount (stepped.Ran place l) steps = steps < 2 ^ 60
-MayCount stepped.NotReady steps = Unit {0}
-MayCount stepped.NoMemory steps = Unit {0}
-MayCount (stepped.ListFull count) steps = Unit {0}
+-- a procedure takes steps, and is ready behind the list that all of these marks may know
+pub record FoundReady (catalog : Catalog) (n : ℕ) (db : Database) (marks : List Known) (q : ℕ) : Type 0 where
+  pub fits : fits_entry catalog (StepEntry q 0) ≡ true
+  pub ready : (list : List Item) → MayBeWhole catalog n list marks → is_ready_now catalog (after catalog db (listed_of list)) q ≡ true
 
--- how many steps have run with one more that was tried, or how settling ended by it
-abbrev pub settling_of : Stepped → ℕ → Result ℕ Settling
-settling_of (stepped.Ran place l) steps = Ok (steps + 1)
-settling_of stepped.NotReady steps = Ok steps
-settling_of stepped.NoMemory steps = Err NoMemory
-settling_of (stepped.ListFull count) steps = Err (ListFull count)
+-- how settling ended, which brought the list to this one
+abbrev pub SettledTo : Catalog → ℕ → Database → ℕ → List Item → Settling → Type 0
+SettledTo catalog n db limit list Done = NoneReadyBehind catalog n db list
+SettledTo catalog n db limit list NoMemory = Unit {0}
+SettledTo catalog n db limit list (ListFull count) = (length list ≡ limit) × (count ≡ limit) × SomeReady catalog (after catalog db (listed_of list))
+
+-- settling goes on behind a step that was tried, or this is how it ended
+abbrev pub settling_of : Stepped → Result (Unit {0}) Settling
+settling_of (stepped.Ran place l) = Ok tt
+settling_of stepped.NotReady = Ok tt
+settling_of stepped.NoMemory = Err NoMemory
+settling_of (stepped.ListFull count) = Err (ListFull count)
 
 -- ---- lanes
 
@@ -108,21 +111,12 @@ pub record IsOfLane (first k : ℕ) (lane : LaneView) (list : List Listed) (answ
 
 -- ---- what is handed over
 
--- a list ends with so many steps
-pub record EndsWithSteps (list : List Listed) (count : ℕ) : Type 0 where
-  pub front : List Listed
-  pub steps : List Listed
-  pub is : list ≡ front ++ steps
-  pub many : length steps ≡ count
-  pub all_steps : AllByRecursion (λ l. is_step l.entry ≡ true) steps
-
 -- how the engine's own steps ended: with none ready, so that all batches are taken where the opening's database was in step; or with
--- no memory for one; or with no place in the list
+-- no memory for one; or with no place in the list for one that is ready
 abbrev pub EndedWith : Catalog → Database → ℕ → List Listed → Settling → Type 0
-EndedWith catalog db limit list (Done steps) =
-    EndsWithSteps list steps × model.NoneReady catalog (after catalog db list) × (IsInStep catalog db → Drained catalog (after catalog db list))
+EndedWith catalog db limit list Done = model.NoneReady catalog (after catalog db list) × (IsInStep catalog db → Drained catalog (after catalog db list))
 EndedWith catalog db limit list NoMemory = Unit {0}
-EndedWith catalog db limit list (ListFull count) = (length list ≡ limit) × (count ≡ limit)
+EndedWith catalog db limit list (ListFull count) = (length list ≡ limit) × (count ≡ limit) × SomeReady catalog (after catalog db list)
 
 -- the whole list, with the database that it leaves in one shard and the streams beside it, and each lane's answers
 pub record IsClosed (catalog : Catalog) (n clients first limit : ℕ) (db : Database) (lanes : List LaneView) (closed : Closed) : Type 0 where

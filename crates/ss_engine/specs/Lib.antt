@@ -13,7 +13,10 @@ pub mod Stepping
 pub mod Runs
 pub mod Engines
 pub mod Least
+pub mod Ranking
 pub mod Tried
 pub mod Serving
 pub mod Openings
 pub mod Closings
+pub mod Clients
+pub mod Sessions

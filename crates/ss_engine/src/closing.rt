@@ -57,9 +57,10 @@ impl<I: Life, N: Runner + Drop, G: Gate + Drop> Engine<I, N, G> {
             hub,
             bays,
             catalog,
+            homes,
             parts,
             runner,
-            ..
+            gate,
         } = self;
         let Hub { log, .. } = hub;
         let marks = Vec::with_capacity(alloc, MARKS)?;
@@ -68,7 +69,9 @@ impl<I: Life, N: Runner + Drop, G: Gate + Drop> Engine<I, N, G> {
         let partitions = bays.close(rt);
         let (_note, gathered) = in_one_hand(rt, alloc, &log, &catalog, parts, partitions, note);
         let hand = gathered?;
-        let (hand, end) = settle(rt, alloc, &log, &catalog, &runner, parts, hand);
+        let (hand, end) = settle(
+            rt, alloc, &log, &catalog, &runner, &gate, &homes, parts, hand,
+        );
         let Hand {
             whole,
             marks: own,

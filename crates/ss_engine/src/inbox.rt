@@ -3,6 +3,7 @@
 ghost use Rattle.std.specs.Prelude.{◌≡◌, ◌<◌, ◌∷◌, [], ◌++◌, length, IfErr, OnOk};
 
 use crate::job::Job;
+use crate::signal::Signal;
 use ss_model::Life;
 use ss_sched::{Inbox, Work};
 use ss_value::NoMemory;
@@ -37,6 +38,7 @@ fn put_into<I: Life>(work: &mut Inbox<Job<I>>, job: Job<I>) -> Result<(), Job<I>
 pub(crate) struct SharedInbox<I: Life> {
     waiting: Mutex<Waiting<I>>,
     moved: Condvar,
+    there: Signal,
     unserved: AtomicBool,
 }
 
@@ -50,6 +52,7 @@ impl<I: Life> SharedInbox<I> {
                 stopped: false,
             }),
             moved: Condvar::new(),
+            there: Signal::new(),
             unserved: AtomicBool::new(false),
         })
     }
@@ -62,6 +65,7 @@ impl<I: Life> SharedInbox<I> {
         if let Err(job) = put_into(&mut waiting.work, job) {
             return Err(job);
         }
+        self.there.raise();
         self.moved.notify_one();
         Ok(())
     }
@@ -72,16 +76,23 @@ impl<I: Life> SharedInbox<I> {
     {
         let mut waiting = self.waiting.lock(rt);
         waiting.work.put_hint(procedure);
+        self.there.raise();
         self.moved.notify_one();
     }
 
     /// Takes the next item: the first hint where one waits, else the first job.
     pub fn take<R: Wait>(&self, rt: &R) -> Option<Work<Job<I>>> {
-        self.waiting.lock(rt).work.take()
+        let mut waiting = self.waiting.lock(rt);
+        let item = waiting.work.take();
+        if waiting.work.is_empty() && !waiting.stopped {
+            self.there.lower();
+        }
+        item
     }
 
-    /// Waits while nothing is there and `stop` wasn't called.
+    /// Waits while nothing is there and `stop` wasn't called: awake for a short time, then asleep.
     pub fn rest<R: Wait>(&self, rt: &R) {
+        self.there.spin();
         let _waiting = self.moved.wait_while(rt, self.waiting.lock(rt), |w| {
             w.work.is_empty() && !w.stopped
         });
@@ -91,6 +102,7 @@ impl<I: Life> SharedInbox<I> {
     pub fn stop<R: Wait>(&self, rt: &R) {
         let mut waiting = self.waiting.lock(rt);
         waiting.stopped = true;
+        self.there.raise();
         self.moved.notify_all();
     }
 

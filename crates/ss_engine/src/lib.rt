@@ -11,21 +11,24 @@
 //! 2015, section 3); that marks travel with requests is this project's own rule.
 //!
 //! - `lane`: a client's side, with its law in `laws`; `hub`: the calls of clients, and of those who run their requests
-//! - `ticket`, `job`, `reply`: what travels; `inbox`, `slot`: where it waits
+//! - `ticket`, `job`, `reply`: what travels; `inbox`, `slot`: where it waits; `signal`: that it does
 //! - `own`: whether a reply is the one that is waited for
 //! - `pump`: what the work of an inbox came to; `asking`: the commit of what a client asked for
 //! - `engine`: what threads share; `opening`: one with an empty list, and a lane for each client; `closing`: what it leaves
-//! - `submitting`: its calls for clients; `pumping`: it runs the work of its inboxes; `settling`: its own last steps
+//! - `submitting`: its calls for clients; `pumping`: it runs the work of its inboxes
+//! - `settling`: its own last steps; `ranking`: in which order
+//! - `clients`: clients and executors in threads; `session`: a whole run
 //! - `serving`: a job; `hints`: a procedure that may be ready; `waking`: hints of what an entry may have made ready
 //! - `holding`: partitions in and out of bays; `gate`: what is told of an execution; `least`: small sets
 //! - `execution`: an entry on the parts in hand; `running`: its run and its end; `stepping`: the batches and the commit of a step
 //!
 //! In `specs/`: `Mines` and `Told` (the entries of a client, and what answers tell of them), `Lanes`, `Replies`, `Owning`,
 //! `Answered`, `Growing` (tokens whose lists go on), `Pumped`, `Commits`, `Served`, `Engines`, `Executed`, `Runs`, `Stepping`,
-//! `Serving`, `Tried`, `Least`, `Openings`, `Closings`.
+//! `Serving`, `Tried`, `Least`, `Ranking`, `Openings`, `Closings`, `Clients`, `Sessions`.
 #![tactic(auto)]
 
 mod asking;
+mod clients;
 mod closing;
 mod engine;
 mod execution;
@@ -42,16 +45,20 @@ mod opening;
 mod own;
 mod pump;
 mod pumping;
+mod ranking;
 mod reply;
 mod running;
 mod serving;
+mod session;
 mod settling;
+mod signal;
 mod slot;
 mod stepping;
 mod submitting;
 mod ticket;
 mod waking;
 
+pub use clients::run_clients;
 pub use closing::Closed;
 pub use engine::Engine;
 pub use gate::{Gate, NoGate};
@@ -60,4 +67,5 @@ pub use lane::Lane;
 pub use laws::lanes_serve;
 pub use opening::Opened;
 pub use pump::Pumped;
+pub use session::run_session;
 pub use settling::Settling;

@@ -12,3 +12,10 @@ pub enum Pumped {
     /// The list holds as many entries as it may, which is this many, so what it took wasn't run.
     ListFull(u64),
 }
+
+impl Pumped {
+    /// Whether it ran nothing.
+    pub(crate) fn is_idle(&self) -> bool {
+        !matches!(self, Pumped::Ran(_))
+    }
+}

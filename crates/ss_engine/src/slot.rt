@@ -5,6 +5,7 @@ ghost use Rattle.ss_engine.specs.Owning.{IsOwn};
 
 use crate::own::is_own;
 use crate::reply::Reply;
+use crate::signal::Signal;
 use crate::ticket::Ticket;
 use ss_model::{Asked, Life};
 use std::sync::{Condvar, Mutex, Wait};
@@ -16,6 +17,7 @@ use std::sync::{Condvar, Mutex, Wait};
 pub(crate) struct Slot<I: Life> {
     reply: Mutex<Option<Reply<I>>>,
     moved: Condvar,
+    there: Signal,
 }
 
 impl<I: Life> Slot<I> {
@@ -24,6 +26,7 @@ impl<I: Life> Slot<I> {
         Slot {
             reply: Mutex::new(None),
             moved: Condvar::new(),
+            there: Signal::new(),
         }
     }
 
@@ -31,6 +34,7 @@ impl<I: Life> Slot<I> {
     pub fn put<R: Wait>(&self, rt: &R, reply: Reply<I>) {
         let mut found = self.reply.lock(rt);
         *found = Some(reply);
+        self.there.raise();
         self.moved.notify_all();
     }
 
@@ -39,11 +43,13 @@ impl<I: Life> Slot<I> {
         ensures { IfSome result (IsOwn ticket.now what.now) }
     {
         let mut found = self.reply.lock(rt);
+        self.there.lower();
         taken(&mut *found, ticket, what)
     }
 
-    /// Waits while no reply is there.
+    /// Waits while no reply is there: awake for a short time, then asleep.
     pub fn rest<R: Wait>(&self, rt: &R) {
+        self.there.spin();
         let _found = self
             .moved
             .wait_while(rt, self.reply.lock(rt), |r| r.is_none());

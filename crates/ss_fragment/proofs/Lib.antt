@@ -19,3 +19,4 @@ pub mod Rising
 pub mod Sought
 pub mod Steps
 pub mod Turned
+pub mod Crossing

@@ -6,3 +6,4 @@ mod Tokens
 mod Turned
 mod Uniting
 mod Partitions
+pub mod Crossing

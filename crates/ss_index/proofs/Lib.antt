@@ -6,3 +6,4 @@ pub mod Ranging
 pub mod Rising
 pub mod Taking
 pub mod Uniting
+pub mod Crossing

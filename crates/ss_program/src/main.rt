@@ -1,9 +1,10 @@
 //! The program `sstore`: it reads a catalogue and requests, runs them, and writes the report.
 //!
-//! All that it does is `ss_top::sstore`, on standard input and standard output. The program is a crate of its own, since a
-//! program can't be tested from another crate.
+//! All that it does is `ss_top::sstore`, on standard input and standard output, with threads of the host, and with a gate
+//! that holds no execution. The program is a crate of its own, since a program can't be tested from another crate.
 #![tactic(auto)]
 
+use ss_engine::NoGate;
 use ss_lines::{ReadSource, WriteSink};
 use ss_top::{refuse_words, sstore};
 use std::process::ExitCode;
@@ -27,6 +28,6 @@ fn main(rt: HostRuntime) -> ExitCode {
         Err(error) => return ExitCode::from(refuse_words(&error, &mut sink).number()),
     };
     let mut source = ReadSource::new(rt.reader());
-    let status = sstore(rt.alloc(), &words, &mut source, &mut sink);
+    let status = sstore(&rt, rt.alloc(), &words, &mut source, &mut sink, NoGate);
     ExitCode::from(status.number())
 }

@@ -28,3 +28,4 @@ pub mod Shapes
 pub mod Staging
 pub mod Standing
 pub mod Tables
+pub mod Crossing

@@ -9,3 +9,4 @@ pub mod Spanned
 pub mod Spelled
 pub mod Stands
 pub mod Values
+pub mod Crossing

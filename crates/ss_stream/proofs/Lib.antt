@@ -4,3 +4,4 @@ pub mod OneStream
 pub mod Opening
 pub mod Premises
 pub mod Resumed
+pub mod Crossing

@@ -20,3 +20,4 @@ pub mod Slots
 pub mod Unions
 pub mod Walks
 pub mod Wide
+pub mod Crossing

@@ -1,5 +1,5 @@
 -- Requests one after another, as their lines are read.
-use Rattle.std.proofs.Common.{◌≡◌, ◌==◌, ℕ, zero, suc, ◌+◌, ◌<◌, List, [], ◌∷◌, ◌++◌, true, refl, sym, ap, length, take, drop, get_or, arith, eq-eqb}
+use Rattle.std.proofs.Common.{◌≡◌, ◌==◌, ℕ, zero, suc, ◌+◌, ◌<◌, List, [], ◌∷◌, ◌++◌, true, refl, sym, ap, length, take, drop, get_or, arith}
 use Rattle.std.proofs.lemmas.Bool.{and_from}
 use Rattle.std.proofs.lemmas.List.{take_more}
 use Rattle.std.specs.List.{AllByRecursion, list_all, count_by}
@@ -11,7 +11,7 @@ use Rattle.ss_model.specs.declared.entry.Request.{Request}
 use Rattle.ss_model.specs.Database.{fits_entry}
 use Rattle.ss_model.specs.Report.{asked_entry, entries_behind}
 use Rattle.ss_top.specs.declared.input.ReadError.{ReadError}
-use Rattle.ss_run.specs.RunAnswers.{all_fit}
+use Rattle.ss_engine.specs.Clients.{AllFit}
 use Rattle.ss_top.specs.Starts.{AsksFor, AskInOrder}
 use Rattle.ss_top.specs.Refused.{RefusesLater, RefusesAmong}
 
@@ -62,5 +62,5 @@ fit_behind catalog earlier (r ∷ rs) all =
     and_from _ _ (fits_at catalog r.client (count_by (λ (x : Request). x.client == r.client) earlier) r.what all.0) (fit_behind catalog (earlier ++ r ∷ []) rs all.1)
 
 -- all fit where each does
-pub each_fits : (catalog : Catalog) (rs : List Request) → EachFits catalog rs → all_fit catalog rs ≡ true
+pub each_fits : (catalog : Catalog) (rs : List Request) → EachFits catalog rs → AllFit catalog rs
 each_fits catalog rs all = fit_behind catalog [] rs all

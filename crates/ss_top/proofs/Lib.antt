@@ -4,3 +4,6 @@ pub mod TopRefusals
 pub mod OneInput
 pub mod TopAnswers
 pub mod InputPremises
+pub mod Running
+pub mod ClientsBelow
+pub mod Ending

@@ -46,7 +46,7 @@ ends_as_refused one input e ended first (inr memory) f other = inr memory
 
 ends_as_started : StartsOrRefused → (input : List ℕ) (e : ReadError) (ended : Status) → IsRefusedBy input e → EndsSo e ended → ExitsAsStarted input ended
 ends_as_started either input e ended first (inl so) c rs start = absurd (false≢true (sym so.0 ∙ either input c rs e start first))
-ends_as_started either input e ended first (inr memory) c rs start = inr memory
+ends_as_started either input e ended first (inr memory) c rs start = inr (inr memory)
 
 -- a refusal that is reported is the input's
 pub refused_ends_refused : HasOneRefusal → (left rest : Option (List ℕ)) (e : ReadError) (ended : Status) (w : SinkChange) (faults now : ℕ)

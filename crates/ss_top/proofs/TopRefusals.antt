@@ -10,7 +10,7 @@ use Rattle.ss_top.specs.Statuses.{read_fault_text, refusal_text, refusal_status}
 use Rattle.ss_top.specs.Top.{SinkChange, Writes, ExitsRefused}
 
 -- only a fault of the source has its status, and so its text
-read_fault_text_is : (e : ReadError) → refusal_status e ≡ ReadFault → refusal_text e ≡ read_fault_text
+pub read_fault_text_is : (e : ReadError) → refusal_status e ≡ ReadFault → refusal_text e ≡ read_fault_text
 read_fault_text_is (OfLine cause.NoMemory) is = cc
 read_fault_text_is (OfLine cause.ReadFault) is = refl
 read_fault_text_is (OfLine (cause.LineTooLong line)) is = cc

@@ -9,7 +9,7 @@ use Rattle.ss_catalog_requests.specs.declared.request.RequestError.TheVariants a
 use Rattle.ss_top.specs.declared.input.ReadError.{ReadError}
 use Rattle.ss_top.specs.declared.input.ReadError.TheVariants.{Line as OfLine, Catalog as OfCatalog, Request as OfRequest}
 use Rattle.ss_top.specs.declared.status.Status.{Status}
-use Rattle.ss_top.specs.declared.status.Status.TheVariants.{Done, NoMemory}
+use Rattle.ss_top.specs.declared.status.Status.TheVariants.{Done, NoMemory, Limit}
 use Rattle.ss_top.specs.Refused.{IsRefusedBy}
 use Rattle.ss_top.specs.Starts.{Starts}
 use Rattle.ss_top.specs.Statuses.{refusal_status}
@@ -51,6 +51,6 @@ DidNotRise before now = Rose before now → ⊥
 abbrev pub ExitsAsRefused : List ℕ → Status → Type 0
 ExitsAsRefused input ended = (e : ReadError) → HasRefusal input e → (ended ≡ refusal_status e) ⊎ (ended ≡ NoMemory)
 
--- an input that starts ends as done, or at out of memory
+-- an input that starts ends as done, or with a full list, or at out of memory
 abbrev pub ExitsAsStarted : List ℕ → Status → Type 0
-ExitsAsStarted input ended = (c : Catalog) (rs : List Request) → Starts input c rs → (ended ≡ Done) ⊎ (ended ≡ NoMemory)
+ExitsAsStarted input ended = (c : Catalog) (rs : List Request) → Starts input c rs → (ended ≡ Done) ⊎ ((ended ≡ Limit) ⊎ (ended ≡ NoMemory))

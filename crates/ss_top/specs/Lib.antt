@@ -3,3 +3,4 @@ pub mod Refused
 pub mod Statuses
 pub mod Top
 pub mod Inputs
+pub mod Runs

@@ -15,7 +15,7 @@ use Rattle.ss_catalog_requests.specs.declared.request.RequestError.TheVariants a
 use Rattle.ss_top.specs.declared.input.ReadError.{ReadError}
 use Rattle.ss_top.specs.declared.input.ReadError.TheVariants.{Line as OfLine, NoCatalog, Catalog as OfCatalog, Request as OfRequest}
 use Rattle.ss_top.specs.declared.status.Status.{Status}
-use Rattle.ss_top.specs.declared.status.Status.TheVariants.{Done, Usage, Input, ReadFault, WriteFault, NoMemory}
+use Rattle.ss_top.specs.declared.status.Status.TheVariants.{Done, Usage, Input, ReadFault, WriteFault, NoMemory, Limit}
 
 -- the program's exit status
 abbrev pub status_number : Status → ℕ
@@ -25,6 +25,7 @@ status_number Input = 2
 status_number ReadFault = 3
 status_number WriteFault = 4
 status_number NoMemory = 6
+status_number Limit = 9
 
 -- ---- texts
 

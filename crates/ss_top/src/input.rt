@@ -4,7 +4,7 @@ ghost use Rattle.std.specs.Prelude.{◌≡◌, IfOk, IfErr, true};
 ghost use Rattle.ss_model.specs.Accepted.{Accepted};
 ghost use Rattle.ss_model.specs.Database.{fits_entry};
 ghost use Rattle.ss_model.specs.Report.{asked_entry};
-ghost use Rattle.ss_run.specs.RunAnswers.{all_fit};
+ghost use Rattle.ss_engine.specs.Clients.{AllFit};
 ghost use Rattle.ss_top.specs.Starts.{SaysCatalog, AsksFor, AskInOrder, StartLines};
 ghost use Rattle.ss_top.specs.Refused.{RefusesFirst, RefusesLater, RefusesAmong, RefusesLines, ComesOfLines};
 
@@ -73,7 +73,7 @@ fn request_at(alloc: Global, catalog: &Catalog, line: &Line) -> Result<Request, 
 /// The requests of all later lines, or the first refusal.
 fn requests_at(alloc: Global, catalog: &Catalog, lines: &[Line]) -> Result<Seq<Request>, ReadError>
     ensures ok { IfOk result (AskInOrder catalog.now lines.now) }
-    ensures fit { IfOk result (λ rs. all_fit catalog.now rs ≡ true) }
+    ensures fit { IfOk result (AllFit catalog.now) }
     ensures refused { IfErr result (RefusesAmong catalog.now lines.now) }
     ensures others { IfErr result ComesOfLines }
 {
@@ -99,7 +99,7 @@ fn requests_at(alloc: Global, catalog: &Catalog, lines: &[Line]) -> Result<Seq<R
 pub fn parse_input(alloc: Global, lines: &[Line]) -> Result<ParsedInput, ReadError>
     ensures ok { IfOk result (λ p. StartLines lines.now p.catalog p.requests) }
     ensures accepted { IfOk result (λ p. Accepted p.catalog) }
-    ensures fit { IfOk result (λ p. all_fit p.catalog p.requests ≡ true) }
+    ensures fit { IfOk result (λ p. AllFit p.catalog p.requests) }
     ensures refused { IfErr result (RefusesLines lines.now) }
     ensures others { IfErr result ComesOfLines }
 {

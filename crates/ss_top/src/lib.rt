@@ -3,7 +3,7 @@
 //! [`sstore`] is the whole program between a source of bytes and a sink, and its contract is the program's promise. It
 //! answers a [`Status`], whose number is the exit status.
 //!
-//! - `top`: the call `sstore`
+//! - `top`: the call `sstore`, and the same with a limit of its list; `run`: the run of what an input asks for
 //! - `input`: the lines of an input, read as a catalogue and requests, or their first refusal
 //! - `refusals`: what is written where nothing ran, and with which status
 //! - `status`: how a run ends
@@ -17,10 +17,11 @@ mod command_line;
 mod input;
 mod laws;
 mod refusals;
+mod run;
 mod status;
 mod top;
 
 pub use command_line::refuse_words;
 pub use laws::an_input_has_one_answer;
 pub use status::Status;
-pub use top::sstore;
+pub use top::{MOST_ENTRIES, sstore, sstore_limited};

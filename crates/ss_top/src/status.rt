@@ -18,6 +18,8 @@ pub enum Status {
     WriteFault,
     /// 6: the run as a whole is out of memory.
     NoMemory,
+    /// 9: the list has as many entries as it may, and a request or a step was to follow.
+    Limit,
 }
 
 impl Status {
@@ -32,6 +34,7 @@ impl Status {
             Status::ReadFault => 3,
             Status::WriteFault => 4,
             Status::NoMemory => 6,
+            Status::Limit => 9,
         }
     }
 }

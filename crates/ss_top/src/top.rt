@@ -1,43 +1,29 @@
 //! The program's one call: from the bytes of a source to the bytes of a sink.
 
-ghost use Rattle.std.specs.Prelude.{◌≡◌, ◌≤◌, ◌+◌, ◌↔◌, false, true, IfOk, IfErr, OnOk, IfSome};
+ghost use Rattle.std.specs.Prelude.{◌≤◌, ◌+◌, ◌^◌, IfOk, IfErr, OnOk, IfSome};
 ghost use Rattle.std.specs.Io.KnownBytes.{IsAtEnd};
-ghost use Rattle.ss_value.specs.FaultCounts.{Rose};
 ghost use Rattle.ss_lines.specs.Causes.{TakesAtMost};
 ghost use Rattle.ss_lines.specs.Lines.{max_input};
 ghost use Rattle.ss_model.specs.Accepted.{Accepted};
-ghost use Rattle.ss_model.specs.Database.{empty_database};
-ghost use Rattle.ss_model.specs.Orders.{Orders};
-ghost use Rattle.ss_model.specs.Replays.{Replays, after};
-ghost use Rattle.ss_model.specs.Report.{Report, Whole};
-ghost use Rattle.ss_model.specs.Settling.{Drained};
-ghost use Rattle.ss_run.specs.RunAnswers.{all_fit, AnswersInOrder};
+ghost use Rattle.ss_engine.specs.Clients.{AllFit};
 ghost use Rattle.ss_top.specs.Starts.{Starts};
 ghost use Rattle.ss_top.specs.Refused.{IsRefusedBy};
-ghost use Rattle.ss_top.specs.Statuses.{usage_text, read_fault_text, no_memory_text};
-ghost use Rattle.ss_top.specs.Inputs.{DidNotRise, ExitsAsRefused, ExitsAsStarted};
-ghost use Rattle.ss_top.specs.Top.{is_run, sink_of, Writes, LeavesOfRefusedSource, IsRefused, RunIsReported, RunIsCut, LeavesOfSource};
+ghost use Rattle.ss_top.specs.Top.{source_of, sink_of, LeavesOfRefusedSource, WritesRun, ExitsRun, Ends, most_entries};
 
 use crate::input::{ParsedInput, ReadError, parse_input};
 use crate::laws::an_input_has_one_answer;
 use crate::refusals::{NO_MEMORY, USAGE, refuse, write_line};
+use crate::run::{ReportedRun, run_and_report};
 use crate::status::Status;
+use ss_engine::Gate;
 use ss_lines::{Sink, Source, read_lines, write_all};
-use ss_model::Listed;
-use ss_report::{End, write_report};
-use ss_run::{Session, run_requests};
-use ss_value::{NoMemory, Seq};
+use ss_words::run_options;
 use std::alloc::Global;
+use std::sync::Wait;
+use std::thread::Threads;
 
-/// Whether the words are a command: the one word `run`.
-fn is_run(words: &[String]) -> bool
-    ensures { result ≡ is_run words.now }
-{
-    match words.split_first() {
-        None => false,
-        Some((word, rest)) => word.as_str() == "run" && rest.is_empty(),
-    }
-}
+/// The most entries that the list of a run may have.
+pub const MOST_ENTRIES: u64 = 1_000_000;
 
 /// Reads a source to its end, and answers what its bytes ask for. The lines are freed when it returns, before the run.
 fn read_input<S: Source>(alloc: Global, source: &mut S) -> Result<ParsedInput, ReadError>
@@ -46,7 +32,7 @@ fn read_input<S: Source>(alloc: Global, source: &mut S) -> Result<ParsedInput, R
     ensures end { OnOk result (IsAtEnd (S.left source.new)) }
     ensures ok { IfOk result (λ p. IfSome (S.left source.old) (λ input. Starts input p.catalog p.requests)) }
     ensures accepted { IfOk result (λ p. Accepted p.catalog) }
-    ensures fit { IfOk result (λ p. all_fit p.catalog p.requests ≡ true) }
+    ensures fit { IfOk result (λ p. AllFit p.catalog p.requests) }
     ensures refused { IfErr result (λ e. IfSome (S.left source.old) (λ input. IsRefusedBy input e)) }
     ensures leaves { IfErr result (λ e. LeavesOfRefusedSource e (S.faults source.old) (S.faults source.new) (S.left source.old) (S.left source.new)) }
 {
@@ -57,100 +43,92 @@ fn read_input<S: Source>(alloc: Global, source: &mut S) -> Result<ParsedInput, R
     parse_input(alloc, lines.as_slice())
 }
 
-/// A run's list, and the text of the report on it.
-#[derive(Drop)]
-struct ReportedRun {
-    list: Seq<Listed>,
-    text: Seq<u8>,
-}
-
-/// Runs what was asked for, and makes the report. Fails only where the run as a whole is out of memory.
-fn run_and_report(alloc: Global, plan: &ParsedInput) -> Result<ReportedRun, NoMemory>
-    requires accepted { Accepted plan.now.catalog }
-    requires fit { all_fit plan.now.catalog plan.now.requests ≡ true }
-    ensures replays { IfOk result (λ t. Replays plan.now.catalog (empty_database plan.now.catalog) t.list) }
-    ensures orders { IfOk result (λ t. Orders plan.now.catalog (empty_database plan.now.catalog) t.list) }
-    ensures in_order { IfOk result (λ t. AnswersInOrder plan.now.requests t.list) }
-    ensures drained { IfOk result (λ t. Drained plan.now.catalog (after plan.now.catalog (empty_database plan.now.catalog) t.list)) }
-    ensures report { IfOk result (λ t. Report plan.now.catalog plan.now.requests (empty_database plan.now.catalog) 0 t.list Whole t.text) }
+/// Writes the report of a run, and answers how the program ends: at a fault of the sink another way only where all was done.
+fn write_text<K: Sink>(sink: &mut K, reported: &ReportedRun) -> Status
+    ensures counts { K.faults sink.old ≤ K.faults sink.new }
+    ensures ends { WritesRun reported.now.status result reported.now.text
+        (sink_of (K.written sink.old) (K.written sink.new) (K.faults sink.old) (K.faults sink.new)) }
 {
-    let Session {
-        list,
-        answers,
-        database,
-    } = run_requests(alloc, &plan.catalog, &plan.requests)?;
-    let text = write_report(
-        alloc,
-        &plan.catalog,
-        &plan.requests,
-        &answers,
-        0,
-        &list,
-        &End::Tables(database),
-    )?;
-    Ok(ReportedRun { list, text })
+    match write_all(sink, reported.text.as_slice()) {
+        Ok(()) => reported.status,
+        Err(_) => match reported.status {
+            Status::Done => Status::WriteFault,
+            other => other,
+        },
+    }
 }
 
-/// Does all that the program does: reads a catalogue and requests, runs them, and reports.
+/// Runs what an input asks for, and writes the report, or that there was no memory for the run as a whole.
+fn run_input<K: Sink, G: Gate + Drop + Sync, R: Threads + Wait + Sync>(
+    rt: &R,
+    alloc: Global,
+    input: ParsedInput,
+    partitions: u8,
+    sink: &mut K,
+    gate: G,
+    limit: u64,
+) -> Status
+    requires accepted { Accepted input.catalog }
+    requires fit { AllFit input.catalog input.requests }
+    requires partitions { (1 ≤ partitions) × (partitions ≤ 8) }
+    requires limit { limit ≤ 2 ^ 60 }
+    ensures counts { K.faults sink.old ≤ K.faults sink.new }
+    ensures ends { ExitsRun input.catalog limit input.requests result
+        (sink_of (K.written sink.old) (K.written sink.new) (K.faults sink.old) (K.faults sink.new)) }
+{
+    match run_and_report(rt, alloc, input, partitions, gate, limit) {
+        Ok(reported) => write_text(sink, &reported),
+        Err(_) => {
+            write_line(sink, NO_MEMORY);
+            Status::NoMemory
+        }
+    }
+}
+
+/// Does all that the program does: reads a catalogue and requests, runs them, and reports. The list has at most `limit` entries.
 ///
-/// Costs time linear in the bytes of the input and of the report, and what the executions cost. Takes the memory of the
-/// input's lines, or of its values with the tables and the report, whichever is more.
-pub fn sstore<S: Source, K: Sink>(
+/// As many clients as ask run at the same time, and a thread for each partition. Costs time linear in the bytes of the input and of
+/// the report, and what the executions cost. Takes the memory of the input's lines, or of its values with the tables and the report,
+/// whichever is more.
+pub fn sstore_limited<S: Source, K: Sink, G: Gate + Drop + Sync, R: Threads + Wait + Sync>(
+    rt: &R,
     alloc: Global,
     words: &[String],
     source: &mut S,
     sink: &mut K,
+    gate: G,
+    limit: u64,
 ) -> Status
-    // The words alone decide whether they are a command.
-    ensures usage { (result ≡ Status.Usage) ↔ (is_run words.now ≡ false) }
-    ensures usage_line { result ≡ Status.Usage → Writes usage_text (sink_of (K.written sink.old) (K.written sink.new) (K.faults sink.old) (K.faults sink.new)) }
-
-    // A fault is answered only where it was counted, and counts never fall.
-    ensures counts { (S.faults source.old ≤ S.faults source.new) × (K.faults sink.old ≤ K.faults sink.new) }
-    ensures read_fault { result ≡ Status.ReadFault → Rose (S.faults source.old) (S.faults source.new) }
-    ensures read_fault_line { result ≡ Status.ReadFault → Writes read_fault_text
-        (sink_of (K.written sink.old) (K.written sink.new) (K.faults sink.old) (K.faults sink.new)) }
-    ensures write_fault { result ≡ Status.WriteFault → Rose (K.faults sink.old) (K.faults sink.new) }
-    ensures memory_line { result ≡ Status.NoMemory → Writes no_memory_text
-        (sink_of (K.written sink.old) (K.written sink.new) (K.faults sink.old) (K.faults sink.new)) }
-
-    // How much of the source is taken.
-    ensures taken { TakesAtMost (max_input + 1) (S.left source.old) (S.left source.new) }
-    ensures empties { LeavesOfSource result (S.left source.old) (S.left source.new) }
-
-    // A refusal that is written is the first that the bytes have.
-    ensures input { result ≡ Status.Input → IfSome (S.left source.old) (λ input.
-        IsRefused input Status.Input (sink_of (K.written sink.old) (K.written sink.new) (K.faults sink.old) (K.faults sink.new))) }
-
-    // An input has one answer, and gets it, unless a fault was counted or at out of memory.
-    ensures refused { is_run words.now ≡ true → DidNotRise (S.faults source.old) (S.faults source.new)
-        → IfSome (S.left source.old) (λ input. ExitsAsRefused input result) }
-    ensures started { is_run words.now ≡ true → DidNotRise (S.faults source.old) (S.faults source.new) → DidNotRise (K.faults sink.old) (K.faults sink.new)
-        → IfSome (S.left source.old) (λ input. ExitsAsStarted input result) }
-
-    // The headline: the catalogue is accepted, the replies and tables are those of one list that replays, has the
-    // orders and leaves no batch pending, and the bytes are its report.
-    ensures done { result ≡ Status.Done → IfSome (S.left source.old) (λ input.
-        RunIsReported input (sink_of (K.written sink.old) (K.written sink.new) (K.faults sink.old) (K.faults sink.new))) }
-    ensures cut { result ≡ Status.WriteFault → IfSome (S.left source.old) (λ input.
-        RunIsCut input (sink_of (K.written sink.old) (K.written sink.new) (K.faults sink.old) (K.faults sink.new))) }
+    requires { limit ≤ 2 ^ 60 }
+    ensures { Ends limit words.now (source_of (S.left source.old) (S.left source.new) (S.faults source.old) (S.faults source.new))
+        (sink_of (K.written sink.old) (K.written sink.new) (K.faults sink.old) (K.faults sink.new)) result }
 {
     // Does nothing: it states the laws by which the one answer of an input is the one given here.
     an_input_has_one_answer();
-    if !is_run(words) {
-        write_line(sink, USAGE);
-        return Status::Usage;
-    }
-    let plan = match read_input(alloc, source) {
-        Ok(plan) => plan,
-        Err(error) => return refuse(alloc, sink, &error),
+    let options = match run_options(words) {
+        Some(options) => options,
+        None => {
+            write_line(sink, USAGE);
+            return Status::Usage;
+        }
     };
-    let Ok(reported) = run_and_report(alloc, &plan) else {
-        write_line(sink, NO_MEMORY);
-        return Status::NoMemory;
-    };
-    match write_all(sink, reported.text.as_slice()) {
-        Ok(()) => Status::Done,
-        Err(_) => Status::WriteFault,
+    match read_input(alloc, source) {
+        Ok(input) => run_input(rt, alloc, input, options.partitions, sink, gate, limit),
+        Err(error) => refuse(alloc, sink, &error),
     }
+}
+
+/// The same with a list of at most [`MOST_ENTRIES`] entries: the program.
+pub fn sstore<S: Source, K: Sink, G: Gate + Drop + Sync, R: Threads + Wait + Sync>(
+    rt: &R,
+    alloc: Global,
+    words: &[String],
+    source: &mut S,
+    sink: &mut K,
+    gate: G,
+) -> Status
+    ensures { Ends most_entries words.now (source_of (S.left source.old) (S.left source.new) (S.faults source.old) (S.faults source.new))
+        (sink_of (K.written sink.old) (K.written sink.new) (K.faults sink.old) (K.faults sink.new)) result }
+{
+    sstore_limited(rt, alloc, words, source, sink, gate, MOST_ENTRIES)
 }

@@ -4,3 +4,4 @@ pub mod Final
 pub mod Holding
 pub mod Indexed
 pub mod Windows
+pub mod Crossing

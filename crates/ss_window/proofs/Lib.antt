@@ -2,3 +2,4 @@ mod Worked
 pub mod CallerLemmas
 pub mod Numbered
 pub mod Rises
+pub mod Crossing

@@ -1,6 +1,7 @@
 //! A source that fails, and sinks that are full.
 
 use super::{ACCOUNTS, run_within, words_of};
+use ss_engine::NoGate;
 use ss_lines::{MemorySink, Source};
 use ss_top::{Status, sstore};
 use ss_value::Failed;
@@ -30,7 +31,7 @@ fn a_source_that_fails(rt: HostRuntime) -> Result<(), Fail> {
     let words = words_of(rt.alloc(), &["run"])?;
     let mut source = Broken { faults: 0 };
     let mut sink = MemorySink::new(rt.alloc(), 64)?;
-    let status = sstore(rt.alloc(), &words, &mut source, &mut sink);
+    let status = sstore(&rt, rt.alloc(), &words, &mut source, &mut sink, NoGate);
     assert!(rt; status == Status::ReadFault);
     assert!(rt; sink.as_bytes() == b"[\"read_fault\"]\n".as_slice());
     Ok(())
@@ -41,12 +42,12 @@ fn sinks_that_are_full(rt: HostRuntime) -> Result<(), Fail> {
     let whole = "[\"table\",\"acct\",0]\n[\"done\",0]\n";
     for room in 0..whole.len() {
         let input = Vec::from_slice(rt.alloc(), ACCOUNTS.as_bytes())?;
-        let ended = run_within(rt.alloc(), input, room)?;
+        let ended = run_within(&rt, rt.alloc(), input, room)?;
         assert!(rt; ended.status == Status::WriteFault);
         assert!(rt; whole.as_bytes().starts_with(&ended.written));
         assert!(rt; ended.written.len() == room);
     }
     let input = Vec::from_slice(rt.alloc(), b"{")?;
-    assert!(rt; run_within(rt.alloc(), input, 3)?.is(Status::Input, "[\"i"));
+    assert!(rt; run_within(&rt, rt.alloc(), input, 3)?.is(Status::Input, "[\"i"));
     Ok(())
 }

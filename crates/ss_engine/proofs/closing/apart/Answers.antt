@@ -1,9 +1,9 @@
-use Rattle.std.proofs.Common.{rules, [], ◌≡◌, ◌≤◌, ◌+◌, ◌∙◌, List, None, Some, length, refl, sym, ap, subst, arith}
+use Rattle.std.proofs.Common.{rules, ◌≡◌, ◌∙◌, List, length, ap, subst, arith}
 use Rattle.std.proofs.lemmas.List.{length_push, nil_from_length}
 use Rattle.ss_commitlog.specs.Tokens.{Known}
 use Rattle.ss_model.specs.declared.entry.Answer.{Answer}
 use Rattle.ss_engine.specs.Lanes.{LaneView}
-use Rattle.ss_engine.proofs.LanesApart.{AreApart, one_apart, all_apart, none_apart, of_one_lane}
+use Rattle.ss_engine.proofs.LanesApart.{AreApart, one_apart, all_apart, of_one_lane}
 use Rattle.ss_engine.proofs.closing.apart.Goals as goal
 
 pub loop-lane-preserved : goal.loop-lane-preserved

@@ -1,4 +1,4 @@
-use Rattle.std.proofs.Common.{◌≡◌, ◌≤◌, vec_capacity}
+use Rattle.std.proofs.Common.{◌≤◌, vec_capacity}
 use Rattle.ss_engine.specs.Openings.{AreFresh}
 use Rattle.ss_engine.proofs.Fresh.{AreLeft}
 use Rattle.ss_engine.proofs.opening.fresh_lanes.Given as goal

@@ -1,4 +1,4 @@
-use Rattle.std.proofs.Common.{◌≡◌, ◌≤◌, ◌∙◌, List, sym, subst, arith}
+use Rattle.std.proofs.Common.{List, sym, subst, arith}
 use Rattle.ss_party.specs.Tags.{TagsFrom}
 use Rattle.ss_hand.specs.Partitions.{PartitionView}
 use Rattle.ss_engine.proofs.Fresh.{partition_more}

@@ -1,8 +1,9 @@
-use Rattle.ss_engine.proofs.WholeList.{IsSettling}
+use Rattle.ss_shard.specs.Parts.{all_partitions}
+use Rattle.ss_hand.specs.Hands.{IsInHand}
 use Rattle.ss_engine.proofs.settling.settle.Given as goal
 
--- so many steps ran
+-- all partitions are in hand
 abbrev pub invariant-loop : goal.invariant-loop
 invariant-loop g l =
     (goal.iterator-loop g).can_next l.iterator' × (goal.iterator-loop g).is_finite l.iterator'
-    × IsSettling g.I.Life.catalog g.I.Life.parts g.I.Life.opening l.fn.hand l.hand l.steps
+    × IsInHand g.I.Life.catalog g.I.Life.parts g.I.Life.opening (all_partitions g.I.Life.parts) l.hand

@@ -1,11 +1,8 @@
-use Rattle.std.proofs.Common.{◌≡◌, ◌≤◌, ◌+◌, ◌++◌, ◌∙◌, ℕ, List, length, refl, sym, ap, subst, arith}
+use Rattle.std.proofs.Common.{◌≡◌, ◌∙◌, List, subst, arith}
 use Rattle.ss_commitlog.specs.declared.rule.Item.{Item}
 use Rattle.ss_commitlog.specs.Tokens.{Known, AllContinue, Continues}
 use Rattle.ss_commitlog.specs.Meaning.{listed_of}
-use Rattle.ss_hand.specs.Hands.{KnowsWith}
-use Rattle.ss_shard.specs.Parts.{all_partitions}
 use Rattle.ss_engine.proofs.HandedOver.{closes, lane_marks, part_marks}
-use Rattle.ss_engine.proofs.Trying.{of_ok}
 use Rattle.ss_engine.proofs.engine.Engine.close.Goals as goal
 
 pub with_parts-requires : goal.with_parts-requires
@@ -21,11 +18,9 @@ with_parts-requires g c =
 
 pub returns : goal.returns
 returns g c =
-    let knows : KnowsWith {I = g.row.I.Denot} g.I.Life.catalog g.I.Life.parts g.I.Life.opening (all_partitions g.I.Life.parts) c.in_one_hand-note.result.0 c.in_ok-hand.hand
-    = of_ok c.in_one_hand-note.result.1 c.in_ok-hand.hand (λ h. KnowsWith {I = g.row.I.Denot} g.I.Life.catalog g.I.Life.parts g.I.Life.opening (all_partitions g.I.Life.parts) c.in_one_hand-note.result.0 h) c.in_ok-hand.was c.in_one_hand-note.ensures.ok in
     let joined : List Known → Type 0 = λ ks. (items : List Item) × (c.close-list.result.0 ≡ listed_of items) × AllContinue g.I.Life.catalog g.I.Life.parts items ks × Continues g.I.Life.catalog g.I.Life.parts items c.args.disk in
     closes g.I.Life.catalog c.self.invariant.accepted g.I.Life.parts c.self.invariant.some g.I.Life.clients g.I.Life.first g.I.Life.limit g.I.Life.opening c.args.lanes.items c.apart-marks.result.0.items c.settle-hand.result.0
-    c.in_one_hand-note.result.0.list c.args.disk c.settle-hand.result.1 c.close-list.result.0 c.close-list.result.1 c.from_vec.result c.self.inside.catalog
+    c.args.disk c.settle-hand.result.1 c.close-list.result.0 c.close-list.result.1 c.from_vec.result c.self.inside.catalog
     c.requires.lanes c.apart-marks.ensures.marks.0 (c.from_vec.ensures ∙ c.apart-marks.ensures.answers) c.settle-hand.ensures.in_hand
-    (λ whole may. c.settle-hand.ensures.settled c.in_one_hand-note.result.0.list whole knows.know_one may)
+    c.settle-hand.ensures.settled
     (subst joined c.with_parts.ensures c.close-list.ensures.list) c.close-list.ensures.legal c.close-list.ensures.clients c.close-list.ensures.streams c.self.invariant.catalog_is

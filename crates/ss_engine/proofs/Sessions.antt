@@ -1,0 +1,123 @@
+-- What is left of an engine whose clients made all their requests.
+use Rattle.std.proofs.Common.{◌≡◌, ℕ, zero, suc, ◌+◌, ◌<◌, ◌≤◌, ◌==◌, ⊎_elim, false, cond, List, [], ◌∷◌, length, replicate, get_or, slice_get, Some, Result, Ok, Err, IfOk, refl, sym, ap, subst, ◌∙◌, arith}
+use Rattle.std.proofs.lemmas.List.{get_or_past}
+use Rattle.std.proofs.lemmas.Option.{get_or_from_slice_get, slice_get_cases}
+use Rattle.ss_lemmas.proofs.Numbers.{eqb_apart}
+use Rattle.ss_value.specs.Rows.{Rows}
+use Rattle.ss_model.specs.declared.catalog.Catalog.{Catalog}
+use Rattle.ss_model.specs.declared.entry.Answer.{Answer}
+use Rattle.ss_model.specs.declared.entry.Entry.{Entry}
+use Rattle.ss_model.specs.declared.entry.Entry.TheVariants.{Call, Push, Step as StepEntry}
+use Rattle.ss_model.specs.declared.entry.Listed.{Listed}
+use Rattle.ss_model.specs.declared.entry.Request.{Request}
+use Rattle.ss_model.specs.Database.{Database, empty_database, stream_batches}
+use Rattle.ss_report_laws.specs.Replies.{answers_of, expected_entries, is_of, mine, requests_of}
+use Rattle.ss_commitlog.specs.Meaning.{HasClientBelow, HaveClientsBelow}
+use Rattle.ss_engine.specs.declared.closing.Closed.{Closed}
+use Rattle.ss_engine.specs.Clients.{AreListedOr, EachAt, HasMade}
+use Rattle.ss_engine.specs.Closings.{IsClosed}
+use Rattle.ss_engine.specs.Closings as lanes_of_clients
+use Rattle.ss_engine.specs.Openings.{AreFresh}
+use Rattle.ss_engine.specs.Lanes.{LaneView, IsFresh}
+use Rattle.ss_engine.specs.Mines.{mine_in}
+use Rattle.ss_engine.specs.Sessions.{AreOfClients, IsRun}
+use Rattle.ss_engine.proofs.Making.{still_unlisted}
+
+-- ---- clients that are not there
+
+others_request : (clients k client : ℕ) → clients ≤ k → client < clients → (client == k) ≡ false
+others_request clients k client past below = eqb_apart client k (λ same. absurd (omega (arith, past, below, same)))
+
+no_request : (clients k : ℕ) → clients ≤ k → (rs : List Request) → AreOfClients clients rs → requests_of k rs ≡ []
+no_request clients k past [] all = refl
+no_request clients k past (r ∷ rs) all =
+    ap (λ b. cond b (r ∷ requests_of k rs) (requests_of k rs)) (others_request clients k r.client past all.0) ∙ no_request clients k past rs all.1
+
+others_entry : (clients k : ℕ) → clients ≤ k → (e : Entry) → HasClientBelow clients e → is_of k e ≡ false
+others_entry clients k past (Call client index q args) below = others_request clients k client past below
+others_entry clients k past (Push client index s source seq rows) below = others_request clients k client past below
+others_entry clients k past (StepEntry q r) below = refl
+
+no_entry : (clients k first : ℕ) → clients ≤ k → (list : List Listed) → HaveClientsBelow clients list → mine k first list ≡ []
+no_entry clients k first past [] all = refl
+no_entry clients k first past (l ∷ ls) all =
+    ap (λ b. cond b ((first, l) ∷ mine k (first + 1) ls) (mine k (first + 1) ls)) (others_entry clients k past l.entry all.0) ∙ no_entry clients k (first + 1) past ls all.1
+
+-- ---- client by client
+
+-- what is told of one client
+record IsTold (first limit : ℕ) (requests : List Request) (closed : Closed) (k : ℕ) : Type 0 where
+  many : length (answers_of closed.answers k) ≡ length (requests_of k requests)
+  each : mine k first closed.list ≡ expected_entries k 0 (requests_of k requests) (answers_of closed.answers k)
+  others : AreListedOr limit (length closed.list) (answers_of closed.answers k)
+
+module _ (catalog : Catalog) (n : ℕ) (db : Database) (first limit clients : ℕ) (requests : List Request) (lanes : List LaneView) (closed : Closed)
+    (below : AreOfClients clients requests) (count : length lanes ≡ clients) (made : EachAt (HasMade first limit requests) lanes)
+    (end : IsClosed catalog n clients first limit db lanes closed) where
+  told_one : (k : ℕ) (lane : LaneView) → slice_get lanes k ≡ Some lane → IsTold first limit requests closed k
+  told_one k lane here =
+      let m = made k lane here in
+      let e = end.each k lane here in
+      let answers : answers_of closed.answers k ≡ lane.answers = get_or_from_slice_get closed.answers k lane.answers [] e.answers_are in
+      record {
+        many = ap (λ (l : List Answer). length l) answers ∙ m.served.many;
+        each =
+            e.own ∙ (ap (λ c. mine_in c first lane.list) (sym m.client_is)
+            ∙ (m.served.entries ∙ (ap (λ c. expected_entries c 0 (requests_of k requests) lane.answers) m.client_is ∙ ap (expected_entries k 0 (requests_of k requests)) (sym answers))));
+        others = subst (AreListedOr limit (length closed.list)) (sym answers) (still_unlisted limit (length lane.list) (length closed.list) e.longer lane.answers m.others);
+      }
+
+  told_none : (k : ℕ) → length lanes ≤ k → IsTold first limit requests closed k
+  told_none k past =
+      let outside : clients ≤ k = (let c = count in omega arith) in
+      let none : requests_of k requests ≡ [] = no_request clients k outside requests below in
+      let answers : answers_of closed.answers k ≡ [] = get_or_past closed.answers k [] (let m = end.many in omega arith) in
+      record {
+        many = ap (λ (l : List Answer). length l) answers ∙ sym (ap (λ (l : List Request). length l) none);
+        each = no_entry clients k first outside closed.list end.of_clients ∙ sym (ap (λ (l : List Request). expected_entries k 0 l (answers_of closed.answers k)) none);
+        others = subst (AreListedOr limit (length closed.list)) (sym answers) tt;
+      }
+
+  told : (k : ℕ) → IsTold first limit requests closed k
+  told k = ⊎_elim (λ h. told_one k h.0 h.2) (λ h. told_none k h.0) (slice_get_cases lanes k).1
+
+  pub is_run : IsRun catalog db first limit clients requests closed
+  is_run = record {
+    replays = end.replays;
+    orders = end.orders;
+    of_clients = end.of_clients;
+    within = end.within;
+    many = λ k. (told k).many;
+    each = λ k. (told k).each;
+    others = λ k. (told k).others;
+    stands = end.stands;
+    committed = end.whole.parts.committed;
+    catalog_is = end.catalog_is;
+    end = end.end;
+  }
+
+-- where a close came to an end, its run did
+pub run_if_ok : {E : Type 0} (catalog : Catalog) (n : ℕ) (db : Database) (first limit clients : ℕ) (requests : List Request) (lanes : List LaneView) (result : Result Closed E)
+    → AreOfClients clients requests → length lanes ≡ clients → EachAt (HasMade first limit requests) lanes
+    → IfOk result (IsClosed catalog n clients first limit db lanes) → IfOk result (IsRun catalog db first limit clients requests)
+run_if_ok catalog n db first limit clients requests lanes (Ok closed) below count made end = is_run catalog n db first limit clients requests lanes closed below count made end
+run_if_ok catalog n db first limit clients requests lanes (Err e) below count made end = tt
+
+-- the lanes of clients that made their requests are those of the clients
+pub made_lanes : (first limit clients : ℕ) (requests : List Request) (lanes : List LaneView) → length lanes ≡ clients → EachAt (HasMade first limit requests) lanes → lanes_of_clients.AreOfClients clients lanes
+made_lanes first limit clients requests lanes count made = record { many = count; each = λ k lane is. (made k lane is).client_is }
+
+-- and fresh ones are fresh each
+pub each_fresh : (first clients : ℕ) (lanes : List LaneView) → AreFresh first clients lanes → EachAt (IsFresh first) lanes
+each_fresh first clients lanes fresh = fresh.each
+
+-- ---- the empty database
+
+empty_at : {A : Type 0} (n s : ℕ) → get_or {A = List A} (replicate n []) s [] ≡ []
+empty_at zero s = refl
+empty_at (suc n) zero = refl
+empty_at (suc n) (suc s) = empty_at n s
+
+-- has no batch
+pub no_batch : (catalog : Catalog) (s : ℕ) → length (stream_batches (empty_database catalog) s) ≤ 0
+no_batch catalog s = subst (λ (bs : List Rows). length bs ≤ 0) (sym (empty_at {A = Rows} (length catalog.streams) s)) (omega arith)

@@ -1,0 +1,243 @@
+//! Clients that make their requests in threads of their own, beside executors of the partitions.
+
+ghost use Rattle.std.specs.Prelude.{◌≡◌, ◌<◌, ◌≤◌, [], map, length, vec_capacity, IfOk};
+ghost use Rattle.ss_report_laws.specs.Replies.{requests_of};
+ghost use Rattle.ss_engine.specs.Clients.{AllFit, AllThere, EachAt, EachHasLane, HasLane, HasMade, MayBegin, lane_of, some_lane};
+ghost use Rattle.ss_engine.specs.Lanes.{IsFresh};
+
+use crate::engine::Engine;
+use crate::gate::Gate;
+use crate::lane::Lane;
+use ss_commitlog::{Note, Notes};
+use ss_model::{Life, Request};
+use ss_proc::Runner;
+use ss_value::NoMemory;
+use std::alloc::Global;
+use std::sync::Wait;
+use std::sync::atomic::{AtomicBool, Ordering};
+use std::thread;
+use std::thread::Threads;
+
+/// A client, whose lane is away only while it makes its requests.
+#[derive(Drop)]
+pub(crate) struct Client<I: Life> {
+    pub(crate) lane: Option<Lane<I>>,
+}
+
+/// How many of these requests are a client's. Looks at each.
+fn count_requests(requests: &[Request], client: usize) -> usize
+    ensures { result ≡ length (requests_of client requests.now) }
+{
+    let mut count = 0;
+    for request in requests {
+        if usize::from(request.client) == client {
+            count += 1;
+        }
+    }
+    count
+}
+
+/// A client for each lane, with room for the answers to all its requests. Looks at each request once for each client.
+fn clients_of<I: Life>(
+    alloc: Global,
+    lanes: Vec<Lane<I>>,
+    requests: &[Request],
+) -> Result<Vec<Client<I>>, NoMemory>
+    requires { EachAt (IsFresh I.first) lanes.items }
+    ensures { IfOk result (λ clients. EachHasLane (length lanes.items) (MayBegin I.first requests.now) clients.items) }
+{
+    let mut clients = Vec::with_capacity(alloc, lanes.len())?;
+    for mut lane in lanes {
+        lane.reserve(count_requests(requests, clients.len()))?;
+        clients.push_reserved(Client { lane: Some(lane) });
+    }
+    Ok(clients)
+}
+
+/// The clients' lanes, in their order, in a list that has room for them. Takes no memory.
+fn lanes_of<I: Life>(clients: Vec<Client<I>>, mut lanes: Vec<Lane<I>>) -> Vec<Lane<I>>
+    requires room { (lanes.items ≡ []) × (length clients.items ≤ vec_capacity lanes) }
+    requires there { AllThere clients.items }
+    ensures { map some_lane result.items ≡ map lane_of clients.items }
+{
+    for client in clients {
+        let Client { lane } = client;
+        let Some(lane) = lane else { unreachable!() };
+        lanes.push_reserved(lane);
+    }
+    lanes
+}
+
+/// Makes those of these requests that are the client's, in order, each once the one before is answered.
+fn make_requests<I: Life, N: Runner + Drop, G: Gate + Drop, R: Wait>(
+    rt: &R,
+    alloc: Global,
+    engine: &Engine<I, N, G>,
+    mut lane: Lane<I>,
+    requests: &[Request],
+    number: usize,
+) -> Lane<I>
+    requires fit { AllFit I.catalog requests.now }
+    requires begins { MayBegin I.first requests.now number lane }
+    ensures { HasMade I.first I.limit requests.now number result }
+{
+    for request in requests {
+        if usize::from(request.client) == number {
+            lane = engine.submit(rt, alloc, lane, request);
+        }
+    }
+    lane
+}
+
+/// The same with a client whose lane is there, which it has again behind the last answer.
+fn serve_client<I: Life, N: Runner + Drop, G: Gate + Drop, R: Wait>(
+    rt: &R,
+    alloc: Global,
+    engine: &Engine<I, N, G>,
+    client: &mut Client<I>,
+    requests: &[Request],
+    number: usize,
+)
+    requires fit { AllFit I.catalog requests.now }
+    requires begins { HasLane (MayBegin I.first requests.now number) client.old }
+    ensures { HasLane (HasMade I.first I.limit requests.now number) client.new }
+{
+    let Some(lane) = client.lane.take() else {
+        unreachable!()
+    };
+    client.lane = Some(make_requests(rt, alloc, engine, lane, requests, number));
+}
+
+/// Serves all clients, each in a thread of its own where one can be made.
+fn serve_clients<
+    I: Life + Send + Sync,
+    N: Runner + Drop + Sync,
+    G: Gate + Drop + Sync,
+    R: Threads + Wait + Sync,
+>(
+    rt: &R,
+    alloc: Global,
+    engine: &Engine<I, N, G>,
+    mut clients: Vec<Client<I>>,
+    requests: &[Request],
+) -> Vec<Client<I>>
+    requires fit { AllFit I.catalog requests.now }
+    requires begin { EachHasLane (length clients.items) (MayBegin I.first requests.now) clients.items }
+    ensures { EachHasLane (length clients.items) (HasMade I.first I.limit requests.now) result.items }
+{
+    let many = clients.len().max(1);
+    thread::for_each_mut(
+        rt,
+        clients.as_mut_slice(),
+        many,
+        &|number: usize, client: &mut Client<I>|
+            requires { AllFit I.catalog requests.now × HasLane (MayBegin I.first requests.now number) client.old }
+            ensures { HasLane (HasMade I.first I.limit requests.entry.now number) client.new }
+        { serve_client(rt, alloc, engine, client, requests, number) },
+    );
+    clients
+}
+
+/// Runs what waits in the inbox of a partition, until the clients are done and a pump then runs nothing. Before that it rests
+/// where a pump ran nothing, until more waits there.
+fn execute_until<I: Life, N: Runner + Drop, G: Gate + Drop, R: Wait>(
+    rt: &R,
+    alloc: Global,
+    engine: &Engine<I, N, G>,
+    mut note: Note<I>,
+    p: u8,
+    done: &AtomicBool,
+)
+    requires { p < I.parts }
+{
+    for _ in rt.forever() {
+        let finished = done.load(Ordering::SeqCst);
+        let (known, did) = engine.pump(rt, alloc, note, p);
+        note = known;
+        if did.is_idle() {
+            if finished {
+                return;
+            }
+            engine.rest(rt, p);
+        }
+    }
+    unreachable!()
+}
+
+/// Serves all clients beside an executor for each partition. Where no thread can be made for one, clients that wait for an
+/// answer run the work of that inbox themselves.
+fn serve_beside_executors<
+    I: Life + Send + Sync,
+    N: Runner + Drop + Sync,
+    G: Gate + Drop + Sync,
+    R: Threads + Wait + Sync,
+>(
+    rt: &R,
+    alloc: Global,
+    engine: &Engine<I, N, G>,
+    clients: Vec<Client<I>>,
+    notes: Notes<I>,
+    requests: &[Request],
+) -> Vec<Client<I>>
+    requires fit { AllFit I.catalog requests.now }
+    requires begin { EachHasLane (length clients.items) (MayBegin I.first requests.now) clients.items }
+    ensures { EachHasLane (length clients.items) (HasMade I.first I.limit requests.now) result.items }
+{
+    let done = AtomicBool::new(false);
+    let flag = &done;
+    thread::scope(
+        thread::scope_env(),
+        rt,
+        move |scope| -> Vec<Client<I>>
+            requires { AllFit I.catalog requests.now × EachHasLane (length clients.items) (MayBegin I.first requests.now) clients.items }
+            ensures { EachHasLane (length clients.items) (HasMade I.first I.limit requests.entry.now) result.items }
+        {
+            let mut notes = notes;
+            for p in 0..engine.parts {
+                let started = match notes.pop() {
+                    Some(note) => scope
+                        .spawn(move || execute_until(rt, alloc, engine, note, p, flag))
+                        .is_ok(),
+                    None => false,
+                };
+                if !started {
+                    engine.no_executor(p);
+                }
+            }
+            let clients = serve_clients(rt, alloc, engine, clients, requests);
+            flag.store(true, Ordering::SeqCst);
+            engine.stop(rt);
+            clients
+        },
+    )
+}
+
+/// Makes the requests of all clients, those of each in order and one after another, and those of different clients at the same
+/// time. An executor runs the work of each partition meanwhile. The lanes come back once all requests are answered.
+///
+/// Room for all answers is made first, so want of memory there has made no request. Looks at each request twice for each client.
+/// Threads: one for each client and one for each partition, where they can be made; where none can, the clients make their
+/// requests one after another, and run the work of the inboxes themselves.
+pub fn run_clients<
+    I: Life + Send + Sync,
+    N: Runner + Drop + Sync,
+    G: Gate + Drop + Sync,
+    R: Threads + Wait + Sync,
+>(
+    rt: &R,
+    alloc: Global,
+    engine: &Engine<I, N, G>,
+    lanes: Vec<Lane<I>>,
+    notes: Notes<I>,
+    requests: &[Request],
+) -> Result<Vec<Lane<I>>, NoMemory>
+    requires fit { AllFit I.catalog requests.now }
+    requires fresh { EachAt (IsFresh I.first) lanes.items }
+    ensures many { IfOk result (λ made. length made.items ≡ length lanes.items) }
+    ensures made { IfOk result (λ made. EachAt (HasMade I.first I.limit requests.now) made.items) }
+{
+    let again = Vec::with_capacity(alloc, lanes.len())?;
+    let clients = clients_of(alloc, lanes, requests)?;
+    let clients = serve_beside_executors(rt, alloc, engine, clients, notes, requests);
+    Ok(lanes_of(clients, again))
+}

@@ -1,0 +1,4 @@
+pub mod Bodiless
+pub mod VoterOutline
+pub mod Fitting
+pub mod VoterHas
