@@ -1,0 +1,4 @@
+pub mod EmptyKept
+pub mod Texts
+pub mod OneAnswer
+pub mod CommonBytes

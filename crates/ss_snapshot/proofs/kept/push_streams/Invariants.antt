@@ -1,0 +1,7 @@
+use Rattle.std.proofs.Common.{◌≡◌, [], ◌++◌}
+use Rattle.ss_snapshot.specs.Image.{stream_bytes}
+use Rattle.ss_snapshot.specs.EmptyImage.{repeated}
+use Rattle.ss_snapshot.proofs.kept.push_streams.Given as goal
+
+abbrev pub invariant-loop : goal.invariant-loop
+invariant-loop l = l.out.items ≡ l.fn.out.items ++ repeated stream_bytes l.counter (0, (0, []))

@@ -1,0 +1,10 @@
+use Rattle.std.proofs.Common.{◌∙◌}
+use Rattle.std.specs.FinMap as finmap
+use Rattle.ss_record.specs.Numbers.{number_bytes}
+use Rattle.ss_snapshot.specs.Image.{table_bytes}
+use Rattle.ss_snapshot.proofs.EmptyKept.{one_more, no_table}
+use Rattle.ss_snapshot.proofs.kept.push_tables.Goals as goal
+
+pub loop-preserved : goal.loop-preserved
+loop-preserved c =
+    c.in_ok-push_u64.ensures.spelled ∙ one_more table_bytes c.loop.counter finmap.empty c.args.out.now.items c.loop.out.items (number_bytes 8 0) c.loop.invariant no_table

@@ -1,0 +1,4 @@
+pub mod Image
+pub mod EmptyImage
+pub mod Foreign
+pub mod Laws

@@ -1,0 +1,25 @@
+//! Images: what is kept of a database as bytes, so far of the database before any entry.
+//!
+//! A store begins with an image and goes on with the entries behind it, so that a database is recovered from both. The
+//! image of a new store is that of its catalogue's empty database: `empty_image` writes it, and `read_empty_image` reads
+//! the catalogue again, or tells the first byte that can't be.
+//!
+//! - `image`: the two calls; `error`: why bytes are refused
+//! - `text`: the catalogue's text, with which an image begins; `kept`: what is behind it
+//! - `laws`: bytes have one answer
+//!
+//! The definitions are `specs/Image`, how an image spells what is kept of any database; `specs/EmptyImage`, that of the
+//! empty one, and which bytes are one; and `specs/Foreign`, the first byte that can't be.
+//!
+//! Calls that take `alloc` may answer `NoMemory` in place of their answer.
+#![tactic(auto)]
+
+mod error;
+mod image;
+mod kept;
+mod laws;
+mod text;
+
+pub use error::ImageError;
+pub use image::{empty_image, read_empty_image};
+pub use laws::bytes_have_one_answer;
