@@ -139,7 +139,7 @@ impl<D: Disk> CmdLog<D> {
     pub fn flush(&mut self, entries: &Seq<Entry>) -> Result<Receipt, LogError>
         requires open { self.old.halted ≡ None → (s : Stood) × IsOpen D.tells D.honest D.seen (present D.moment D.images) self.old s }
         requires recordable { All IsRecordable entries.now }
-        requires within { self.old.count + length entries.now ≤ 2 ^ 60 }
+        requires within { self.old.halted ≡ None → self.old.count + length entries.now ≤ 2 ^ 60 }
         ensures adds { (s : Stood) → IsOpen D.tells D.honest D.seen (present D.moment D.images) self.old s
             → AddsEntries D.tells D.honest D.seen D.moment D.images self.old self.new (IsOk result) (IsErrOf result LogError.NoMemory) s entries.now }
         ensures count { IfOk result (λ receipt. (receipt.count ≡ self.old.count + length entries.now) × (self.new.count ≡ receipt.count)) }

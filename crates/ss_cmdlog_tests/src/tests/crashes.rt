@@ -23,12 +23,11 @@ fn crash_in(alloc: Global, disk: &MemoryDisk, call: u64) -> Result<String, Fail>
     Ok(text)
 }
 
-/// What a crash in each call leaves of a store of three steps.
-fn crashes_of(alloc: Global) -> Result<String, Fail> {
-    let disk = store_of(alloc, &[7, 8])?;
+/// What a crash in each call from this one on leaves.
+pub fn crashes_from(alloc: Global, disk: &MemoryDisk, from: u64) -> Result<String, Fail> {
     let mut text = String::new(alloc);
-    for call in 0..disk.calls() {
-        let crash = crash_in(alloc, &disk, call)?;
+    for call in from..disk.calls() {
+        let crash = crash_in(alloc, disk, call)?;
         text = format!(in alloc; "{text}{crash}\n")?;
     }
     Ok(text)
@@ -51,6 +50,7 @@ const CRASHES: &str = "0: empty empty empty
 
 #[test]
 fn a_group_is_there_whole_or_not_at_all(rt: HostRuntime) -> Result<(), Fail> {
-    assert_eq!(rt; crashes_of(rt.alloc())?.as_str(), CRASHES);
+    let disk = store_of(rt.alloc(), &[7, 8])?;
+    assert_eq!(rt; crashes_from(rt.alloc(), &disk, 0)?.as_str(), CRASHES);
     Ok(())
 }

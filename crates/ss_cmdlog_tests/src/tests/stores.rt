@@ -11,7 +11,7 @@ use std::alloc::Global;
 use std::test::Fail;
 
 /// Steps on the batches 0, 1 and 2, each with a record of 11 bytes.
-fn three_steps(alloc: Global) -> Result<Seq<Entry>, Fail>
+pub fn three_steps(alloc: Global) -> Result<Seq<Entry>, Fail>
     ensures recordable { IfOk result (λ entries. All IsRecordable entries) }
     ensures three { IfOk result (λ entries. length entries ≡ 3) }
 {
