@@ -24,7 +24,7 @@ use Rattle.ss_snapshot.specs.EmptyImage.{empty_image_of, repeated}
 
 -- ---- one item
 
-no_entries : {K X : Type 0} (R : K → K → Ordering) → finmap.entries (finmap.empty {X = X} {R = R}) ≡ []
+pub no_entries : {K X : Type 0} (R : K → K → Ordering) → finmap.entries (finmap.empty {X = X} {R = R}) ≡ []
 no_entries {X = X} R = nil_from_length _ (sym (len-entries (finmap.empty {X = X} {R = R})) ∙ len-empty R X)
 
 pub no_table : table_bytes finmap.empty ≡ number_bytes 8 0
@@ -96,7 +96,7 @@ module _ (catalog : Catalog) where
   no_batches : (s : ℕ) → ◌≡◌ {A = ℕ × (ℕ × List Rows)} (0, (least_count catalog (empty_database catalog) s, drop (least_count catalog (empty_database catalog) s) [])) (0, (0, []))
   no_batches s = λ k. (0, (no_least s k, drop-nil {A = Rows} (least_count catalog (empty_database catalog) s) k))
 
-  pub empty_kept : Kept
+  abbrev pub empty_kept : Kept
   empty_kept = record {
     tables = replicate (length catalog.tables) finmap.empty;
     windows = replicate (length catalog.windows) (0, []);
@@ -105,8 +105,8 @@ module _ (catalog : Catalog) where
     next_numbers = replicate (length catalog.streams) finmap.empty;
   }
 
-  kept_empty : kept catalog (empty_database catalog) ≡ empty_kept
-  unfolding kept empty_kept
+  pub kept_empty : kept catalog (empty_database catalog) ≡ empty_kept
+  unfolding kept
   kept_empty = λ k. record {
     tables = replicate (length catalog.tables) finmap.empty;
     windows = indexed_alike (λ w us. (length us, kept_units (window_def catalog w) us)) [] (0, []) no_units (length catalog.windows) k;
@@ -122,7 +122,7 @@ module _ (catalog : Catalog) where
       ++ repeated stream_bytes (length catalog.streams) (0, (0, []))
       ++ repeated (number_bytes 8) (length catalog.procedures) 0
       ++ repeated sources_bytes (length (border_streams catalog)) finmap.empty)
-  unfolding image_bytes empty_kept
+  unfolding image_bytes
   empty_image =
       ap (image_bytes catalog) kept_empty
       ∙ ap (λ (l : List ℕ). text_bytes catalog.text

@@ -1,3 +1,4 @@
+pub mod CallerLemmas
 pub mod EmptyKept
 pub mod Texts
 pub mod OneAnswer

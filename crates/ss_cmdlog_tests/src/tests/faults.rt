@@ -45,7 +45,13 @@ fn flushes_failing_at(alloc: Global, call: u64) -> Result<String, Fail> {
     if log.flush(&entries).is_err() {
         return Err("not flushed".into());
     }
-    let answer = text_of(alloc, log.flush(&entries))?;
+    let answer = match log.flush(&entries) {
+        Err(LogError::DiskFault) => {
+            let later = text_of(alloc, log.flush(&entries))?;
+            format!(in alloc; "disk fault, {later}")?
+        }
+        other => text_of(alloc, other)?,
+    };
     let disk = disk_after(alloc, log.into_disk(), 11)?;
     Ok(format!(in alloc; "{answer}, {disk}")?)
 }
@@ -58,20 +64,20 @@ fn flushes_failing_at(alloc: Global, call: u64) -> Result<String, Fail> {
 const FLUSHES: [(u64, &str); 5] = [
     (
         11,
-        "disk fault, 12 calls, 1 faults, 0+3
+        "disk fault, halted at 1, 12 calls, 1 faults, 0+3
 11: 0+3 0+3 0+3
 ",
     ),
     (
         12,
-        "disk fault, 13 calls, 1 faults, 0+3
+        "disk fault, halted at 1, 13 calls, 1 faults, 0+3
 11: 0+3 0+3 0+3
 12: 0+3 0+3 0+3
 ",
     ),
     (
         13,
-        "disk fault, 14 calls, 1 faults, 0+3
+        "disk fault, halted at 1, 14 calls, 1 faults, 0+3
 11: 0+3 0+3 0+3
 12: 0+3 0+3 0+3
 13: 0+3 0+6 0+3
@@ -79,7 +85,7 @@ const FLUSHES: [(u64, &str); 5] = [
     ),
     (
         14,
-        "disk fault, 15 calls, 1 faults, 0+6
+        "disk fault, halted at 1, 15 calls, 1 faults, 0+6
 11: 0+3 0+3 0+3
 12: 0+3 0+3 0+3
 13: 0+3 0+6 0+3

@@ -1,0 +1,79 @@
+-- What stands of a list goes on over a flush, and where the list grows.
+use Rattle.std.proofs.Common.{◌≡◌, ◌∙◌, inl, inr, ℕ, ◌+◌, ◌≤◌, List, ◌++◌, length, take, drop, sym, ap, subst, arith, length-append, length-drop, take-add, take-append-drop}
+use Rattle.std.proofs.lemmas.List.{take-append-le}
+use Rattle.ss_model.specs.declared.catalog.Catalog.{Catalog}
+use Rattle.ss_model.specs.declared.entry.Listed.{Listed}
+use Rattle.ss_model.specs.Database.{Database}
+use Rattle.ss_model.specs.Replays.{Replays, after, ReplaysGoOn}
+use Rattle.ss_model.specs.Settling.{kept}
+use Rattle.ss_disk.specs.Files.{Files}
+use Rattle.ss_disk.proofs.CallerLemmas.{runs_join, leaves_less}
+use Rattle.ss_cmdlog.specs.Generation.{Stood}
+use Rattle.ss_cmdlog.specs.Groups.{groups_of}
+use Rattle.ss_cmdlog.specs.Store.{StandsFor, StandsForPart, count_of, entries_of}
+use Rattle.ss_standing.specs.Standing.{listed_entries, Replayed, Stands, Prefix}
+use Rattle.ss_standing.specs.Laws.{FrontsStand, FlushesLeaveFronts}
+use Rattle.ss_standing.specs.Keeping.{KeepsOverFlush, KeepsGoOn, CountsExecutions, LogReceiptsTell}
+use Rattle.ss_standing.proofs.OneThing.{not_both}
+use Rattle.ss_standing.proofs.Fronts.{entries_count}
+
+-- a prefix of what stands behind a front is a front
+front_behind_front : (goes_on : ReplaysGoOn) (catalog : Catalog) (db : Database) (first : ℕ) (list : List Listed) (held : ℕ) (image : Files) → held ≤ length list
+    → Prefix catalog (after catalog db (take held list)) (first + held) (drop held list) image → Prefix catalog db first list image
+front_behind_front goes_on catalog db first list held image le f =
+    let whole : take (held + f.some) list ≡ take held list ++ take f.some (drop held list) = take-add held f.some list in
+    let ends : after catalog (after catalog db (take held list)) (take f.some (drop held list)) ≡ after catalog db (take (held + f.some) list) =
+    sym (goes_on catalog db (take held list) (take f.some (drop held list))).ends ∙ ap (after catalog db) (sym whole) in
+    let place : first + held + f.some ≡ first + (held + f.some) = omega arith in record {
+      some = held + f.some;
+      within = omega (arith, f.within, length-drop held list, le);
+      enough = omega arith;
+      stands = subst (λ (m : ℕ). Stands catalog image m (kept catalog (after catalog db (take (held + f.some) list)))) place (subst (λ (d : Database). Stands catalog image (first + held + f.some) (kept catalog d)) ends f.stands);
+    }
+
+-- the entries behind the first ones of a list replay behind them
+rest_replays : ReplaysGoOn → (catalog : Catalog) (db : Database) (list : List Listed) (n : ℕ) → Replays catalog db list → Replays catalog (after catalog db (take n list)) (drop n list)
+rest_replays goes_on catalog db list n replays = ((goes_on catalog db (take n list) (drop n list)).splits (subst (Replays catalog db) (sym (take-append-drop n list)) replays)).1
+
+pub keeps_over_flush : ReplaysGoOn → FrontsStand → FlushesLeaveFronts → {D : Type 0} (moment : D → ℕ) (images : D → ℕ → Files → Type 0) → KeepsOverFlush D moment images
+keeps_over_flush goes_on stands leaves moment images = λ catalog db first list held s start old new keeps replays run.
+    let behind = drop held list in
+    let fronts = leaves_less moment images old new (StandsForPart s (groups_of (listed_entries behind))) (Prefix catalog db first list) run (λ image part.
+    front_behind_front goes_on catalog db first list held image keeps.within
+    (stands catalog s (first + held) (after catalog db (take held list)) behind image keeps.generation (rest_replays goes_on catalog db list held replays) (leaves s behind image part))) in
+    runs_join moment images start old new (Prefix catalog db first list) keeps.crashes fronts
+
+-- ---- the list goes on
+
+same_front : (n : ℕ) (xs ys : List Listed) → n ≤ length xs → take n (xs ++ ys) ≡ take n xs
+same_front n xs ys le = take-append-le n xs ys le
+
+front_goes_on : (catalog : Catalog) (db : Database) (first : ℕ) (list more : List Listed) (image : Files) → Prefix catalog db first list image → Prefix catalog db first (list ++ more) image
+front_goes_on catalog db first list more image f = record {
+  some = f.some;
+  within = omega (arith, f.within, length-append list more);
+  enough = f.enough;
+  stands = subst (λ (l : List Listed). Stands catalog image (first + f.some) (kept catalog (after catalog db l))) (sym (same_front f.some list more f.within)) f.stands;
+}
+
+pub keeps_go_on : {D : Type 0} (moment : D → ℕ) (images : D → ℕ → Files → Type 0) → KeepsGoOn D moment images
+keeps_go_on moment images = λ catalog db first list more held s start now keeps. record {
+  within = omega (arith, keeps.within, length-append list more);
+  generation = subst (λ (l : List Listed). Replayed catalog s (first + held) (kept catalog (after catalog db l))) (sym (same_front held list more keeps.within)) keeps.generation;
+  crashes = leaves_less moment images start now (Prefix catalog db first list) (Prefix catalog db first (list ++ more)) keeps.crashes (front_goes_on catalog db first list more);
+}
+
+-- ---- counts
+
+pub counts_executions : ((disk : Files) (s t : Stood) → StandsFor disk s → StandsFor disk t → s ≡ t) → CountsExecutions
+counts_executions files catalog image count k s (inl nothing) stands = absurd (not_both image s nothing.empty stands)
+counts_executions files catalog image count k s (inr r) stands =
+    let same : count_of r.stood ≡ count_of s = ap count_of (files image r.stood s r.stands stands) in
+    let many : length (listed_entries r.replayed.list) ≡ length (entries_of r.stood) = ap length r.replayed.entries in
+    omega (arith, r.replayed.count_is, entries_count r.replayed.list, many, same)
+
+pub log_receipts_tell : CountsExecutions → {D : Type 0} (present : D → Files → Type 0) → LogReceiptsTell D present
+log_receipts_tell counts present = λ catalog n disk each receipted image left.
+    let some = each image left in
+    let log = receipted image left in
+    record { count = some.count; k = some.k; stands = some.stands; enough = omega (arith, log.2, counts catalog image some.count some.k log.0 some.stands log.1) }

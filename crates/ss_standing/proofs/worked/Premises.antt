@@ -1,0 +1,171 @@
+-- Each law at a store that meets its premises: a batch through the workflow that splits and joins, behind the image of a new store.
+use Rattle.std.proofs.Common.{◌^◌, ◌<◌, ◌≡◌, ℕ, drop, ◌∙◌, pos, inl, inr, ◌+◌, List, [], ◌∷◌, ◌++◌, length, replicate, refl, sym, ap, subst, arith}
+use Rattle.std.specs.List.{flat_map}
+use Rattle.std.proofs.lemmas.List.Elements.{All-from_recursion}
+use Rattle.ss_value.specs.declared.value.Value.TheVariants.{Int}
+use Rattle.ss_value.specs.Rows.{Row}
+use Rattle.ss_model.specs.declared.entry.Entry.{Entry}
+use Rattle.ss_model.specs.Database.{Database, empty_database}
+use Rattle.ss_model.specs.Replays.{after}
+use Rattle.ss_model.specs.Settling.{kept}
+use Rattle.ss_model.specs.WholeDatabase.{WholeDatabase}
+use Rattle.ss_model.proofs.CallerLemmas.{goes_on}
+use Rattle.ss_model_laws.proofs.CallerLemmas.{accepted, workflow, empty_whole, whole_batch}
+use Rattle.ss_model_laws.proofs.KeptLists.{kept_carries}
+use Rattle.ss_model_laws.proofs.worked.WorkflowRun.{whole_batch_replays}
+use Rattle.ss_record.specs.Numbers.{number_bytes}
+use Rattle.ss_record.specs.Bounds.{IsShort, IsTypedValue, IsTypedRow, IsRecordable, IsTyped}
+use Rattle.ss_disk.specs.Files.{Files}
+use Rattle.ss_disk.specs.Moments.{LeavesOnly}
+use Rattle.ss_cmdlog.specs.Generation.{Stood, IsGroup, front_bytes}
+use Rattle.ss_cmdlog.specs.Formatting.{fresh}
+use Rattle.ss_cmdlog.specs.Log.{IsReceipted, present}
+use Rattle.ss_cmdlog.specs.Groups.{groups_of}
+use Rattle.ss_cmdlog.specs.Store.{StandsFor, StandsForPart}
+use Rattle.ss_snapshot.specs.Image.{text_bytes}
+use Rattle.ss_snapshot.specs.EmptyImage.{empty_image_of}
+use Rattle.ss_snapshot.proofs.CallerLemmas.{empty_image, no_table, no_stream, no_sources}
+use Rattle.ss_standing.specs.Standing.{listed_entries, Replayed, Stands, Prefix, StandsForAtLeast}
+use Rattle.ss_standing.specs.Behind.{HasFront}
+use Rattle.ss_standing.specs.Keeping.{Keeps}
+use Rattle.ss_standing.proofs.ImageTells.{image_tells}
+use Rattle.ss_standing.proofs.OneThing.{entries_tell}
+use Rattle.ss_standing.proofs.Fronts.{generation_goes_on, front_stands, empty_fits, fresh_replayed, forming_stands}
+
+abbrev start : Database
+start = empty_database workflow
+
+start_whole : WholeDatabase workflow start
+start_whole = empty_whole workflow accepted
+
+-- ---- the image of a new store
+
+told : kept workflow start ≡ kept workflow start
+told = image_tells workflow start start start_whole start_whole (empty_fits workflow) (empty_fits workflow) refl
+
+-- no bytes of text, one table, five streams, four counts, and no sources of one border stream
+image_is : length (empty_image_of workflow) ≡ 132
+unfolding number_bytes
+image_is = ap length (
+    empty_image workflow
+    ∙ (λ k. text_bytes []
+    ++ (flat_map (λ b. b) (replicate 1 (no_table k))
+    ++ []
+    ++ flat_map (λ b. b) (replicate 5 (no_stream k))
+    ++ flat_map (number_bytes 8) (replicate 4 0)
+    ++ flat_map (λ b. b) (replicate 1 (no_sources k))))
+    )
+
+-- ---- a store with the batch behind it
+
+abbrev entries : List Entry
+entries = listed_entries whole_batch
+
+abbrev store : Stood
+store = record { first = 0; image = empty_image_of workflow; groups = entries ∷ [] }
+
+abbrev seven : Row
+seven = Int (pos 7) ∷ []
+
+seven_typed : IsTypedRow seven
+seven_typed = All-from_recursion IsTypedValue seven (omega arith, tt)
+
+is_group : IsGroup entries
+unfolding number_bytes
+is_group = record {
+  some = omega arith;
+  short = omega arith;
+  recordable = All-from_recursion IsRecordable entries ((omega arith, omega arith, omega arith, All-from_recursion IsShort (seven ∷ []) (omega arith, tt)), (tt, (tt, (tt, (tt, tt)))));
+  typed = All-from_recursion IsTyped entries (
+    (omega arith, omega arith, refl, All-from_recursion IsTypedRow (seven ∷ []) (seven_typed, tt)),
+    ((omega arith, omega arith), ((omega arith, omega arith), ((omega arith, omega arith), ((omega arith, omega arith), tt)))),
+  );
+}
+
+files : Files
+files = record { selector = 0 ∷ []; first = front_bytes store ++ 0 ∷ []; second = [] }
+
+files_stand : StandsFor files store
+unfolding files
+files_stand = record {
+  byte = 0;
+  selector = refl;
+  current = record {
+    stood = record { first = omega arith; image = omega (arith, image_is); groups = All-from_recursion IsGroup (entries ∷ []) (is_group, tt) };
+    gate = 0;
+    rest = [];
+    closed = λ e. absurd (omega (arith, e));
+    spelled = refl;
+  };
+}
+
+has_front : HasFront (fresh (empty_image_of workflow)) whole_batch files
+has_front = record {
+  some = 5;
+  within = omega arith;
+  now = store;
+  behind = record { first = refl; image = refl; entries = refl };
+  stands = files_stand;
+}
+
+-- ---- the premises of the laws, and the laws there
+
+new_store : Replayed workflow (fresh (empty_image_of workflow)) 0 (kept workflow start)
+new_store = fresh_replayed workflow start_whole
+
+-- a list that replays is told by its entries
+same_list : whole_batch ≡ whole_batch
+same_list = entries_tell workflow start whole_batch whole_batch whole_batch_replays whole_batch_replays refl
+
+-- a front of the list stands behind the generation
+prefix : Prefix workflow start 0 whole_batch files
+prefix = front_stands (generation_goes_on kept_carries goes_on) goes_on workflow (fresh (empty_image_of workflow)) 0 start whole_batch files new_store whole_batch_replays has_front
+
+-- the longer generation stands for all of it, which is one thing
+stands : Stands workflow files 5 (kept workflow (after workflow start whole_batch))
+stands = inr (record {
+  stood = store;
+  stands = files_stand;
+  replayed = generation_goes_on kept_carries goes_on workflow (fresh (empty_image_of workflow)) store 0 start whole_batch new_store whole_batch_replays (record { first = refl; image = refl; entries = refl });
+})
+
+-- and the text fits its length
+short : length workflow.text < 2 ^ 32
+short = omega arith
+
+-- it may be what a crash leaves in mid-flush
+one_group : groups_of entries ≡ entries ∷ []
+unfolding number_bytes
+one_group = refl
+
+part : StandsForPart (fresh (empty_image_of workflow)) (groups_of entries) files
+part = subst (λ (groups : List (List Entry)). StandsForPart (fresh (empty_image_of workflow)) groups files) (sym one_group) (1, omega arith, files_stand)
+
+-- and a prefix with a receipt for all of it
+at_least : StandsForAtLeast workflow 5 files
+at_least = record { count = 5; k = kept workflow (after workflow start whole_batch); stands = stands; enough = omega arith }
+
+-- on a disk of which a crash leaves this at each moment
+abbrev images : Unit {0} → ℕ → Files → Type 0
+images disk t image = image ≡ files
+
+stays : (P : Files → Type 0) → P files → LeavesOnly (λ disk. 0) images tt tt P
+stays P holds = record { later = omega arith; kept = λ t image le left. left; keeps = λ t image le left. left; each = λ t image from to is. subst P (sym is) holds }
+
+-- where none of the list is held yet, what stands of it goes on, and all of it is flushed
+keeps : Keeps (λ disk. 0) images workflow start 0 whole_batch 0 (fresh (empty_image_of workflow)) tt tt
+keeps = record { within = omega arith; generation = new_store; crashes = stays (Prefix workflow start 0 whole_batch) prefix }
+
+flushes : LeavesOnly (λ disk. 0) images tt tt (StandsForPart (fresh (empty_image_of workflow)) (groups_of (listed_entries (drop 0 whole_batch))))
+flushes = stays (StandsForPart (fresh (empty_image_of workflow)) (groups_of entries)) part
+
+-- with a receipt of the log for all of it
+receipted : IsReceipted (present (λ disk. 0) images) 5 tt
+receipted image is = (store, subst (λ (f : Files). StandsFor f store) (sym is) files_stand, omega arith)
+
+each_stands : (image : Files) → present (λ disk. 0) images tt image → StandsForAtLeast workflow 0 image
+each_stands image is = subst (StandsForAtLeast workflow 0) (sym is) (record { count = 5; k = kept workflow (after workflow start whole_batch); stands = stands; enough = omega arith })
+
+-- an empty disk stands for the empty database
+nothing : Stands workflow (record { selector = []; first = []; second = [] }) 0 (kept workflow start)
+nothing = forming_stands workflow (record { selector = []; first = []; second = [] }) start_whole (inl refl)

@@ -1,0 +1,46 @@
+-- What stands of a list while it grows and is flushed.
+use Rattle.std.specs.Prelude.{◌≡◌, ◌+◌, ◌≤◌, ℕ, List, ◌++◌, length, take, drop}
+use Rattle.ss_model.specs.declared.catalog.Catalog.{Catalog}
+use Rattle.ss_model.specs.declared.entry.Listed.{Listed}
+use Rattle.ss_model.specs.Database.{Database}
+use Rattle.ss_model.specs.Replays.{Replays, after}
+use Rattle.ss_model.specs.Settling.{Kept, kept}
+use Rattle.ss_disk.specs.Files.{Files}
+use Rattle.ss_disk.specs.Moments.{LeavesOnly}
+use Rattle.ss_cmdlog.specs.Generation.{Stood}
+use Rattle.ss_cmdlog.specs.Log.{IsReceipted}
+use Rattle.ss_cmdlog.specs.Groups.{groups_of}
+use Rattle.ss_cmdlog.specs.Store.{StandsFor, StandsForPart, count_of}
+use Rattle.ss_standing.specs.Standing.{listed_entries, Replayed, Stands, Prefix, StandsForAtLeast, Receipt}
+
+-- the generation stands for the first entries of the list, so many, and since the start a crash leaves a front of it
+pub record Keeps {D : Type 0} (moment : D → ℕ) (images : D → ℕ → Files → Type 0) (catalog : Catalog) (db : Database) (first : ℕ)
+    (list : List Listed) (held : ℕ) (s : Stood) (start now : D) : Type 0 where
+  pub within : held ≤ length list
+  pub generation : Replayed catalog s (first + held) (kept catalog (after catalog db (take held list)))
+  pub crashes : LeavesOnly moment images start now (Prefix catalog db first list)
+
+-- law: a flush of the entries behind those leaves fronts of the list
+abbrev pub KeepsOverFlush : (D : Type 0) → (D → ℕ) → (D → ℕ → Files → Type 0) → Type 0
+KeepsOverFlush D moment images =
+    (catalog : Catalog) (db : Database) (first : ℕ) (list : List Listed) (held : ℕ) (s : Stood) (start old new : D) →
+    Keeps moment images catalog db first list held s start old → Replays catalog db list →
+    LeavesOnly moment images old new (StandsForPart s (groups_of (listed_entries (drop held list)))) →
+    LeavesOnly moment images start new (Prefix catalog db first list)
+
+-- law: where the list goes on, so does what stands of it
+abbrev pub KeepsGoOn : (D : Type 0) → (D → ℕ) → (D → ℕ → Files → Type 0) → Type 0
+KeepsGoOn D moment images =
+    (catalog : Catalog) (db : Database) (first : ℕ) (list more : List Listed) (held : ℕ) (s : Stood) (start now : D) →
+    Keeps moment images catalog db first list held s start now → Keeps moment images catalog db first (list ++ more) held s start now
+
+-- law: what a log counts of a store is how many executions it stands for
+abbrev pub CountsExecutions : Type 0
+CountsExecutions =
+    (catalog : Catalog) (image : Files) (count : ℕ) (k : Kept) (s : Stood) → Stands catalog image count k → StandsFor image s → count ≡ count_of s
+
+-- law: where each present image stands for something, a log's receipt is one for executions
+abbrev pub LogReceiptsTell : (D : Type 0) → (D → Files → Type 0) → Type 0
+LogReceiptsTell D present =
+    (catalog : Catalog) (n : ℕ) (disk : D) → ((image : Files) → present disk image → StandsForAtLeast catalog 0 image) →
+    IsReceipted present n disk → Receipt catalog present n disk

@@ -1,0 +1,5 @@
+pub mod FitsImage
+pub mod Standing
+pub mod Behind
+pub mod Laws
+pub mod Keeping

@@ -1,0 +1,97 @@
+//! What files stand for is one thing, and goes on with the entries behind it.
+
+ghost use Rattle.ss_cmdlog.specs.Log.{present};
+ghost use Rattle.ss_standing.specs.Laws.{ImageTellsKept, EntriesTellList, StandsForOne, StandsForOneText, GenerationsGoOn};
+ghost use Rattle.ss_standing.specs.Laws.{FrontsStand, FlushesLeaveFronts, FormingStands, ReceiptsBoundFronts};
+ghost use Rattle.ss_standing.specs.Keeping.{KeepsOverFlush, KeepsGoOn, CountsExecutions, LogReceiptsTell};
+
+use ss_cmdlog::{files_stand_for_one_thing, first_groups_hold_the_first_entries};
+use ss_disk::Disk;
+use ss_model_laws::{kept_carries, replays_go_on, whole_databases_stay};
+
+/// Two whole databases that an image has room for, with the same image, have the same kept.
+pub fn an_image_tells_what_is_kept()
+    ensures { ImageTellsKept }
+{}
+
+/// On one database a list that replays is told by its entries, since these have their outcomes by the model.
+pub fn entries_tell_a_list()
+    ensures { EntriesTellList }
+{}
+
+/// An image of a disk stands for one count and for one kept.
+pub fn stands_for_one()
+    ensures { StandsForOne }
+{
+    files_stand_for_one_thing();
+    kept_carries();
+}
+
+/// Two catalogues of which an image that isn't empty stands for something have one text.
+pub fn stands_for_one_text()
+    ensures { StandsForOneText }
+{
+    files_stand_for_one_thing();
+}
+
+/// Entries that replay, behind a generation, stand for the place after them.
+pub fn generations_go_on()
+    ensures { GenerationsGoOn }
+{
+    kept_carries();
+    replays_go_on();
+}
+
+/// A generation with the first entries of a list behind it stands for that front of the list.
+pub fn fronts_stand()
+    ensures { FrontsStand }
+{
+    generations_go_on();
+    replays_go_on();
+}
+
+/// In mid-flush a crash leaves a front of what is flushed.
+pub fn flushes_leave_fronts()
+    ensures { FlushesLeaveFronts }
+{
+    first_groups_hold_the_first_entries();
+}
+
+/// In mid-format a crash leaves an image of the empty database, or an empty disk, which stands for the same.
+pub fn forming_stands()
+    ensures { FormingStands }
+{
+    whole_databases_stay();
+}
+
+/// Where an image stands for a prefix of a list, and for so many executions at least, it stands for these entries.
+pub fn receipts_bound_fronts()
+    ensures { ReceiptsBoundFronts }
+{
+    stands_for_one();
+}
+
+/// What a log counts of a store is how many executions its files stand for.
+pub fn counts_are_executions()
+    ensures { CountsExecutions }
+{
+    files_stand_for_one_thing();
+}
+
+/// A flush of the entries behind those that a generation has leaves prefixes of the list (`over_flush`), and what stands
+/// of a list goes on where the list does (`grows`).
+pub fn prefixes_go_on<D: Disk>()
+    ensures over_flush { KeepsOverFlush D D.moment D.images }
+    ensures grows { KeepsGoOn D D.moment D.images }
+{
+    replays_go_on();
+    fronts_stand();
+    flushes_leave_fronts();
+}
+
+/// Where each image that a crash may leave now stands for something, a log's receipt is one for executions.
+pub fn log_receipts_tell<D: Disk>()
+    ensures { LogReceiptsTell D (present D.moment D.images) }
+{
+    counts_are_executions();
+}
