@@ -56,25 +56,34 @@ module _ (catalog : Catalog) (accepted : Accepted catalog) where
   replays_one list e o a r is same =
       (goes_on catalog (empty_database catalog) list (record { entry = e; outcome = o } ∷ [])).joins r (ap (option_map (λ (a : Applied). a.outcome)) is ∙ ap Some (sym same), tt)
 
-  -- what the streams need of an entry that has run
+  -- ---- an entry that has run on a database in which few batches were had
+  module _ (db : Database) (step : IsInStep catalog db) (n : ℕ) (had : HadAtMost n db) (few : n < 2 ^ 60) where
+    -- what the streams need of it
+    pub advances_on : (e : Entry) (executed : Executed) (shard : ShardValue) (streams : List Pending) → (ran : Ran catalog db e executed shard) → AreStreamsOf catalog db streams → Advances catalog db e ran.applied executed.emitted streams
+    advances_on e executed shard streams ran are = record {
+      shape = step.matched.shape;
+      applies = ran.value;
+      batches_are = ran.emitted;
+      streams_are = are;
+      few = λ s. let many = had.streams s in omega arith;
+    }
+
+    -- and what its commit needs
+    pub countable_on : (e : Entry) (a : Applied) → apply catalog db e ≡ Some a → IsCountable e
+    countable_on (Call client index q args) a is = tt
+    countable_on (Push client index s source seq rows) a is = tt
+    countable_on (StepEntry q r) a is =
+        let next : batch_count db q ≡ r = (steps_move catalog db q r a step.matched.shape is).before in
+        let many = had.counts q in
+        omega arith
+
+  -- the same behind a list from the empty database on
   pub advances_at : (list : List Listed) (e : Entry) (executed : Executed) (shard : ShardValue) (streams : List Pending) → length list < 2 ^ 60 → (ran : Ran catalog (database_at catalog list) e executed shard)
       → AreStreamsOf catalog (database_at catalog list) streams → Advances catalog (database_at catalog list) e ran.applied executed.emitted streams
-  advances_at list e executed shard streams short ran are = record {
-    shape = (in_step list).matched.shape;
-    applies = ran.value;
-    batches_are = ran.emitted;
-    streams_are = are;
-    few = λ s. let many = (few_batches list).streams s in omega arith;
-  }
+  advances_at list e executed shard streams short ran are = advances_on (database_at catalog list) (in_step list) (length list) (few_batches list) short e executed shard streams ran are
 
-  -- and what its commit needs
   pub countable_at : (list : List Listed) (e : Entry) (a : Applied) → length list < 2 ^ 60 → apply catalog (database_at catalog list) e ≡ Some a → IsCountable e
-  countable_at list (Call client index q args) a short is = tt
-  countable_at list (Push client index s source seq rows) a short is = tt
-  countable_at list (StepEntry q r) a short is =
-      let next : batch_count (database_at catalog list) q ≡ r = (steps_move catalog (database_at catalog list) q r a (in_step list).matched.shape is).before in
-      let many = (few_batches list).counts q in
-      omega arith
+  countable_at list e a short is = countable_on (database_at catalog list) (in_step list) (length list) (few_batches list) short e a is
 
   -- a step that joined a list leaves one less to run
   pub joined_lowers : (list new : List Listed) (q r : ℕ) → Replays catalog (empty_database catalog) new → Joined list new (StepEntry q r)

@@ -9,7 +9,7 @@ ghost use Rattle.ss_run.specs.Stands.{CanBeListed, IsAt, Joined, JoinedAs, datab
 use crate::execution::execute_entry;
 use ss_flow::{advance, make_room};
 use ss_model::{Catalog, Entry, Listed, Outcome};
-use ss_proc::{Executed, commit, rollback};
+use ss_proc::{Executed, PlainRunner, commit, rollback};
 use ss_shard::Database;
 use ss_value::{Copies, Seq};
 use std::alloc::Global;
@@ -79,6 +79,7 @@ pub fn list_entry(alloc: Global, catalog: &Catalog, store: &mut Store, entry: En
     let Ok(executed) = execute_entry(
         alloc,
         catalog,
+        &PlainRunner,
         &mut store.database.whole,
         &store.database.streams,
         &entry,
@@ -108,6 +109,7 @@ pub fn answer_entry(
     let Ok(executed) = execute_entry(
         alloc,
         catalog,
+        &PlainRunner,
         &mut store.database.whole,
         &store.database.streams,
         &entry,

@@ -11,7 +11,7 @@ ghost use Rattle.ss_run.specs.Stands.{HasBatch, HasBatches, IsReadyOn, RanWhereR
 
 use ss_model::{Catalog, Entry};
 use ss_plan::{Batches, Inputs};
-use ss_proc::{Executed, PlainRunner, Runner};
+use ss_proc::{Executed, Runner};
 use ss_shard::Shard;
 use ss_stream::Streams;
 use ss_value::{NoMemory, Seq};
@@ -57,13 +57,14 @@ fn input_batches<'a>(
     lend_batches(alloc, streams, found.inputs.as_slice(), *batch)
 }
 
-/// Runs an entry on a shard between executions, a step on the batches that its inputs lend. The caller then commits it or
-/// rolls it back.
+/// Runs an entry on a shard between executions, a step on the batches that its inputs lend, each as the runner does it. The
+/// caller then commits it or rolls it back.
 ///
 /// Costs its body, and a look at each of its inputs. After an error the shard stands for what it stood for before.
-pub fn execute_entry(
+pub fn execute_entry<N: Runner>(
     alloc: Global,
     catalog: &Catalog,
+    runner: &N,
     whole: &mut Shard,
     streams: &Streams,
     entry: &Entry,
@@ -89,5 +90,5 @@ pub fn execute_entry(
         batches: &batches,
         inserted: no_row.as_slice(),
     };
-    PlainRunner.execute(alloc, catalog, whole, &inputs, entry)
+    runner.execute(alloc, catalog, whole, &inputs, entry)
 }
