@@ -32,7 +32,8 @@ pub(crate) fn replay_entry<N: Runner>(
     requires takes { (d : Model) × CanTake catalog.now database.old 1 d }
     requires value { (d : Model) → CanTake catalog.now database.old 1 d → is_some (apply catalog.now d entry.now) ≡ true }
     ensures outcome { IfOk result (λ o. (d : Model) → CanTake catalog.now database.old 1 d → entry_outcome catalog.now d entry.now ≡ Some o) }
-    ensures stands { OnOk result ((d : Model) → CanTake catalog.now database.old 1 d → StandsFor catalog.now database.new (database_after catalog.now d entry.now)) }
+    ensures stands { OnOk result ((d : Model) → CanTake catalog.now database.old 1 d
+        → StandsFor catalog.now database.new (database_after catalog.now d entry.now)) }
     ensures committed { OnOk result (IsCommitted catalog.now database.new.whole) }
     ensures number { OnOk result (database.new.whole.number ≡ database.old.whole.number) }
 {
