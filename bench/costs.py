@@ -115,7 +115,7 @@ def run(text):
         given.write(text.encode())
         given.seek(0)
         begun = time.perf_counter()
-        subprocess.run([PROGRAM, "run"], stdin=given, stdout=report, check=True)
+        subprocess.run([PROGRAM, "-", "run"], stdin=given, stdout=report, check=True)
         took = time.perf_counter() - begun
         report.seek(-64, os.SEEK_END)
         assert b'["done",' in report.read(), "the report has no end"
@@ -206,7 +206,7 @@ def main():
     parser.add_argument("--svg", default=os.path.join(TOP, "bench/costs.svg"))
     given = parser.parse_args()
     if not os.access(PROGRAM, os.X_OK):
-        sys.exit("the program isn't built: run ./sstore run < examples/stored_run.jsonl first")
+        sys.exit("the program isn't built: run ./sstore - run < examples/stored_run.jsonl first")
     sizes = [int(s) for s in given.sizes.split(",")]
     print(f"{'microseconds':34}{'rows':>10}{'sstore':>14}{'SQLite':>14}")
     found = measured(sizes)

@@ -56,9 +56,9 @@ def requests(name, calls, clients):
         yield {"client": client, "call": name, "args": [row, made % 7]}
 
 
-def run(program, words, text, entries):
+def run(words, text, entries):
     begun = time.perf_counter()
-    done = subprocess.run([program, "run", *words], input=text, capture_output=True)
+    done = subprocess.run(words, input=text, capture_output=True)
     took = time.perf_counter() - begun
     assert done.returncode == 0, f"status {done.returncode}"
     assert done.stdout.endswith(b'["done",%d]\n' % entries), "the list has another length"
@@ -76,7 +76,7 @@ def main():
     parser.add_argument("--plain", metavar="PROGRAM")
     given = parser.parse_args()
     if not os.access(PROGRAM, os.X_OK):
-        sys.exit("the program isn't built: run ./sstore run < examples/stored_run.jsonl first")
+        sys.exit("the program isn't built: run ./sstore - run < examples/stored_run.jsonl first")
     plain = f"{'plain':>10}" if given.plain else ""
     print(f"{'calls per second':36}{plain}" + "".join(f"{p:>10}" for p in PARTITIONS) + f"{'2 to 1':>10}", flush=True)
     for split in (False, True):
@@ -85,8 +85,8 @@ def main():
                 calls = given.calls // share
                 text = text_of(split, name, calls, clients)
                 words = f"{name} calls, {'split' if split else 'one part'}, {clients} client{'s'[:clients > 1]}"
-                rates = [calls / run(PROGRAM, ["--partitions", str(p)], text, calls + ROWS) for p in PARTITIONS]
-                before = f"{calls / run(given.plain, [], text, calls + ROWS):>10,.0f}" if given.plain else ""
+                rates = [calls / run([PROGRAM, "-", "run", "--partitions", str(p)], text, calls + ROWS) for p in PARTITIONS]
+                before = f"{calls / run([given.plain, 'run'], text, calls + ROWS):>10,.0f}" if given.plain else ""
                 print(f"{words:36}{before}" + "".join(f"{rate:>10,.0f}" for rate in rates) + f"{rates[1] / rates[0]:>10.2f}", flush=True)
 
 

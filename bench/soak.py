@@ -256,11 +256,11 @@ def main():
         open(given.write, "w").write(input_of(requests_of(given.requests, given.clients, given.seed)))
         return
     if not os.access(PROGRAM, os.X_OK):
-        sys.exit("the program isn't built: run ./sstore run < examples/stored_run.jsonl first")
+        sys.exit("the program isn't built: run ./sstore - run < examples/stored_run.jsonl first")
     for run in range(given.runs):
         asked = list(requests_of(given.requests, given.clients, given.seed + run))
         begun = time.perf_counter()
-        words = [PROGRAM, "run", "--partitions", str(given.partitions)]
+        words = [PROGRAM, "-", "run", "--partitions", str(given.partitions)]
         done = subprocess.run(words, input=input_of(asked).encode(), capture_output=True)
         took = time.perf_counter() - begun
         assert done.returncode == 0, f"status {done.returncode}"

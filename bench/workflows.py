@@ -125,7 +125,7 @@ def run(catalogue, steps, requests, number):
         given.writelines(line.encode() for line in requests)
         given.seek(0)
         begun = time.perf_counter()
-        child = subprocess.Popen([PROGRAM, "run"], stdin=given, stdout=report)
+        child = subprocess.Popen([PROGRAM, "-", "run"], stdin=given, stdout=report)
         _, status, used = os.wait4(child.pid, 0)
         took = time.perf_counter() - begun
         child.returncode = os.waitstatus_to_exitcode(status)
@@ -152,7 +152,7 @@ def main():
     parser.add_argument("--sizes", default=",".join(map(str, SIZES)))
     given = parser.parse_args()
     if not os.access(PROGRAM, os.X_OK):
-        sys.exit("the program isn't built: run ./sstore run < examples/stored_run.jsonl first")
+        sys.exit("the program isn't built: run ./sstore - run < examples/stored_run.jsonl first")
     sizes = [int(size) for size in given.sizes.split(",")]
     print(f"{'':42}{'pushes':>10}{'seconds':>10}{'us a push':>12}{'us a step':>12}{'MB':>8}")
     for words, kind, rows in KINDS:

@@ -2,6 +2,7 @@
 
 use crate::marks::bytes_of;
 use crate::wrong::Wrong;
+use ss_disk::MemoryDisk;
 use ss_engine::NoGate;
 use ss_lines::{MemorySink, MemorySource};
 use ss_top::{Status, sstore};
@@ -23,7 +24,7 @@ pub struct RunResult {
     pub written: Vec<u8>,
 }
 
-/// Runs the program with the words of a command line, which have blanks between them, on an input.
+/// Runs the program with the words of a command line, which have blanks between them, on an input and an empty disk in memory.
 pub fn run_with<R: AllocGlobal + Threads + Wait + Sync>(
     rt: &R,
     line: &str,
@@ -36,7 +37,8 @@ pub fn run_with<R: AllocGlobal + Threads + Wait + Sync>(
     }
     let mut source = MemorySource::new(Seq::from_vec(input));
     let mut sink = MemorySink::new(alloc, ROOM)?;
-    let status = sstore(rt, alloc, &words, &mut source, &mut sink, NoGate);
+    let disk = MemoryDisk::new(alloc, Seq::new(alloc));
+    let (status, _) = sstore(rt, alloc, &words, &mut source, &mut sink, disk, NoGate);
     let written = Vec::from_slice(alloc, sink.as_bytes())?;
     Ok(RunResult { status, written })
 }

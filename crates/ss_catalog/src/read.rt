@@ -1,6 +1,6 @@
 //! The catalogue of a JSON value.
 
-ghost use Rattle.std.specs.Prelude.{◌≤◌, IfOk, IfErr};
+ghost use Rattle.std.specs.Prelude.{◌≤◌, IfOk, IfErr, IsUtf8};
 ghost use Rattle.serde_json.specs.Data.{depth};
 ghost use Rattle.serde_json.specs.Read.{max_depth};
 ghost use Rattle.serde_json.specs.View.{view};
@@ -53,6 +53,7 @@ pub fn read_catalog(alloc: Global, value: &Json) -> Result<Catalog, CatalogError
     requires { depth (view value.now) ≤ max_depth }
     ensures ok { IfOk result (Reads (view value.now)) }
     ensures accepted { IfOk result Accepted }
+    ensures utf8 { IfOk result (λ catalog. IsUtf8 catalog.text) }
     ensures refused { IfErr result (Refuses (view value.now)) }
 {
     let outline = read_shape(alloc, value)?;

@@ -1,6 +1,6 @@
 //! The catalogue that an outline resolves to, and the text of a value.
 
-ghost use Rattle.std.specs.Prelude.{◌≡◌, ◌≤◌, false, IfOk, IfErr};
+ghost use Rattle.std.specs.Prelude.{◌≡◌, ◌≤◌, false, IfOk, IfErr, IsUtf8};
 ghost use Rattle.serde_json.specs.Data.{Data, depth};
 ghost use Rattle.serde_json.specs.Read.{max_depth};
 ghost use Rattle.serde_json.specs.View.{view};
@@ -23,7 +23,8 @@ use std::alloc::Global;
 /// The compact text of a value. Linear in the value.
 pub fn text_of(alloc: Global, value: &Json) -> Result<Seq<u8>, NoMemory>
     requires { depth (view value.now) ≤ max_depth }
-    ensures { IfOk result (IsCompactTextOf (view value.now)) }
+    ensures compact { IfOk result (IsCompactTextOf (view value.now)) }
+    ensures utf8 { IfOk result IsUtf8 }
 {
     match value.to_string(alloc) {
         Ok(text) => Ok(Seq::from_vec(text.into_bytes())),

@@ -1,3 +1,4 @@
+pub mod CallerLemmas
 pub mod Opened
 pub mod ReadWhole
 pub mod EntriesRead

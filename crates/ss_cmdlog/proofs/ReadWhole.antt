@@ -1,5 +1,5 @@
 -- A generation that was read.
-use Rattle.std.proofs.Common.{◌≡◌, ◌∙◌, ℕ, ◌-◌, ◌≤◌, List, ◌++◌, length, Ok, Err, Result, refl, sym, ap, arith, length-append}
+use Rattle.std.proofs.Common.{◌≡◌, ◌∙◌, ℕ, ◌-◌, ◌≤◌, List, [], ◌++◌, map, length, Ok, Err, Result, refl, sym, ap, arith, length-append}
 use Rattle.std.specs.List.{flat_map}
 use Rattle.ss_model.specs.declared.entry.Entry.{Entry}
 use Rattle.ss_record.specs.Numbers.{IsBytes}
@@ -8,7 +8,7 @@ use Rattle.ss_cmdlog.specs.declared.read.ReadError.TheVariants.{NoMemory, Foreig
 use Rattle.ss_cmdlog.specs.Generation.{Stood, front_bytes}
 use Rattle.ss_cmdlog.specs.Store.{entries_of}
 use Rattle.ss_cmdlog.specs.Reading.{◌>>>◌, head_at, groups_at, stood_at, placed, generation_at}
-use Rattle.ss_cmdlog.specs.Read.{flat, Refuses}
+use Rattle.ss_cmdlog.specs.Read.{flat, sizes_of, Refuses}
 use Rattle.ss_cmdlog.specs.Opening.{IsGatedAt}
 use Rattle.ss_cmdlog.proofs.ReadTakes.{read_so, ok_pair, stood_takes, IsRead}
 
@@ -34,6 +34,11 @@ groups_refused bytes first image rest NoMemory head h = tt
 groups_refused bytes first image rest (Foreign left) head h =
     ap (λ r. r >>> λ x. groups_at (length x.2) x.2 >>> λ gs. Ok (record { first = x.0; image = x.1; groups = gs.0 }, gs.1)) head
     ∙ ap (λ r. r >>> λ gs. Ok (record { first = first; image = image; groups = gs.0 }, gs.1)) (flat_err (groups_at (length rest) rest) left h)
+
+-- the sizes of what was read
+sizes_in : Result (List ℕ) ℕ → List ℕ
+sizes_in (Ok sizes) = sizes
+sizes_in (Err left) = []
 
 module _ (bytes : List ℕ) (first : ℕ) (image rest : List ℕ) (entries : List Entry) (behind : List ℕ) (are : IsBytes bytes) (head : head_at bytes ≡ headed first image rest)
     (groups : flat (groups_at (length rest) rest) ≡ read_so entries behind) where
@@ -80,3 +85,7 @@ module _ (bytes : List ℕ) (first : ℕ) (image rest : List ℕ) (entries : Lis
   pub entries_are : entries ≡ entries_of stood
   unfolding stood
   entries_are = sym parts.2
+
+  pub sizes_are : (sizes : List ℕ) → sizes_of (groups_at (length rest) rest) ≡ Ok sizes → sizes ≡ map length stood.groups
+  unfolding stood sizes_in
+  sizes_are sizes all = ap sizes_in (sym all ∙ ap sizes_of parts.1)

@@ -1,5 +1,5 @@
 -- What opening a store finds.
-use Rattle.std.specs.Prelude.{◌≡◌, ◌≢◌, ℕ, List, [], ◌∷◌, ◌++◌, ◌^◌, ◌≤◌, length, Result, Ok, Err}
+use Rattle.std.specs.Prelude.{◌≡◌, ◌≢◌, ℕ, List, [], ◌∷◌, ◌++◌, map, length, Result, Ok, Err}
 use Rattle.ss_disk.specs.declared.disk.FileNo.{FileNo}
 use Rattle.ss_disk.specs.declared.disk.FileNo.TheVariants.{Selector, First, Second}
 use Rattle.ss_disk.specs.Files.{Files, file}
@@ -44,14 +44,15 @@ pub record IsLoaded (loaded : Loaded) (s : Stood) : Type 0 where
   pub first : loaded.first ≡ s.first
   pub image : loaded.image ≡ s.image
   pub entries : loaded.entries ≡ entries_of s
+  pub sizes : loaded.sizes ≡ map length s.groups
 
 -- these bytes were read as a generation with its closed gate at this place, where the disk tells them
 abbrev pub ReadsGeneration : Type 0 → List ℕ → Loaded → ℕ → Type 0
-ReadsGeneration tells bytes loaded gate = (s : Stood) × (tells → (generation_at bytes ≡ Ok s) × IsGatedAt bytes gate s) × IsLoaded loaded s × (s.first ≤ 2 ^ 60)
+ReadsGeneration tells bytes loaded gate = (s : Stood) × (tells → (generation_at bytes ≡ Ok s) × IsGatedAt bytes gate s) × IsLoaded loaded s × IsStood s
 
 -- these files were read as a store with its closed gate at this place of this file, where the disk tells them
 abbrev pub ReadsStore : Type 0 → Files → Loaded → FileNo → ℕ → Type 0
-ReadsStore tells disk loaded current gate = (s : Stood) × (tells → (store_at disk ≡ Ok s) × IsOpenAt disk current gate s) × IsLoaded loaded s × (s.first ≤ 2 ^ 60)
+ReadsStore tells disk loaded current gate = (s : Stood) × (tells → (store_at disk ≡ Ok s) × IsOpenAt disk current gate s) × IsLoaded loaded s × IsStood s
 
 -- that files are foreign is told with the first byte that can't be
 abbrev pub IsForeignAt : Files → LogError → Type 0

@@ -1,6 +1,6 @@
 //! The log.
 
-ghost use Rattle.std.specs.Prelude.{◌≡◌, ◌≤◌, ◌<◌, ◌+◌, ◌^◌, List, [], length, None, OnOk, IsOk, IfOk, IfErr, IsErrOf, All, ℕ};
+ghost use Rattle.std.specs.Prelude.{◌≡◌, ◌≤◌, ◌<◌, ◌+◌, ◌^◌, List, [], length, None, OnOk, OnErr, IsOk, IfOk, IfErr, IsErrOf, All, ℕ};
 ghost use Rattle.ss_model.specs.declared.entry.Entry.{Entry};
 ghost use Rattle.ss_record.specs.Spelling.{records};
 
@@ -80,6 +80,7 @@ impl<D: Disk> CmdLog<D> {
         ensures adds { (s : Stood) (entries : List Entry) → IsOpen D.tells D.honest D.seen (present D.moment D.images) self.old s → IsGroup entries
             → body.now ≡ records entries → number ≡ length entries → AddsGroup D.tells D.honest D.seen D.moment D.images self.old self.new result s entries }
         ensures count { OnOk result (self.new.count ≡ self.old.count + number) }
+        ensures uncounted { OnErr result (self.new.count ≡ self.old.count) }
         ensures refusals { IfErr result IsAddRefusal }
         ensures cause { HasLogCause (D.faults self.old.disk) (D.faults self.new.disk) self.old.halted self.new.halted result }
     {
@@ -110,6 +111,7 @@ impl<D: Disk> CmdLog<D> {
         ensures adds { (s : Stood) → IsOpen D.tells D.honest D.seen (present D.moment D.images) self.old s
             → AddsEntries D.tells D.honest D.seen D.moment D.images self.old self.new (IsOk result) (IsErrOf result LogError.NoMemory) s entries.now }
         ensures count { OnOk result (self.new.count ≡ self.old.count + length entries.now) }
+        ensures between { (self.old.count ≤ self.new.count) × (self.new.count ≤ self.old.count + length entries.now) }
         ensures cause { HasLogCause (D.faults self.old.disk) (D.faults self.new.disk) self.old.halted self.new.halted result }
         ensures refusals { IfErr result IsAddRefusal }
         ensures nothing { entries.now ≡ [] → self.new ≡ self.old }
@@ -143,6 +145,7 @@ impl<D: Disk> CmdLog<D> {
         ensures adds { (s : Stood) → IsOpen D.tells D.honest D.seen (present D.moment D.images) self.old s
             → AddsEntries D.tells D.honest D.seen D.moment D.images self.old self.new (IsOk result) (IsErrOf result LogError.NoMemory) s entries.now }
         ensures count { IfOk result (λ receipt. (receipt.count ≡ self.old.count + length entries.now) × (self.new.count ≡ receipt.count)) }
+        ensures between { (self.old.count ≤ self.new.count) × (self.new.count ≤ self.old.count + length entries.now) }
         ensures cause { HasLogCause (D.faults self.old.disk) (D.faults self.new.disk) self.old.halted self.new.halted result }
         ensures receipt { D.honest → IfOk result (λ receipt. IsReceipted (present D.moment D.images) receipt.count self.new.disk) }
         ensures receipts { D.honest → (n : ℕ) → n ≤ self.old.count → IsReceipted (present D.moment D.images) n self.old.disk
@@ -157,6 +160,21 @@ impl<D: Disk> CmdLog<D> {
         }
         self.add_entries(entries.as_slice())?;
         Ok(Receipt { count: self.count })
+    }
+
+    /// How many executions the log has: those of its image, and the entries behind it. While it isn't halted that is the count
+    /// of a receipt of all of them.
+    pub fn count(&self) -> u64
+        ensures { result ≡ self.now.count }
+    {
+        self.count
+    }
+
+    /// The disk's count of faults where it failed in a call of the log, and None where it hasn't.
+    pub fn halted(&self) -> Option<u64>
+        ensures { result ≡ self.now.halted }
+    {
+        self.halted
     }
 
     /// The disk, as the log left it.

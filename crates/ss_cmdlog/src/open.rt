@@ -2,7 +2,7 @@
 
 ghost use Rattle.std.specs.Prelude.{◌≡◌, ◌≤◌, ◌≢◌, ℕ, [], IfOk, IfErr, Ok, Err};
 ghost use Rattle.ss_disk.specs.Files.{file};
-ghost use Rattle.ss_cmdlog.specs.Generation.{Stood};
+ghost use Rattle.ss_cmdlog.specs.Generation.{Stood, IsStood};
 ghost use Rattle.ss_cmdlog.specs.Store.{current_file};
 ghost use Rattle.ss_cmdlog.specs.Reading.{generation_at};
 ghost use Rattle.ss_cmdlog.specs.Log.{HasCallCause};
@@ -16,12 +16,13 @@ use ss_model::Entry;
 use ss_value::Seq;
 use std::alloc::Global;
 
-/// What a store holds: the image, the place behind it, and the entries from there on.
+/// What a store holds: the image, the place behind it, the entries from there on, and how many each group has of them.
 #[derive(Drop)]
 pub struct Loaded {
     pub first: u64,
     pub image: Seq<u8>,
     pub entries: Seq<Entry>,
+    pub sizes: Seq<u64>,
 }
 
 /// The file that a selector's byte names.
@@ -95,22 +96,24 @@ fn current_of<D: Disk>(alloc: Global, disk: &mut D) -> Result<Current, LogError>
 }
 
 impl<D: Disk> CmdLog<D> {
-    ghost use Rattle.std.specs.Prelude.{MatchResult};
+    ghost use Rattle.std.specs.Prelude.{MatchResult, ◌+◌, length};
     ghost use Rattle.ss_disk.specs.Moments.{LeavesOnly};
     ghost use Rattle.ss_cmdlog.specs.Log.{IsOpen, present};
     ghost use Rattle.ss_cmdlog.specs.Opening.{IsOpenRefusal, IsForeignAt, StandForLoaded};
 
     /// Opens the store on a disk that isn't empty, and gives what it holds.
     ///
-    /// It begins with a sync, and then reads: there are five calls of the disk, none of which changes it. A crash at any
-    /// moment leaves what it could leave before. `Foreign` tells the first byte that can't be, where the image is taken as
+    /// It begins with a sync, and then reads: there are five calls of the disk, none of which changes it. A read gives what it
+    /// gave, and a crash at any moment leaves what it could leave before. `Foreign` tells the first byte that can't be, where the image is taken as
     /// bytes; `DiskFault` comes only where the disk counted a fault. Time is linear in the current file, which is read whole
     /// into one buffer; the image is copied out of it, and each entry.
     pub fn open(alloc: Global, mut disk: D) -> Result<(CmdLog<D>, Loaded), (LogError, D)>
         requires stored { D.tells → (D.seen disk).selector ≢ [] }
         ensures open { IfOk result (λ r. (s : Stood) × (D.tells → store_at (D.seen disk) ≡ Ok s)
-            × IsOpen D.tells D.honest D.seen (present D.moment D.images) r.0 s × IsLoaded r.1 s) }
+            × IsOpen D.tells D.honest D.seen (present D.moment D.images) r.0 s × IsLoaded r.1 s × IsStood s) }
+        ensures count { IfOk result (λ r. r.0.count ≡ r.1.first + length r.1.entries) }
         ensures foreign { D.tells → IfErr result (λ refused. IsForeignAt (D.seen disk) refused.0) }
+        ensures same { D.tells → MatchResult result (λ r. D.seen r.0.disk ≡ D.seen disk) (λ refused. D.seen refused.1 ≡ D.seen disk) }
         ensures moments { D.honest → MatchResult result
             (λ r. LeavesOnly D.moment D.images disk r.0.disk (present D.moment D.images disk))
             (λ refused. LeavesOnly D.moment D.images disk refused.1 (present D.moment D.images disk)) }
@@ -138,5 +141,12 @@ impl<D: Disk> CmdLog<D> {
             }
             Err(refused) => Err((refused, disk)),
         }
+    }
+
+    /// The number of the file that the log adds to.
+    pub fn file_number(&self) -> u8
+        ensures { result ≡ number_of self.now.file }
+    {
+        number(self.file)
     }
 }

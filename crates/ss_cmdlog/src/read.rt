@@ -4,7 +4,7 @@ ghost use Rattle.std.specs.Prelude.{◌≡◌, ◌≤◌, ◌+◌, length, IfOk,
 ghost use Rattle.ss_record.specs.Reading.{number_at};
 ghost use Rattle.ss_cmdlog.specs.Generation.{Stood, max_body};
 ghost use Rattle.ss_cmdlog.specs.Reading.{whole, magic_at, first_at, bytes_at, image_at, head_at, body_length_at, count_at, entry_at, group_entry_at, entries_at, group_at, gate_at, groups_at, stood_at, generation_at, with_front};
-ghost use Rattle.ss_cmdlog.specs.Read.{field_error, flat, Reads, Refuses};
+ghost use Rattle.ss_cmdlog.specs.Read.{field_error, flat, sizes_of, Reads, Refuses};
 ghost use Rattle.ss_cmdlog.specs.Opening.{IsGatedAt, IsLoaded};
 
 use crate::next::MAX_BODY;
@@ -203,18 +203,27 @@ fn group_in(
     entries_in(alloc, entries, rest, count, body)
 }
 
-/// The entries of all groups, and the bytes from the closed gate on. Each group takes a byte at least.
-fn groups_in(alloc: Global, bytes: &[u8]) -> Result<(Seq<Entry>, &[u8]), ReadError>
-    ensures { Reads (λ x. (x.0, x.1.now)) result (flat (groups_at (length bytes.now) bytes.now)) }
+/// The entries of all groups, how many each has, and the bytes from the closed gate on. Each group takes a byte at least.
+fn groups_in(alloc: Global, bytes: &[u8]) -> Result<(Seq<Entry>, Seq<u64>, &[u8]), ReadError>
+    ensures entries { Reads (λ x. (x.0, x.2.now)) result (flat (groups_at (length bytes.now) bytes.now)) }
+    ensures sizes { IfOk result (λ x. sizes_of (groups_at (length bytes.now) bytes.now) ≡ Ok x.1) }
 {
     let mut entries = Seq::new(alloc);
+    let mut sizes = Seq::new(alloc);
     let mut rest = bytes;
     for _ in 0..bytes.len() {
         let (gate, behind) = gate_in(rest)?;
         if gate != 1 {
-            return Ok((entries, rest));
+            return Ok((entries, sizes, rest));
         }
+        let before = entries.len();
         let (more, after) = group_in(alloc, entries, behind)?;
+        if sizes
+            .push(more.len().saturating_sub(before) as u64)
+            .is_err()
+        {
+            return Err(ReadError::NoMemory);
+        }
         entries = more;
         rest = after;
     }
@@ -245,7 +254,7 @@ pub(crate) fn generation_in(alloc: Global, bytes: &[u8]) -> Result<Generation, R
     ensures refused { IfErr result (λ e. Refuses e (stood_at bytes.now)) }
 {
     let (first, image, rest) = head_in(bytes)?;
-    let (entries, behind) = groups_in(alloc, rest)?;
+    let (entries, sizes, behind) = groups_in(alloc, rest)?;
     let Ok(image) = Vec::from_slice(alloc, image) else {
         return Err(ReadError::NoMemory);
     };
@@ -254,6 +263,7 @@ pub(crate) fn generation_in(alloc: Global, bytes: &[u8]) -> Result<Generation, R
             first,
             image: Seq::from_vec(image),
             entries,
+            sizes,
         },
         gate: bytes.len() - behind.len(),
     })

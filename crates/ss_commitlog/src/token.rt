@@ -40,3 +40,18 @@ impl<I: Life> Model for Token<I> {
         (m.seat.table_id ≡ I.table) × (m.seat.me ≡ (seat_view (known_of m.seat.me.0), []))
         × IsLegal I.catalog I.parts I.clients I.limit I.opening (known_of m.seat.me.0).list };
 }
+
+impl<I: Life> Token<I> {
+    ghost use Rattle.std.specs.Prelude.{◌≤◌, length};
+    ghost use Rattle.ss_model.specs.Replays.{Replays};
+    ghost use Rattle.ss_commitlog.specs.Meaning.{listed_of};
+
+    /// The list that a token knows is one that its log may have: it replays, and has no more entries than it may. A fact of
+    /// the type, told to callers; the call does nothing.
+    pub fn knows_what_replays(&self)
+        ensures replays { Replays I.catalog I.opening (listed_of self.now.list) }
+        ensures within { length self.now.list ≤ I.limit }
+    {
+        let _seat = &self.seat;
+    }
+}

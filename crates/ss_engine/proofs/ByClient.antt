@@ -67,14 +67,14 @@ module _ {I : Type 0} where
 
   -- one lane more has become a client
   pub one_begins : (first : ℕ) (requests : List Request) (lanes rest : List LaneView) (cs news : List (Client I)) (lane new : LaneView) (room : ℕ)
-      → EachAt (IsFresh first) lanes → lane ∷ rest ≡ drop (length cs) lanes → new ≡ record { client = lane.client; list = lane.list; count = lane.count; faults = lane.faults; answers = lane.answers; spare = new.spare }
+      → EachAt (IsFresh first) lanes → lane ∷ rest ≡ drop (length cs) lanes → new ≡ record { client = lane.client; list = lane.list; count = lane.count; due = lane.due; answers = lane.answers; spare = new.spare }
       → room ≡ length (requests_of (length cs) requests) → room ≤ new.spare → news ≡ cs ++ record { lane = Some new } ∷ [] → EachHasLane (length cs) (MayBegin first requests) cs
       → (rest ≡ drop (length news) lanes) × EachHasLane (length news) (MayBegin first requests) news
   one_begins first requests lanes rest cs news lane new room fresh left same counted enough more begin =
       let here = at_rest (length cs) lanes lane rest left in
       let f = fresh (length cs) lane here.0 in
       let begins : MayBegin first requests (length cs) new = record {
-        fresh = subst (IsFresh first (length cs)) (sym same) (record { client_is = f.client_is; list_is = f.list_is; seen = f.seen; none = f.none });
+        fresh = subst (IsFresh first (length cs)) (sym same) (record { client_is = f.client_is; list_is = f.list_is; seen = f.seen; nothing_due = f.nothing_due; none = f.none });
         room = subst (λ n. n ≤ new.spare) counted enough;
       } in
       let c : Client I = record { lane = Some new } in

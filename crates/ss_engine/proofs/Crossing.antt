@@ -23,6 +23,9 @@ use Rattle.ss_hand.proofs.Crossing.{partition_send}
 use Rattle.ss_model.proofs.Crossing.{catalog_sync, entry_send, request_sync}
 use Rattle.ss_model.specs.contracts.entry.Request as request
 use Rattle.ss_model.specs.declared.life.Life.{Ghosts}
+use Rattle.ss_disk.specs.declared.disk.Disk.{Ghosts as DiskGhosts}
+use Rattle.ss_receipts.proofs.CallerLemmas.{receipts_sync}
+use Rattle.ss_receipts.specs.contracts.receipts.Receipts as receipts
 use Rattle.ss_hand.specs.contracts.partition.Partition as partition
 use Rattle.ss_hand.specs.contracts.partition.PartitionTagged.TheImpl as tagged
 use Rattle.ss_party.specs.contracts.bays.Bays as bays
@@ -104,9 +107,14 @@ module _ (I N G R : RattleType) (life : Ghosts I.Denot) (r e : NamedLft) where
   executor_holds f =
       (shr_ref_field r (param 3 R) tt).row ∷ global.the_row ∷ (shr_ref_field e shared_engine tt).row ∷ token.the_row (param 0 I) life ∷ u8-field.row ∷ (shr_ref_field f flag.the_row tt).row ∷ []
 
-  -- the clients': the runtime, the heap, the engine, the requests
-  abbrev pub clients_hold : NamedLft → NamedLft → List RattleType
-  clients_hold a q = (shr_ref_field r (param 3 R) tt).row ∷ (shr_ref_field a global.the_row tt).row ∷ (shr_ref_field e shared_engine tt).row ∷ (shr_slice_field q request.the_row tt).row ∷ []
+  module _ (D : RattleType) (disk : DiskGhosts D.Denot) where
+    abbrev shared_receipts : RattleType
+    shared_receipts = receipts.the_row (param 0 I) (param 4 D) life disk
+
+    -- the clients': the runtime, the heap, the engine, the receipts, the requests
+    abbrev pub clients_hold : NamedLft → NamedLft → NamedLft → List RattleType
+    clients_hold a p q =
+        (shr_ref_field r (param 3 R) tt).row ∷ (shr_ref_field a global.the_row tt).row ∷ (shr_ref_field e shared_engine tt).row ∷ (shr_ref_field p shared_receipts tt).row ∷ (shr_slice_field q request.the_row tt).row ∷ []
 
   module _ (s : IsSend (param 0 I)) (y : IsSync (param 0 I)) (n : IsSync (param 1 N)) (g : IsSync (param 2 G)) (t : IsSync (param 3 R)) where
     pub executor_send : (f : NamedLft) → IsSend (TupleAt [] (executor_holds f))
@@ -115,7 +123,8 @@ module _ (I N G R : RattleType) (life : Ghosts I.Denot) (r e : NamedLft) where
         let m = note_send (param 0 I) life s in
         declared_send (type_at [] (executor_holds f)) (shr_send _ _ _ t, (search (crosses, sendable) depth 20, (shr_send _ _ _ k, (m, (search sendable, (search (crosses, sendable) depth 20, tt))))))
 
-    pub clients_sync : (a q : NamedLft) → IsSync (TupleAt [] (clients_hold a q))
-    clients_sync a q =
+    pub clients_sync : (D : RattleType) (disk : DiskGhosts D.Denot) → IsSend (param 4 D) → (a p q : NamedLft) → IsSync (TupleAt [] (clients_hold D disk a p q))
+    clients_sync D disk d a p q =
         let k = engine_sync (param 0 I) life (param 1 N) (param 2 G) s y n g in
-        declared_sync (type_at [] (clients_hold a q)) (shr_sync _ _ _ t, (search (crosses, sendable) depth 20, (shr_sync _ _ _ k, (shr_slice_sync _ _ _ request_sync, tt))))
+        let l = receipts_sync (param 0 I) (param 4 D) life disk s d in
+        declared_sync (type_at [] (clients_hold D disk a p q)) (shr_sync _ _ _ t, (search (crosses, sendable) depth 20, (shr_sync _ _ _ k, (shr_sync _ _ _ l, (shr_slice_sync _ _ _ request_sync, tt)))))

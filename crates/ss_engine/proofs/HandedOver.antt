@@ -3,7 +3,7 @@
 -- The log's list goes on from what the marks of all lanes and of all partitions knew. So it has no other entry of a lane's client than
 -- the lane knew; and no entry behind what a partition's mark knew touches that partition, so the shard in hand, which had each part as
 -- its mark's list leaves it, has it as the whole list leaves it.
-use Rattle.std.proofs.Common.{◌≡◌, ◌≤◌, ◌<◌, inl, inr, ⊎_elim, ℕ, zero, suc, Bool, true, false, List, [], ◌∷◌, ◌++◌, map, length, slice_get, Some, refl, sym, ap, ◌∙◌, subst, arith, length-append}
+use Rattle.std.proofs.Common.{◌≡◌, ◌≤◌, ◌<◌, inl, inr, ⊎_elim, ℕ, zero, suc, Bool, true, false, ◌⊎◌, List, [], ◌∷◌, ◌++◌, map, length, slice_get, Some, None, IfSome, IfNone, refl, sym, ap, ◌∙◌, subst, arith, append-nil, length-append}
 use Rattle.std.proofs.lemmas.List.{length-map}
 use Rattle.std.proofs.lemmas.List.FromFn.{length-map-range_with_len}
 use Rattle.std.proofs.lemmas.Option.{slice_get-map}
@@ -33,16 +33,21 @@ use Rattle.ss_commitlog.specs.declared.role.Role.TheVariants.{Part, Client}
 use Rattle.ss_commitlog.specs.declared.rule.Item.{Item}
 use Rattle.ss_commitlog.specs.Meaning.{listed_of, HaveClientsBelow}
 use Rattle.ss_commitlog.specs.Roles.{In}
-use Rattle.ss_commitlog.specs.Tokens.{Known, AllContinue, Continues, role_of, roles_of}
+use Rattle.ss_commitlog.specs.Tokens.{Known, AllContinue, AllSaw, Continues, role_of, roles_of}
 use Rattle.ss_commitlog.proofs.CallerLemmas.{in_left, in_right, length-listed_of, listed_of-append}
 use Rattle.ss_hand.specs.Hands.{IsInHand}
 use Rattle.ss_hand.specs.declared.hand.Hand.{Hand}
+use Rattle.ss_engine.specs.declared.closing.Closed.{Closed}
+use Rattle.ss_engine.specs.declared.due.Due.{Due}
 use Rattle.ss_engine.specs.declared.settling.Settling.{Settling}
 use Rattle.ss_engine.specs.declared.settling.Settling.TheVariants.{Done, NoMemory, ListFull}
-use Rattle.ss_engine.specs.Closings.{AreMarksOf, AreOfClients, EachTouches, EndedWith, IsClosed, IsOfLane, MayBeWhole, SettledTo}
-use Rattle.ss_engine.specs.Lanes.{LaneView}
-use Rattle.ss_engine.specs.Mines.{mine_in}
+use Rattle.ss_engine.specs.Closings.{AreMarksOf, AreOfClients, EachTouches, EndedWith, IsClosed, IsLeft, IsMarkOf, IsOfLane, MayBeWhole, SettledTo}
+use Rattle.ss_engine.specs.Dues.{FewOpen}
+use Rattle.ss_engine.specs.Lanes.{LaneView, HasSeen}
+use Rattle.ss_engine.specs.Mines.{Placed, mine_in}
+use Rattle.ss_report_laws.specs.Replies.{mine}
 use Rattle.ss_engine.specs.Pumped.{NoneReady}
+use Rattle.ss_engine.proofs.Dues.{all_still_halted, few_open_on}
 use Rattle.ss_engine.proofs.InHand.{holds_behind}
 use Rattle.ss_engine.proofs.Mines.{mine_own}
 use Rattle.ss_engine.proofs.Touching.{some_touched}
@@ -50,35 +55,51 @@ use Rattle.ss_engine.proofs.Touching.{some_touched}
 -- ---- lanes
 
 -- the mark of a lane among those of all
-mark_at : (lanes : List LaneView) (ms : List Known) → AreMarksOf lanes ms → (k : ℕ) (lane : LaneView) → slice_get lanes k ≡ Some lane → (m : Known) × In m ms × (m.role ≡ Client lane.client) × (m.list ≡ lane.list)
-mark_at [] ms are k lane is = absurd (cc)
-mark_at (x ∷ xs) [] are k lane is = absurd are
-mark_at (x ∷ xs) (m ∷ ms) are zero lane is =
+mark_at : (first : ℕ) (lanes : List LaneView) (ms : List Known) → AreMarksOf first lanes ms → (k : ℕ) (lane : LaneView) → slice_get lanes k ≡ Some lane → (m : Known) × In m ms × IsMarkOf first lane m
+mark_at first [] ms are k lane is = absurd (cc)
+mark_at first (x ∷ xs) [] are k lane is = absurd are
+mark_at first (x ∷ xs) (m ∷ ms) are zero lane is =
     let same : x ≡ lane = cc in
-    (m, inl refl, are.0 ∙ ap (λ (l : LaneView). Client l.client) same, are.1 ∙ ap (λ (l : LaneView). l.list) same)
-mark_at (x ∷ xs) (m ∷ ms) are (suc k) lane is = let (y, there, role, list) = mark_at xs ms are.2 k lane is in (y, inr there, role, list)
+    (m, inl refl, subst (λ (l : LaneView). IsMarkOf first l m) same are.0)
+mark_at first (x ∷ xs) (m ∷ ms) are (suc k) lane is = let (y, there, of) = mark_at first xs ms are.1 k lane is in (y, inr there, of)
+
+-- what a lane has seen, the disk's token holds
+seen_by_disk : (count : ℕ) (due : Due) (m disk : Known) → HasSeen count due m → (m.count ≤ disk.count) × ((m.faults ≡ 0) ⊎ (m.faults ≡ disk.faults)) → HasSeen count due disk
+seen_by_disk count due m disk seen saw = record {
+  count_is = (let a = seen.count_is in let b = saw.0 in omega arith);
+  faults_are = ⊎_elim (λ (none : due.faults ≡ 0). inl none)
+      (λ (same : due.faults ≡ m.faults). ⊎_elim (λ (none : m.faults ≡ 0). inl (same ∙ none)) (λ (posted : m.faults ≡ disk.faults). inr (same ∙ posted)) saw.1) seen.faults_are;
+}
 
 -- a list that all marks of lanes are at the beginning of
-of_lane : (catalog : Catalog) (n first : ℕ) (lanes : List LaneView) (ms rest : List Known) (list : List Item) (answers : List (List Answer)) → AreMarksOf lanes ms → AllContinue catalog n list (ms ++ rest)
-    → answers ≡ map (λ (l : LaneView). l.answers) lanes → (k : ℕ) (lane : LaneView) → slice_get lanes k ≡ Some lane → lane.client ≡ k → IsOfLane first k lane (listed_of list) answers
-of_lane catalog n first lanes ms rest list answers are on is k lane there client =
-    let (m, in_ms, role, same) = mark_at lanes ms are k lane there in
-    let b = on m (in_left m ms rest in_ms) in
-    let whole : list ≡ lane.list ++ b.rest = b.is ∙ ap (λ (l : List Item). l ++ b.rest) same in
+of_lane : (catalog : Catalog) (n first : ℕ) (disk : Known) (lanes : List LaneView) (ms rest : List Known) (list : List Item) (answers : List (List Answer)) → AreMarksOf first lanes ms → AllContinue catalog n list (ms ++ rest) → AllSaw disk (ms ++ rest)
+    → answers ≡ map (λ (l : LaneView). l.answers) lanes → (k : ℕ) (lane : LaneView) → slice_get lanes k ≡ Some lane → lane.client ≡ k → IsOfLane first k disk lane (listed_of list) answers
+of_lane catalog n first disk lanes ms rest list answers are on saw is k lane there client =
+    let (m, in_ms, of) = mark_at first lanes ms are k lane there in
+    let among = in_left m ms rest in_ms in
+    let b = on m among in
+    let whole : list ≡ lane.list ++ b.rest = b.is ∙ ap (λ (l : List Item). l ++ b.rest) of.list_is in
+    let seen = seen_by_disk lane.count lane.due m disk of.seen (saw m among) in
+    let own : mine k first (listed_of list) ≡ mine_in k first lane.list = mine_own catalog n k first list m b (of.role ∙ ap Client client) ∙ ap (mine_in k first) of.list_is in
+    let entries : mine_in lane.client first lane.list ≡ mine k first (listed_of list) = ap (λ c. mine_in c first lane.list) client ∙ sym own in
     record {
       rest = listed_of b.rest;
       begins = ap listed_of whole ∙ listed_of-append lane.list b.rest;
       longer = (let a = ap (λ (l : List Item). length l) whole in let d = length-append lane.list b.rest in let e = length-listed_of list in omega arith);
-      own = mine_own catalog n k first list m b (role ∙ ap Client client) ∙ ap (mine_in k first) same;
+      own = own;
       answers_are = ap (λ (xs : List (List Answer)). slice_get xs k) is ∙ (slice_get-map (λ (l : LaneView). l.answers) lanes k ∙ ap (option_map (λ (l : LaneView). l.answers)) there);
+      seen = seen;
+      few_open = few_open_on (mine k first (listed_of list)) lane.count disk.count lane.due.pending 16 seen.count_is of.due_is.few
+          (subst (λ (ps : List Placed). FewOpen ps lane.count lane.due.pending) entries of.due_is.few_open);
+      halted = all_still_halted lane.due.faults disk.faults seen.faults_are lane.answers of.due_is.halted;
     }
 
 -- as many marks as lanes
-pub lane_marks : (lanes : List LaneView) (ms : List Known) → AreMarksOf lanes ms → length ms ≡ length lanes
-lane_marks [] [] are = refl
-lane_marks [] (m ∷ ms) are = absurd are
-lane_marks (x ∷ xs) [] are = absurd are
-lane_marks (x ∷ xs) (m ∷ ms) are = ap suc (lane_marks xs ms are.2)
+pub lane_marks : (first : ℕ) (lanes : List LaneView) (ms : List Known) → AreMarksOf first lanes ms → length ms ≡ length lanes
+lane_marks first [] [] are = refl
+lane_marks first [] (m ∷ ms) are = absurd are
+lane_marks first (x ∷ xs) [] are = absurd are
+lane_marks first (x ∷ xs) (m ∷ ms) are = ap suc (lane_marks first xs ms are.1)
 
 -- and as partitions
 pub part_marks : (n : ℕ) (ks : List Known) → roles_of ks ≡ map Part (all_partitions n) → length ks ≡ n
@@ -125,31 +146,58 @@ module _ (catalog : Catalog) (accepted : Accepted catalog) (n : ℕ) (some : 1 �
   ended db limit list NoMemory settled = tt
   ended db limit list (ListFull count) settled = (length-listed_of list ∙ settled.0, settled.1, settled.2)
 
-  -- what is handed over: the log's list, which goes on from what the marks of all lanes and of all partitions know, and what is in hand
-  pub closes : {I : Type 0} (clients first limit : ℕ) (db : Database) (lanes : List LaneView) (ms : List Known) (hand : Hand I) (disk : Known) (end : Settling) (list : List Listed) (streams : ReservedStreams)
-      (answers : List (List Answer)) (c : Catalog) → AreOfClients clients lanes → AreMarksOf lanes ms → answers ≡ map (λ (l : LaneView). l.answers) lanes
-      → IsInHand catalog n db (all_partitions n) hand → ((whole : List Item) → MayBeWhole catalog n whole hand.marks → SettledTo catalog n db limit whole end)
-      → ((items : List Item) × (list ≡ listed_of items) × AllContinue catalog n items (ms ++ hand.marks) × Continues catalog n items disk)
-      → Replays catalog db list × Orders catalog db list → HaveClientsBelow clients list × (length list ≤ limit) → AreStreamsOf catalog (after catalog db list) streams.streams → c ≡ catalog
-      → IsClosed catalog n clients first limit db lanes (record { list = list; database = record { whole = hand.whole; streams = streams }; catalog = c; answers = answers; end = end })
-  closes clients first limit db lanes ms hand disk end list streams answers c of are answers_are in_hand settled (items, eq, on, on_disk) (replays, orders) (below_all, short) streams_are same =
-      let replayed : Replays catalog db (listed_of items) = subst (λ (l : List Listed). Replays catalog db l) eq replays in
-      let in_all : AllContinue catalog n items hand.marks = λ k there. on k (in_right k ms hand.marks there) in
-      subst (λ (l : List Listed). IsClosed catalog n clients first limit db lanes (record { list = l; database = record { whole = hand.whole; streams = streams }; catalog = c; answers = answers; end = end })) (sym eq)
-      (
+  -- the log's list, which goes on from what the marks of all lanes know
+  list_closes : (clients first limit : ℕ) (db : Database) (lanes : List LaneView) (ms rest : List Known) (disk : Known) (list : List Listed) (items : List Item) (closed : Closed)
+      → AreOfClients clients lanes → AreMarksOf first lanes ms → closed.answers ≡ map (λ (l : LaneView). l.answers) lanes → closed.list ≡ list
+      → list ≡ listed_of items → AllContinue catalog n items (ms ++ rest) → Continues catalog n items disk → AllSaw disk (ms ++ rest)
+      → Replays catalog db list × Orders catalog db list → HaveClientsBelow clients list × (length list ≤ limit) → closed.catalog ≡ catalog
+      → IfSome closed.database (IsLeft catalog n (after catalog db closed.list)) → IfNone closed.database (closed.end ≡ NoMemory) → EndedWith catalog db limit closed.list closed.end
+      → IsClosed catalog n clients first limit db disk lanes closed
+  list_closes clients first limit db lanes ms rest disk list items closed of are answers_are is eq on on_disk saw legal short same left lost end =
+      let back : list ≡ closed.list = sym is in
       record {
-        replays = replayed;
-        orders = subst (λ (l : List Listed). Orders catalog db l) eq orders;
-        of_clients = subst (λ (l : List Listed). HaveClientsBelow clients l) eq below_all;
-        within = subst (λ (l : List Listed). length l ≤ limit) eq short;
+        replays = subst (λ (l : List Listed). Replays catalog db l) back legal.0;
+        orders = subst (λ (l : List Listed). Orders catalog db l) back legal.1;
+        of_clients = subst (λ (l : List Listed). HaveClientsBelow clients l) back short.0;
+        within = subst (λ (l : List Listed). length l ≤ limit) back short.1;
+        rest = listed_of on_disk.rest;
+        begins = is ∙ (eq ∙ (ap listed_of on_disk.is ∙ listed_of-append disk.list on_disk.rest));
         many = ap (λ (xs : List (List Answer)). length xs) answers_are ∙ (length-map lanes (λ (l : LaneView). l.answers) ∙ of.many);
-        each = λ k lane there. of_lane catalog n first lanes ms hand.marks items answers are on answers_are k lane there (of.each k lane there);
-        whole = is_whole catalog n db some hand in_hand;
-        stands = record {
-          shard = whole_holds db hand items in_hand in_all;
-          streams = subst (λ (l : List Listed). AreStreamsOf catalog (after catalog db l) streams.streams) eq streams_are;
-        };
+        each = λ k lane there. subst (λ (l : List Listed). IsOfLane first k disk lane l closed.answers) (sym eq ∙ back) (of_lane catalog n first disk lanes ms rest items closed.answers are on saw answers_are k lane there (of.each k lane there));
+        left = left;
+        lost = lost;
         catalog_is = same;
-        end = ended db limit items end (settled items (record { touch = each_touches db items replayed; on = in_all }));
+        end = end;
       }
+
+  -- what is handed over where all partitions are in hand: beside the list, what is in hand
+  pub closes : {I : Type 0} (clients first limit : ℕ) (db : Database) (lanes : List LaneView) (ms : List Known) (hand : Hand I) (disk : Known) (end : Settling) (list : List Listed) (streams : ReservedStreams)
+      (answers : List (List Answer)) (c : Catalog) → AreOfClients clients lanes → AreMarksOf first lanes ms → answers ≡ map (λ (l : LaneView). l.answers) lanes
+      → IsInHand catalog n db (all_partitions n) hand → ((whole : List Item) → MayBeWhole catalog n whole hand.marks → SettledTo catalog n db limit whole end)
+      → ((items : List Item) × (list ≡ listed_of items) × AllContinue catalog n items (ms ++ hand.marks) × Continues catalog n items disk) → AllSaw disk (ms ++ hand.marks)
+      → Replays catalog db list × Orders catalog db list → HaveClientsBelow clients list × (length list ≤ limit) → AreStreamsOf catalog (after catalog db list) streams.streams → c ≡ catalog
+      → IsClosed catalog n clients first limit db disk lanes (record { list = list; database = Some (record { whole = hand.whole; streams = streams }); catalog = c; answers = answers; end = end })
+  closes clients first limit db lanes ms hand disk end list streams answers c of are answers_are in_hand settled (items, eq, on, on_disk) saw legal short streams_are same =
+      let replayed : Replays catalog db (listed_of items) = subst (λ (l : List Listed). Replays catalog db l) eq legal.0 in
+      let in_all : AllContinue catalog n items hand.marks = λ k there. on k (in_right k ms hand.marks there) in
+      list_closes clients first limit db lanes ms hand.marks disk list items (record { list = list; database = Some (record { whole = hand.whole; streams = streams }); catalog = c; answers = answers; end = end })
+      of are answers_are refl eq on on_disk saw legal short same (
+        is_whole catalog n db some hand in_hand,
+        record {
+          shard = subst (λ (l : List Listed). HoldsDatabase catalog hand.whole (after catalog db l)) (sym eq) (whole_holds db hand items in_hand in_all);
+          streams = streams_are;
+        },
       )
+      tt
+      (subst (λ (l : List Listed). EndedWith catalog db limit l end) (sym eq) (ended db limit items end (settled items (record { touch = each_touches db items replayed; on = in_all }))))
+
+  -- and where there was no memory for that: the list alone
+  pub closes_apart : (clients first limit : ℕ) (db : Database) (lanes : List LaneView) (ms : List Known) (disk : Known) (list : List Listed) (answers : List (List Answer)) (c : Catalog)
+      → AreOfClients clients lanes → AreMarksOf first lanes ms → answers ≡ map (λ (l : LaneView). l.answers) lanes
+      → ((items : List Item) × (list ≡ listed_of items) × AllContinue catalog n items ms × Continues catalog n items disk) → AllSaw disk ms
+      → Replays catalog db list × Orders catalog db list → HaveClientsBelow clients list × (length list ≤ limit) → c ≡ catalog
+      → IsClosed catalog n clients first limit db disk lanes (record { list = list; database = None; catalog = c; answers = answers; end = NoMemory })
+  closes_apart clients first limit db lanes ms disk list answers c of are answers_are (items, eq, on, on_disk) saw legal short same =
+      let alone : ms ≡ ms ++ [] = sym (append-nil ms) in
+      list_closes clients first limit db lanes ms [] disk list items (record { list = list; database = None; catalog = c; answers = answers; end = NoMemory })
+      of are answers_are refl eq (subst (λ (ks : List Known). AllContinue catalog n items ks) alone on) on_disk (subst (λ (ks : List Known). AllSaw disk ks) alone saw) legal short same tt refl tt

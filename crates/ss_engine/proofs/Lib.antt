@@ -1,5 +1,6 @@
 pub mod Mines
 pub mod Growing
+pub mod Dues
 pub mod Telling
 pub mod Coming
 pub mod Same
@@ -15,6 +16,7 @@ pub mod RanAsked
 pub mod RanStep
 pub mod Pumps
 pub mod ServedLanes
+pub mod LanesAssured
 pub mod Touching
 pub mod OwnEntries
 pub mod Trying
@@ -23,6 +25,8 @@ pub mod Serves
 pub mod Making
 pub mod ByClient
 pub mod Sessions
+pub mod FewBehind
+pub mod Flushes
 pub mod Fresh
 pub mod Looks
 pub mod Ranked

@@ -1,6 +1,6 @@
 -- A client that makes one request after another.
-use Rattle.std.proofs.Common.{◌≡◌, ℕ, zero, suc, ◌+◌, ◌<◌, ◌≤◌, ◌==◌, true, false, cond, List, [], ◌∷◌, ◌++◌, length, take, drop, get_or, slice_get, Some, sym, ap, subst, ◌∙◌, arith, append-nil, length-append}
-use Rattle.std.specs.List.{AllByRecursion, list_all}
+use Rattle.std.proofs.Common.{◌≡◌, ◌⊎◌, inr, ⊎_elim, refl, ℕ, zero, suc, ◌+◌, ◌<◌, ◌≤◌, ◌==◌, true, false, cond, List, [], ◌∷◌, ◌++◌, length, take, drop, get_or, slice_get, Some, sym, ap, subst, ◌∙◌, arith, append-nil, length-append}
+use Rattle.std.specs.List.{list_all}
 use Rattle.std.proofs.lemmas.List.Elements.{filter_more}
 use Rattle.std.proofs.lemmas.Option.{slice_get-get_or}
 use Rattle.ss_lemmas.proofs.Bools.{first_of_two, second_of_two}
@@ -14,11 +14,16 @@ use Rattle.ss_model.specs.declared.entry.Asked.TheVariants.{Call as CallAsked, P
 use Rattle.ss_model.specs.declared.entry.Request.{Request}
 use Rattle.ss_model.specs.Database.{fits_entry}
 use Rattle.ss_model.specs.Report.{asked_entry, entries_behind}
-use Rattle.ss_report_laws.specs.Replies.{requests_of, IsListedOr}
+use Rattle.ss_report_laws.specs.Replies.{expected_entries, requests_of, IsListedOr}
 use Rattle.ss_commitlog.specs.declared.rule.Item.{Item}
+use Rattle.ss_engine.specs.declared.due.Due.{Due}
+use Rattle.ss_engine.specs.Assured.{HasRequested, KeepsAnswers}
 use Rattle.ss_engine.specs.Clients.{AllFit, AreListedOr, HasMade, IsUnlisted, MayBegin}
 use Rattle.ss_engine.specs.Lanes.{LaneView, IsRightAnswer, IsSubmitted}
+use Rattle.ss_engine.specs.Mines.{mine_in}
 use Rattle.ss_engine.specs.Served.{IsServed}
+use Rattle.ss_engine.proofs.Dues.{last_too}
+use Rattle.ss_engine.proofs.Telling.{same_faults}
 use Rattle.ss_engine.proofs.ServedLanes.{lanes_serve}
 
 -- ---- requests that fit
@@ -67,25 +72,21 @@ module _ (client : ℕ) (rs : List Request) (n : ℕ) (r : Request) (below : n <
 
 -- ---- answers to requests that are not listed
 
-longer : (limit m n : ℕ) → m ≤ n → (a : Answer) → IsListedOr (IsUnlisted limit m) a → IsListedOr (IsUnlisted limit n) a
-longer limit m n more (ListedAnswer place outcome) h = tt
-longer limit m n more NoMemory h = tt
-longer limit m n more (ListFull count) h = (h.0, let full = h.1 in omega arith)
-longer limit m n more (Halted faults) h = absurd h
+longer : (limit m n e f : ℕ) → m ≤ n → (e ≡ 0) ⊎ (e ≡ f) → (a : Answer) → IsListedOr (IsUnlisted limit m e) a → IsListedOr (IsUnlisted limit n f) a
+longer limit m n e f more or (ListedAnswer place outcome) h = tt
+longer limit m n e f more or NoMemory h = tt
+longer limit m n e f more or (ListFull count) h = (h.0, let full = h.1 in omega arith)
+longer limit m n e f more or (Halted faults) h = ⊎_elim (λ (none : e ≡ 0). absurd (h.1 (h.0 ∙ none))) (λ (same : e ≡ f). (h.0 ∙ same, h.1)) or
 
--- a list that is longer is as full
-pub still_unlisted : (limit m n : ℕ) → m ≤ n → (answers : List Answer) → AreListedOr limit m answers → AreListedOr limit n answers
-still_unlisted limit m n more answers all = all_with (IsListedOr (IsUnlisted limit m)) (IsListedOr (IsUnlisted limit n)) (longer limit m n more) answers all
+-- a list that is longer is as full; and faults that were told go on being those that were
+pub still_unlisted : (limit m n e f : ℕ) → m ≤ n → (e ≡ 0) ⊎ (e ≡ f) → (answers : List Answer) → AreListedOr limit m e answers → AreListedOr limit n f answers
+still_unlisted limit m n e f more or answers all = all_with (IsListedOr (IsUnlisted limit m e)) (IsListedOr (IsUnlisted limit n f)) (longer limit m n e f more or) answers all
 
-last_too : {A : Type 0} (P : A → Type 0) (xs : List A) (x : A) → AllByRecursion P xs → P x → AllByRecursion P (xs ++ x ∷ [])
-last_too P [] x all p = (p, tt)
-last_too P (y ∷ ys) x all p = (all.0, last_too P ys x all.1 p)
-
-right_unlisted : (first limit : ℕ) (old : LaneView) (what : Asked) (new : List Item) (a : Answer) → IsRightAnswer first limit old what new a → IsListedOr (IsUnlisted limit (length new)) a
+right_unlisted : (first limit : ℕ) (old : LaneView) (what : Asked) (new : List Item) (a : Answer) → IsRightAnswer first limit old what new a → IsListedOr (IsUnlisted limit (length new) old.due.faults) a
 right_unlisted first limit old what new (ListedAnswer place outcome) right = tt
 right_unlisted first limit old what new NoMemory right = tt
 right_unlisted first limit old what new (ListFull count) right = (right.2, let full = right.1 in omega arith)
-right_unlisted first limit old what new (Halted faults) right = absurd right
+right_unlisted first limit old what new (Halted faults) right = (right.1, right.2)
 
 -- ---- the requests of a client
 
@@ -94,7 +95,7 @@ pub made_none : (first limit : ℕ) (requests : List Request) (client : ℕ) (la
 made_none first limit requests client lane begins = record {
   client_is = begins.fresh.client_is;
   served = lanes_serve.starts first client lane begins.fresh;
-  others = subst (AreListedOr limit (length lane.list)) (sym begins.fresh.none) tt;
+  others = subst (AreListedOr limit (length lane.list) lane.due.faults) (sym begins.fresh.none) tt;
 }
 
 -- one more
@@ -105,10 +106,37 @@ made_more first limit client before after r old new one made more = record {
   served = subst (λ rs. IsServed first rs new) (sym one) (lanes_serve.goes_on first limit (requests_of client before) r old new made.served more);
   others =
       (let grown : length old.list ≤ length new.list = (let e = ap (λ (l : List Item). length l) more.begins in let s = length-append old.list more.rest in omega arith) in
-      subst (AreListedOr limit (length new.list)) (sym more.answers)
-      (last_too (IsListedOr (IsUnlisted limit (length new.list))) old.answers more.answer (still_unlisted limit (length old.list) (length new.list) grown old.answers made.others)
-      (right_unlisted first limit old r.what new.list more.answer more.right)));
+      let same : new.due.faults ≡ old.due.faults = ap (λ (d : Due). d.faults) more.due_is ∙ same_faults old.due more.answer in
+      subst (λ (f : ℕ). AreListedOr limit (length new.list) f new.answers) (sym same)
+      (subst (AreListedOr limit (length new.list) old.due.faults) (sym more.answers)
+      (last_too (IsListedOr (IsUnlisted limit (length new.list) old.due.faults)) old.answers more.answer (still_unlisted limit (length old.list) (length new.list) old.due.faults old.due.faults grown (inr refl) old.answers made.others)
+      (right_unlisted first limit old r.what new.list more.answer more.right))));
 }
+
+-- behind a receipt, or where there is none
+pub made_kept : (first limit client : ℕ) (requests : List Request) (old new : LaneView) → HasMade first limit requests client old → KeepsAnswers first old new → HasMade first limit requests client new
+made_kept first limit client requests old new made keeps = record {
+  client_is = keeps.client_is ∙ made.client_is;
+  served = record {
+    many = ap (λ (l : List Answer). length l) keeps.answers_are ∙ made.served.many;
+    entries = ap (λ c. mine_in c first new.list) keeps.client_is
+        ∙ (keeps.own ∙ (made.served.entries ∙ (ap (λ (l : List Answer). expected_entries old.client 0 (requests_of client requests) l) (sym keeps.answers_are)
+        ∙ ap (λ c. expected_entries c 0 (requests_of client requests) new.answers) (sym keeps.client_is))));
+  };
+  others =
+      (let grown : length old.list ≤ length new.list = (let e = ap (λ (l : List Item). length l) keeps.begins in let s = length-append old.list keeps.rest in omega arith) in
+      subst (AreListedOr limit (length new.list) new.due.faults) (sym keeps.answers_are)
+      (still_unlisted limit (length old.list) (length new.list) old.due.faults new.due.faults grown keeps.faults_are old.answers made.others));
+}
+
+-- one more, before which a receipt may have been asked for
+pub made_requested : (first limit client : ℕ) (before after : List Request) (r : Request) (old new : LaneView) → requests_of client after ≡ requests_of client before ++ r ∷ []
+    → HasMade first limit before client old → HasRequested first limit old r.what new → HasMade first limit after client new
+made_requested first limit client before after r old new one made more = made_more first limit client before after r more.between new one (made_kept first limit client before old more.between made more.keeps) more.submitted
+
+-- it takes the room of one answer
+pub room_requested : (first limit : ℕ) (old new : LaneView) (what : Asked) → HasRequested first limit old what new → new.spare + 1 ≡ old.spare
+room_requested first limit old new what more = let a = more.submitted.spare_is in let b = more.keeps.spare_is in omega arith
 
 -- another client's
 pub made_same : (first limit client : ℕ) (before after : List Request) (lane : LaneView) → requests_of client after ≡ requests_of client before → HasMade first limit before client lane → HasMade first limit after client lane

@@ -1,5 +1,5 @@
 -- A client's entries in lists that go on.
-use Rattle.std.proofs.Common.{◌≡◌, ℕ, suc, ◌+◌, ◌≤◌, Bool, true, false, cond, List, [], ◌∷◌, ◌++◌, length, refl, sym, ap, ◌∙◌, subst, inl, inr, ⊎_elim, arith, length-append, append-nil}
+use Rattle.std.proofs.Common.{◌≡◌, ℕ, suc, ◌+◌, ◌<◌, ◌≤◌, Bool, true, false, cond, List, [], ◌∷◌, ◌++◌, length, refl, sym, ap, ◌∙◌, subst, inl, inr, ⊎_elim, arith, length-append, append-nil}
 use Rattle.std.proofs.lemmas.List.{nil_from_length}
 use Rattle.ss_lemmas.proofs.Ends.{ends_alike}
 use Rattle.ss_model.specs.declared.catalog.Catalog.{Catalog}
@@ -21,7 +21,7 @@ kept_first true p both xs ys e = ap (λ (l : List Placed). p ∷ l) e
 kept_first false p both xs ys e = e
 
 -- of two lists, the second of which begins behind the first
-mine-append : (c first : ℕ) (xs ys : List Listed) → mine c first (xs ++ ys) ≡ mine c first xs ++ mine c (first + length xs) ys
+pub mine-append : (c first : ℕ) (xs ys : List Listed) → mine c first (xs ++ ys) ≡ mine c first xs ++ mine c (first + length xs) ys
 mine-append c first [] ys = ap (λ n. mine c n ys) (omega arith)
 mine-append c first (x ∷ xs) ys =
     let on : mine c (first + 1) (xs ++ ys) ≡ mine c (first + 1) xs ++ mine c (first + length (x ∷ xs)) ys = mine-append c (first + 1) xs ys ∙ ap (λ n. mine c (first + 1) xs ++ mine c n ys) (omega arith) in
@@ -57,10 +57,19 @@ more_places true p ps n here there q i = ⊎_elim (λ (e : q ≡ p). subst (λ (
 more_places false p ps n here there q i = there q i
 
 -- no entry stands before the list's first place
-mine_from : (c first : ℕ) (list : List Listed) (q : Placed) → In q (mine c first list) → first ≤ q.0
+pub mine_from : (c first : ℕ) (list : List Listed) (q : Placed) → In q (mine c first list) → first ≤ q.0
 mine_from c first [] q i = absurd i
 mine_from c first (x ∷ xs) q i =
     more_places (is_of c x.entry) (first, x) (mine c (first + 1) xs) first (omega arith) (λ p j. let a = mine_from c (first + 1) xs p j in omega arith) q i
+
+-- nor behind its end
+pub mine_below : (c first : ℕ) (list : List Listed) (q : Placed) → In q (mine c first list) → q.0 < first + length list
+mine_below c first [] q i = absurd i
+mine_below c first (x ∷ xs) q i = by (is_of c x.entry) (λ k. let a = mine_below c (first + 1) xs q k in omega arith) i
+  where
+    by : (b : Bool) → (In q (mine c (first + 1) xs) → q.0 < first + length (x ∷ xs)) → In q (cond b ((first, x) ∷ mine c (first + 1) xs) (mine c (first + 1) xs)) → q.0 < first + length (x ∷ xs)
+    by true later j = ⊎_elim (λ (e : q ≡ (first, x)). subst (λ (y : Placed). y.0 < first + length (x ∷ xs)) (sym e) (omega arith)) later j
+    by false later j = later j
 
 one_more : {A : Type 0} (xs : List A) → length xs ≡ 1 → (x : A) × (xs ≡ x ∷ [])
 one_more [] e = absurd (omega arith)

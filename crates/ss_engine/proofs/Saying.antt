@@ -53,6 +53,7 @@ module _ (catalog : Catalog) (parts first limit : ℕ) (t : Ticket) (ks : List K
         since knows.role ∙ last ∙ ap (λ (p : Placed). mine_in t.client first list ++ p ∷ []) named,
         many,
         below,
+        small,
       )
   may_say NoMemory none = let same = none.1 in ap (λ (z : List Placed). length z) (since (ap (λ (y : Known). y.role) same) ∙ ap (λ (y : Known). mine_in t.client first y.list) same) ∙ sym counted
   may_say (ListFull count) done = let (list, count_is, full, all, knows, on_all) = done in (

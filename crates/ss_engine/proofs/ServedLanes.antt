@@ -18,7 +18,7 @@ one_more : (first limit : ℕ) (old : LaneView) (r : Request) (new : List Item) 
 one_more first limit old r new (variants.Listed place outcome) right = right.0 ∙ ap (λ n. mine_in old.client first old.list ++ listed_at place outcome (asked_entry old.client n r.what) ∷ []) (omega arith)
 one_more first limit old r new variants.NoMemory right = right ∙ sym (append-nil (mine_in old.client first old.list))
 one_more first limit old r new (variants.ListFull count) right = right.0 ∙ sym (append-nil (mine_in old.client first old.list))
-one_more first limit old r new (variants.Halted faults) right = absurd right
+one_more first limit old r new (variants.Halted faults) right = ap (mine_in old.client first) right.0 ∙ sym (append-nil (mine_in old.client first old.list))
 
 served_more : (first limit : ℕ) (requests : List Request) (r : Request) (old new : LaneView) → IsServed first requests old → IsSubmitted first limit old r.what new → IsServed first (requests ++ r ∷ []) new
 served_more first limit requests r old new served more = record {

@@ -1,5 +1,5 @@
 -- What is left of an engine whose clients made all their requests.
-use Rattle.std.proofs.Common.{◌≡◌, ℕ, zero, suc, ◌+◌, ◌<◌, ◌≤◌, ◌==◌, ⊎_elim, false, cond, List, [], ◌∷◌, length, replicate, get_or, slice_get, Some, Result, Ok, Err, IfOk, refl, sym, ap, subst, ◌∙◌, arith}
+use Rattle.std.proofs.Common.{◌≡◌, ℕ, zero, suc, ◌+◌, ◌<◌, ◌≤◌, ◌==◌, ⊎_elim, false, cond, List, [], ◌∷◌, length, replicate, get_or, slice_get, Option, Some, None, IfSome, refl, sym, ap, subst, ◌∙◌, arith}
 use Rattle.std.proofs.lemmas.List.{get_or_past}
 use Rattle.std.proofs.lemmas.Option.{get_or_from_slice_get, slice_get_cases}
 use Rattle.ss_lemmas.proofs.Numbers.{eqb_apart}
@@ -11,16 +11,21 @@ use Rattle.ss_model.specs.declared.entry.Entry.TheVariants.{Call, Push, Step as 
 use Rattle.ss_model.specs.declared.entry.Listed.{Listed}
 use Rattle.ss_model.specs.declared.entry.Request.{Request}
 use Rattle.ss_model.specs.Database.{Database, empty_database, stream_batches}
+use Rattle.ss_model.specs.Replays.{after}
 use Rattle.ss_report_laws.specs.Replies.{answers_of, expected_entries, is_of, mine, requests_of}
 use Rattle.ss_commitlog.specs.Meaning.{HasClientBelow, HaveClientsBelow}
+use Rattle.ss_commitlog.specs.Tokens.{Known}
+use Rattle.ss_shard.specs.declared.database.Database as shard
 use Rattle.ss_engine.specs.declared.closing.Closed.{Closed}
 use Rattle.ss_engine.specs.Clients.{AreListedOr, EachAt, HasMade}
-use Rattle.ss_engine.specs.Closings.{IsClosed}
+use Rattle.ss_engine.specs.Closings.{IsClosed, IsLeft}
 use Rattle.ss_engine.specs.Closings as lanes_of_clients
+use Rattle.ss_engine.specs.Dues.{FewOpen}
 use Rattle.ss_engine.specs.Openings.{AreFresh}
 use Rattle.ss_engine.specs.Lanes.{LaneView, IsFresh}
-use Rattle.ss_engine.specs.Mines.{mine_in}
-use Rattle.ss_engine.specs.Sessions.{AreOfClients, IsRun}
+use Rattle.ss_engine.specs.Mines.{Placed, mine_in}
+use Rattle.ss_engine.specs.Sessions.{AreOfClients, IsLeftOver, IsRun}
+use Rattle.ss_engine.proofs.Dues.{few_open_on, none_open}
 use Rattle.ss_engine.proofs.Making.{still_unlisted}
 
 -- ---- clients that are not there
@@ -46,15 +51,16 @@ no_entry clients k first past (l ∷ ls) all =
 -- ---- client by client
 
 -- what is told of one client
-record IsTold (first limit : ℕ) (requests : List Request) (closed : Closed) (k : ℕ) : Type 0 where
+record IsTold (first limit : ℕ) (requests : List Request) (disk : Known) (closed : Closed) (k : ℕ) : Type 0 where
   many : length (answers_of closed.answers k) ≡ length (requests_of k requests)
   each : mine k first closed.list ≡ expected_entries k 0 (requests_of k requests) (answers_of closed.answers k)
-  others : AreListedOr limit (length closed.list) (answers_of closed.answers k)
+  others : AreListedOr limit (length closed.list) disk.faults (answers_of closed.answers k)
+  few_behind : FewOpen (mine k first closed.list) disk.count 16
 
-module _ (catalog : Catalog) (n : ℕ) (db : Database) (first limit clients : ℕ) (requests : List Request) (lanes : List LaneView) (closed : Closed)
+module _ (catalog : Catalog) (n : ℕ) (db : Database) (first limit clients : ℕ) (requests : List Request) (disk : Known) (lanes : List LaneView) (closed : Closed)
     (below : AreOfClients clients requests) (count : length lanes ≡ clients) (made : EachAt (HasMade first limit requests) lanes)
-    (end : IsClosed catalog n clients first limit db lanes closed) where
-  told_one : (k : ℕ) (lane : LaneView) → slice_get lanes k ≡ Some lane → IsTold first limit requests closed k
+    (end : IsClosed catalog n clients first limit db disk lanes closed) where
+  told_one : (k : ℕ) (lane : LaneView) → slice_get lanes k ≡ Some lane → IsTold first limit requests disk closed k
   told_one k lane here =
       let m = made k lane here in
       let e = end.each k lane here in
@@ -64,10 +70,12 @@ module _ (catalog : Catalog) (n : ℕ) (db : Database) (first limit clients : �
         each =
             e.own ∙ (ap (λ c. mine_in c first lane.list) (sym m.client_is)
             ∙ (m.served.entries ∙ (ap (λ c. expected_entries c 0 (requests_of k requests) lane.answers) m.client_is ∙ ap (expected_entries k 0 (requests_of k requests)) (sym answers))));
-        others = subst (AreListedOr limit (length closed.list)) (sym answers) (still_unlisted limit (length lane.list) (length closed.list) e.longer lane.answers m.others);
+        others = subst (AreListedOr limit (length closed.list) disk.faults) (sym answers)
+            (still_unlisted limit (length lane.list) (length closed.list) lane.due.faults disk.faults e.longer e.seen.faults_are lane.answers m.others);
+        few_behind = e.few_open;
       }
 
-  told_none : (k : ℕ) → length lanes ≤ k → IsTold first limit requests closed k
+  told_none : (k : ℕ) → length lanes ≤ k → IsTold first limit requests disk closed k
   told_none k past =
       let outside : clients ≤ k = (let c = count in omega arith) in
       let none : requests_of k requests ≡ [] = no_request clients k outside requests below in
@@ -75,13 +83,15 @@ module _ (catalog : Catalog) (n : ℕ) (db : Database) (first limit clients : �
       record {
         many = ap (λ (l : List Answer). length l) answers ∙ sym (ap (λ (l : List Request). length l) none);
         each = no_entry clients k first outside closed.list end.of_clients ∙ sym (ap (λ (l : List Request). expected_entries k 0 l (answers_of closed.answers k)) none);
-        others = subst (AreListedOr limit (length closed.list)) (sym answers) tt;
+        others = subst (AreListedOr limit (length closed.list) disk.faults) (sym answers) tt;
+        few_behind = few_open_on (mine k first closed.list) disk.count disk.count 0 16 (omega arith) (omega arith)
+            (subst (λ (ps : List Placed). FewOpen ps disk.count 0) (sym (no_entry clients k first outside closed.list end.of_clients)) (none_open [] disk.count tt));
       }
 
-  told : (k : ℕ) → IsTold first limit requests closed k
+  told : (k : ℕ) → IsTold first limit requests disk closed k
   told k = ⊎_elim (λ h. told_one k h.0 h.2) (λ h. told_none k h.0) (slice_get_cases lanes k).1
 
-  pub is_run : IsRun catalog db first limit clients requests closed
+  pub is_run : IsRun catalog db first limit clients requests disk.count disk.faults closed
   is_run = record {
     replays = end.replays;
     orders = end.orders;
@@ -90,18 +100,16 @@ module _ (catalog : Catalog) (n : ℕ) (db : Database) (first limit clients : �
     many = λ k. (told k).many;
     each = λ k. (told k).each;
     others = λ k. (told k).others;
-    stands = end.stands;
-    committed = end.whole.parts.committed;
+    few_behind = λ k. (told k).few_behind;
+    left = left_over (after catalog db closed.list) closed.database end.left;
+    lost = end.lost;
     catalog_is = end.catalog_is;
     end = end.end;
   }
-
--- where a close came to an end, its run did
-pub run_if_ok : {E : Type 0} (catalog : Catalog) (n : ℕ) (db : Database) (first limit clients : ℕ) (requests : List Request) (lanes : List LaneView) (result : Result Closed E)
-    → AreOfClients clients requests → length lanes ≡ clients → EachAt (HasMade first limit requests) lanes
-    → IfOk result (IsClosed catalog n clients first limit db lanes) → IfOk result (IsRun catalog db first limit clients requests)
-run_if_ok catalog n db first limit clients requests lanes (Ok closed) below count made end = is_run catalog n db first limit clients requests lanes closed below count made end
-run_if_ok catalog n db first limit clients requests lanes (Err e) below count made end = tt
+    where
+      left_over : (d : Database) (o : Option shard.Database) → IfSome o (IsLeft catalog n d) → IfSome o (IsLeftOver catalog d)
+      left_over d None left = tt
+      left_over d (Some database) left = (left.1, left.0.parts.committed)
 
 -- the lanes of clients that made their requests are those of the clients
 pub made_lanes : (first limit clients : ℕ) (requests : List Request) (lanes : List LaneView) → length lanes ≡ clients → EachAt (HasMade first limit requests) lanes → lanes_of_clients.AreOfClients clients lanes

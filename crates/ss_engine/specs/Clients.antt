@@ -1,5 +1,5 @@
 -- Clients that make their requests at the same time.
-use Rattle.std.specs.Prelude.{◌≡◌, ◌≤◌, ◌<◌, ℕ, true, List, length, slice_get, slice_index_or, Option, Some, IsSome, IfSome}
+use Rattle.std.specs.Prelude.{◌≡◌, ◌≢◌, ◌≤◌, ◌<◌, ℕ, true, List, length, slice_get, slice_index_or, Option, Some, IsSome, IfSome}
 use Rattle.std.specs.List.{AllByRecursion, list_all}
 use Rattle.ss_model.specs.declared.catalog.Catalog.{Catalog}
 use Rattle.ss_model.specs.declared.entry.Answer.{Answer}
@@ -20,23 +20,23 @@ AllFit catalog requests = list_all (fits_entry catalog) (asked_entries requests)
 abbrev pub EachAt : {A : Type 0} → (ℕ → A → Type 0) → List A → Type 0
 EachAt P xs = (k : ℕ) (x : _) → slice_get xs k ≡ Some x → P k x
 
--- an answer to a request that is not listed, where a list has at least so many entries: there was no memory for it, or the list was
--- full
-abbrev pub IsUnlisted : ℕ → ℕ → Answer → Type 0
-IsUnlisted limit entries NoMemory = Unit {0}
-IsUnlisted limit entries (ListFull count) = (count ≡ limit) × (limit ≤ entries)
-IsUnlisted limit entries (ListedAnswer place outcome) = ⊥
-IsUnlisted limit entries (Halted faults) = ⊥
+-- an answer to a request that is not listed, where a list has at least so many entries, and the disk failed at these faults, if at any:
+-- there was no memory for it, or the list was full, or the disk had failed
+abbrev pub IsUnlisted : ℕ → ℕ → ℕ → Answer → Type 0
+IsUnlisted limit entries faults NoMemory = Unit {0}
+IsUnlisted limit entries faults (ListFull count) = (count ≡ limit) × (limit ≤ entries)
+IsUnlisted limit entries faults (ListedAnswer place outcome) = ⊥
+IsUnlisted limit entries faults (Halted n) = (n ≡ faults) × (n ≢ 0)
 
 -- each of some answers is listed, or is one that may be given to a request that is not
-abbrev pub AreListedOr : ℕ → ℕ → List Answer → Type 0
-AreListedOr limit entries answers = AllByRecursion (IsListedOr (IsUnlisted limit entries)) answers
+abbrev pub AreListedOr : ℕ → ℕ → ℕ → List Answer → Type 0
+AreListedOr limit entries faults answers = AllByRecursion (IsListedOr (IsUnlisted limit entries faults)) answers
 
 -- the lane of a client that made all of these requests that are its own, in order, and has an answer to each
 pub record HasMade (first limit : ℕ) (requests : List Request) (client : ℕ) (lane : LaneView) : Type 0 where
   pub client_is : lane.client ≡ client
   pub served : IsServed first (requests_of client requests) lane
-  pub others : AreListedOr limit (length lane.list) lane.answers
+  pub others : AreListedOr limit (length lane.list) lane.due.faults lane.answers
 
 -- the lane of a client that made no request yet, with room for the answers to all of these that are its own
 pub record MayBegin (first : ℕ) (requests : List Request) (client : ℕ) (lane : LaneView) : Type 0 where

@@ -1,5 +1,5 @@
 -- The close of an engine: settling with all partitions in hand, and what is handed over.
-use Rattle.std.specs.Prelude.{◌≡◌, ◌<◌, ◌≤◌, ℕ, true, List, [], ◌∷◌, ◌++◌, length, slice_get, Some, Result, Ok, Err}
+use Rattle.std.specs.Prelude.{◌≡◌, ◌+◌, ◌<◌, ◌≤◌, ℕ, true, List, [], ◌∷◌, ◌++◌, length, slice_get, Some, IfSome, IfNone, Result, Ok, Err}
 use Rattle.std.specs.List.{AllByRecursion}
 use Rattle.ss_model.specs.declared.catalog.Catalog.{Catalog}
 use Rattle.ss_model.specs.declared.entry.Answer.{Answer}
@@ -14,6 +14,7 @@ use Rattle.ss_model.specs.Settled as model
 use Rattle.ss_model.specs.Settling.{Drained, is_ready_now}
 use Rattle.ss_report_laws.specs.Replies.{mine}
 use Rattle.ss_shard.specs.Databases.{StandsFor}
+use Rattle.ss_shard.specs.declared.database.Database as shard
 use Rattle.ss_shard.specs.Parts.{IsWholeShard}
 use Rattle.ss_commitlog.specs.declared.role.Role.TheVariants.{Client}
 use Rattle.ss_commitlog.specs.declared.rule.Item.{Item}
@@ -27,7 +28,8 @@ use Rattle.ss_engine.specs.declared.execution.Stepped.TheVariants as stepped
 use Rattle.ss_engine.specs.declared.settling.Settling.{Settling}
 use Rattle.ss_engine.specs.declared.settling.Settling.TheVariants.{Done, NoMemory, ListFull}
 use Rattle.ss_engine.specs.Growing.{GoesOn}
-use Rattle.ss_engine.specs.Lanes.{LaneView}
+use Rattle.ss_engine.specs.Dues.{AreHaltedAt, FewOpen, IsDue}
+use Rattle.ss_engine.specs.Lanes.{LaneView, HasSeen}
 use Rattle.ss_engine.specs.Mines.{mine_in}
 use Rattle.ss_engine.specs.Pumped.{NoneReady}
 
@@ -89,11 +91,18 @@ settling_of (stepped.ListFull count) = Err (ListFull count)
 
 -- ---- lanes
 
--- the marks of these lanes, each of which knows its lane's list
-abbrev pub AreMarksOf : List LaneView → List Known → Type 0
-AreMarksOf [] [] = Unit {0}
-AreMarksOf (lane ∷ lanes) (k ∷ ks) = (k.role ≡ Client lane.client) × (k.list ≡ lane.list) × AreMarksOf lanes ks
-AreMarksOf _ _ = ⊥
+-- the mark of a lane, which knows the lane's list and has seen no less than the lane, with what waits for a receipt
+pub record IsMarkOf (first : ℕ) (lane : LaneView) (k : Known) : Type 0 where
+  pub role : k.role ≡ Client lane.client
+  pub list_is : k.list ≡ lane.list
+  pub seen : HasSeen lane.count lane.due k
+  pub due_is : IsDue (mine_in lane.client first lane.list) (first + length lane.list) lane.count lane.due lane.answers
+
+-- those of these lanes
+abbrev pub AreMarksOf : ℕ → List LaneView → List Known → Type 0
+AreMarksOf first [] [] = Unit {0}
+AreMarksOf first (lane ∷ lanes) (k ∷ ks) = IsMarkOf first lane k × AreMarksOf first lanes ks
+AreMarksOf first _ _ = ⊥
 
 -- as many lanes as clients, each that of the client of its number
 pub record AreOfClients (clients : ℕ) (lanes : List LaneView) : Type 0 where
@@ -101,13 +110,17 @@ pub record AreOfClients (clients : ℕ) (lanes : List LaneView) : Type 0 where
   pub each : (k : ℕ) (lane : LaneView) → slice_get lanes k ≡ Some lane → lane.client ≡ k
 
 -- a list begins with what a lane knew, so it is no shorter, and has no other entry of the lane's client than that; and these are its
--- answers
-pub record IsOfLane (first k : ℕ) (lane : LaneView) (list : List Listed) (answers : List (List Answer)) : Type 0 where
+-- answers. The disk's token has these numbers, so all of the client's entries but 16 at most stand below its count, and each answer that
+-- the disk has failed carries its faults
+pub record IsOfLane (first k : ℕ) (disk : Known) (lane : LaneView) (list : List Listed) (answers : List (List Answer)) : Type 0 where
   pub rest : List Listed
   pub begins : list ≡ listed_of lane.list ++ rest
   pub longer : length lane.list ≤ length list
   pub own : mine k first list ≡ mine_in k first lane.list
   pub answers_are : slice_get answers k ≡ Some lane.answers
+  pub seen : HasSeen lane.count lane.due disk
+  pub few_open : FewOpen (mine k first list) disk.count 16
+  pub halted : AreHaltedAt disk.faults lane.answers
 
 -- ---- what is handed over
 
@@ -118,15 +131,22 @@ EndedWith catalog db limit list Done = model.NoneReady catalog (after catalog db
 EndedWith catalog db limit list NoMemory = Unit {0}
 EndedWith catalog db limit list (ListFull count) = (length list ≡ limit) × (count ≡ limit) × SomeReady catalog (after catalog db list)
 
--- the whole list, with the database that it leaves in one shard and the streams beside it, and each lane's answers
-pub record IsClosed (catalog : Catalog) (n clients first limit : ℕ) (db : Database) (lanes : List LaneView) (closed : Closed) : Type 0 where
+-- this database in one shard, with the streams beside it
+abbrev pub IsLeft : Catalog → ℕ → Database → shard.Database → Type 0
+IsLeft catalog n d left = IsWholeShard catalog n left.whole × StandsFor catalog left d
+
+-- the whole list, with the database that it leaves, where there was memory to have it in one shard, and each lane's answers
+pub record IsClosed (catalog : Catalog) (n clients first limit : ℕ) (db : Database) (disk : Known) (lanes : List LaneView) (closed : Closed) : Type 0 where
   pub replays : Replays catalog db closed.list
   pub orders : Orders catalog db closed.list
   pub of_clients : HaveClientsBelow clients closed.list
   pub within : length closed.list ≤ limit
+  -- it goes on from what the disk's token knew, and from what each lane knew
+  pub rest : List Listed
+  pub begins : closed.list ≡ listed_of disk.list ++ rest
   pub many : length closed.answers ≡ clients
-  pub each : (k : ℕ) (lane : LaneView) → slice_get lanes k ≡ Some lane → IsOfLane first k lane closed.list closed.answers
-  pub whole : IsWholeShard catalog n closed.database.whole
-  pub stands : StandsFor catalog closed.database (after catalog db closed.list)
+  pub each : (k : ℕ) (lane : LaneView) → slice_get lanes k ≡ Some lane → IsOfLane first k disk lane closed.list closed.answers
+  pub left : IfSome closed.database (IsLeft catalog n (after catalog db closed.list))
+  pub lost : IfNone closed.database (closed.end ≡ NoMemory)
   pub catalog_is : closed.catalog ≡ catalog
   pub end : EndedWith catalog db limit closed.list closed.end

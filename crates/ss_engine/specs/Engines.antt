@@ -1,14 +1,16 @@
 -- What an engine is made for.
-use Rattle.std.specs.Prelude.{◌≡◌, ◌≤◌, ℕ, List}
+use Rattle.std.specs.Prelude.{◌≡◌, ◌≤◌, ◌+◌, ◌^◌, ℕ, List}
 use Rattle.atomic_table.specs.Seated.{TableId}
 use Rattle.ss_model.specs.declared.catalog.Catalog.{Catalog}
 use Rattle.ss_model.specs.Accepted.{Accepted}
 use Rattle.ss_partition.specs.Homes.{homes_of}
 use Rattle.ss_party.specs.Turns.{bay_count}
 
--- its catalogue is the accepted one, with the home of each procedure, and it has a bay for each partition that runs
-pub record IsEngine (of : Catalog) (n : ℕ) (catalog : Catalog) (homes : List ℕ) (parts : ℕ) (bays : TableId) : Type 0 where
+-- its catalogue is the accepted one, with the home of each procedure, it has a bay for each partition that runs, and all places
+-- of its list are small numbers
+pub record IsEngine (of : Catalog) (n first limit : ℕ) (catalog : Catalog) (homes : List ℕ) (parts : ℕ) (bays : TableId) : Type 0 where
   pub accepted : Accepted of
+  pub small : first + limit ≤ 2 ^ 60
   pub catalog_is : catalog ≡ of
   pub parts_are : parts ≡ n
   pub some : 1 ≤ n

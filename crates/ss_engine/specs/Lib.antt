@@ -1,5 +1,6 @@
 pub mod Mines
 pub mod Told
+pub mod Dues
 pub mod Growing
 pub mod Lanes
 pub mod Replies
@@ -8,6 +9,7 @@ pub mod Answered
 pub mod Pumped
 pub mod Commits
 pub mod Served
+pub mod Assured
 pub mod Executed
 pub mod Stepping
 pub mod Runs

@@ -16,7 +16,7 @@ pub record ReplyView : Type 0 where
 
 -- what is said of the list that the mark knows: a listed entry is the client's last one
 abbrev pub IsSaid : ℕ → ℕ → ℕ → List Item → Said → Type 0
-IsSaid first limit client list (Listed place l) = (front : List Placed) × (mine_in client first list ≡ front ++ (place, l) ∷ [])
+IsSaid first limit client list (Listed place l) = (front : List Placed) × (mine_in client first list ≡ front ++ (place, l) ∷ []) × (place < 2 ^ 60)
 IsSaid first limit client list NoMemory = Unit {0}
 IsSaid first limit client list (ListFull count) = (length list ≡ limit) × (count ≡ limit)
 
@@ -35,6 +35,6 @@ more_entries (ListFull count) = 0
 -- what may be said to who sent this ticket, where the mark knows this list
 abbrev pub MaySay : ℕ → ℕ → Ticket → List Item → Said → Type 0
 MaySay first limit t list (Listed place l) =
-    (front : List Placed) × (mine_in t.client first list ≡ front ++ (place, l) ∷ []) × (length front ≡ t.count) × (t.count < 2 ^ 60)
+    (front : List Placed) × (mine_in t.client first list ≡ front ++ (place, l) ∷ []) × (length front ≡ t.count) × (t.count < 2 ^ 60) × (place < 2 ^ 60)
 MaySay first limit t list NoMemory = length (mine_in t.client first list) ≡ t.count
 MaySay first limit t list (ListFull count) = (length (mine_in t.client first list) ≡ t.count) × (length list ≡ limit) × (count ≡ limit)

@@ -1,25 +1,44 @@
--- What a run of clients in threads comes to.
-use Rattle.std.specs.Prelude.{◌≡◌, ◌≤◌, ◌<◌, ℕ, List, length}
+-- What a run of clients in threads comes to, and what its disk then has.
+use Rattle.std.specs.Prelude.{◌≡◌, ◌⊎◌, ◌≤◌, ◌<◌, ◌+◌, ℕ, List, length, IfSome, IfNone, IsOk}
 use Rattle.std.specs.List.{AllByRecursion}
 use Rattle.ss_model.specs.declared.catalog.Catalog.{Catalog}
 use Rattle.ss_model.specs.declared.entry.Request.{Request}
 use Rattle.ss_model.specs.Database.{Database}
 use Rattle.ss_model.specs.Orders.{Orders}
 use Rattle.ss_model.specs.Replays.{Replays, after}
+use Rattle.ss_model.specs.Settling.{kept}
 use Rattle.ss_report_laws.specs.Replies.{mine, requests_of, answers_of, expected_entries}
+use Rattle.ss_disk.specs.Files.{Files}
+use Rattle.ss_disk.specs.Moments.{LeavesOnly}
 use Rattle.ss_shard.specs.Databases.{StandsFor}
 use Rattle.ss_shard.specs.Shards.{IsCommitted}
+use Rattle.ss_shard.specs.declared.database.Database as shard
+use Rattle.ss_cmdlog.specs.declared.log.CmdLog.{CmdLog}
+use Rattle.ss_cmdlog.specs.Generation.{Stood}
+use Rattle.ss_cmdlog.specs.Log.{present, IsOpen}
 use Rattle.ss_commitlog.specs.Meaning.{HaveClientsBelow}
+use Rattle.ss_standing.specs.Standing.{Prefix, Receipt, Replayed, StandsForAll, StandsForFront}
+use Rattle.ss_receipts.specs.Durable.{IsDurable}
+use Rattle.ss_receipts.specs.Holding.{Holds}
+use Rattle.ss_receipts.specs.Past.{past_of}
 use Rattle.ss_engine.specs.declared.closing.Closed.{Closed}
+use Rattle.ss_engine.specs.declared.session.Finished.{Finished}
+use Rattle.ss_engine.specs.declared.settling.Settling.TheVariants.{NoMemory}
 use Rattle.ss_engine.specs.Clients.{AreListedOr}
 use Rattle.ss_engine.specs.Closings.{EndedWith}
+use Rattle.ss_engine.specs.Dues.{FewOpen, entries_from}
 
 -- each request is of one of so many clients
 abbrev pub AreOfClients : ℕ → List Request → Type 0
 AreOfClients clients requests = AllByRecursion (λ (r : Request). r.client < clients) requests
 
--- the run of these requests, whose list begins at this database and this place
-pub record IsRun (catalog : Catalog) (db : Database) (first limit clients : ℕ) (requests : List Request) (closed : Closed) : Type 0 where
+-- a database that a list leaves, between executions
+abbrev pub IsLeftOver : Catalog → Database → shard.Database → Type 0
+IsLeftOver catalog d left = StandsFor catalog left d × IsCommitted catalog left.whole
+
+-- the run of these requests, whose list begins at this database and this place, where all places below a count have receipts, and the
+-- disk failed at these faults, if at any
+pub record IsRun (catalog : Catalog) (db : Database) (first limit clients : ℕ) (requests : List Request) (count faults : ℕ) (closed : Closed) : Type 0 where
   -- one list that replays, each of its entries a step or of one of the clients
   pub replays : Replays catalog db closed.list
   pub orders : Orders catalog db closed.list
@@ -28,10 +47,60 @@ pub record IsRun (catalog : Catalog) (db : Database) (first limit clients : ℕ)
   -- each request has an answer, and the list has of each client just the entries that its answers report, at their places
   pub many : (client : ℕ) → length (answers_of closed.answers client) ≡ length (requests_of client requests)
   pub each : (client : ℕ) → mine client first closed.list ≡ expected_entries client 0 (requests_of client requests) (answers_of closed.answers client)
-  -- the other answers say that there was no memory, or that the list is full, which it then is
-  pub others : (client : ℕ) → AreListedOr limit (length closed.list) (answers_of closed.answers client)
-  -- the database after the list, and how settling ended on it
-  pub stands : StandsFor catalog closed.database (after catalog db closed.list)
-  pub committed : IsCommitted catalog closed.database.whole
+  -- the other answers say that there was no memory, or that the list is full, which it then is, or that the disk has failed
+  pub others : (client : ℕ) → AreListedOr limit (length closed.list) faults (answers_of closed.answers client)
+  -- of each client at most 16 entries stand behind those that have a receipt
+  pub few_behind : (client : ℕ) → FewOpen (mine client first closed.list) count 16
+  -- the database after the list, where there was memory to have it in one shard, and how settling ended on it
+  pub left : IfSome closed.database (IsLeftOver catalog (after catalog db closed.list))
+  pub lost : IfNone closed.database (closed.end ≡ NoMemory)
   pub catalog_is : closed.catalog ≡ catalog
   pub end : EndedWith catalog db limit closed.list closed.end
+
+-- ---- with a disk
+
+module _ {D : Type 0} (tells honest : Type 0) (seen : D → Files) (moment : D → ℕ) (images : D → ℕ → Files → Type 0) where
+  -- the log is open on a generation that stands for what is kept of a database, at this place
+  pub record OpensOn (catalog : Catalog) (db : Database) (first : ℕ) (log : CmdLog D) : Type 0 where
+    pub stood : Stood
+    pub going : IsOpen tells honest seen (present moment images) log stood
+    pub count : log.count ≡ first
+    pub replayed : tells → Replayed catalog stood first (kept catalog db)
+
+  -- a crash now leaves what has P
+  abbrev pub LeavesNow : D → (Files → Type 0) → Type 0
+  LeavesNow disk P = honest → (image : Files) → present moment images disk image → P image
+
+  module _ (faults : D → ℕ) (catalog : Catalog) (db : Database) (first : ℕ) where
+    -- a run's list was flushed behind a receipted count, and where faults were told of before, they are the same. The disk was at this
+    -- moment at the opening, with these faults and this past
+    pub record IsFlushed (opened before : ℕ) (past : ℕ → List (List ℕ) → Type 0) (old_count old_fault : ℕ) (ended : Finished D) : Type 0 where
+      pub count : ℕ
+      pub fault : ℕ
+      pub holds : Holds catalog db first opened before past tells honest seen moment images faults ended.closed.list ended.log count fault
+      pub more : old_count ≤ ended.receipted
+      pub within : ended.receipted ≤ count
+      pub told : (old_fault ≡ 0) ⊎ (old_fault ≡ fault)
+      pub flushed : IsDurable (first + length ended.closed.list) count fault ended.flushed
+      pub all_receipted : IsOk ended.flushed → ended.receipted ≡ first + length ended.closed.list
+
+    -- what a run on a log leaves: what the log holds of the run's list, and how the last flush ended; a crash now leaves a front of the
+    -- list that ends at the count that is told at least, and where the last flush went well, all of it
+    pub record Ends (limit clients opened before : ℕ) (past : ℕ → List (List ℕ) → Type 0) (requests : List Request) (ended : Finished D) : Type 0 where
+      pub count : ℕ
+      pub fault : ℕ
+      pub run : IsRun catalog db first limit clients requests ended.receipted fault ended.closed
+      pub holds : Holds catalog db first opened before past tells honest seen moment images faults ended.closed.list ended.log count fault
+      pub begun : first ≤ ended.receipted
+      pub within : ended.receipted ≤ count
+      pub flushed : IsDurable (first + length ended.closed.list) count fault ended.flushed
+      pub fronts : LeavesNow ended.log.disk (StandsForFront catalog db first ended.closed.list ended.receipted)
+      pub all_stands : IsOk ended.flushed → LeavesNow ended.log.disk (StandsForAll catalog db first ended.closed.list)
+
+    -- the same with the log at the opening: a crash at any moment since then leaves a front of the list, what is below the count that is
+    -- told stands for good, and of each client at most 16 entries stand from there on
+    pub record EndsOnDisk (limit clients : ℕ) (requests : List Request) (old : CmdLog D) (ended : Finished D) : Type 0 where
+      pub ends : Ends limit clients (moment old.disk) (faults old.disk) (past_of images old.disk) requests ended
+      pub crashes : honest → LeavesOnly moment images old.disk ended.log.disk (Prefix catalog db first ended.closed.list)
+      pub receipt : honest → Receipt catalog (present moment images) ended.receipted ended.log.disk
+      pub few_behind : (client : ℕ) → entries_from client ended.receipted first ended.closed.list ≤ 16

@@ -8,9 +8,12 @@ ghost use Rattle.ss_engine.specs.Lanes.{IsFresh};
 use crate::engine::Engine;
 use crate::gate::Gate;
 use crate::lane::Lane;
+use crate::requesting::make_requests;
 use ss_commitlog::{Note, Notes};
+use ss_disk::Disk;
 use ss_model::{Life, Request};
 use ss_proc::Runner;
+use ss_receipts::Receipts;
 use ss_value::NoMemory;
 use std::alloc::Global;
 use std::sync::Wait;
@@ -68,32 +71,12 @@ fn lanes_of<I: Life>(clients: Vec<Client<I>>, mut lanes: Vec<Lane<I>>) -> Vec<La
     lanes
 }
 
-/// Makes those of these requests that are the client's, in order, each once the one before is answered.
-fn make_requests<I: Life, N: Runner + Drop, G: Gate + Drop, R: Wait>(
+/// Makes a client's requests with its lane, which it has again behind the last answer.
+fn serve_client<I: Life, N: Runner + Drop, G: Gate + Drop, R: Wait, D: Disk + Drop>(
     rt: &R,
     alloc: Global,
     engine: &Engine<I, N, G>,
-    mut lane: Lane<I>,
-    requests: &[Request],
-    number: usize,
-) -> Lane<I>
-    requires fit { AllFit I.catalog requests.now }
-    requires begins { MayBegin I.first requests.now number lane }
-    ensures { HasMade I.first I.limit requests.now number result }
-{
-    for request in requests {
-        if usize::from(request.client) == number {
-            lane = engine.submit(rt, alloc, lane, request);
-        }
-    }
-    lane
-}
-
-/// The same with a client whose lane is there, which it has again behind the last answer.
-fn serve_client<I: Life, N: Runner + Drop, G: Gate + Drop, R: Wait>(
-    rt: &R,
-    alloc: Global,
-    engine: &Engine<I, N, G>,
+    receipts: &Receipts<I, D>,
     client: &mut Client<I>,
     requests: &[Request],
     number: usize,
@@ -105,7 +88,7 @@ fn serve_client<I: Life, N: Runner + Drop, G: Gate + Drop, R: Wait>(
     let Some(lane) = client.lane.take() else {
         unreachable!()
     };
-    client.lane = Some(make_requests(rt, alloc, engine, lane, requests, number));
+    client.lane = Some(make_requests(rt, alloc, engine, receipts, lane, requests, number));
 }
 
 /// Serves all clients, each in a thread of its own where one can be made.
@@ -114,10 +97,12 @@ fn serve_clients<
     N: Runner + Drop + Sync,
     G: Gate + Drop + Sync,
     R: Threads + Wait + Sync,
+    D: Disk + Drop + Send,
 >(
     rt: &R,
     alloc: Global,
     engine: &Engine<I, N, G>,
+    receipts: &Receipts<I, D>,
     mut clients: Vec<Client<I>>,
     requests: &[Request],
 ) -> Vec<Client<I>>
@@ -133,7 +118,7 @@ fn serve_clients<
         &|number: usize, client: &mut Client<I>|
             requires { AllFit I.catalog requests.now × HasLane (MayBegin I.first requests.now number) client.old }
             ensures { HasLane (HasMade I.first I.limit requests.entry.now number) client.new }
-        { serve_client(rt, alloc, engine, client, requests, number) },
+        { serve_client(rt, alloc, engine, receipts, client, requests, number) },
     );
     clients
 }
@@ -171,10 +156,12 @@ fn serve_beside_executors<
     N: Runner + Drop + Sync,
     G: Gate + Drop + Sync,
     R: Threads + Wait + Sync,
+    D: Disk + Drop + Send,
 >(
     rt: &R,
     alloc: Global,
     engine: &Engine<I, N, G>,
+    receipts: &Receipts<I, D>,
     clients: Vec<Client<I>>,
     notes: Notes<I>,
     requests: &[Request],
@@ -204,7 +191,7 @@ fn serve_beside_executors<
                     engine.no_executor(p);
                 }
             }
-            let clients = serve_clients(rt, alloc, engine, clients, requests);
+            let clients = serve_clients(rt, alloc, engine, receipts, clients, requests);
             flag.store(true, Ordering::SeqCst);
             engine.stop(rt);
             clients
@@ -212,32 +199,57 @@ fn serve_beside_executors<
     )
 }
 
+/// The clients before their first request, with a list that has room for their lanes.
+#[derive(Drop)]
+pub(crate) struct Ready<I: Life> {
+    clients: Vec<Client<I>>,
+    again: Vec<Lane<I>>,
+    ghost none: { again.items ≡ [] },
+    ghost room: { length clients.items ≤ vec_capacity again },
+}
+
+/// Makes room for all that the clients' requests take on their side, before the first of them. Looks at each request once for
+/// each client.
+pub(crate) fn with_room<I: Life>(
+    alloc: Global,
+    lanes: Vec<Lane<I>>,
+    requests: &[Request],
+) -> Result<Ready<I>, NoMemory>
+    requires { EachAt (IsFresh I.first) lanes.items }
+    ensures { IfOk result (λ ready. EachHasLane (length lanes.items) (MayBegin I.first requests.now) ready.clients.items) }
+{
+    let again = Vec::with_capacity(alloc, lanes.len())?;
+    let clients = clients_of(alloc, lanes, requests)?;
+    Ok(Ready { clients, again })
+}
+
 /// Makes the requests of all clients, those of each in order and one after another, and those of different clients at the same
 /// time. An executor runs the work of each partition meanwhile. The lanes come back once all requests are answered.
 ///
-/// Room for all answers is made first, so want of memory there has made no request. Looks at each request twice for each client.
-/// Threads: one for each client and one for each partition, where they can be made; where none can, the clients make their
-/// requests one after another, and run the work of the inboxes themselves.
-pub fn run_clients<
+/// A client asks for a receipt where 16 of its listed answers wait for one, and behind its last answer. Looks at each request once
+/// for each client. Threads: one for each client and one for each partition, where they can be made; where none can, the clients
+/// make their requests one after another, and run the work of the inboxes themselves.
+pub(crate) fn run_clients<
     I: Life + Send + Sync,
     N: Runner + Drop + Sync,
     G: Gate + Drop + Sync,
     R: Threads + Wait + Sync,
+    D: Disk + Drop + Send,
 >(
     rt: &R,
     alloc: Global,
     engine: &Engine<I, N, G>,
-    lanes: Vec<Lane<I>>,
+    receipts: &Receipts<I, D>,
+    ready: Ready<I>,
     notes: Notes<I>,
     requests: &[Request],
-) -> Result<Vec<Lane<I>>, NoMemory>
+) -> Vec<Lane<I>>
     requires fit { AllFit I.catalog requests.now }
-    requires fresh { EachAt (IsFresh I.first) lanes.items }
-    ensures many { IfOk result (λ made. length made.items ≡ length lanes.items) }
-    ensures made { IfOk result (λ made. EachAt (HasMade I.first I.limit requests.now) made.items) }
+    requires begin { EachHasLane (length ready.clients.items) (MayBegin I.first requests.now) ready.clients.items }
+    ensures many { length result.items ≡ length ready.clients.items }
+    ensures made { EachAt (HasMade I.first I.limit requests.now) result.items }
 {
-    let again = Vec::with_capacity(alloc, lanes.len())?;
-    let clients = clients_of(alloc, lanes, requests)?;
-    let clients = serve_beside_executors(rt, alloc, engine, clients, notes, requests);
-    Ok(lanes_of(clients, again))
+    let Ready { clients, again } = ready;
+    let clients = serve_beside_executors(rt, alloc, engine, receipts, clients, notes, requests);
+    lanes_of(clients, again)
 }

@@ -1,6 +1,6 @@
 //! The close of an engine: all partitions in one hand, the last steps, and what is handed over.
 
-ghost use Rattle.std.specs.Prelude.{◌≡◌, ◌≤◌, ◌+◌, ◌++◌, [], map, length, vec_capacity, IfOk};
+ghost use Rattle.std.specs.Prelude.{◌≡◌, ◌≤◌, ◌+◌, ◌++◌, [], map, length, vec_capacity};
 ghost use Rattle.ss_commitlog.specs.declared.role.Role.TheVariants.{Disk};
 ghost use Rattle.ss_engine.specs.Closings.{AreMarksOf, AreOfClients, IsClosed};
 ghost use Rattle.ss_engine.specs.Lanes.{LaneView};
@@ -9,13 +9,14 @@ use crate::engine::Engine;
 use crate::gate::Gate;
 use crate::hub::Hub;
 use crate::lane::Lane;
+use crate::room::Room;
 use crate::settling::{Settling, settle};
 use ss_commitlog::{Mark, Marks, Note};
 use ss_hand::{Hand, in_one_hand};
 use ss_model::{Answer, Catalog, Life, Listed};
 use ss_proc::Runner;
 use ss_shard::Database;
-use ss_value::{NoMemory, Seq};
+use ss_value::Seq;
 use std::alloc::Global;
 use std::sync::Wait;
 
@@ -24,8 +25,8 @@ use std::sync::Wait;
 pub struct Closed {
     /// The entries with their outcomes.
     pub list: Seq<Listed>,
-    /// The database that they leave.
-    pub database: Database,
+    /// The database that they leave; None where there was no memory to have it in one shard, and then the end says so too.
+    pub database: Option<Database>,
     pub catalog: Catalog,
     /// The answers of each client, by number.
     pub answers: Seq<Seq<Answer>>,
@@ -33,25 +34,23 @@ pub struct Closed {
     pub end: Settling,
 }
 
-/// The most marks that a close has: one for each partition and each client.
-const MARKS: usize = 16;
-
 impl<I: Life, N: Runner + Drop, G: Gate + Drop> Engine<I, N, G> {
     /// Takes all partitions in one hand, runs steps until none is ready, and hands over the list with all that it leaves.
     ///
-    /// Waits for each partition that is out. Out of memory comes before the first step, and loses all; what a step finds of it
-    /// is in the end. No row is moved.
+    /// Waits for each partition that is out. Where there is no memory to take all partitions in one hand, no step is run, and the
+    /// list is handed over without the database; what a step finds of it is in the end. No row is moved.
     pub fn close<R: Wait>(
         self,
         rt: &R,
         alloc: Global,
         lanes: Vec<Lane<I>>,
+        room: Room<I>,
         disk: Note<I>,
-    ) -> Result<Closed, NoMemory>
+    ) -> Closed
         requires lanes { AreOfClients I.clients lanes.items }
         requires clients { (1 ≤ I.clients) × (I.clients ≤ 8) }
         requires disk { disk.role ≡ Disk }
-        ensures { IfOk result (IsClosed I.catalog I.parts I.clients I.first I.limit I.opening lanes.items) }
+        ensures { IsClosed I.catalog I.parts I.clients I.first I.limit I.opening disk lanes.items result }
     {
         let Engine {
             hub,
@@ -63,12 +62,20 @@ impl<I: Life, N: Runner + Drop, G: Gate + Drop> Engine<I, N, G> {
             gate,
         } = self;
         let Hub { log, .. } = hub;
-        let marks = Vec::with_capacity(alloc, MARKS)?;
-        let answers = Vec::with_capacity(alloc, lanes.len())?;
+        let Room { marks, answers } = room;
         let (marks, answers, note) = apart(lanes, marks, answers);
         let partitions = bays.close(rt);
         let (_note, gathered) = in_one_hand(rt, alloc, &log, &catalog, parts, partitions, note);
-        let hand = gathered?;
+        let Ok(hand) = gathered else {
+            let (list, _streams) = log.close(Seq::from_vec(marks), disk);
+            return Closed {
+                list,
+                database: None,
+                catalog,
+                answers: Seq::from_vec(answers),
+                end: Settling::NoMemory,
+            };
+        };
         let (hand, end) = settle(
             rt, alloc, &log, &catalog, &runner, &gate, &homes, parts, hand,
         );
@@ -78,13 +85,13 @@ impl<I: Life, N: Runner + Drop, G: Gate + Drop> Engine<I, N, G> {
             ..
         } = hand;
         let (list, streams) = log.close(with_parts(marks, own), disk);
-        Ok(Closed {
+        Closed {
             list,
-            database: Database { whole, streams },
+            database: Some(Database { whole, streams }),
             catalog,
             answers: Seq::from_vec(answers),
             end,
-        })
+        }
     }
 }
 
@@ -97,7 +104,7 @@ fn apart<I: Life>(
     requires some { 1 ≤ length lanes.items }
     requires marks { (marks.items ≡ []) × (length lanes.items ≤ vec_capacity marks) }
     requires answers { (answers.items ≡ []) × (length lanes.items ≤ vec_capacity answers) }
-    ensures marks { AreMarksOf lanes.items result.0.items × (vec_capacity result.0 ≡ vec_capacity marks) }
+    ensures marks { AreMarksOf I.first lanes.items result.0.items × (vec_capacity result.0 ≡ vec_capacity marks) }
     ensures answers { result.1.items ≡ map (λ (lane : LaneView). lane.answers) lanes.items }
 {
     let mut last = None;

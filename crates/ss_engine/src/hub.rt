@@ -10,6 +10,7 @@ ghost use Rattle.ss_engine.specs.Lanes.{IsLane, IsSubmitted, lane_view};
 ghost use Rattle.ss_engine.specs.Owning.{IsOwn};
 ghost use Rattle.ss_engine.specs.Replies.{MaySay};
 
+use crate::due::Due;
 use crate::engine::Engine;
 use crate::gate::Gate;
 use crate::inbox::SharedInbox;
@@ -73,12 +74,14 @@ impl<I: Life> Hub<I> {
     ) -> Lane<I>
         requires part { p < I.parts }
         requires spare { 1 ≤ lane.spare }
+        requires going { (lane.due.faults ≡ 0) × (lane.due.pending < 16) }
         requires entry { entry ≡ asked_entry lane.client (length lane.answers) what.now }
         requires fits { fits_entry I.catalog entry ≡ true }
         ensures { IsSubmitted I.first I.limit lane what.now result }
     {
         let Lane {
             ticket,
+            due,
             mark,
             note,
             answers,
@@ -91,11 +94,12 @@ impl<I: Life> Hub<I> {
         match self.inboxes[p as usize].put_job(rt, job) {
             Err(Job { mark, .. }) => unsent(Lane {
                 ticket,
+                due,
                 mark,
                 note,
                 answers,
             }),
-            Ok(()) => self.returned(rt, alloc, engine, ticket, note, answers, p, what),
+            Ok(()) => self.returned(rt, alloc, engine, ticket, due, note, answers, p, what),
         }
     }
 
@@ -106,20 +110,22 @@ impl<I: Life> Hub<I> {
         alloc: Global,
         engine: &Engine<I, N, G>,
         ticket: Ticket,
+        due: Due,
         note: Note<I>,
         answers: Reserved<Answer>,
         p: u8,
         what: &Asked,
     ) -> Lane<I>
-        requires lane { (mark : Known) × IsLane I.clients I.first ticket mark note answers.items }
+        requires lane { (mark : Known) × IsLane I.clients I.first ticket due mark note answers.items }
+        requires going { (due.faults ≡ 0) × (due.pending < 16) }
         requires part { p < I.parts }
         requires spare { 1 ≤ answers.spare }
-        ensures { IsSubmitted I.first I.limit (lane_view ticket note answers) what.now result }
+        ensures { IsSubmitted I.first I.limit (lane_view ticket due note answers) what.now result }
     {
         let (reply, note) = self.awaited(rt, alloc, engine, note, p, &ticket, what);
         let Reply { mark, said, .. } = reply;
         let (mark, note) = self.log.meet(rt, mark, note);
-        answered(ticket, mark, note, answers, said)
+        answered(ticket, due, mark, note, answers, said)
     }
 
     /// Waits for the reply, and runs the inbox's work meanwhile where it has no executor.

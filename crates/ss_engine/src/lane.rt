@@ -1,13 +1,15 @@
 //! A client's side of the engine.
 
-ghost use Rattle.std.specs.Prelude.{◌≡◌, ℕ, ◌+◌, ◌<◌, ◌≤◌, [], ◌∷◌, ◌++◌, OnOk};
+ghost use Rattle.std.specs.Prelude.{◌≡◌, ◌≢◌, ℕ, ◌+◌, ◌<◌, ◌≤◌, [], ◌∷◌, ◌++◌, OnOk};
 ghost use Rattle.ss_model.specs.declared.entry.Asked.{Asked};
 ghost use Rattle.ss_commitlog.specs.declared.role.Role.TheVariants.{Reader, Client};
 ghost use Rattle.ss_commitlog.specs.Tokens.{known};
 ghost use Rattle.ss_engine.specs.Answered.{IsAnswered, answer_of};
+ghost use Rattle.ss_engine.specs.Dues.{due_after};
 ghost use Rattle.ss_engine.specs.Lanes.{IsFresh, IsSubmitted};
 ghost use Rattle.ss_engine.specs.Replies.{more_entries};
 
+use crate::due::Due;
 use crate::reply::Said;
 use crate::ticket::Ticket;
 use ss_commitlog::{Mark, Note};
@@ -16,13 +18,15 @@ use ss_value::{NoMemory, Reserved};
 use std::alloc::Global;
 use std::marker::Model;
 
-/// A client's mark and note, the ticket of its next request, and its answers.
+/// A client's mark and note, the ticket of its next request, its answers, and what of these waits for a receipt.
 ///
 /// By its type mark and note know one list, in which the client has just the entries of its listed answers, each once. So a
-/// client reads its own writes.
+/// client reads its own writes. All of these entries but the last 16 at most stand below a receipted count that it has seen
+/// posted; and each answer that the disk has failed carries the faults at which it did.
 #[derive(Drop)]
 pub struct Lane<I: Life> {
     pub(crate) ticket: Ticket,
+    pub(crate) due: Due,
     pub(crate) mark: Mark<I>,
     pub(crate) note: Note<I>,
     pub(crate) answers: Reserved<Answer>,
@@ -33,9 +37,9 @@ impl<I: Life> Model for Lane<I> {
 
     ghost Value = { LaneView };
 
-    ghost view = { λ l. lane_view l.ticket l.note l.answers };
+    ghost view = { λ l. lane_view l.ticket l.due l.note l.answers };
 
-    ghost invariant = { λ l. IsLane I.clients I.first l.ticket l.mark l.note l.answers.items };
+    ghost invariant = { λ l. IsLane I.clients I.first l.ticket l.due l.mark l.note l.answers.items };
 }
 
 impl<I: Life> Lane<I> {
@@ -52,6 +56,7 @@ impl<I: Life> Lane<I> {
                 index: 0,
                 count: 0,
             },
+            due: Due::none(),
             mark,
             note,
             answers: Reserved::new(alloc),
@@ -65,13 +70,28 @@ impl<I: Life> Lane<I> {
         self.answers.as_slice()
     }
 
+    /// How many answers were listed since the last receipt that this lane was given, at most 16. Takes no memory.
+    pub fn pending(&self) -> u64
+        ensures pending { result ≡ self.now.due.pending }
+        ensures few { result ≤ 16 }
+    {
+        self.due.pending
+    }
+
+    /// The disk's faults, where this lane was told that it had failed; else 0. Takes no memory.
+    pub fn faults(&self) -> u64
+        ensures { result ≡ self.now.due.faults }
+    {
+        self.due.faults
+    }
+
     /// Makes room for this many more answers. Linear in the answers where they have to move; out of memory changes nothing.
     pub fn reserve(&mut self, more: usize) -> Result<(), NoMemory>
         ensures unchanged { self.new ≡ record {
           client = self.old.client;
           list = self.old.list;
           count = self.old.count;
-          faults = self.old.faults;
+          due = self.old.due;
           answers = self.old.answers;
           spare = self.new.spare;
         } }
@@ -84,20 +104,24 @@ impl<I: Life> Lane<I> {
 /// The lane with one answer more, once its mark has come back and met its note. Takes no memory.
 pub(crate) fn answered<I: Life>(
     ticket: Ticket,
+    due: Due,
     mark: Mark<I>,
     note: Note<I>,
     mut answers: Reserved<Answer>,
     said: Said,
 ) -> Lane<I>
-    requires answered { IsAnswered I.clients I.first ticket mark note answers.items said }
+    requires answered { IsAnswered I.clients I.first ticket due mark note answers.items said }
     requires spare { 1 ≤ answers.spare }
     ensures client { result.client ≡ ticket.client }
-    ensures note { (result.list ≡ note.list) × (result.count ≡ note.count) × (result.faults ≡ note.faults) }
+    ensures note { (result.list ≡ note.list) × (result.count ≡ note.count) }
+    ensures due { result.due ≡ due_after due (answer_of said) }
     ensures answers { result.answers ≡ answers.items ++ answer_of said ∷ [] }
     ensures spare { result.spare + 1 ≡ answers.spare }
 {
     let more = more_entries(&said);
-    answers.add(answer_of(said));
+    let answer = answer_of(said);
+    let due = due.after(&answer);
+    answers.add(answer);
     // The number of the next request is that of the answers.
     let next = Ticket {
         client: ticket.client,
@@ -106,6 +130,7 @@ pub(crate) fn answered<I: Life>(
     };
     Lane {
         ticket: next,
+        due,
         mark,
         note,
         answers,
@@ -114,16 +139,46 @@ pub(crate) fn answered<I: Life>(
 
 /// The lane whose request was not sent: it is answered that there was no memory for it. Takes none.
 pub(crate) fn unsent<I: Life>(lane: Lane<I>) -> Lane<I>
-    requires { 1 ≤ lane.spare }
+    requires spare { 1 ≤ lane.spare }
+    requires going { lane.due.faults ≡ 0 }
     ensures { (limit : ℕ) (what : Asked) → IsSubmitted I.first limit lane what result }
 {
     let Lane {
         ticket,
+        due,
         mark,
         note,
         answers,
     } = lane;
-    answered(ticket, mark, note, answers, Said::NoMemory)
+    answered(ticket, due, mark, note, answers, Said::NoMemory)
+}
+
+/// The lane whose request was not sent: it is answered that the disk has failed, as the client was told. Takes no memory.
+pub(crate) fn halted<I: Life>(lane: Lane<I>) -> Lane<I>
+    requires spare { 1 ≤ lane.spare }
+    requires halted { lane.due.faults ≢ 0 }
+    ensures { (limit : ℕ) (what : Asked) → IsSubmitted I.first limit lane what result }
+{
+    let Lane {
+        ticket,
+        due,
+        mark,
+        note,
+        mut answers,
+    } = lane;
+    answers.add(Answer::Halted { faults: due.faults });
+    let next = Ticket {
+        client: ticket.client,
+        index: answers.len() as u64,
+        count: ticket.count,
+    };
+    Lane {
+        ticket: next,
+        due,
+        mark,
+        note,
+        answers,
+    }
 }
 
 /// What the client is answered. Takes no memory.

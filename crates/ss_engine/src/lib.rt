@@ -11,25 +11,28 @@
 //! 2015, section 3); that marks travel with requests is this project's own rule.
 //!
 //! - `lane`: a client's side, with its law in `laws`; `hub`: the calls of clients, and of those who run their requests
+//! - `due`: what of a client's answers waits for a receipt
 //! - `ticket`, `job`, `reply`: what travels; `inbox`, `slot`: where it waits; `signal`: that it does
 //! - `own`: whether a reply is the one that is waited for
 //! - `pump`: what the work of an inbox came to; `asking`: the commit of what a client asked for
-//! - `engine`: what threads share; `opening`: one with an empty list, and a lane for each client; `closing`: what it leaves
-//! - `submitting`: its calls for clients; `pumping`: it runs the work of its inboxes
+//! - `engine`: what threads share; `opening`: one with an empty list, and a lane for each client; `closing`: what it leaves, in the `room` for it
+//! - `submitting`: its calls for clients; `assuring`: receipts for them; `pumping`: it runs the work of its inboxes
 //! - `settling`: its own last steps; `ranking`: in which order
-//! - `clients`: clients and executors in threads; `session`: a whole run
+//! - `requesting`: a client's requests; `clients`: clients and executors in threads; `session`: a whole run
 //! - `serving`: a job; `hints`: a procedure that may be ready; `waking`: hints of what an entry may have made ready
 //! - `holding`: partitions in and out of bays; `gate`: what is told of an execution; `least`: small sets
 //! - `execution`: an entry on the parts in hand; `running`: its run and its end; `stepping`: the batches and the commit of a step
 //!
-//! In `specs/`: `Mines` and `Told` (the entries of a client, and what answers tell of them), `Lanes`, `Replies`, `Owning`,
+//! In `specs/`: `Mines` and `Told` (the entries of a client, and what answers tell of them), `Dues`, `Lanes`, `Replies`, `Owning`,
 //! `Answered`, `Growing` (tokens whose lists go on), `Pumped`, `Commits`, `Served`, `Engines`, `Executed`, `Runs`, `Stepping`,
-//! `Serving`, `Tried`, `Least`, `Ranking`, `Openings`, `Closings`, `Clients`, `Sessions`.
+//! `Serving`, `Tried`, `Least`, `Ranking`, `Assured`, `Openings`, `Closings`, `Clients`, `Sessions`.
 #![tactic(auto)]
 
 mod asking;
+mod assuring;
 mod clients;
 mod closing;
+mod due;
 mod engine;
 mod execution;
 mod gate;
@@ -47,6 +50,8 @@ mod pump;
 mod pumping;
 mod ranking;
 mod reply;
+mod requesting;
+mod room;
 mod running;
 mod serving;
 mod session;
@@ -58,8 +63,8 @@ mod submitting;
 mod ticket;
 mod waking;
 
-pub use clients::run_clients;
 pub use closing::Closed;
+pub use due::Due;
 pub use engine::Engine;
 pub use gate::{Gate, NoGate};
 pub use hub::Hub;
@@ -67,5 +72,6 @@ pub use lane::Lane;
 pub use laws::lanes_serve;
 pub use opening::Opened;
 pub use pump::Pumped;
-pub use session::run_session;
+pub use room::Room;
+pub use session::{Finished, run_session};
 pub use settling::Settling;

@@ -17,6 +17,7 @@ use crate::engine::Engine;
 use crate::gate::Gate;
 use crate::hub::Hub;
 use crate::lane::Lane;
+use crate::room::Room;
 use ss_commitlog::{Blank, CommitLog, Marks, Note, Notes, Opening};
 use ss_hand::Partition;
 use ss_model::{Catalog, Life};
@@ -39,6 +40,8 @@ pub struct Opened<I: Life, N: Runner + Drop, G: Gate + Drop> {
     pub notes: Notes<I>,
     /// The disk's note.
     pub disk: Note<I>,
+    /// Room for what the close collects.
+    pub room: Room<I>,
 }
 
 impl<I: Life, N: Runner + Drop, G: Gate + Drop> Engine<I, N, G> {
@@ -86,6 +89,7 @@ impl<I: Life, N: Runner + Drop, G: Gate + Drop> Engine<I, N, G> {
             Ok(bays) => bays,
             Err((error, _)) => return Err(error),
         };
+        let room = Room::new(alloc, opening.clients)?;
         let hub = Hub::new(alloc, log, opening.parts, opening.clients)?;
         Ok(Opened {
             engine: Engine {
@@ -100,6 +104,7 @@ impl<I: Life, N: Runner + Drop, G: Gate + Drop> Engine<I, N, G> {
             lanes,
             notes,
             disk,
+            room,
         })
     }
 }

@@ -7,7 +7,7 @@ ghost use Rattle.ss_engine.specs.Lanes.{IsSubmitted};
 
 use crate::engine::Engine;
 use crate::gate::Gate;
-use crate::lane::{Lane, unsent};
+use crate::lane::{Lane, halted, unsent};
 use ss_model::{Life, Request, asked_entry};
 use ss_proc::Runner;
 use ss_value::Copies;
@@ -20,6 +20,9 @@ impl<I: Life, N: Runner + Drop, G: Gate + Drop> Engine<I, N, G> {
     ///
     /// It copies what is asked for. A lane whose request was listed knows a list with its entry; whatever the answer is, of
     /// its client's entries that list has just those of its listed answers. NoMemory and ListFull have changed nothing.
+    ///
+    /// A lane that was told that the disk has failed is answered so at once, and nothing is sent. Fewer than 16 of its listed
+    /// answers may wait for a receipt.
     pub fn submit<R: Wait>(
         &self,
         rt: &R,
@@ -28,10 +31,14 @@ impl<I: Life, N: Runner + Drop, G: Gate + Drop> Engine<I, N, G> {
         request: &Request,
     ) -> Lane<I>
         requires spare { 1 ≤ lane.spare }
+        requires few { lane.due.pending < 16 }
         requires own { request.now.client ≡ lane.client }
         requires fits { fits_entry I.catalog (asked_entry lane.client (length lane.answers) request.now.what) ≡ true }
         ensures { IsSubmitted I.first I.limit lane request.now.what result }
     {
+        if lane.faults() != 0 {
+            return halted(lane);
+        }
         let Ok(what) = request.what.duplicate(alloc) else {
             return unsent(lane);
         };

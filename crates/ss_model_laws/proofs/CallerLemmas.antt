@@ -10,6 +10,8 @@ pub use Rattle.ss_model_laws.proofs.Batches.{stream_grows}
 pub use Rattle.ss_model_laws.proofs.Effects.{effect}
 -- The empty database is in step, and a database stays so.
 pub use Rattle.ss_model_laws.proofs.InStep.{empty_in_step, in_step_after}
+-- Two databases of which the same is kept go on alike.
+pub use Rattle.ss_model_laws.proofs.KeptLists.{kept_carries}
 -- A list leaves what it does not touch, and carries entries that share no partition with it.
 pub use Rattle.ss_model_laws.proofs.ListLocality.{list_is_local}
 -- A list that replays has the orders.
@@ -20,11 +22,13 @@ pub use Rattle.ss_model_laws.proofs.Readiness.{named}
 pub use Rattle.ss_model_laws.proofs.EntryLocality.{entry_is_local}
 -- Settling ends, in one way, where each batch has been taken.
 pub use Rattle.ss_model_laws.proofs.Settled.{at_rest, loop_settles, lower_pending, next_is_ready}
+-- What holds of each row of a table holds of each of its entries.
+pub use Rattle.ss_model_laws.proofs.TableRows.{of_entries}
 -- What an entry touches is one of the partitions that run.
 pub use Rattle.ss_model_laws.proofs.TouchedRun.{touched_run}
 -- The empty database of an accepted catalogue is whole, and a whole database stays so.
 pub use Rattle.ss_model_laws.proofs.WholeDatabase.{empty_whole, had_at_most, whole_after}
 -- A catalogue whose workflow splits a batch in two and joins both again: it is accepted.
 pub use Rattle.ss_model_laws.proofs.worked.Workflow.{accepted, workflow}
--- A batch through the workflow that splits and joins, where one branch aborts: the list replays.
-pub use Rattle.ss_model_laws.proofs.worked.WorkflowRun.{whole_batch}
+-- A batch through the workflow that splits and joins, where one branch aborts: the list replays, and leaves no batch pending.
+pub use Rattle.ss_model_laws.proofs.worked.WorkflowRun.{whole_batch, whole_batch_drains, whole_batch_replays}

@@ -1,3 +1,4 @@
+pub mod CallerLemmas
 pub mod Firing
 pub mod Apart
 pub mod Emitting
@@ -10,3 +11,5 @@ pub mod Fitting
 pub mod Premises
 pub mod OnParts
 pub mod PartsPremises
+pub mod Lending
+pub mod Advancing

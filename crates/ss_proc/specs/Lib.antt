@@ -2,3 +2,4 @@ pub mod Executions
 pub mod Meanings
 pub mod Entries
 pub mod Parts
+pub mod Lending

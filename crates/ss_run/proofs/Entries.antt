@@ -2,24 +2,23 @@
 use Rattle.std.proofs.Common.{◌≡◌, ◌<◌, ◌+◌, ◌^◌, ◌∙◌, ℕ, zero, suc, List, [], ◌∷◌, ◌++◌, length, get_or, slice_get, unwrap_or, replicate, Some, None, arith, ap, sym, subst, refl}
 use Rattle.std.specs.declared.option.Option.{Option}
 use Rattle.std.specs.Option.{option_map}
-use Rattle.std.specs.declared.result.Result.{Result}
-use Rattle.std.specs.Prelude.{Ok, Err, IfOk, IfSome}
+use Rattle.std.specs.Prelude.{IfSome}
 use Rattle.ss_lemmas.proofs.LoopItem.{get_last}
 use Rattle.ss_report_laws.proofs.CallerLemmas.{applied_of}
 use Rattle.ss_value.specs.Rows.{Rows}
 use Rattle.ss_model.specs.declared.catalog.Catalog.{Catalog}
 use Rattle.ss_model.specs.declared.entry.Entry.{Entry}
-use Rattle.ss_model.specs.declared.entry.Entry.TheVariants.{Call, Push, Step as StepEntry}
+use Rattle.ss_model.specs.declared.entry.Entry.TheVariants.{Step as StepEntry}
 use Rattle.ss_model.specs.declared.entry.Outcome.{Outcome}
 use Rattle.ss_model.specs.declared.entry.Listed.{Listed}
 use Rattle.ss_model.specs.Accepted.{Accepted}
-use Rattle.ss_model.specs.Database.{Database, Applied, apply, batch_count, empty_database}
+use Rattle.ss_model.specs.Database.{Database, Applied, apply, empty_database}
 use Rattle.ss_model.specs.InStep.{IsInStep}
 use Rattle.ss_model.specs.Replays.{Replays}
 use Rattle.ss_model.specs.Settling.{pending_steps}
 use Rattle.ss_model.specs.WholeDatabase.{HadAtMost}
 use Rattle.ss_model.proofs.CallerLemmas.{goes_on}
-use Rattle.ss_model_laws.proofs.CallerLemmas.{steps_move, in_step_after, empty_in_step, lower_pending, empty_whole, had_at_most}
+use Rattle.ss_model_laws.proofs.CallerLemmas.{in_step_after, empty_in_step, lower_pending, empty_whole, had_at_most}
 use Rattle.ss_stream.specs.Pending.{Pending}
 use Rattle.ss_stream.specs.OfDatabase.{AreStreamsOf}
 use Rattle.ss_flow.specs.Advances.{Advances}
@@ -27,6 +26,7 @@ use Rattle.ss_shard.specs.ShardValue.{ShardValue}
 use Rattle.ss_shard.specs.Windows.{HoldsDatabase}
 use Rattle.ss_proc.specs.declared.runner.Executed.{Executed}
 use Rattle.ss_proc.specs.Entries.{IsCountable, Commits, Ran}
+use Rattle.ss_proc.proofs.CallerLemmas.{advances_on, countable_on}
 use Rattle.ss_run.specs.Stands.{Joined, database_at, with_entry}
 
 no_batches : (n s : ℕ) → ◌≡◌ {A = List Rows} (get_or (replicate n []) s []) []
@@ -36,7 +36,7 @@ no_batches (suc n) (suc s) = no_batches n s
 
 module _ (catalog : Catalog) (accepted : Accepted catalog) where
   -- no stream has had more batches than the list has entries, and no procedure has taken more
-  pub few_batches : (list : List Listed) → HadAtMost (length list) (database_at catalog list)
+  few_batches : (list : List Listed) → HadAtMost (length list) (database_at catalog list)
   few_batches list =
       let most = had_at_most catalog accepted (empty_database catalog) (empty_whole catalog accepted) 0 (λ s. let none = ap (λ (bs : List Rows). length bs) (no_batches (length catalog.streams) s) in omega arith) list in
       let same : 0 + length list ≡ length list = omega arith in
@@ -56,34 +56,13 @@ module _ (catalog : Catalog) (accepted : Accepted catalog) where
   replays_one list e o a r is same =
       (goes_on catalog (empty_database catalog) list (record { entry = e; outcome = o } ∷ [])).joins r (ap (option_map (λ (a : Applied). a.outcome)) is ∙ ap Some (sym same), tt)
 
-  -- ---- an entry that has run on a database in which few batches were had
-  module _ (db : Database) (step : IsInStep catalog db) (n : ℕ) (had : HadAtMost n db) (few : n < 2 ^ 60) where
-    -- what the streams need of it
-    pub advances_on : (e : Entry) (executed : Executed) (shard : ShardValue) (streams : List Pending) → (ran : Ran catalog db e executed shard) → AreStreamsOf catalog db streams → Advances catalog db e ran.applied executed.emitted streams
-    advances_on e executed shard streams ran are = record {
-      shape = step.matched.shape;
-      applies = ran.value;
-      batches_are = ran.emitted;
-      streams_are = are;
-      few = λ s. let many = had.streams s in omega arith;
-    }
-
-    -- and what its commit needs
-    pub countable_on : (e : Entry) (a : Applied) → apply catalog db e ≡ Some a → IsCountable e
-    countable_on (Call client index q args) a is = tt
-    countable_on (Push client index s source seq rows) a is = tt
-    countable_on (StepEntry q r) a is =
-        let next : batch_count db q ≡ r = (steps_move catalog db q r a step.matched.shape is).before in
-        let many = had.counts q in
-        omega arith
-
   -- the same behind a list from the empty database on
   pub advances_at : (list : List Listed) (e : Entry) (executed : Executed) (shard : ShardValue) (streams : List Pending) → length list < 2 ^ 60 → (ran : Ran catalog (database_at catalog list) e executed shard)
       → AreStreamsOf catalog (database_at catalog list) streams → Advances catalog (database_at catalog list) e ran.applied executed.emitted streams
-  advances_at list e executed shard streams short ran are = advances_on (database_at catalog list) (in_step list) (length list) (few_batches list) short e executed shard streams ran are
+  advances_at list e executed shard streams short ran are = advances_on catalog (database_at catalog list) (in_step list) (length list) (few_batches list) short e executed shard streams ran are
 
   pub countable_at : (list : List Listed) (e : Entry) (a : Applied) → length list < 2 ^ 60 → apply catalog (database_at catalog list) e ≡ Some a → IsCountable e
-  countable_at list e a short is = countable_on (database_at catalog list) (in_step list) (length list) (few_batches list) short e a is
+  countable_at list e a short is = countable_on catalog (database_at catalog list) (in_step list) (length list) (few_batches list) short e a is
 
   -- a step that joined a list leaves one less to run
   pub joined_lowers : (list new : List Listed) (q r : ℕ) → Replays catalog (empty_database catalog) new → Joined list new (StepEntry q r)
@@ -107,7 +86,3 @@ last_is xs new x y n joined at here =
 pub if_some : {A : Type 0} (o : Option A) {P Q : A → Type 0} → ((x : A) → P x → Q x) → IfSome o P → IfSome o Q
 if_some None f h = tt
 if_some (Some x) f h = f x h
-
-pub if_ok : {A E : Type 0} (r : Result A E) {P Q : A → Type 0} → ((x : A) → P x → Q x) → IfOk r P → IfOk r Q
-if_ok (Ok x) f h = f x h
-if_ok (Err e) f h = tt

@@ -1,8 +1,6 @@
 pub mod RequestEntries
 pub mod BySteps
-pub mod CallerLemmas
 pub mod Entries
-pub mod Lending
 pub mod NextSteps
 pub mod OneReplied
 pub mod Premises

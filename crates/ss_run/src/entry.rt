@@ -6,10 +6,9 @@ ghost use Rattle.ss_model.specs.Database.{fits_entry, is_ready_entry};
 ghost use Rattle.ss_shard.specs.ShardValue.{ShardValue};
 ghost use Rattle.ss_run.specs.Stands.{CanBeListed, IsAt, Joined, JoinedAs, database_at, with_entry};
 
-use crate::execution::execute_entry;
 use ss_flow::{advance, make_room};
 use ss_model::{Catalog, Entry, Listed, Outcome};
-use ss_proc::{Executed, PlainRunner, commit, rollback};
+use ss_proc::{Executed, PlainRunner, commit, execute_entry, rollback};
 use ss_shard::Database;
 use ss_value::{Copies, Seq};
 use std::alloc::Global;

@@ -4,7 +4,6 @@
 //! the way, a [`Store`] has the database with the list that led to it, and each call here keeps the two in agreement,
 //! whatever it answers. From one entry up to the run:
 //!
-//! - `execution`: runs an entry on the batches that the streams lend it
 //! - `entry`: runs an entry, puts it at the end of the list, and only then commits it
 //! - `steps`: runs a ready procedure on its next batch
 //! - `hints`: runs the steps that hints name, until no hint waits
@@ -18,7 +17,6 @@
 #![tactic(auto)]
 
 mod entry;
-mod execution;
 mod hints;
 mod replies;
 mod request;
@@ -27,7 +25,6 @@ pub mod settle;
 mod steps;
 
 pub use entry::{Store, answer_entry, list_entry};
-pub use execution::execute_entry;
 pub use hints::{put_hints, run_hints};
 pub use replies::{CLIENTS, Replies};
 pub use request::pump;

@@ -1,5 +1,5 @@
-pub mod CallerLemmas
-pub mod EmptyKept
+pub mod Repeated
 pub mod Texts
 pub mod OneAnswer
 pub mod CommonBytes
+pub mod CallerLemmas

@@ -11,12 +11,11 @@ use Rattle.ss_catalog.specs.Reads.{Reads, Refuses as RefusesValue}
 use Rattle.ss_catalog.specs.Answers.{HasOneCatalog as ValueHasOneCatalog, IsReadOrRefused}
 use Rattle.ss_snapshot.specs.declared.error.ImageError.{ImageError}
 use Rattle.ss_snapshot.specs.declared.error.ImageError.TheVariants.{NoMemory, Foreign}
-use Rattle.ss_snapshot.specs.Image.{kept_bytes}
-use Rattle.ss_snapshot.specs.EmptyImage.{empty_image_of, IsReadFromItsText, IsEmptyImage, BeginsWithText}
+use Rattle.ss_standing.specs.Image.{kept_bytes, empty_image_of, BeginsWithText}
+use Rattle.ss_snapshot.specs.EmptyImage.{IsReadFromItsText, IsEmptyImage}
 use Rattle.ss_snapshot.specs.Foreign.{IsNoCatalog, EndsInText, HasForeignText, HasForeignRest, common_bytes, Refuses, FindsCatalog, RefusesText, text_refusal}
 use Rattle.ss_snapshot.specs.Laws.{HasOneCatalog, IsImageOrForeign, HasOneOffset}
-use Rattle.ss_snapshot.proofs.EmptyKept.{image_begins}
-use Rattle.ss_snapshot.proofs.Texts.{one_text}
+use Rattle.ss_standing.proofs.CallerLemmas.{image_begins, one_text}
 
 -- ---- values
 

@@ -1,5 +1,5 @@
 -- The text that bytes begin with.
-use Rattle.std.proofs.Common.{◌≡◌, ◌∙◌, ℕ, ◌^◌, ◌<◌, ◌≤◌, List, ◌++◌, length, take, drop, Result, Ok, Err, refl, sym, ap, arith, append_assoc, length-append, take-append-drop, take_at}
+use Rattle.std.proofs.Common.{◌≡◌, ◌∙◌, ℕ, ◌^◌, ◌<◌, ◌≤◌, List, ◌++◌, length, take, drop, Result, Ok, Err, refl, sym, ap, arith, append_assoc, length-append, take-append-drop}
 use Rattle.std.proofs.lemmas.List.{length-take-le}
 use Rattle.ss_value.specs.declared.text.ValueError.{ValueError}
 use Rattle.ss_value.specs.declared.text.ValueError.TheVariants as value
@@ -7,7 +7,7 @@ use Rattle.ss_record.specs.Numbers.{IsBytes, number_bytes}
 use Rattle.ss_record.specs.Reading.{number_at, Fails}
 use Rattle.ss_record.proofs.CallerLemmas.{number_again, takes_number, respelled_4}
 use Rattle.ss_catalog.proofs.CallerLemmas.{ok_same, ok_or_err}
-use Rattle.ss_snapshot.specs.EmptyImage.{BeginsWithText}
+use Rattle.ss_standing.specs.Image.{BeginsWithText}
 use Rattle.ss_snapshot.specs.Foreign.{EndsInText, RefusesCut, length_refusal}
 
 abbrev numbered : ℕ → List ℕ → Result (ℕ × List ℕ) ValueError
@@ -61,9 +61,3 @@ pub too_few : (bytes text : List ℕ) (n : ℕ) (rest : List ℕ) → number_at 
 too_few bytes text n rest read few front =
     let both = read_once bytes n (length text) rest (text ++ front.behind) read (number_in_front bytes text front) in
     absurd (omega (arith, both.0, ap length both.1, length-append text front.behind, few))
-
--- bytes begin with one text
-pub one_text : (bytes t u : List ℕ) → BeginsWithText bytes t → BeginsWithText bytes u → t ≡ u
-one_text bytes t u one other =
-    let both = read_once bytes (length t) (length u) (t ++ one.behind) (u ++ other.behind) (number_in_front bytes t one) (number_in_front bytes u other) in
-    sym (take_at t one.behind (length t) refl) ∙ (λ k. take (both.0 k) (both.1 k)) ∙ take_at u other.behind (length u) refl

@@ -8,7 +8,8 @@ use Rattle.ss_catalog.specs.declared.error.CatalogError.{CatalogError}
 use Rattle.ss_catalog.specs.declared.error.CatalogError.TheVariants as catalog
 use Rattle.ss_snapshot.specs.declared.error.ImageError.{ImageError}
 use Rattle.ss_snapshot.specs.declared.error.ImageError.TheVariants.{NoMemory, Foreign}
-use Rattle.ss_snapshot.specs.EmptyImage.{empty_image_of, IsReadFromItsText, IsEmptyImage, BeginsWithText}
+use Rattle.ss_standing.specs.Image.{empty_image_of, BeginsWithText}
+use Rattle.ss_snapshot.specs.EmptyImage.{IsReadFromItsText, IsEmptyImage}
 
 -- no whole text stands at the front: the bytes end inside it, or inside its length, and are told at their end
 pub record EndsInText (bytes : List ℕ) (at : ℕ) : Type 0 where

@@ -1,4 +1,3 @@
-pub mod Image
 pub mod EmptyImage
 pub mod Foreign
 pub mod Laws

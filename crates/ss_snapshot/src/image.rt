@@ -2,7 +2,8 @@
 
 ghost use Rattle.std.specs.Prelude.{◌≡◌, ◌<◌, ◌^◌, length, OnOk, IfOk, IfErr};
 ghost use Rattle.ss_model.specs.Accepted.{Accepted};
-ghost use Rattle.ss_snapshot.specs.EmptyImage.{empty_image_of, IsEmptyImage};
+ghost use Rattle.ss_standing.specs.Image.{empty_image_of};
+ghost use Rattle.ss_snapshot.specs.EmptyImage.{IsEmptyImage};
 ghost use Rattle.ss_snapshot.specs.Foreign.{common_bytes, Refuses, FindsCatalog};
 
 use crate::error::ImageError;

@@ -3,8 +3,7 @@
 ghost use Rattle.std.specs.Prelude.{◌≡◌, [], ◌++◌, length, OnOk};
 ghost use Rattle.std.specs.FinMap as finmap;
 ghost use Rattle.ss_record.specs.Numbers.{number_bytes};
-ghost use Rattle.ss_snapshot.specs.Image.{table_bytes, window_bytes, stream_bytes, border_streams, sources_bytes};
-ghost use Rattle.ss_snapshot.specs.EmptyImage.{repeated};
+ghost use Rattle.ss_standing.specs.Image.{table_bytes, window_bytes, stream_bytes, border_streams, sources_bytes, repeated};
 
 use ss_model::Catalog;
 use ss_record::{push_u32, push_u64};

@@ -8,8 +8,8 @@
 //! - `text`: the catalogue's text, with which an image begins; `kept`: what is behind it
 //! - `laws`: bytes have one answer
 //!
-//! The definitions are `specs/Image`, how an image spells what is kept of any database; `specs/EmptyImage`, that of the
-//! empty one, and which bytes are one; and `specs/Foreign`, the first byte that can't be.
+//! The definitions are `specs/EmptyImage`, which bytes are one of an empty database; and `specs/Foreign`, the first byte
+//! that can't be. How an image spells what is kept of any database is `ss_standing`'s `specs/Image`.
 //!
 //! Calls that take `alloc` may answer `NoMemory` in place of their answer.
 #![tactic(auto)]

@@ -5,8 +5,8 @@ ghost use Rattle.serde_json.specs.Data.{depth};
 ghost use Rattle.serde_json.specs.Read.{max_depth, read};
 ghost use Rattle.serde_json.specs.View.{view};
 ghost use Rattle.ss_model.specs.Accepted.{Accepted};
-ghost use Rattle.ss_snapshot.specs.Image.{text_bytes};
-ghost use Rattle.ss_snapshot.specs.EmptyImage.{BeginsWithText, IsReadFromItsText};
+ghost use Rattle.ss_standing.specs.Image.{text_bytes, BeginsWithText};
+ghost use Rattle.ss_snapshot.specs.EmptyImage.{IsReadFromItsText};
 ghost use Rattle.ss_snapshot.specs.Foreign.{RefusesCut, RefusesText, length_refusal, text_refusal};
 
 use crate::error::ImageError;

@@ -1,5 +1,5 @@
 -- Entries behind a generation, fronts of a list, and new stores.
-use Rattle.std.proofs.Common.{◌≡◌, ◌∙◌, ◌⊎◌, inl, inr, ℕ, zero, suc, ◌+◌, ◌≤◌, ◌<◌, ◌^◌, List, [], ◌∷◌, ◌++◌, length, map, take, drop, refl, sym, ap, subst, arith, length-append, take-append-drop, length-take-le}
+use Rattle.std.proofs.Common.{◌≡◌, ◌∙◌, ◌⊎◌, inl, inr, ℕ, zero, suc, ◌+◌, ◌≤◌, ◌<◌, ◌^◌, List, [], ◌∷◌, ◌++◌, length, map, take, drop, refl, sym, ap, subst, arith, append_assoc, length-append, take-append-drop, length-take-le}
 use Rattle.std.specs.List.{flat_map}
 use Rattle.std.specs.FinMap as finmap
 use Rattle.std.proofs.lemmas.List.{map-append}
@@ -21,15 +21,26 @@ use Rattle.ss_cmdlog.specs.Generation.{Stood}
 use Rattle.ss_cmdlog.specs.Formatting.{fresh}
 use Rattle.ss_cmdlog.specs.Groups.{groups_of}
 use Rattle.ss_cmdlog.specs.Store.{IsEmpty, StandsFor, StandsForPart, entries_of, with_groups}
-use Rattle.ss_snapshot.specs.EmptyImage.{empty_image_of}
-use Rattle.ss_snapshot.proofs.CallerLemmas.{kept_empty, no_entries}
+use Rattle.ss_standing.specs.Image.{empty_image_of}
 use Rattle.ss_standing.specs.FitsImage.{FitRows, FitsTable, FitsWindow, FitsStream, FitNumbers, FitsImage}
 use Rattle.ss_standing.specs.Standing.{listed_entries, Replayed, Stands, Prefix}
-use Rattle.ss_standing.specs.Behind.{HasFront}
+use Rattle.ss_standing.specs.Behind.{IsBehind, BehindGoesOn, HasFront}
 use Rattle.ss_standing.specs.Laws.{GenerationsGoOn}
+use Rattle.ss_standing.proofs.EmptyKept.{kept_empty, no_entries}
 use Rattle.ss_standing.proofs.ImageTells.{no_numbers_fit}
 
 -- ---- entries behind a generation
+
+pub behind_goes_on : BehindGoesOn
+behind_goes_on old mid new some more h k = record {
+  first = k.first ∙ h.first;
+  image = k.image ∙ h.image;
+  entries = k.entries ∙ ap (λ es. es ++ more) h.entries ∙ append_assoc (entries_of old) some more;
+}
+
+-- groups behind those that a generation has
+pub groups_behind : (s : Stood) (groups : List (List Entry)) (added : List Entry) → flat_map (λ es. es) groups ≡ added → IsBehind s (with_groups s groups) added
+groups_behind s groups added is = record { first = refl; image = refl; entries = flat_map-append (λ (es : List Entry). es) s.groups groups ∙ ap (λ es. entries_of s ++ es) is }
 
 pub generation_goes_on : KeptCarries → ReplaysGoOn → GenerationsGoOn
 generation_goes_on carries goes_on catalog s new count db rest r replays behind =
@@ -50,7 +61,7 @@ generation_goes_on carries goes_on catalog s new count db rest r replays behind 
     }
 
 -- the first entries of a list that replays do so
-front_replays : ReplaysGoOn → (catalog : Catalog) (db : Database) (list : List Listed) (n : ℕ) → Replays catalog db list → Replays catalog db (take n list)
+pub front_replays : ReplaysGoOn → (catalog : Catalog) (db : Database) (list : List Listed) (n : ℕ) → Replays catalog db list → Replays catalog db (take n list)
 front_replays goes_on catalog db list n replays = ((goes_on catalog db (take n list) (drop n list)).splits (subst (Replays catalog db) (sym (take-append-drop n list)) replays)).0
 
 -- a generation with the first entries behind it
@@ -70,7 +81,7 @@ front_stands more goes_on catalog s first db list image r replays front =
 
 -- ---- a flush
 
-first_entries : (n : ℕ) (list : List Listed) → take n (listed_entries list) ≡ listed_entries (take n list)
+pub first_entries : (n : ℕ) (list : List Listed) → take n (listed_entries list) ≡ listed_entries (take n list)
 first_entries zero list = refl
 first_entries (suc n) [] = refl
 first_entries (suc n) (l ∷ ls) = ap (λ es. l.entry ∷ es) (first_entries n ls)
@@ -86,11 +97,7 @@ flush_leaves_front groups s list image part =
       some = held.0;
       within = omega (arith, held.1, entries_count list);
       now = with_groups s (take part.0 (groups_of (listed_entries list)));
-      behind = record {
-        first = refl;
-        image = refl;
-        entries = flat_map-append (λ (es : List Entry). es) s.groups (take part.0 (groups_of (listed_entries list))) ∙ ap (λ es. entries_of s ++ es) (held.2 ∙ first_entries held.0 list);
-      };
+      behind = groups_behind s (take part.0 (groups_of (listed_entries list))) (listed_entries (take held.0 list)) (held.2 ∙ first_entries held.0 list);
       stands = part.2;
     }
 

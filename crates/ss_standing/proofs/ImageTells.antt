@@ -1,5 +1,5 @@
 -- An image tells what is kept of a whole database.
-use Rattle.std.proofs.Common.{◌≡◌, ◌∙◌, ℕ, ◌+◌, ◌^◌, ◌<◌, ◌≤◌, List, [], ◌∷◌, ◌++◌, length, get_or, drop, Bool, true, false, refl, sym, subst, arith, All, Option, Some, None, append_assoc, append-nil, ⊎_elim, true≢false}
+use Rattle.std.proofs.Common.{◌≡◌, ◌∙◌, ℕ, ◌^◌, ◌<◌, ◌≤◌, List, [], ◌∷◌, ◌++◌, length, get_or, drop, Bool, true, false, refl, sym, subst, arith, All, Option, Some, None, append_assoc, append-nil, ⊎_elim, true≢false}
 use Rattle.std.specs.Prelude.{slice_get}
 use Rattle.std.specs.List.{flat_map, AllByRecursion}
 use Rattle.std.specs.Ordering.{nat_cmp}
@@ -20,9 +20,9 @@ use Rattle.ss_model.specs.Settling.{Kept, kept, least_count}
 use Rattle.ss_model.specs.WholeDatabase.{WholeDatabase}
 use Rattle.ss_model_kept.proofs.CallerLemmas.{get_or-map_index, length-map_index}
 use Rattle.ss_record.specs.Numbers.{number_bytes}
-use Rattle.ss_snapshot.specs.Image.{text_bytes, table_bytes, window_bytes, stream_bytes, all_sources, border_streams, kept_bytes, image_bytes}
-use Rattle.ss_snapshot.proofs.CallerLemmas.{image_begins, no_entries}
+use Rattle.ss_standing.specs.Image.{text_bytes, table_bytes, window_bytes, stream_bytes, all_sources, border_streams, kept_bytes, image_bytes}
 use Rattle.ss_standing.specs.FitsImage.{FitsTable, FitsWindow, FitsStream, FitNumbers, FitsImage}
+use Rattle.ss_standing.proofs.EmptyKept.{image_begins, no_entries}
 use Rattle.ss_standing.proofs.Spelled.{number_one, many_one}
 use Rattle.ss_standing.proofs.Parts.{IsKeyed, numbered_one, table_one, window_one, stream_one, streams_sources, each_passing}
 

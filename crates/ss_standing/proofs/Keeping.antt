@@ -1,21 +1,25 @@
 -- What stands of a list goes on over a flush, and where the list grows.
-use Rattle.std.proofs.Common.{◌≡◌, ◌∙◌, inl, inr, ℕ, ◌+◌, ◌≤◌, List, ◌++◌, length, take, drop, sym, ap, subst, arith, length-append, length-drop, take-add, take-append-drop}
+use Rattle.std.proofs.Common.{◌≡◌, ◌∙◌, inl, inr, ℕ, ◌+◌, ◌≤◌, List, ◌++◌, length, take, drop, sym, ap, subst, arith, length-append, length-drop, take-add, take-append-drop, take_all, length-take-le}
+use Rattle.std.specs.List.{flat_map}
 use Rattle.std.proofs.lemmas.List.{take-append-le}
 use Rattle.ss_model.specs.declared.catalog.Catalog.{Catalog}
+use Rattle.ss_model.specs.declared.entry.Entry.{Entry}
 use Rattle.ss_model.specs.declared.entry.Listed.{Listed}
 use Rattle.ss_model.specs.Database.{Database}
 use Rattle.ss_model.specs.Replays.{Replays, after, ReplaysGoOn}
 use Rattle.ss_model.specs.Settling.{kept}
 use Rattle.ss_disk.specs.Files.{Files}
+use Rattle.ss_disk.specs.Moments.{LeavesOnly}
 use Rattle.ss_disk.proofs.CallerLemmas.{runs_join, leaves_less}
 use Rattle.ss_cmdlog.specs.Generation.{Stood}
 use Rattle.ss_cmdlog.specs.Groups.{groups_of}
-use Rattle.ss_cmdlog.specs.Store.{StandsFor, StandsForPart, count_of, entries_of}
+use Rattle.ss_cmdlog.specs.Store.{StandsFor, StandsForPart, count_of, entries_of, with_groups}
 use Rattle.ss_standing.specs.Standing.{listed_entries, Replayed, Stands, Prefix}
-use Rattle.ss_standing.specs.Laws.{FrontsStand, FlushesLeaveFronts}
-use Rattle.ss_standing.specs.Keeping.{KeepsOverFlush, KeepsGoOn, CountsExecutions, LogReceiptsTell}
+use Rattle.ss_standing.specs.Behind.{IsBehind}
+use Rattle.ss_standing.specs.Laws.{FrontsStand, FlushesLeaveFronts, GenerationsGoOn}
+use Rattle.ss_standing.specs.Keeping.{Keeps, KeepsOverFlush, KeepsGoOn, FlushKeeps, CountsExecutions, LogReceiptsTell}
 use Rattle.ss_standing.proofs.OneThing.{not_both}
-use Rattle.ss_standing.proofs.Fronts.{entries_count}
+use Rattle.ss_standing.proofs.Fronts.{entries_count, first_entries, front_replays, groups_behind}
 
 -- a prefix of what stands behind a front is a front
 front_behind_front : (goes_on : ReplaysGoOn) (catalog : Catalog) (db : Database) (first : ℕ) (list : List Listed) (held : ℕ) (image : Files) → held ≤ length list
@@ -32,7 +36,7 @@ front_behind_front goes_on catalog db first list held image le f =
     }
 
 -- the entries behind the first ones of a list replay behind them
-rest_replays : ReplaysGoOn → (catalog : Catalog) (db : Database) (list : List Listed) (n : ℕ) → Replays catalog db list → Replays catalog (after catalog db (take n list)) (drop n list)
+pub rest_replays : ReplaysGoOn → (catalog : Catalog) (db : Database) (list : List Listed) (n : ℕ) → Replays catalog db list → Replays catalog (after catalog db (take n list)) (drop n list)
 rest_replays goes_on catalog db list n replays = ((goes_on catalog db (take n list) (drop n list)).splits (subst (Replays catalog db) (sym (take-append-drop n list)) replays)).1
 
 pub keeps_over_flush : ReplaysGoOn → FrontsStand → FlushesLeaveFronts → {D : Type 0} (moment : D → ℕ) (images : D → ℕ → Files → Type 0) → KeepsOverFlush D moment images
@@ -43,12 +47,55 @@ keeps_over_flush goes_on stands leaves moment images = λ catalog db first list 
     (stands catalog s (first + held) (after catalog db (take held list)) behind image keeps.generation (rest_replays goes_on catalog db list held replays) (leaves s behind image part))) in
     runs_join moment images start old new (Prefix catalog db first list) keeps.crashes fronts
 
+-- ---- a flush
+
+module _ (goes_on : ReplaysGoOn) (more : GenerationsGoOn) where
+  module _ {D : Type 0} (moment : D → ℕ) (images : D → ℕ → Files → Type 0) (over : KeepsOverFlush D moment images) (catalog : Catalog) (db : Database) (first : ℕ) (list : List Listed) (held : ℕ) (s : Stood) (start old new : D)
+      (keeps : Keeps moment images catalog db first list held s start old) (replays : Replays catalog db list)
+      (run : LeavesOnly moment images old new (StandsForPart s (groups_of (listed_entries (drop held list))))) where
+    -- a generation with so many of the entries behind it
+    keeps_added : (n : ℕ) (now : Stood) → n ≤ length (drop held list) → IsBehind s now (listed_entries (take n (drop held list))) → Keeps moment images catalog db first list (held + n) now start new
+    keeps_added n now le behind =
+        let added = take n (drop held list) in
+        let whole : take (held + n) list ≡ take held list ++ added = take-add held n list in
+        let ends : after catalog (after catalog db (take held list)) added ≡ after catalog db (take (held + n) list) = sym (goes_on catalog db (take held list) added).ends ∙ ap (after catalog db) (sym whole) in
+        let place : first + held + length added ≡ first + (held + n) = omega (arith, length-take-le n (drop held list) le) in
+        let rest = rest_replays goes_on catalog db list held replays in
+        let generation = more catalog s now (first + held) (after catalog db (take held list)) added keeps.generation (front_replays goes_on catalog (after catalog db (take held list)) (drop held list) n rest) behind in record {
+          within = omega (arith, le, length-drop held list, keeps.within);
+          generation = subst (λ (m : ℕ). Replayed catalog now m (kept catalog (after catalog db (take (held + n) list)))) place
+              (subst (λ (d : Database). Replayed catalog now (first + held + length added) (kept catalog d)) ends generation);
+          crashes = over catalog db first list held s start old new keeps replays run;
+        }
+
+    pub flush_keeps : ((entries : List Entry) → flat_map (λ es. es) (groups_of entries) ≡ entries)
+        → ((entries : List Entry) (j : ℕ) → (n : ℕ) × (n ≤ length entries) × (flat_map (λ es. es) (take j (groups_of entries)) ≡ take n entries)) → FlushKeeps moment images catalog db first list held s start new
+    flush_keeps hold firsts =
+        let left = drop held list in
+        let entries = listed_entries left in
+        let behind = groups_behind s (groups_of entries) entries (hold entries) in
+        let same : take (length left) left ≡ left = take_all (length left) left (omega arith) in
+        let end : held + length left ≡ length list = omega (arith, length-drop held list, keeps.within) in
+        record {
+          all = subst (λ (m : ℕ). Keeps moment images catalog db first list m (with_groups s (groups_of entries)) start new) end
+              (keeps_added (length left) (with_groups s (groups_of entries)) (omega arith) (subst (λ (l : List Listed). IsBehind s (with_groups s (groups_of entries)) (listed_entries l)) (sym same) behind));
+          behind = behind;
+          some = λ groups.
+              let part = firsts entries groups in
+              let added = groups_behind s (take groups (groups_of entries)) (listed_entries (take part.0 left)) (part.2 ∙ first_entries part.0 left) in
+              record {
+                more = part.0;
+                keeps = keeps_added part.0 (with_groups s (take groups (groups_of entries))) (omega (arith, part.1, entries_count left)) added;
+                behind = added;
+              };
+        }
+
 -- ---- the list goes on
 
 same_front : (n : ℕ) (xs ys : List Listed) → n ≤ length xs → take n (xs ++ ys) ≡ take n xs
 same_front n xs ys le = take-append-le n xs ys le
 
-front_goes_on : (catalog : Catalog) (db : Database) (first : ℕ) (list more : List Listed) (image : Files) → Prefix catalog db first list image → Prefix catalog db first (list ++ more) image
+pub front_goes_on : (catalog : Catalog) (db : Database) (first : ℕ) (list more : List Listed) (image : Files) → Prefix catalog db first list image → Prefix catalog db first (list ++ more) image
 front_goes_on catalog db first list more image f = record {
   some = f.some;
   within = omega (arith, f.within, length-append list more);

@@ -1,3 +1,5 @@
+pub mod CallerLemmas
+pub mod EmptyKept
 pub mod Spelled
 pub mod Parts
 pub mod ImageTells

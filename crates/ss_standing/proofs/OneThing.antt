@@ -10,11 +10,11 @@ use Rattle.ss_model.specs.Settling.{Kept, kept, KeptCarries}
 use Rattle.ss_disk.specs.Files.{Files}
 use Rattle.ss_cmdlog.specs.Generation.{Stood}
 use Rattle.ss_cmdlog.specs.Store.{IsEmpty, StandsFor}
-use Rattle.ss_snapshot.specs.Image.{kept_bytes}
-use Rattle.ss_snapshot.specs.EmptyImage.{BeginsWithText}
-use Rattle.ss_snapshot.proofs.CallerLemmas.{image_begins, one_text}
+use Rattle.ss_standing.specs.Image.{kept_bytes, BeginsWithText}
 use Rattle.ss_standing.specs.Standing.{listed_entries, Replayed, StandsForReplayed, Stands, StandsForFront, Prefix, StandsForAtLeast}
 use Rattle.ss_standing.specs.Laws.{StandsForOne, StandsForOneText, EntriesTellList}
+use Rattle.ss_standing.proofs.EmptyKept.{image_begins}
+use Rattle.ss_standing.proofs.Spelled.{one_text}
 use Rattle.ss_standing.proofs.ImageTells.{image_tells}
 
 -- ---- lists

@@ -1,5 +1,5 @@
 -- What the parts of an image tell: tables, windows, streams and the sources of streams.
-use Rattle.std.proofs.Common.{◌≡◌, ◌∙◌, ℕ, zero, suc, ◌+◌, ◌-◌, ◌^◌, ◌<◌, ◌≤◌, List, [], ◌∷◌, ◌++◌, length, get_or, drop, map, Bool, true, false, cond, refl, sym, ap, subst, arith, append_assoc, length-drop, ◌⊎◌, ⊎_elim, Some}
+use Rattle.std.proofs.Common.{◌≡◌, ◌∙◌, ℕ, zero, suc, ◌+◌, ◌-◌, ◌^◌, ◌<◌, ◌≤◌, List, [], ◌∷◌, ◌++◌, length, get_or, drop, map, Bool, true, false, cond, refl, sym, ap, subst, arith, append_assoc, length-drop, ⊎_elim, Some}
 use Rattle.std.specs.List.{flat_map, filter, range_with_len, AllByRecursion}
 use Rattle.std.specs.FinMap as finmap
 use Rattle.std.specs.FinMap.{same_entries_map, len-entries}
@@ -9,9 +9,9 @@ use Rattle.ss_value.specs.Rows.{Row, Rows, column_values}
 use Rattle.ss_model.specs.Results.{map_indexed}
 use Rattle.ss_model.specs.Contents.{Table, Window}
 use Rattle.ss_model.specs.Database.{NextNumbers}
-use Rattle.ss_model_laws.proofs.TableRows.{of_entries}
+use Rattle.ss_model_laws.proofs.CallerLemmas.{of_entries}
 use Rattle.ss_record.specs.Numbers.{number_bytes}
-use Rattle.ss_snapshot.specs.Image.{counted_rows, table_bytes, window_bytes, stream_bytes, source_bytes, sources_bytes}
+use Rattle.ss_standing.specs.Image.{counted_rows, table_bytes, window_bytes, stream_bytes, source_bytes, sources_bytes}
 use Rattle.ss_standing.specs.FitsImage.{FitRows, FitsTable, FitsWindow, FitsStream, FitNumbers}
 use Rattle.ss_standing.proofs.Spelled.{OneSpelling, number_one, many_one, rows_one, source_one}
 

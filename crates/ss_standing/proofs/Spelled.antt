@@ -12,7 +12,7 @@ use Rattle.ss_record.specs.Spelling.{value_bytes, row_bytes, name_bytes}
 use Rattle.ss_record.specs.Bounds.{IsTypedValue, IsTypedRow}
 use Rattle.ss_record.specs.Reading.{number_at}
 use Rattle.ss_record.proofs.CallerLemmas.{number_again}
-use Rattle.ss_snapshot.specs.Image.{counted_rows, source_bytes}
+use Rattle.ss_standing.specs.Image.{counted_rows, source_bytes, BeginsWithText}
 use Rattle.ss_standing.specs.FitsImage.{FitRows}
 
 -- two that begin with the spelling of an item have the same item there, and the same behind it
@@ -38,6 +38,13 @@ same_fronts x y r s long e = (
 
 pub name_one : (x y r s : List ℕ) → name_bytes x ++ r ≡ name_bytes y ++ s → (x ≡ y) × (r ≡ s)
 name_one x y r s e = let parts = one_byte (length x) (length y) (x ++ r) (y ++ s) e in same_fronts x y r s parts.0 parts.1
+
+-- bytes begin with one text
+pub one_text : (bytes t u : List ℕ) → BeginsWithText bytes t → BeginsWithText bytes u → t ≡ u
+one_text bytes t u one other =
+    let long = number_one 4 (length t) (length u) (t ++ one.behind) (u ++ other.behind) (omega (arith, one.short)) (omega (arith, other.short))
+    (sym (append_assoc (number_bytes 4 (length t)) t one.behind) ∙ sym one.spelled ∙ other.spelled ∙ append_assoc (number_bytes 4 (length u)) u other.behind) in
+    (same_fronts t u one.behind other.behind long.0 long.1).0
 
 value_one : OneSpelling IsTypedValue value_bytes
 value_one (Int m) (Int n) r s fits other e =

@@ -13,6 +13,10 @@ pub record IsBehind (old new : Stood) (added : List Entry) : Type 0 where
   pub image : new.image ≡ old.image
   pub entries : entries_of new ≡ entries_of old ++ added
 
+-- law: what is behind what is behind a generation is behind it
+abbrev pub BehindGoesOn : Type 0
+BehindGoesOn = (old mid new : Stood) (some more : List Entry) → IsBehind old mid some → IsBehind mid new more → IsBehind old new (some ++ more)
+
 -- the image has the generation with the first entries of a list behind it, some or none or all of them
 pub record HasFront (s : Stood) (list : List Listed) (image : Files) : Type 0 where
   pub some : ℕ

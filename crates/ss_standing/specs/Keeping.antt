@@ -10,8 +10,9 @@ use Rattle.ss_disk.specs.Moments.{LeavesOnly}
 use Rattle.ss_cmdlog.specs.Generation.{Stood}
 use Rattle.ss_cmdlog.specs.Log.{IsReceipted}
 use Rattle.ss_cmdlog.specs.Groups.{groups_of}
-use Rattle.ss_cmdlog.specs.Store.{StandsFor, StandsForPart, count_of}
+use Rattle.ss_cmdlog.specs.Store.{StandsFor, StandsForPart, count_of, with_groups}
 use Rattle.ss_standing.specs.Standing.{listed_entries, Replayed, Stands, Prefix, StandsForAtLeast, Receipt}
+use Rattle.ss_standing.specs.Behind.{IsBehind}
 
 -- the generation stands for the first entries of the list, so many, and since the start a crash leaves a front of it
 pub record Keeps {D : Type 0} (moment : D → ℕ) (images : D → ℕ → Files → Type 0) (catalog : Catalog) (db : Database) (first : ℕ)
@@ -33,6 +34,29 @@ abbrev pub KeepsGoOn : (D : Type 0) → (D → ℕ) → (D → ℕ → Files →
 KeepsGoOn D moment images =
     (catalog : Catalog) (db : Database) (first : ℕ) (list more : List Listed) (held : ℕ) (s : Stood) (start now : D) →
     Keeps moment images catalog db first list held s start now → Keeps moment images catalog db first (list ++ more) held s start now
+
+-- behind a flush of the entries behind those: this generation has some of them, and stands for as many entries of the list more
+pub record KeepsMore {D : Type 0} (moment : D → ℕ) (images : D → ℕ → Files → Type 0) (catalog : Catalog) (db : Database) (first : ℕ)
+    (list : List Listed) (held : ℕ) (s : Stood) (start new : D) (now : Stood) : Type 0 where
+  pub more : ℕ
+  pub keeps : Keeps moment images catalog db first list (held + more) now start new
+  pub behind : IsBehind s now (listed_entries (take more (drop held list)))
+
+-- the flush added all groups of these entries, or so many first ones
+pub record FlushKeeps {D : Type 0} (moment : D → ℕ) (images : D → ℕ → Files → Type 0) (catalog : Catalog) (db : Database) (first : ℕ)
+    (list : List Listed) (held : ℕ) (s : Stood) (start new : D) : Type 0 where
+  pub all : Keeps moment images catalog db first list (length list) (with_groups s (groups_of (listed_entries (drop held list)))) start new
+  pub behind : IsBehind s (with_groups s (groups_of (listed_entries (drop held list)))) (listed_entries (drop held list))
+  pub some : (groups : ℕ) →
+      KeepsMore moment images catalog db first list held s start new (with_groups s (take groups (groups_of (listed_entries (drop held list)))))
+
+-- law: what stands of a list goes on over a flush
+abbrev pub FlushesKeep : (D : Type 0) → (D → ℕ) → (D → ℕ → Files → Type 0) → Type 0
+FlushesKeep D moment images =
+    (catalog : Catalog) (db : Database) (first : ℕ) (list : List Listed) (held : ℕ) (s : Stood) (start old new : D) →
+    Keeps moment images catalog db first list held s start old → Replays catalog db list →
+    LeavesOnly moment images old new (StandsForPart s (groups_of (listed_entries (drop held list)))) →
+    FlushKeeps moment images catalog db first list held s start new
 
 -- law: what a log counts of a store is how many executions it stands for
 abbrev pub CountsExecutions : Type 0

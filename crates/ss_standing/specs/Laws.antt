@@ -12,8 +12,7 @@ use Rattle.ss_cmdlog.specs.Generation.{Stood}
 use Rattle.ss_cmdlog.specs.Formatting.{fresh}
 use Rattle.ss_cmdlog.specs.Groups.{groups_of}
 use Rattle.ss_cmdlog.specs.Store.{IsEmpty, StandsFor, StandsForPart}
-use Rattle.ss_snapshot.specs.Image.{image_bytes}
-use Rattle.ss_snapshot.specs.EmptyImage.{empty_image_of}
+use Rattle.ss_standing.specs.Image.{image_bytes, empty_image_of}
 use Rattle.ss_standing.specs.FitsImage.{FitsImage}
 use Rattle.ss_standing.specs.Standing.{listed_entries, Replayed, StandsForReplayed, Stands, Prefix, StandsForFront, StandsForAtLeast}
 use Rattle.ss_standing.specs.Behind.{IsBehind, HasFront}

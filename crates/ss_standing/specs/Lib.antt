@@ -1,3 +1,4 @@
+pub mod Image
 pub mod FitsImage
 pub mod Standing
 pub mod Behind

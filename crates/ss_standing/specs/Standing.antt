@@ -10,7 +10,7 @@ use Rattle.ss_model.specs.WholeDatabase.{WholeDatabase, HadAtMost}
 use Rattle.ss_disk.specs.Files.{Files}
 use Rattle.ss_cmdlog.specs.Generation.{Stood}
 use Rattle.ss_cmdlog.specs.Store.{IsEmpty, StandsFor, entries_of}
-use Rattle.ss_snapshot.specs.Image.{image_bytes}
+use Rattle.ss_standing.specs.Image.{image_bytes}
 use Rattle.ss_standing.specs.FitsImage.{FitsImage}
 
 -- the entries of a list

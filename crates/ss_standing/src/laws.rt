@@ -3,9 +3,12 @@
 ghost use Rattle.ss_cmdlog.specs.Log.{present};
 ghost use Rattle.ss_standing.specs.Laws.{ImageTellsKept, EntriesTellList, StandsForOne, StandsForOneText, GenerationsGoOn};
 ghost use Rattle.ss_standing.specs.Laws.{FrontsStand, FlushesLeaveFronts, FormingStands, ReceiptsBoundFronts};
-ghost use Rattle.ss_standing.specs.Keeping.{KeepsOverFlush, KeepsGoOn, CountsExecutions, LogReceiptsTell};
+ghost use Rattle.ss_standing.specs.Behind.{BehindGoesOn};
+ghost use Rattle.ss_standing.specs.Keeping.{KeepsOverFlush, KeepsGoOn, FlushesKeep, CountsExecutions, LogReceiptsTell};
 
-use ss_cmdlog::{files_stand_for_one_thing, first_groups_hold_the_first_entries};
+use ss_cmdlog::{
+    files_stand_for_one_thing, first_groups_hold_the_first_entries, groups_hold_the_entries,
+};
 use ss_disk::Disk;
 use ss_model_laws::{kept_carries, replays_go_on, whole_databases_stay};
 
@@ -87,6 +90,23 @@ pub fn prefixes_go_on<D: Disk>()
     replays_go_on();
     fronts_stand();
     flushes_leave_fronts();
+}
+
+/// Entries behind entries that are behind a generation are behind it too.
+pub fn behind_goes_on()
+    ensures { BehindGoesOn }
+{}
+
+/// After a flush of the entries behind those that a generation has, a generation with all of them stands for the whole
+/// list, and one with the first groups for as many entries more as these have.
+pub fn flushes_keep<D: Disk>()
+    ensures { FlushesKeep D D.moment D.images }
+{
+    replays_go_on();
+    generations_go_on();
+    groups_hold_the_entries();
+    first_groups_hold_the_first_entries();
+    prefixes_go_on::<D>();
 }
 
 /// Where each image that a crash may leave now stands for something, a log's receipt is one for executions.

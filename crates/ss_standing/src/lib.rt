@@ -11,14 +11,15 @@
 //! - `laws`: each is the contract of a function that does nothing. `proofs/worked/Premises` meets their premises at a
 //!   small store, and `proofs/worked/Needed` shows that the law of images needs its own
 //!
-//! The definitions are `specs/Standing`, what files stand for; `specs/FitsImage`, what an image has room for;
-//! `specs/Behind`, entries behind those that a generation has; and `specs/Keeping`, what stands of a list while it grows.
+//! The definitions are `specs/Image`, how an image spells what is kept of a database; `specs/FitsImage`, what an image has
+//! room for; `specs/Standing`, what files stand for; `specs/Behind`, entries behind those that a generation has; and
+//! `specs/Keeping`, what stands of a list while it grows.
 #![tactic(auto)]
 
 mod laws;
 
 pub use laws::{
-    an_image_tells_what_is_kept, counts_are_executions, entries_tell_a_list, flushes_leave_fronts,
-    forming_stands, fronts_stand, generations_go_on, log_receipts_tell, prefixes_go_on,
-    receipts_bound_fronts, stands_for_one, stands_for_one_text,
+    an_image_tells_what_is_kept, behind_goes_on, counts_are_executions, entries_tell_a_list,
+    flushes_keep, flushes_leave_fronts, forming_stands, fronts_stand, generations_go_on,
+    log_receipts_tell, prefixes_go_on, receipts_bound_fronts, stands_for_one, stands_for_one_text,
 };

@@ -1,8 +1,8 @@
 -- What the program promises, met at each of its ends.
-use Rattle.std.proofs.Common.{◌≡◌, ◌≤◌, ◌+◌, ◌∙◌, inl, inr, ℕ, List, [], length, refl, sym, subst, Some, None, arith}
+use Rattle.std.proofs.Common.{◌≡◌, ◌≤◌, ◌+◌, ◌∙◌, inl, inr, ℕ, List, [], length, refl, sym, ap, subst, Some, None, arith}
 use Rattle.std.specs.Prelude.{Option, IfSome, String}
 use Rattle.std.specs.declared.alloc.Global.{Global}
-use Rattle.std.specs.Io.KnownBytes.{Appends, IsAtEnd}
+use Rattle.std.specs.Io.KnownBytes.{IsAtEnd}
 use Rattle.std.proofs.lemmas.Bool.{false≢true}
 use Rattle.std.proofs.lemmas.Option.{IfSome_then}
 use Rattle.ss_lines.specs.declared.line.LineError.TheVariants as cause
@@ -10,21 +10,32 @@ use Rattle.ss_value.specs.FaultCounts.{Rose}
 use Rattle.ss_lines.specs.Causes.{TakesAtMost}
 use Rattle.ss_lines.specs.Lines.{max_input}
 use Rattle.ss_model.specs.declared.catalog.Catalog.{Catalog}
-use Rattle.ss_model.specs.declared.entry.Listed.{Listed}
 use Rattle.ss_model.specs.declared.entry.Request.{Request}
 use Rattle.ss_model.specs.Accepted.{Accepted}
 use Rattle.ss_catalog.specs.declared.error.CatalogError.TheVariants as of_catalog
 use Rattle.ss_catalog_requests.specs.declared.request.RequestError.TheVariants as of_request
-use Rattle.ss_words.specs.Words.{IsRunCommand, words_of}
+use Rattle.ss_words.specs.declared.names.Command.{Command}
+use Rattle.ss_words.specs.declared.names.Command.TheVariants.{Run, Recover}
+use Rattle.ss_words.specs.declared.command.CommandLine.{CommandLine}
+use Rattle.ss_words.specs.declared.command.Options.{Options}
+use Rattle.ss_words.specs.Words.{IsCommand, AsksFor, words_of}
+use Rattle.ss_words.proofs.CallerLemmas.{asks_is_command, asks_for_one}
+use Rattle.ss_headline.specs.Disks.{DiskChange, AsBefore}
+use Rattle.ss_recover.specs.Laws.{EmptyHasNoFault, StoreHasNoFault, StoreHasOneCatalog}
 use Rattle.ss_top.specs.declared.input.ReadError.{ReadError}
 use Rattle.ss_top.specs.declared.input.ReadError.TheVariants.{Line as OfLine, NoCatalog, Catalog as OfCatalog, Request as OfRequest}
 use Rattle.ss_top.specs.declared.status.Status.{Status}
-use Rattle.ss_top.specs.declared.status.Status.TheVariants.{Done, Usage, Input, ReadFault, WriteFault, NoMemory, Limit}
-use Rattle.ss_top.specs.Inputs.{StartsOrRefused, HasOneRefusal, ExitsAsRefused}
+use Rattle.ss_top.specs.declared.status.Status.TheVariants.{Done, Usage, Input, ReadFault, WriteFault, Disk, NoMemory, Foreign, OtherCatalog, Limit}
+use Rattle.ss_top.specs.Complete.{HasRoom, IsDoneOrShort}
+use Rattle.ss_top.specs.Inputs.{HasOneStart, StartsOrRefused, HasOneRefusal, ExitsAsRefused, ExitsAsStarted, DidNotRise, OfStarted}
 use Rattle.ss_top.specs.Refused.{IsRefusedBy}
+use Rattle.ss_top.specs.Sinks.{SourceChange, SinkChange, Writes, ExitsRefused, LeavesOfRefusedSource, SinkHeld}
 use Rattle.ss_top.specs.Starts.{Starts}
 use Rattle.ss_top.specs.Statuses.{refusal_status, refusal_text, usage_text, no_memory_text}
-use Rattle.ss_top.specs.Top.{SourceChange, SinkChange, Writes, WritesRun, ExitsRefused, ExitsRun, LeavesOfRefusedSource, LeavesOfSource, ReportsAs, IsRun, Ends}
+use Rattle.ss_top.specs.Stores.{CameTo, RecoveredTo}
+use Rattle.ss_top.specs.Serving.{RecoversTo, HasStoreCause}
+use Rattle.ss_top.specs.Top.{Ends, RunEndsSo, RunEnds, RanInput, HasCause, IsComplete, WritesOnly, LeavesOfSource, DiskHeld}
+use Rattle.ss_top.proofs.Completing.{came_complete, recovered_complete}
 use Rattle.ss_top.proofs.TopAnswers.{refused_ends_refused, refused_ends_started}
 use Rattle.ss_top.proofs.TopRefusals.{read_fault_text_is}
 
@@ -49,6 +60,9 @@ OfRefusal NoMemory = Unit {0}
 OfRefusal Done = ⊥
 OfRefusal Usage = ⊥
 OfRefusal WriteFault = ⊥
+OfRefusal Disk = ⊥
+OfRefusal Foreign = ⊥
+OfRefusal OtherCatalog = ⊥
 OfRefusal Limit = ⊥
 
 refusals_have : (e : ReadError) → OfRefusal (refusal_status e)
@@ -62,6 +76,19 @@ refusals_have (OfCatalog n of_catalog.NoMemory) = tt
 refusals_have (OfCatalog n e) = tt
 refusals_have (OfRequest of_request.NoMemory) = tt
 refusals_have (OfRequest e) = tt
+
+-- of those that an input has that starts this is out of memory alone
+short : (status : Status) → OfRefusal status → OfStarted status → IsDoneOrShort status
+short NoMemory of started = tt
+short Input of started = started
+short ReadFault of started = started
+short Done of started = tt
+short Usage of started = absurd of
+short WriteFault of started = absurd of
+short Disk of started = absurd of
+short Foreign of started = absurd of
+short OtherCatalog of started = absurd of
+short Limit of started = absurd of
 
 -- so it has none of the others
 never : {P : Type 0} (e : ReadError) (other : Status) → refusal_status e ≡ other → (OfRefusal other → ⊥) → P
@@ -110,159 +137,257 @@ leaves_so (OfCatalog line e) faults now before left leaves = at_end before left 
 leaves_so (OfRequest of_request.NoMemory) faults now before left leaves = tt
 leaves_so (OfRequest e) faults now before left leaves = at_end before left leaves
 
--- ---- ends
+-- ---- the command run
 
-module _ (limit : ℕ) (words : List (String Global)) (s : SourceChange) (w : SinkChange) where
-  -- counts of faults never fall
-  abbrev Counts : Type 0
-  Counts = (s.faults_before ≤ s.faults_now) × (w.faults_before ≤ w.faults_now)
+module _ (limit : ℕ) (s : SourceChange) (w : SinkChange) (disk : DiskChange) where
+  abbrev EndsSo : Status → Type 0
+  EndsSo = RunEndsSo limit s w disk
 
-  -- the words are no command, and nothing is read
-  pub ends_usage : ¬ (IsRunCommand (words_of words)) → s.now ≡ s.before → Counts → Writes usage_text w → Ends limit words s w Usage
-  ends_usage none same counts reported = record {
-    usage = (λ is. none, λ _. refl);
-    usage_line = λ is. reported;
-    counts = counts;
-    read_fault = λ is. let no : ⊥ = cc in absurd no;
-    read_fault_line = λ is. let no : ⊥ = cc in absurd no;
-    write_fault = λ is. let no : ⊥ = cc in absurd no;
-    memory_line = λ is. let no : ⊥ = cc in absurd no;
-    taken = takes_nothing (max_input + 1) s.before s.now same;
-    empties = same;
-    input = λ is. let no : ⊥ = cc in absurd no;
-    refused = λ run held. absurd (none run);
-    started = λ run held calm. absurd (none run);
-    done = λ is. let no : ⊥ = cc in absurd no;
-    cut = λ is. let no : ⊥ = cc in absurd no;
-    stopped = λ is. let no : ⊥ = cc in absurd no;
-  }
+  -- ---- the input is refused
 
-  module _ (run : IsRunCommand (words_of words)) (counts : Counts) (taken : TakesAtMost (max_input + 1) s.before s.now) where
-    -- the run as a whole is out of memory
-    pub ends_memory : Writes no_memory_text w → Ends limit words s w NoMemory
-    ends_memory reported = record {
-      usage = ((λ is. let no : ⊥ = cc in absurd no), λ none. absurd (none run));
-      usage_line = λ is. let no : ⊥ = cc in absurd no;
-      counts = counts;
-      read_fault = λ is. let no : ⊥ = cc in absurd no;
-      read_fault_line = λ is. let no : ⊥ = cc in absurd no;
-      write_fault = λ is. let no : ⊥ = cc in absurd no;
-      memory_line = λ is. reported;
-      taken = taken;
-      empties = tt;
-      input = λ is. let no : ⊥ = cc in absurd no;
-      refused = λ command held. always s.before (λ input e has. inr refl);
-      started = λ command held calm. always s.before (λ input c rs start. inr (inr refl));
-      done = λ is. let no : ⊥ = cc in absurd no;
-      cut = λ is. let no : ⊥ = cc in absurd no;
-      stopped = λ is. let no : ⊥ = cc in absurd no;
+  module _ (one : HasOneRefusal) (either : StartsOrRefused) (as_before : AsBefore disk) (e : ReadError) (first : IfSome s.before (λ input. IsRefusedBy input e))
+      (leaves : LeavesOfRefusedSource e s.faults_before s.faults_now s.before s.now) where
+    -- the statuses that a refusal has
+    refused_so : (status : Status) → refusal_status e ≡ status → Writes (refusal_text e) w → IfSome s.before (λ input. RunEnds limit input status w disk)
+    refused_so Input is reported = IfSome_then s.before first (λ input by. record { refused = record { refusal = e; first = by; is = is; reported = reported }; as_before = as_before })
+    refused_so ReadFault is reported = always s.before (λ input. as_before)
+    refused_so NoMemory is reported = always s.before (λ input. inl (record { as_before = as_before; written = subst (λ text. Writes text w) (memory_text_is e is) reported }))
+    refused_so Done is reported = never e Done is (λ of. of)
+    refused_so Usage is reported = never e Usage is (λ of. of)
+    refused_so WriteFault is reported = never e WriteFault is (λ of. of)
+    refused_so Disk is reported = never e Disk is (λ of. of)
+    refused_so Foreign is reported = never e Foreign is (λ of. of)
+    refused_so OtherCatalog is reported = never e OtherCatalog is (λ of. of)
+    refused_so Limit is reported = never e Limit is (λ of. of)
+
+    -- what is written of one without a word of the input
+    only_so : (status : Status) → refusal_status e ≡ status → Writes (refusal_text e) w → WritesOnly status w
+    only_so Usage is reported = never e Usage is (λ of. of)
+    only_so ReadFault is reported = subst (λ text. Writes text w) (read_fault_text_is e is) reported
+    only_so Done is reported = tt
+    only_so Input is reported = tt
+    only_so WriteFault is reported = tt
+    only_so Disk is reported = tt
+    only_so NoMemory is reported = tt
+    only_so Foreign is reported = tt
+    only_so OtherCatalog is reported = tt
+    only_so Limit is reported = tt
+
+    cause_so : (status : Status) → refusal_status e ≡ status → HasCause status s w disk
+    cause_so ReadFault is = fault_rose e s.faults_before s.faults_now s.before s.now leaves is
+    cause_so WriteFault is = never e WriteFault is (λ of. of)
+    cause_so Disk is = never e Disk is (λ of. of)
+    cause_so Done is = tt
+    cause_so Usage is = tt
+    cause_so Input is = tt
+    cause_so NoMemory is = tt
+    cause_so Foreign is = tt
+    cause_so OtherCatalog is = tt
+    cause_so Limit is = tt
+
+    -- at out of memory nothing more is said
+    memory_so : Writes no_memory_text w → EndsSo NoMemory
+    memory_so reported = record {
+      ends = record {
+        came = always s.before (λ input. inl (record { as_before = as_before; written = reported }));
+        empties = tt;
+        refused = λ held. always s.before (λ input f has. inr refl);
+        started = λ held calm still. always s.before (λ input c rs start. tt);
+        complete = λ held calm still. always s.before (λ input c rs start room. tt);
+      };
+      only = tt;
+      cause = tt;
+      no_usage = λ is. let no : ⊥ = cc in absurd no;
     }
 
-    -- the input is refused
-    module _ (one : HasOneRefusal) (either : StartsOrRefused) (e : ReadError) (first : IfSome s.before (λ input. IsRefusedBy input e))
-        (leaves : LeavesOfRefusedSource e s.faults_before s.faults_now s.before s.now) where
-      refused_as : Writes (refusal_text e) w → Ends limit words s w (refusal_status e)
-      refused_as reported = record {
-        usage = ((λ is. never e Usage is (λ of. of)), λ none. absurd (none run));
-        usage_line = λ is. never e Usage is (λ of. of);
-        counts = counts;
-        read_fault = λ is. fault_rose e s.faults_before s.faults_now s.before s.now leaves is;
-        read_fault_line = λ is. subst (λ text. Writes text w) (read_fault_text_is e is) reported;
-        write_fault = λ is. never e WriteFault is (λ of. of);
-        memory_line = λ is. subst (λ text. Writes text w) (memory_text_is e is) reported;
-        taken = taken;
+    not_started : DidNotRise s.faults_before s.faults_now → Writes (refusal_text e) w → IfSome s.before (λ input. ExitsAsStarted input (refusal_status e))
+    not_started held reported = refused_ends_started either s.before s.now e (refusal_status e) w s.faults_before s.faults_now first leaves (inl (record { is = refl; reported = reported })) held
+
+    refusal_so : Writes (refusal_text e) w → EndsSo (refusal_status e)
+    refusal_so reported = record {
+      ends = record {
+        came = refused_so (refusal_status e) refl reported;
         empties = leaves_so e s.faults_before s.faults_now s.before s.now leaves;
-        input = λ is. IfSome_then s.before first (λ input by. record { refusal = e; first = by; is = is; reported = reported });
-        refused = λ command held.
-            refused_ends_refused one s.before s.now e (refusal_status e) w s.faults_before s.faults_now first leaves (inl (record { is = refl; reported = reported })) held;
-        started = λ command held calm.
-            refused_ends_started either s.before s.now e (refusal_status e) w s.faults_before s.faults_now first leaves (inl (record { is = refl; reported = reported })) held;
-        done = λ is. never e Done is (λ of. of);
-        cut = λ is. never e WriteFault is (λ of. of);
-        stopped = λ is. never e Limit is (λ of. of);
-      }
+        refused = λ held. refused_ends_refused one s.before s.now e (refusal_status e) w s.faults_before s.faults_now first leaves (inl (record { is = refl; reported = reported })) held;
+        started = λ held calm still. not_started held reported;
+        complete = λ held calm still. IfSome_then s.before (not_started held reported) (λ input as_started c rs start room. short (refusal_status e) (refusals_have e) (as_started c rs start));
+      };
+      only = only_so (refusal_status e) refl reported;
+      cause = cause_so (refusal_status e) refl;
+      no_usage = λ is. never e Usage is (λ of. of);
+    }
 
-      pub ends_refused : (ended : Status) → ExitsRefused e ended w → Ends limit words s w ended
-      ends_refused ended (inl exits) = subst (Ends limit words s w) (sym exits.is) (refused_as exits.reported)
-      ends_refused ended (inr exits) = subst (Ends limit words s w) (sym exits.is) (ends_memory exits.reported)
+    pub run_refused : (ended : Status) → ExitsRefused e ended w → EndsSo ended
+    run_refused ended (inl exits) = subst EndsSo (sym exits.is) (refusal_so exits.reported)
+    run_refused ended (inr exits) = subst EndsSo (sym exits.is) (memory_so exits.reported)
 
-    -- what the input asks for ran
-    module _ (either : StartsOrRefused) (catalog : Catalog) (requests : List Request) (list : List Listed) (text : List ℕ)
-        (starts : IfSome s.before (λ input. Starts input catalog requests)) (accepted : Accepted catalog) (left : IsAtEnd s.now) where
-      -- so it has no refusal
-      not_refused : (ended : Status) → IfSome s.before (λ input. ExitsAsRefused input ended)
-      not_refused ended = IfSome_then s.before starts (λ input start e has. absurd (false≢true (sym has.says ∙ either input catalog requests e start has.first)))
+  -- ---- what the input asks for ran
 
-      is_run : (status : Status) (input : List ℕ) → ReportsAs catalog limit requests list text status → Starts input catalog requests → IsRun limit input text status
-      is_run status input reports start = record { catalog = catalog; requests = requests; list = list; starts = start; accepted = accepted; reports = reports }
+  module _ (one : HasOneStart) (either : StartsOrRefused) (no_fault : EmptyHasNoFault) (store_has_none : StoreHasNoFault) (one_catalog : StoreHasOneCatalog) (catalog : Catalog) (requests : List Request) (starts : IfSome s.before (λ input. Starts input catalog requests)) (accepted : Accepted catalog)
+      (left : IsAtEnd s.now) where
+    -- an input that starts has no refusal
+    not_refused : (ended : Status) → IfSome s.before (λ input. ExitsAsRefused input ended)
+    not_refused ended = IfSome_then s.before starts (λ input start e has. absurd (false≢true (sym has.says ∙ either input catalog requests e start has.first)))
 
-      whole : ReportsAs catalog limit requests list text Done → Appends w.before w.now text → Ends limit words s w Done
-      whole reports written = record {
-        usage = ((λ is. let no : ⊥ = cc in absurd no), λ none. absurd (none run));
-        usage_line = λ is. let no : ⊥ = cc in absurd no;
-        counts = counts;
-        read_fault = λ is. let no : ⊥ = cc in absurd no;
-        read_fault_line = λ is. let no : ⊥ = cc in absurd no;
-        write_fault = λ is. let no : ⊥ = cc in absurd no;
-        memory_line = λ is. let no : ⊥ = cc in absurd no;
-        taken = taken;
-        empties = left;
-        input = λ is. let no : ⊥ = cc in absurd no;
-        refused = λ command held. not_refused Done;
-        started = λ command held calm. always s.before (λ input c rs start. inl refl);
-        done = λ is. IfSome_then s.before starts (λ input start. record { text = text; run = is_run Done input reports start; reported = written });
-        cut = λ is. let no : ⊥ = cc in absurd no;
-        stopped = λ is. let no : ⊥ = cc in absurd no;
-      }
+    ran : (status : Status) (input : List ℕ) → CameTo limit catalog requests status w disk → Starts input catalog requests → RanInput limit input status w disk
+    ran status input came start = record { catalog = catalog; requests = requests; starts = start; accepted = accepted; came = came }
 
-      cut : ReportsAs catalog limit requests list text Done → WritesRun Done WriteFault text w → Ends limit words s w WriteFault
-      cut reports written = record {
-        usage = ((λ is. let no : ⊥ = cc in absurd no), λ none. absurd (none run));
-        usage_line = λ is. let no : ⊥ = cc in absurd no;
-        counts = counts;
-        read_fault = λ is. let no : ⊥ = cc in absurd no;
-        read_fault_line = λ is. let no : ⊥ = cc in absurd no;
-        write_fault = λ is. written.1;
-        memory_line = λ is. let no : ⊥ = cc in absurd no;
-        taken = taken;
-        empties = left;
-        input = λ is. let no : ⊥ = cc in absurd no;
-        refused = λ command held. not_refused WriteFault;
-        started = λ command held calm. absurd (calm written.1);
-        done = λ is. let no : ⊥ = cc in absurd no;
-        cut = λ is. IfSome_then s.before starts (λ input start. record { text = text; run = is_run Done input reports start; reported = written.0 });
-        stopped = λ is. let no : ⊥ = cc in absurd no;
-      }
+    came_so : (ended : Status) → CameTo limit catalog requests ended w disk → IfSome s.before (λ input. RunEnds limit input ended w disk)
+    came_so Done came = IfSome_then s.before starts (λ input start. ran Done input came start)
+    came_so WriteFault came = IfSome_then s.before starts (λ input start. ran WriteFault input came start)
+    came_so Disk came = IfSome_then s.before starts (λ input start. ran Disk input came start)
+    came_so NoMemory came = IfSome_then s.before starts (λ input start. inr (ran NoMemory input came start))
+    came_so Foreign came = IfSome_then s.before starts (λ input start. ran Foreign input came start)
+    came_so OtherCatalog came = IfSome_then s.before starts (λ input start. ran OtherCatalog input came start)
+    came_so Limit came = IfSome_then s.before starts (λ input start. ran Limit input came start)
+    came_so Usage came = absurd came
+    came_so Input came = absurd came
+    came_so ReadFault came = absurd came
 
-      full : ReportsAs catalog limit requests list text Limit → Writes text w → Ends limit words s w Limit
-      full reports written = record {
-        usage = ((λ is. let no : ⊥ = cc in absurd no), λ none. absurd (none run));
-        usage_line = λ is. let no : ⊥ = cc in absurd no;
-        counts = counts;
-        read_fault = λ is. let no : ⊥ = cc in absurd no;
-        read_fault_line = λ is. let no : ⊥ = cc in absurd no;
-        write_fault = λ is. let no : ⊥ = cc in absurd no;
-        memory_line = λ is. let no : ⊥ = cc in absurd no;
-        taken = taken;
-        empties = left;
-        input = λ is. let no : ⊥ = cc in absurd no;
-        refused = λ command held. not_refused Limit;
-        started = λ command held calm. always s.before (λ input c rs start. inr (inl refl));
-        done = λ is. let no : ⊥ = cc in absurd no;
-        cut = λ is. let no : ⊥ = cc in absurd no;
-        stopped = λ is. IfSome_then s.before starts (λ input start. record { text = text; run = is_run Limit input reports start; reported = written });
-      }
+    left_so : (ended : Status) → CameTo limit catalog requests ended w disk → LeavesOfSource ended s.before s.now
+    left_so Usage came = absurd came
+    left_so Input came = absurd came
+    left_so ReadFault came = tt
+    left_so NoMemory came = tt
+    left_so Done came = left
+    left_so WriteFault came = left
+    left_so Disk came = left
+    left_so Foreign came = left
+    left_so OtherCatalog came = left
+    left_so Limit came = left
 
-      ends_run : (status ended : Status) → ReportsAs catalog limit requests list text status → WritesRun status ended text w → Ends limit words s w ended
-      ends_run Done Done reports written = whole reports written
-      ends_run Done WriteFault reports written = cut reports written
-      ends_run Done ended reports written = absurd written
-      ends_run Limit Limit reports written = full reports written
-      ends_run Limit ended reports written = absurd written
-      ends_run status ended reports written = absurd reports
+    started_so : (ended : Status) → CameTo limit catalog requests ended w disk → HasCause ended s w disk → SinkHeld w → DiskHeld disk → OfStarted ended
+    started_so Usage came cause calm still = absurd came
+    started_so Input came cause calm still = absurd came
+    started_so ReadFault came cause calm still = absurd came
+    started_so WriteFault came cause calm still = absurd (calm cause)
+    started_so Disk came cause calm still = absurd (still cause)
+    started_so NoMemory came cause calm still = tt
+    started_so Done came cause calm still = tt
+    started_so Foreign came cause calm still = tt
+    started_so OtherCatalog came cause calm still = tt
+    started_so Limit came cause calm still = tt
 
-    -- or there was no memory to run it
-    pub ends_input : StartsOrRefused → (catalog : Catalog) (requests : List Request) → IfSome s.before (λ input. Starts input catalog requests) → Accepted catalog → IsAtEnd s.now
-        → (ended : Status) → ExitsRun catalog limit requests ended w → Ends limit words s w ended
-    ends_input either catalog requests starts accepted left ended (inl exits) = subst (Ends limit words s w) (sym exits.is) (ends_memory exits.reported)
-    ends_input either catalog requests starts accepted left ended (inr r) = ends_run either catalog requests r.list r.text starts accepted left r.status ended r.reports r.written
+    cause_ran : (ended : Status) → CameTo limit catalog requests ended w disk → HasStoreCause ended w disk → HasCause ended s w disk
+    cause_ran Usage came cause = absurd came
+    cause_ran Input came cause = absurd came
+    cause_ran ReadFault came cause = absurd came
+    cause_ran WriteFault came cause = cause
+    cause_ran Disk came cause = cause
+    cause_ran Done came cause = tt
+    cause_ran NoMemory came cause = tt
+    cause_ran Foreign came cause = tt
+    cause_ran OtherCatalog came cause = tt
+    cause_ran Limit came cause = tt
+
+    only_ran : (ended : Status) → CameTo limit catalog requests ended w disk → WritesOnly ended w
+    only_ran Usage came = absurd came
+    only_ran ReadFault came = absurd came
+    only_ran Done came = tt
+    only_ran Input came = tt
+    only_ran WriteFault came = tt
+    only_ran Disk came = tt
+    only_ran NoMemory came = tt
+    only_ran Foreign came = tt
+    only_ran OtherCatalog came = tt
+    only_ran Limit came = tt
+
+    complete_so : (ended : Status) → CameTo limit catalog requests ended w disk → HasStoreCause ended w disk → SinkHeld w → DiskHeld disk → IfSome s.before (λ input. IsComplete limit input disk ended)
+    complete_so ended came cause calm still = IfSome_then s.before starts (λ input start c rs other room.
+        let same = one input catalog c requests rs start other in
+        came_complete limit w disk no_fault store_has_none one_catalog calm still catalog requests ended came cause
+        (subst (λ c'. HasRoom limit c' requests disk) (sym same.0) (subst (λ rs'. HasRoom limit c rs' disk) (sym same.1) room)))
+
+    pub run_came : (ended : Status) → CameTo limit catalog requests ended w disk → HasStoreCause ended w disk → EndsSo ended
+    run_came ended came store_cause = let cause = cause_ran ended came store_cause in record {
+      ends = record {
+        came = came_so ended came;
+        empties = left_so ended came;
+        refused = λ held. not_refused ended;
+        started = λ held calm still. always s.before (λ input c rs start. started_so ended came cause calm still);
+        complete = λ held calm still. complete_so ended came store_cause calm still;
+      };
+      only = only_ran ended came;
+      cause = cause;
+      no_usage = λ is. subst (λ status. CameTo limit catalog requests status w disk) is came;
+    }
+
+-- ---- the whole call
+
+module _ (limit : ℕ) (words : List (String Global)) (s : SourceChange) (w : SinkChange) (disk : DiskChange) where
+  -- counts of faults never fall
+  abbrev Counts : Type 0
+  Counts = (s.faults_before ≤ s.faults_now) × (w.faults_before ≤ w.faults_now) × (disk.faults_before ≤ disk.faults_now)
+
+  -- the words are no command, and nothing is read
+  pub ends_usage : ¬ (IsCommand (words_of words)) → s.now ≡ s.before → Counts → AsBefore disk → Writes usage_text w → Ends limit words s w disk Usage
+  ends_usage none same counts as_before reported = record {
+    usage = (λ is. none, λ _. refl);
+    run = λ what asks. absurd (none (asks_is_command _ _ asks));
+    recover = λ what asks. absurd (none (asks_is_command _ _ asks));
+    untouched = λ is. as_before;
+    only = reported;
+    counts = counts;
+    cause = tt;
+    taken = takes_nothing (max_input + 1) s.before s.now same;
+  }
+
+  module _ (what : Options) (counts : Counts) where
+    -- the words are a command alone
+    other_command : (a b : Command) (other : Options) → AsksFor (words_of words) (record { command = a; options = what }) → AsksFor (words_of words) (record { command = b; options = other }) → a ≡ b
+    other_command a b other asks more = ap (λ (l : CommandLine). l.command) (asks_for_one (words_of words) (record { command = a; options = what }) (record { command = b; options = other }) asks more)
+
+    pub ends_run : AsksFor (words_of words) (record { command = Run; options = what }) → TakesAtMost (max_input + 1) s.before s.now
+        → (ended : Status) → RunEndsSo limit s w disk ended → Ends limit words s w disk ended
+    ends_run asks taken ended so = record {
+      usage = (λ is. absurd (so.no_usage is), λ none. absurd (none (asks_is_command _ _ asks)));
+      run = λ other more. so.ends;
+      recover = λ other more. let no : Run ≡ Recover = other_command Run Recover other asks more in absurd cc;
+      untouched = λ is. absurd (so.no_usage is);
+      only = so.only;
+      counts = counts;
+      cause = so.cause;
+      taken = taken;
+    }
+
+    -- a recovery has no status of an input, and none of the words
+    recovered_so : (ended : Status) → RecoveredTo limit ended w disk → WritesOnly ended w
+    recovered_so Usage came = absurd came
+    recovered_so ReadFault came = absurd came
+    recovered_so Done came = tt
+    recovered_so Input came = tt
+    recovered_so WriteFault came = tt
+    recovered_so Disk came = tt
+    recovered_so NoMemory came = tt
+    recovered_so Foreign came = tt
+    recovered_so OtherCatalog came = tt
+    recovered_so Limit came = tt
+
+    recovered_cause : (ended : Status) → RecoveredTo limit ended w disk → HasStoreCause ended w disk → HasCause ended s w disk
+    recovered_cause Usage came cause = absurd came
+    recovered_cause Input came cause = absurd came
+    recovered_cause ReadFault came cause = absurd came
+    recovered_cause WriteFault came cause = cause
+    recovered_cause Disk came cause = cause
+    recovered_cause Done came cause = tt
+    recovered_cause NoMemory came cause = tt
+    recovered_cause Foreign came cause = tt
+    recovered_cause OtherCatalog came cause = tt
+    recovered_cause Limit came cause = tt
+
+    pub ends_recover : EmptyHasNoFault → StoreHasNoFault → StoreHasOneCatalog → AsksFor (words_of words) (record { command = Recover; options = what }) → s.now ≡ s.before → s.faults_now ≡ s.faults_before
+        → (ended : Status) → RecoversTo limit ended w disk → Ends limit words s w disk ended
+    ends_recover no_fault store_has_none one_catalog asks same unmoved ended so = let came = so.came in record {
+      usage = (λ is. absurd (subst (λ status. RecoveredTo limit status w disk) is came), λ none. absurd (none (asks_is_command _ _ asks)));
+      run = λ other more. let no : Recover ≡ Run = other_command Recover Run other asks more in absurd cc;
+      recover = λ other more. record {
+        came = came;
+        complete = λ calm still catalog room. recovered_complete limit w disk no_fault store_has_none one_catalog calm still catalog ended came so.cause room;
+        unread = (same, unmoved);
+      };
+      untouched = λ is. absurd (subst (λ status. RecoveredTo limit status w disk) is came);
+      only = recovered_so ended came;
+      counts = counts;
+      cause = recovered_cause ended came so.cause;
+      taken = takes_nothing (max_input + 1) s.before s.now same;
+    }

@@ -4,6 +4,9 @@ pub mod TopRefusals
 pub mod OneInput
 pub mod TopAnswers
 pub mod InputPremises
+pub mod Outside
 pub mod Running
+pub mod Storing
 pub mod ClientsBelow
+pub mod Completing
 pub mod Ending

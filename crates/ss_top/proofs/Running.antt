@@ -1,76 +1,76 @@
--- What is reported of a run in threads.
-use Rattle.std.proofs.Common.{◌≡◌, ◌≤◌, ◌<◌, ◌+◌, ◌⊎◌, inl, inr, ℕ, zero, suc, refl, Bool, true, false, cond, List, [], ◌∷◌, length, get_or, sym, ap, subst, Some, arith, unwrap_or}
+-- What is reported of a session, by how it ended.
+use Rattle.std.proofs.Common.{◌≡◌, ◌≢◌, ◌≤◌, ◌<◌, ◌+◌, ◌-◌, ◌^◌, ◌==◌, ◌⊎◌, ◌∙◌, inl, inr, ℕ, zero, suc, refl, Bool, true, false, cond, List, [], ◌∷◌, ◌++◌, length, take, get_or, sym, ap, subst, Some, None, Result, Ok, Err, arith, is_some, unwrap_or, eq-eqb}
+use Rattle.std.specs.Prelude.{Option, IfSome, IfNone, IsOk}
 use Rattle.std.specs.List.{AllByRecursion, list_any}
-use Rattle.std.proofs.lemmas.Bool.{false≢true, or_parts}
+use Rattle.std.proofs.lemmas.Bool.{cases_lt, false≢true, or_parts}
+use Rattle.std.proofs.lemmas.List.{take_all}
 use Rattle.ss_lemmas.proofs.Bools.{either_so}
 use Rattle.ss_lemmas.proofs.EachOf.{all_with}
+use Rattle.ss_value.specs.FaultCounts.{Rose}
 use Rattle.ss_model.specs.declared.catalog.Catalog.{Catalog}
 use Rattle.ss_model.specs.declared.entry.Answer.{Answer}
-use Rattle.ss_model.specs.declared.entry.Answer.TheVariants.{Listed as ListedAnswer, NoMemory, ListFull, Halted}
+use Rattle.ss_model.specs.declared.entry.Answer.TheVariants.{Listed as ListedAnswer, NoMemory as NoMemoryAnswer, ListFull, Halted}
+use Rattle.ss_model.specs.declared.entry.Listed.{Listed}
 use Rattle.ss_model.specs.declared.entry.Request.{Request}
+use Rattle.ss_model.specs.Database.{Database as Model}
 use Rattle.ss_model.specs.Accepted.{Accepted}
-use Rattle.ss_model.specs.Database.{empty_database}
 use Rattle.ss_model.specs.InStep.{IsInStep}
+use Rattle.ss_model.specs.Settled.{NoneReady}
 use Rattle.ss_model.specs.Replays.{after}
-use Rattle.ss_model.specs.Report.{End, Whole, Stopped, Unlisted, Report, report_text}
-use Rattle.ss_model.specs.Settling.{Drained}
-use Rattle.ss_model_laws.proofs.CallerLemmas.{empty_in_step}
-use Rattle.ss_report_laws.proofs.CallerLemmas.{answered_report}
-use Rattle.ss_report_laws.specs.Replies.{IsListedOr, answers_of, expected_entries, requests_of, weave}
+use Rattle.ss_model.specs.Report.{End, Stop, Whole, Unlisted, report_text}
+use Rattle.ss_model.specs.Settling.{Drained, kept}
+use Rattle.ss_report_laws.specs.Replies.{AreAnswered, IsListedOr, answers_of, mine, weave}
 use Rattle.ss_report.specs.declared.run_end.End as report
-use Rattle.ss_report.specs.Reported.{IsReportOf, HasEndTables}
+use Rattle.ss_report.specs.declared.run_end.End.TheVariants as written
+use Rattle.ss_report.specs.Reported.{IsReportOf, HasEndTables, missing_answer}
 use Rattle.ss_shard.specs.declared.database.Database.{Database}
-use Rattle.ss_shard.specs.Shards.{HasTables, IsCommitted}
-use Rattle.ss_engine.specs.declared.closing.Closed.{Closed}
+use Rattle.ss_disk.specs.Files.{Files}
+use Rattle.ss_cmdlog.specs.declared.log.CmdLog.{CmdLog}
+use Rattle.ss_cmdlog.specs.declared.log.Receipt.{Receipt}
+use Rattle.ss_cmdlog.proofs.CallerLemmas.{open_stands}
+use Rattle.ss_standing.specs.Standing.{listed_entries, StandsForAll, StandsForAtLeast}
+use Rattle.ss_receipts.specs.declared.durable.DurableError.{DurableError}
+use Rattle.ss_receipts.specs.Durable.{IsDurable}
+use Rattle.ss_receipts.specs.Holding.{HaltedAt}
+use Rattle.ss_headline.specs.Disks.{DiskChange, disk_of}
+use Rattle.ss_headline.specs.Owed.{ListsAsked, FullListsHaveAll, outside, owed}
+use Rattle.ss_headline.specs.Sentences.{room_from}
+use Rattle.ss_headline.specs.Layers.{Opened, Closed, Settled, FewUnreceipted, Receipted}
+use Rattle.ss_headline.specs.Laws.{WholeRuns, StoppedRuns}
+use Rattle.ss_headline.specs.Laws as law
+use Rattle.ss_headline.specs.Runs.{LogEndsWith, IsWholeRun, IsStoppedRun}
+use Rattle.ss_engine.specs.declared.session.Finished.{Finished}
 use Rattle.ss_engine.specs.declared.settling.Settling.{Settling}
 use Rattle.ss_engine.specs.declared.settling.Settling.TheVariants as settling
 use Rattle.ss_engine.specs.Clients.{AreListedOr, IsUnlisted}
 use Rattle.ss_engine.specs.Closings.{EndedWith, SomeReady}
-use Rattle.ss_engine.specs.Sessions.{IsRun}
+use Rattle.ss_engine.specs.Dues.{FewOpen}
+use Rattle.ss_engine.specs.Sessions.{EndsOnDisk, IsLeftOver}
 use Rattle.ss_top.specs.declared.status.Status.{Status}
-use Rattle.ss_top.specs.declared.status.Status.TheVariants.{Done, Limit}
-use Rattle.ss_top.specs.Runs.{say_full, some_say_full, settled_status, run_status, end_for}
-use Rattle.ss_top.specs.Top.{full_stop, ReportsRun, ReportsAs, SomeLeft}
+use Rattle.ss_top.specs.declared.status.Status.TheVariants.{Done, Usage, Input, ReadFault, WriteFault, Disk, NoMemory, Foreign, OtherCatalog, Limit}
+use Rattle.ss_top.specs.Runs.{say_full, some_say_full, settled_status, session_status, end_for, Reports}
+use Rattle.ss_top.specs.Statuses.{status_number}
+use Rattle.ss_top.specs.Stores.{WholeRun, StoppedRun, FullRun, RanAs}
+use Rattle.ss_top.proofs.Outside.{outside_by_one}
 
--- an answer that may be given where the list is full may be given at the stop for that
-at_stop : (limit entries : ℕ) (a : Answer) → IsListedOr (IsUnlisted limit entries) a → IsListedOr (Unlisted (Stopped full_stop)) a
-at_stop limit entries (ListedAnswer place outcome) h = tt
-at_stop limit entries NoMemory h = tt
-at_stop limit entries (ListFull count) h = refl
-at_stop limit entries (Halted faults) h = absurd h
+-- ---- answers at a stop, and at the end of a whole run
 
--- and at the end of a whole run, where no answer says that the list is full
-at_whole : (limit entries : ℕ) (these : List Answer) → AreListedOr limit entries these → say_full these ≡ false → AllByRecursion (IsListedOr (Unlisted Whole)) these
-at_whole limit entries [] h none = tt
-at_whole limit entries (ListedAnswer place outcome ∷ these) h none = (tt, at_whole limit entries these h.1 none)
-at_whole limit entries (NoMemory ∷ these) h none = (tt, at_whole limit entries these h.1 none)
-at_whole limit entries (ListFull count ∷ these) h none = absurd (false≢true (sym none))
-at_whole limit entries (Halted faults ∷ these) h none = absurd h.0
+module _ (room entries faults : ℕ) where
+  -- where no disk has failed and no answer says that the list is full, the others say that there was no memory
+  at_whole : faults ≡ 0 → (these : List Answer) → AreListedOr room entries faults these → say_full these ≡ false → AllByRecursion (IsListedOr (Unlisted Whole)) these
+  at_whole calm [] h none = tt
+  at_whole calm (ListedAnswer place outcome ∷ these) h none = (tt, at_whole calm these h.1 none)
+  at_whole calm (NoMemoryAnswer ∷ these) h none = (tt, at_whole calm these h.1 none)
+  at_whole calm (ListFull count ∷ these) h none = absurd (false≢true (sym none))
+  at_whole calm (Halted n ∷ these) h none = absurd (h.0.1 (h.0.0 ∙ calm))
 
--- where one says so the list is full
-full_by_one : (limit entries : ℕ) (these : List Answer) → AreListedOr limit entries these → say_full these ≡ true → limit ≤ entries
-full_by_one limit entries [] h some = absurd (false≢true some)
-full_by_one limit entries (ListedAnswer place outcome ∷ these) h some = full_by_one limit entries these h.1 some
-full_by_one limit entries (NoMemory ∷ these) h some = full_by_one limit entries these h.1 some
-full_by_one limit entries (ListFull count ∷ these) h some = h.0.1
-full_by_one limit entries (Halted faults ∷ these) h some = absurd h.0
-
--- it has fewer entries than requests then
-at_most : (client index : ℕ) (rs : List Request) (these : List Answer) → length (expected_entries client index rs these) ≤ length rs
-at_most client index [] these = omega arith
-at_most client index (r ∷ rs) [] = omega arith
-at_most client index (r ∷ rs) (ListedAnswer place outcome ∷ these) = let rest = at_most client (index + 1) rs these in omega (arith, rest)
-at_most client index (r ∷ rs) (NoMemory ∷ these) = let rest = at_most client (index + 1) rs these in omega (arith, rest)
-at_most client index (r ∷ rs) (ListFull count ∷ these) = let rest = at_most client (index + 1) rs these in omega (arith, rest)
-at_most client index (r ∷ rs) (Halted faults ∷ these) = let rest = at_most client (index + 1) rs these in omega (arith, rest)
-
-fewer_by_one : (client index : ℕ) (rs : List Request) (these : List Answer) → length these ≡ length rs → say_full these ≡ true → length (expected_entries client index rs these) < length rs
-fewer_by_one client index rs [] many some = absurd (false≢true some)
-fewer_by_one client index [] (a ∷ these) many some = absurd (cc)
-fewer_by_one client index (r ∷ rs) (ListedAnswer place outcome ∷ these) many some = let rest = fewer_by_one client (index + 1) rs these (omega (arith, many)) some in omega (arith, rest)
-fewer_by_one client index (r ∷ rs) (NoMemory ∷ these) many some = let rest = fewer_by_one client (index + 1) rs these (omega (arith, many)) some in omega (arith, rest)
-fewer_by_one client index (r ∷ rs) (ListFull count ∷ these) many some = let rest = at_most client (index + 1) rs these in omega (arith, rest)
-fewer_by_one client index (r ∷ rs) (Halted faults ∷ these) many some = let rest = fewer_by_one client (index + 1) rs these (omega (arith, many)) some in omega (arith, rest)
+  -- where one says so the list is full
+  full_by_one : (these : List Answer) → AreListedOr room entries faults these → say_full these ≡ true → room ≤ entries
+  full_by_one [] h some = absurd (false≢true some)
+  full_by_one (ListedAnswer place outcome ∷ these) h some = full_by_one these h.1 some
+  full_by_one (NoMemoryAnswer ∷ these) h some = full_by_one these h.1 some
+  full_by_one (ListFull count ∷ these) h some = h.0.1
+  full_by_one (Halted n ∷ these) h some = full_by_one these h.1 some
 
 -- of the answers to each client
 none_of : (answers : List (List Answer)) (client : ℕ) → list_any say_full answers ≡ false → say_full (get_or answers client []) ≡ false
@@ -85,75 +85,265 @@ some_of (these ∷ answers) some = elim (either_so (say_full these) (list_any sa
   | inr behind ↦ let rest = some_of answers behind in (suc rest.0, rest.1)
 ]
 
-module _ (catalog : Catalog) (accepted : Accepted catalog) (limit clients : ℕ) (requests : List Request) (closed : Closed) (text : List ℕ)
-    (run : IsRun catalog (empty_database catalog) 0 limit clients requests closed) where
-  -- the text is the report with the end that goes with a status
-  abbrev IsWritten : Status → Type 0
-  IsWritten status = IsReportOf catalog requests closed.answers 0 closed.list (end_for closed.database status) text
+-- ---- faults
 
-  abbrev IsReported : Status → Type 0
-  IsReported status = ReportsAs catalog limit requests closed.list text status
+-- a log that wasn't halted tells none
+calm_at : (before now : ℕ) (halted : Option ℕ) (fault : ℕ) → HaltedAt before now halted fault → halted ≡ None → fault ≡ 0
+calm_at before now halted fault (inl calm) none = calm.1
+calm_at before now halted fault (inr failed) none = let no : None ≡ Some fault = sym none ∙ failed.0 in absurd (cc)
 
-  reports : (end : End) (missing : Answer) → ((client : ℕ) → AllByRecursion (IsListedOr (Unlisted end)) (answers_of closed.answers client))
-      → text ≡ report_text catalog requests (weave missing requests closed.answers) 0 closed.list (empty_database catalog) end → ReportsRun catalog limit requests closed.list end text
-  reports end missing others is = record {
-    within = run.within;
-    replays = run.replays;
-    orders = run.orders;
-    report = subst (Report catalog requests (empty_database catalog) 0 closed.list end) (sym is)
-        (answered_report catalog requests (empty_database catalog) 0 closed.list end missing closed.answers (record { many = run.many; each = run.each; others = others }));
-  }
+-- one that was tells a count to which the disk's rose
+rose_at : (before now : ℕ) (halted : Option ℕ) (fault : ℕ) → HaltedAt before now halted fault → is_some halted ≡ true → Rose before now
+rose_at before now halted fault (inl calm) some = absurd (false≢true (sym (ap is_some calm.0) ∙ some))
+rose_at before now halted fault (inr failed) some = omega (arith, failed.1, failed.2)
 
-  full : length closed.list ≡ limit → SomeLeft requests closed.list ⊎ SomeReady catalog (after catalog (empty_database catalog) closed.list) → IsWritten Limit → IsReported Limit
-  full is more written = record {
-    run = reports (Stopped full_stop) (ListFull 0)
-        (λ client. all_with (IsListedOr (IsUnlisted limit (length closed.list))) (IsListedOr (Unlisted (Stopped full_stop))) (at_stop limit (length closed.list)) (answers_of closed.answers client) (run.others client))
-        (written (empty_database catalog) full_stop refl refl);
-    full = is;
-    more = more;
-  }
+-- which explains an answer that carries it
+explained_at : (before now : ℕ) (halted : Option ℕ) (fault n : ℕ) → HaltedAt before now halted fault → fault < 2 ^ 64 → n ≡ fault → n ≢ 0 → ((before < n) ⊎ (n ≡ 2 ^ 64 - 1)) × (n ≤ now)
+explained_at before now halted fault n (inl calm) small is some = absurd (some (is ∙ calm.1))
+explained_at before now halted fault n (inr failed) small is some = (
+  elim (cases_lt before n) [
+    | inl less ↦ inl less
+    | inr least ↦ inr (omega (arith, failed.1, small, is, least))
+  ],
+  omega (arith, failed.2, is),
+)
 
-  -- the empty database is in step
-  starts : IsInStep catalog (empty_database catalog)
-  starts = empty_in_step catalog accepted.structure.streams.wired
+-- whose count is below 2^64, as the log's number is
+pub small_at : (before now : ℕ) (halted : Option ℕ) (fault n : ℕ) → HaltedAt before now halted fault → n ≡ unwrap_or halted 0 → n < 2 ^ 64 → fault < 2 ^ 64
+small_at before now halted fault n (inl calm) is small = omega (arith, calm.1)
+small_at before now halted fault n (inr failed) is small = let same : n ≡ fault = is ∙ ap (λ o. unwrap_or o 0) failed.0 in omega (arith, same, small)
 
-  whole : some_say_full closed.answers ≡ false → Drained catalog (after catalog (empty_database catalog) closed.list) → IsWritten Done → IsReported Done
-  whole none drained written = record {
-    run = reports Whole NoMemory (λ client. at_whole limit (length closed.list) (answers_of closed.answers client) (run.others client) (none_of closed.answers client none))
-        (written (empty_database catalog) run.stands.shard.contents.tables);
-    drained = drained;
-  }
+-- ---- sessions
 
-  by_settling : (end : Settling) → EndedWith catalog (empty_database catalog) limit closed.list end → some_say_full closed.answers ≡ false
-      → (status : Status) → settled_status end ≡ Some status → IsWritten status → IsReported status
-  by_settling settling.Done ends none status is written = subst (λ s. IsWritten s → IsReported s) (ap (λ o. unwrap_or o Done) is) (whole none (ends.1 starts)) written
-  by_settling (settling.ListFull count) ends none status is written = subst (λ s. IsWritten s → IsReported s) (ap (λ o. unwrap_or o Limit) is) (full ends.0 (inr ends.2)) written
-  by_settling settling.NoMemory ends none status is written = let no : ⊥ = cc in absurd no
+-- a flush that went well has written all
+all_written : (wanted count fault : ℕ) (flushed : Result Receipt DurableError) → IsDurable wanted count fault flushed → IsOk flushed → wanted ≤ count
+all_written wanted count fault (Ok receipt) durable ok = omega (arith, durable.0, durable.1)
+all_written wanted count fault (Err e) durable ok = absurd (false≢true ok)
 
-  full_is : some_say_full closed.answers ≡ true → length closed.list ≡ limit
-  full_is some =
-      let one = some_of closed.answers some in
-      let least = full_by_one limit (length closed.list) (answers_of closed.answers one.0) (run.others one.0) one.1 in
-      let within = run.within in omega arith
+module _ {D : Type 0} (tells honest : Type 0) (seen : D → Files) (moment : D → ℕ) (images : D → ℕ → Files → Type 0) (faults : D → ℕ) where
+  abbrev change : D → D → DiskChange
+  change = disk_of tells honest seen moment images faults
 
-  some_left : some_say_full closed.answers ≡ true → SomeLeft requests closed.list
-  some_left some =
-      let one = some_of closed.answers some in
-      (one.0, subst (λ (n : ℕ). n < length (requests_of one.0 requests)) (sym (ap (λ xs. length xs) (run.each one.0))) (fewer_by_one one.0 0 (requests_of one.0 requests) (answers_of closed.answers one.0) (run.many one.0) one.1))
+  module _ (limit : ℕ) (catalog : Catalog) (db : Model) (first clients : ℕ) (requests : List Request) (old : D) (log : CmdLog D) (ended : Finished D) (few : first ≤ 2 ^ 60) (accepted : Accepted catalog) (in_step : IsInStep catalog db)
+      (opened : Opened catalog db first (change old log.disk)) (e : EndsOnDisk tells honest seen moment images faults catalog db first (room_from limit first) clients requests log ended) (small : e.ends.fault < 2 ^ 64)
+      (whole_law : WholeRuns change) (stopped_law : StoppedRuns change) (full_law : FullListsHaveAll) where
+    abbrev list : List Listed
+    list = ended.closed.list
 
-  by_answers : (b : Bool) → some_say_full closed.answers ≡ b → (status : Status) → cond b (Some Limit) (settled_status closed.end) ≡ Some status → IsWritten status → IsReported status
-  by_answers true some status is written = subst (λ s. IsWritten s → IsReported s) (ap (λ o. unwrap_or o Limit) is) (full (full_is some) (inl (some_left some))) written
-  by_answers false none status is written = by_settling closed.end run.end none status is written
+    abbrev answers : List (List Answer)
+    answers = ended.closed.answers
 
-  pub reported : (status : Status) → run_status closed.answers closed.end ≡ Some status → IsWritten status → IsReported status
-  reported status is written = by_answers (some_say_full closed.answers) refl status is written
+    abbrev new : D
+    new = ended.log.disk
+
+    closed : Closed catalog db first list (change log.disk new)
+    closed = record { replays = e.ends.run.replays; orders = e.ends.run.orders; crashes = λ quiet. e.crashes quiet.0 }
+
+    few_of : (client : ℕ) → FewOpen (mine client first list) ended.receipted 16 → FewUnreceipted client first list ended.receipted
+    few_of client f = record { receipted = f.safe; others = f.unsafe; parts = f.parts; below = f.below; few = f.few }
+
+    receipted : Receipted catalog first list ended.receipted (change log.disk new)
+    receipted = record { from_first = e.ends.begun; receipt = λ quiet image left. e.receipt quiet.0 image left; few = λ client. few_of client (e.ends.run.few_behind client) }
+
+    -- ---- all is written
+
+    module _ (ok : IsOk ended.flushed) (going : ended.log.halted ≡ None) where
+      at_end : e.ends.count ≡ first + length list
+      at_end = omega (arith, all_written (first + length list) e.ends.count e.ends.fault ended.flushed e.ends.flushed ok, e.ends.holds.within)
+
+      whole_front : take (e.ends.count - first) list ≡ list
+      whole_front = take_all (e.ends.count - first) list (omega (arith, at_end))
+
+      logged : tells → LogEndsWith list (seen new)
+      logged told =
+          let goes = e.ends.holds.going going in record {
+            stood = goes.generation;
+            stands = open_stands (seen new) ended.log.file ended.log.gate goes.generation (goes.opened_at.at told);
+            before = goes.earlier;
+            ends = goes.ends told ∙ ap (λ (l : List Listed). goes.earlier ++ listed_entries l) whole_front;
+          }
+
+      all : (image : Files) → StandsForAll catalog db first list image → StandsForAtLeast catalog (first + length list) image
+      all image stands = record { count = first + length list; k = kept catalog (after catalog db list); stands = stands; enough = omega arith }
+
+      settled : Drained catalog (after catalog db list) → Settled catalog db first list (change log.disk new)
+      settled drained = record { drained = drained; receipt = λ quiet image left. all image (e.ends.all_stands ok quiet.0 image left); logged = logged }
+
+    -- ---- what is answered
+
+    module _ (status : ℕ) where
+      abbrev stop : End
+      stop = law.stop_on change status ended.receipted limit first list log.disk new
+
+      explains : (a : Answer) → IsListedOr (IsUnlisted (room_from limit first) (length list) e.ends.fault) a → IsListedOr (Unlisted stop) a
+      explains (ListedAnswer place outcome) h = tt
+      explains NoMemoryAnswer h = tt
+      explains (ListFull count) h = let within = e.ends.run.within in eq-eqb (length list) (room_from limit first) (omega (arith, h.1, within))
+      explains (Halted n) h = explained_at (faults log.disk) (faults new) ended.log.halted e.ends.fault n e.ends.holds.halt small h.0 h.1
+
+      at_stop : AreAnswered requests first list stop answers
+      at_stop = record {
+        many = e.ends.run.many;
+        each = e.ends.run.each;
+        others = λ client. all_with (IsListedOr (IsUnlisted (room_from limit first) (length list) e.ends.fault)) (IsListedOr (Unlisted stop)) explains (answers_of answers client) (e.ends.run.others client);
+      }
+
+      -- the text of a stop with this status and the count that is receipted
+      abbrev stop_text : Answer → List ℕ
+      stop_text missing = report_text catalog requests (weave missing requests answers) first list db (law.stop_on change status ended.receipted limit first list old new)
+
+      run_stopped : (missing : Answer) → IsStoppedRun limit catalog requests db first list status ended.receipted (stop_text missing) (change old new)
+      run_stopped missing = stopped_law limit catalog requests db first list status ended.receipted missing answers old log.disk new opened closed receipted at_stop e.ends.run.within
+
+      abbrev stop_record : Stop
+      stop_record = record { status = status; count = ended.receipted; at_limit = length list == room_from limit first; faults_before = faults old; faults_after = faults new }
+
+      -- as it is written
+      abbrev stop_end : ℕ → report.End
+      stop_end n = written.Stopped status ended.receipted n
+
+      stopped_as : (n : ℕ) (text : List ℕ) → IsReportOf catalog requests answers first list (stop_end n) text → IsStoppedRun limit catalog requests db first list status ended.receipted text (change old new)
+      stopped_as n text is =
+          subst (λ t. IsStoppedRun limit catalog requests db first list status ended.receipted t (change old new)) (sym (is db stop_record refl refl)) (run_stopped (missing_answer (stop_end n)))
+
+    stopped_run : (status : Status) (n : ℕ) (text : List ℕ) → IsReportOf catalog requests answers first list (stop_end (status_number status) n) text → StoppedRun limit catalog requests status text (change old new)
+    stopped_run status n text is = record { opening = db; first = first; list = list; count = ended.receipted; run = stopped_as (status_number status) n text is }
+
+    -- where something was to follow a list with all its room, more was owed
+    owes_more : length list ≡ room_from limit first → (1 ≤ outside requests list) ⊎ SomeReady catalog (after catalog db list) → room_from limit first < owed catalog db requests
+    owes_more full more = elim (cases_lt (room_from limit first) (owed catalog db requests)) [
+      | inl less ↦ less
+      | inr enough ↦ absurd (by more (full_law catalog accepted db in_step requests list lists_asked (omega (arith, enough, full))))
+    ]
+      where
+        lists_asked : ListsAsked catalog db requests list
+        lists_asked =
+            let session = (run_stopped 9 NoMemoryAnswer).session.each db refl in
+            record { replays = session.replies.one_by_one; asked = session.replies.report.asked; in_turn = session.replies.report.in_turn }
+
+        by : (1 ≤ outside requests list) ⊎ SomeReady catalog (after catalog db list) → (outside requests list ≡ 0) × NoneReady catalog (after catalog db list) → ⊥
+        by (inl some) none = omega (arith, some, none.0)
+        by (inr (q, ready)) none = false≢true (sym (none.1 q) ∙ ready)
+
+    full_run : length list ≡ room_from limit first → (1 ≤ outside requests list) ⊎ SomeReady catalog (after catalog db list) → (n : ℕ) (text : List ℕ)
+        → IsReportOf catalog requests answers first list (stop_end 9 n) text → FullRun limit catalog requests text (change old new)
+    unfolding stopped_run
+    full_run full more n text is = record { stopped = stopped_run Limit n text is; full = full; more = more; owed_more = owes_more full more }
+
+    full_is : some_say_full answers ≡ true → length list ≡ room_from limit first
+    full_is some =
+        let one = some_of answers some in
+        let least = full_by_one (room_from limit first) (length list) e.ends.fault (answers_of answers one.0) (e.ends.run.others one.0) one.1 in
+        let within = e.ends.run.within in omega (arith, least, within)
+
+    some_outside : some_say_full answers ≡ true → 1 ≤ outside requests list
+    some_outside some =
+        let one = some_of answers some in outside_by_one requests first list one.0 (answers_of answers one.0) (e.ends.run.many one.0) (e.ends.run.each one.0) one.1
+
+    -- ---- a whole run
+
+    whole_run : ended.log.halted ≡ None → some_say_full answers ≡ false → IsOk ended.flushed → Drained catalog (after catalog db list) → (database : Database) → IsLeftOver catalog (after catalog db list) database
+        → (text : List ℕ) → IsReportOf catalog requests answers first list (written.Tables database) text → WholeRun limit catalog requests text (change old new)
+    whole_run going none ok drained database left text is =
+        let calm = calm_at (faults log.disk) (faults new) ended.log.halted e.ends.fault e.ends.holds.halt going in
+        let answered : AreAnswered requests first list Whole answers = record {
+          many = e.ends.run.many;
+          each = e.ends.run.each;
+          others = λ client. at_whole (room_from limit first) (length list) e.ends.fault calm (answers_of answers client) (e.ends.run.others client) (none_of answers client none);
+        } in
+        let run = whole_law limit catalog requests db first list NoMemoryAnswer answers old log.disk new opened closed (settled ok going drained) answered e.ends.run.within in record {
+          opening = db;
+          first = first;
+          list = list;
+          run = subst (λ t. IsWholeRun limit catalog requests db first list t (change old new)) (sym (is db left.0.shard.contents.tables)) run;
+        }
+
+    -- ---- by how it ended
+
+    -- the report with this status and these faults was written
+    abbrev IsWritten : Status → ℕ → List ℕ → Type 0
+    IsWritten status n text = IsReportOf catalog requests answers first list (end_for status ended.closed.database ended.receipted n) text
+
+    abbrev Is : Status → List ℕ → Type 0
+    Is status text = RanAs limit catalog requests status text (change old new)
+
+    by_database : ended.log.halted ≡ None → some_say_full answers ≡ false → IsOk ended.flushed → Drained catalog (after catalog db list) → ended.closed.end ≡ settling.Done
+        → (o : Option Database) → ended.closed.database ≡ o → IfNone o (ended.closed.end ≡ settling.NoMemory) → IfSome o (IsLeftOver catalog (after catalog db list)) → (n : ℕ) (text : List ℕ)
+        → IsReportOf catalog requests answers first list (end_for Done o ended.receipted n) text → Is Done text
+    by_database going none ok drained done None is lost left n text written' = let no : settling.Done ≡ settling.NoMemory = sym done ∙ lost in absurd (cc)
+    by_database going none ok drained done (Some database) is lost left n text written' = whole_run going none ok drained database left text written'
+
+    by_settling : ended.log.halted ≡ None → some_say_full answers ≡ false → (end : Settling) → ended.closed.end ≡ end → EndedWith catalog db (room_from limit first) list end
+        → (flushed : Bool) → (flushed ≡ true → IsOk ended.flushed) → (n : ℕ) (text : List ℕ) → IsWritten (settled_status end flushed) n text → Is (settled_status end flushed) text
+    by_settling going none settling.Done is ends true ok n text written' = by_database going none (ok refl) (ends.1 in_step) is ended.closed.database refl e.ends.run.lost e.ends.run.left n text written'
+    by_settling going none settling.Done is ends false ok n text written' = stopped_run NoMemory n text written'
+    by_settling going none (settling.ListFull count) is ends flushed ok n text written' = full_run ends.0 (inr ends.2) n text written'
+    by_settling going none settling.NoMemory is ends flushed ok n text written' = stopped_run NoMemory n text written'
+
+    by_answers : ended.log.halted ≡ None → (b : Bool) → some_say_full answers ≡ b → (flushed : Bool) → (flushed ≡ true → IsOk ended.flushed) → (n : ℕ) (text : List ℕ)
+        → IsWritten (cond b Limit (settled_status ended.closed.end flushed)) n text → Is (cond b Limit (settled_status ended.closed.end flushed)) text
+    by_answers going true some flushed ok n text written' = full_run (full_is some) (inl (some_outside some)) n text written'
+    by_answers going false none flushed ok n text written' = by_settling going none ended.closed.end refl e.ends.run.end flushed ok n text written'
+
+    by_failed : (failed : Bool) → is_some ended.log.halted ≡ failed → (flushed : Bool) → (flushed ≡ true → IsOk ended.flushed) → (n : ℕ) (text : List ℕ)
+        → IsWritten (session_status failed answers ended.closed.end flushed) n text → Is (session_status failed answers ended.closed.end flushed) text
+    by_failed true is flushed ok n text written' = stopped_run Disk n text written'
+    by_failed false is flushed ok n text written' = by_answers (no_some ended.log.halted is) (some_say_full answers) refl flushed ok n text written'
+      where
+        no_some : (o : Option ℕ) → is_some o ≡ false → o ≡ None
+        no_some None is = refl
+        no_some (Some n) is = let no : true ≡ false = is in absurd (cc)
+
+    -- the status and the report that was written of it
+    pub reported : (failed : Bool) → is_some ended.log.halted ≡ failed → (flushed : Bool) → (flushed ≡ true → IsOk ended.flushed) → (status : Status) → status ≡ session_status failed answers ended.closed.end flushed
+        → (n : ℕ) (text : List ℕ) → IsWritten status n text → Reports limit catalog requests status (Some text) (change old new)
+    reported failed is flushed ok status told n text written' = record {
+      whole = text;
+      ran = subst (λ s. Is s text) (sym told) (by_failed failed is flushed ok n text (subst (λ s. IsWritten s n text) told written'));
+      written = refl;
+      unwritten = tt;
+      rose = λ disk. by_status failed is (sym told ∙ disk);
+    }
+      where
+        not_disk : (b f : Bool) (end : Settling) → cond b Limit (settled_status end f) ≡ Disk → ⊥
+        not_disk true f end is = cc
+        not_disk false true settling.Done is = cc
+        not_disk false false settling.Done is = cc
+        not_disk false f (settling.ListFull count) is = cc
+        not_disk false f settling.NoMemory is = cc
+
+        by_status : (f : Bool) → is_some ended.log.halted ≡ f → session_status f answers ended.closed.end flushed ≡ Disk → Rose (faults old) (faults new)
+        by_status true some disk = let rose = rose_at (faults log.disk) (faults new) ended.log.halted e.ends.fault e.ends.holds.halt some in let later = opened.faults in omega (arith, rose, later)
+        by_status false none disk = absurd (not_disk (some_say_full answers) flushed ended.closed.end disk)
+
+    -- there was no memory for a report
+    pub unreported : Reports limit catalog requests NoMemory None (change old new)
+    unreported = record {
+      whole = stop_text 6 NoMemoryAnswer;
+      ran = record { opening = db; first = first; list = list; count = ended.receipted; run = run_stopped 6 NoMemoryAnswer };
+      written = tt;
+      unwritten = refl;
+      rose = λ disk. let no : ⊥ = cc in absurd no;
+    }
+
+    -- where the report begins, and the tables that it has
+    pub places : first + length list < 2 ^ 64
+    places = let within = e.ends.run.within in omega (arith, within, few)
 
 -- the tables of an end are those of the database
-end_tables : (catalog : Catalog) (database : Database) (status : Status) → HasTables catalog database.whole.tables → HasEndTables catalog (end_for database status)
-end_tables catalog database Limit has = tt
-end_tables catalog database status has = has
+pub end_tables : (catalog : Catalog) (d : Model) (status : Status) (database : Option Database) (count n : ℕ) → IfSome database (IsLeftOver catalog d) → HasEndTables catalog (end_for status database count n)
+end_tables catalog d Done None count n left = tt
+end_tables catalog d Done (Some database) count n left = left.1.of_catalog.tables
+end_tables catalog d Usage database count n left = tt
+end_tables catalog d Input database count n left = tt
+end_tables catalog d ReadFault database count n left = tt
+end_tables catalog d WriteFault database count n left = tt
+end_tables catalog d Disk database count n left = tt
+end_tables catalog d NoMemory database count n left = tt
+end_tables catalog d Foreign database count n left = tt
+end_tables catalog d OtherCatalog database count n left = tt
+end_tables catalog d Limit database count n left = tt
 
--- and of the catalogue's keys and limits
-pub tables_fit : (catalog given : Catalog) (database : Database) (status : Status) (end : report.End) → given ≡ catalog → end ≡ end_for database status → IsCommitted catalog database.whole → HasEndTables given end
-tables_fit catalog given database status end same is committed =
-    subst (λ (k : Catalog). HasEndTables k end) (sym same) (subst (λ (e : report.End). HasEndTables catalog e) (sym is) (end_tables catalog database status committed.of_catalog.tables))
+-- the places of a session with this room
+pub within_places : (limit first room : ℕ) → first ≤ 2 ^ 60 → room ≡ room_from limit first → first + room ≤ 2 ^ 60
+within_places limit first room few is = omega (arith, few, is)

@@ -1,5 +1,5 @@
 -- How the program ends where reading its input was refused.
-use Rattle.std.proofs.Common.{◌≡◌, ◌⊎◌, ◌∙◌, ℕ, Bool, true, false, List, Option, refl, sym, ap, inl, inr}
+use Rattle.std.proofs.Common.{◌≡◌, ◌⊎◌, ◌∙◌, ℕ, Bool, true, false, List, Option, refl, sym, ap, subst, inl, inr}
 use Rattle.std.specs.Prelude.{IfSome}
 use Rattle.std.proofs.lemmas.Bool.{false≢true}
 use Rattle.std.proofs.lemmas.Option.{IfSome_then}
@@ -12,8 +12,8 @@ use Rattle.ss_top.specs.declared.status.Status.{Status}
 use Rattle.ss_top.specs.declared.status.Status.TheVariants.{NoMemory}
 use Rattle.ss_top.specs.Refused.{IsRefusedBy}
 use Rattle.ss_top.specs.Statuses.{refusal_status}
-use Rattle.ss_top.specs.Top.{SinkChange, ExitsRefused, LeavesOfRefusedSource}
-use Rattle.ss_top.specs.Inputs.{says_nothing, StartsOrRefused, HasOneRefusal, DidNotRise, ExitsAsRefused, ExitsAsStarted}
+use Rattle.ss_top.specs.Sinks.{SinkChange, ExitsRefused, LeavesOfRefusedSource}
+use Rattle.ss_top.specs.Inputs.{says_nothing, StartsOrRefused, HasOneRefusal, DidNotRise, ExitsAsRefused, ExitsAsStarted, OfStarted}
 
 -- a refusal that says nothing ends as out of memory, unless the source failed
 silent_ends : (e : ReadError) (faults now : ℕ) (left rest : Option (List ℕ)) → says_nothing e ≡ true → LeavesOfRefusedSource e faults now left rest → DidNotRise faults now → refusal_status e ≡ NoMemory
@@ -46,7 +46,7 @@ ends_as_refused one input e ended first (inr memory) f other = inr memory
 
 ends_as_started : StartsOrRefused → (input : List ℕ) (e : ReadError) (ended : Status) → IsRefusedBy input e → EndsSo e ended → ExitsAsStarted input ended
 ends_as_started either input e ended first (inl so) c rs start = absurd (false≢true (sym so.0 ∙ either input c rs e start first))
-ends_as_started either input e ended first (inr memory) c rs start = inr (inr memory)
+ends_as_started either input e ended first (inr memory) c rs start = subst OfStarted (sym memory) tt
 
 -- a refusal that is reported is the input's
 pub refused_ends_refused : HasOneRefusal → (left rest : Option (List ℕ)) (e : ReadError) (ended : Status) (w : SinkChange) (faults now : ℕ)

@@ -7,7 +7,7 @@ use Rattle.ss_top.specs.declared.input.ReadError.{ReadError}
 use Rattle.ss_top.specs.declared.input.ReadError.TheVariants.{Line as OfLine, NoCatalog, Catalog as OfCatalog, Request as OfRequest}
 use Rattle.ss_top.specs.declared.status.Status.TheVariants.{ReadFault}
 use Rattle.ss_top.specs.Statuses.{read_fault_text, refusal_text, refusal_status}
-use Rattle.ss_top.specs.Top.{SinkChange, Writes, ExitsRefused}
+use Rattle.ss_top.specs.Sinks.{SinkChange, Writes, ExitsRefused}
 
 -- only a fault of the source has its status, and so its text
 pub read_fault_text_is : (e : ReadError) → refusal_status e ≡ ReadFault → refusal_text e ≡ read_fault_text

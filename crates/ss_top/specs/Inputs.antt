@@ -9,7 +9,7 @@ use Rattle.ss_catalog_requests.specs.declared.request.RequestError.TheVariants a
 use Rattle.ss_top.specs.declared.input.ReadError.{ReadError}
 use Rattle.ss_top.specs.declared.input.ReadError.TheVariants.{Line as OfLine, Catalog as OfCatalog, Request as OfRequest}
 use Rattle.ss_top.specs.declared.status.Status.{Status}
-use Rattle.ss_top.specs.declared.status.Status.TheVariants.{Done, NoMemory, Limit}
+use Rattle.ss_top.specs.declared.status.Status.TheVariants.{Done, NoMemory, Foreign, OtherCatalog, Limit}
 use Rattle.ss_top.specs.Refused.{IsRefusedBy}
 use Rattle.ss_top.specs.Starts.{Starts}
 use Rattle.ss_top.specs.Statuses.{refusal_status}
@@ -51,6 +51,15 @@ DidNotRise before now = Rose before now → ⊥
 abbrev pub ExitsAsRefused : List ℕ → Status → Type 0
 ExitsAsRefused input ended = (e : ReadError) → HasRefusal input e → (ended ≡ refusal_status e) ⊎ (ended ≡ NoMemory)
 
--- an input that starts ends as done, or with a full list, or at out of memory
+-- the statuses of an input that starts, where no fault is counted
+abbrev pub OfStarted : Status → Type 0
+OfStarted Done = Unit {0}
+OfStarted NoMemory = Unit {0}
+OfStarted Foreign = Unit {0}
+OfStarted OtherCatalog = Unit {0}
+OfStarted Limit = Unit {0}
+OfStarted _ = ⊥
+
+-- an input that starts ends as done, or with a full list, or at a disk that holds something else, or at out of memory
 abbrev pub ExitsAsStarted : List ℕ → Status → Type 0
-ExitsAsStarted input ended = (c : Catalog) (rs : List Request) → Starts input c rs → (ended ≡ Done) ⊎ ((ended ≡ Limit) ⊎ (ended ≡ NoMemory))
+ExitsAsStarted input ended = (c : Catalog) (rs : List Request) → Starts input c rs → OfStarted ended

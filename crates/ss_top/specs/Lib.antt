@@ -1,6 +1,11 @@
+pub mod Statuses
 pub mod Starts
 pub mod Refused
-pub mod Statuses
-pub mod Top
 pub mod Inputs
+pub mod Sinks
+pub mod Stores
+pub mod StoreRefusals
+pub mod Serving
 pub mod Runs
+pub mod Complete
+pub mod Top

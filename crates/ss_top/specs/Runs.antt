@@ -1,15 +1,31 @@
--- How a run ended, by the answers and the way in which settling ended.
-use Rattle.std.specs.Prelude.{Bool, true, false, cond, List, Option, Some, None}
+-- How a session ended, by the answers and the ways in which settling and the last flush ended; and its report.
+use Rattle.std.specs.Prelude.{◌≡◌, ◌≤◌, ◌^◌, ℕ, Bool, true, false, cond, List, Option, Some, IfSome, IfNone}
 use Rattle.std.specs.List.{list_any}
+use Rattle.ss_value.specs.FaultCounts.{Rose}
+use Rattle.ss_model.specs.declared.catalog.Catalog.{Catalog}
 use Rattle.ss_model.specs.declared.entry.Answer.{Answer}
 use Rattle.ss_model.specs.declared.entry.Answer.TheVariants.{ListFull}
+use Rattle.ss_model.specs.declared.entry.Request.{Request}
+use Rattle.ss_model.specs.Accepted.{Accepted}
+use Rattle.ss_model.specs.Database.{Database as Model}
+use Rattle.ss_model.specs.InStep.{IsInStep}
+use Rattle.ss_disk.specs.Files.{Files}
+use Rattle.ss_cmdlog.specs.declared.log.CmdLog.{CmdLog}
+use Rattle.ss_headline.specs.Disks.{DiskChange, disk_of}
+use Rattle.ss_headline.specs.Layers.{Opened}
+use Rattle.ss_headline.specs.Sentences.{room_from}
 use Rattle.ss_shard.specs.declared.database.Database.{Database}
+use Rattle.ss_engine.specs.declared.session.Finished.{Finished}
 use Rattle.ss_engine.specs.declared.settling.Settling.{Settling}
 use Rattle.ss_engine.specs.declared.settling.Settling.TheVariants as settling
+use Rattle.ss_engine.specs.Sessions.{EndsOnDisk}
 use Rattle.ss_report.specs.declared.run_end.End.{End}
 use Rattle.ss_report.specs.declared.run_end.End.TheVariants as report
+use Rattle.ss_top.specs.declared.session.Reported.{Reported}
 use Rattle.ss_top.specs.declared.status.Status.{Status}
-use Rattle.ss_top.specs.declared.status.Status.TheVariants.{Done, Limit}
+use Rattle.ss_top.specs.declared.status.Status.TheVariants.{Done, Disk, NoMemory, Limit}
+use Rattle.ss_top.specs.Statuses.{status_number}
+use Rattle.ss_top.specs.Stores.{RanAs}
 
 -- whether a request was answered that the list is full
 abbrev pub says_full : Answer → Bool
@@ -24,17 +40,33 @@ say_full answers = list_any says_full answers
 abbrev pub some_say_full : List (List Answer) → Bool
 some_say_full answers = list_any say_full answers
 
--- the end where settling ended so: nothing is pending, or the list is full; and else the run as a whole is out of memory
-abbrev pub settled_status : Settling → Option Status
-settled_status settling.Done = Some Done
-settled_status (settling.ListFull count) = Some Limit
-settled_status settling.NoMemory = None
+-- the end where settling ended so: nothing is pending, and all is written; or the list is full; or there was no memory
+abbrev pub settled_status : Settling → Bool → Status
+settled_status settling.Done flushed = cond flushed Done NoMemory
+settled_status (settling.ListFull count) flushed = Limit
+settled_status settling.NoMemory flushed = NoMemory
 
--- the end of a run with these answers to each client
-abbrev pub run_status : List (List Answer) → Settling → Option Status
-run_status answers end = cond (some_say_full answers) (Some Limit) (settled_status end)
+-- the end of a session with these answers to each client, whose disk may have failed
+abbrev pub session_status : Bool → List (List Answer) → Settling → Bool → Status
+session_status failed answers end flushed = cond failed Disk (cond (some_say_full answers) Limit (settled_status end flushed))
 
--- what the report says of it: its tables, or that the list is full, where no entry is safe without a disk
-abbrev pub end_for : Database → Status → End
-end_for database Limit = report.Stopped 9 0 0
-end_for database _ = report.Tables database
+-- what the report says of it: its tables, or where it stopped
+abbrev pub end_for : Status → Option Database → ℕ → ℕ → End
+end_for Done (Some database) count faults = report.Tables database
+end_for status database count faults = report.Stopped (status_number status) count faults
+
+-- a session ended with this status, and this is its report, where there was memory for one; else it stopped for want of memory
+pub record Reports (limit : ℕ) (catalog : Catalog) (requests : List Request) (status : Status) (text : Option (List ℕ)) (disk : DiskChange) : Type 0 where
+  pub whole : List ℕ
+  pub ran : RanAs limit catalog requests status whole disk
+  pub written : IfSome text (λ some. some ≡ whole)
+  pub unwritten : IfNone text (status ≡ NoMemory)
+  pub rose : status ≡ Disk → Rose disk.faults_before disk.faults_now
+
+-- the report of a finished session, wherever it began: the status and the text are those of its run on the disk that was opened for it
+abbrev pub ReportsFinished : {D : Type 0} → Type 0 → Type 0 → (D → Files) → (D → ℕ) → (D → ℕ → Files → Type 0) → (D → ℕ) → List Request → ℕ → Finished D → Reported D → Type 0
+ReportsFinished {D} tells honest seen moment images faults requests first finished reported =
+    (limit clients : ℕ) (catalog : Catalog) (db : Model) (old : D) (log : CmdLog D) → first ≤ 2 ^ 60 → Accepted catalog → IsInStep catalog db →
+    Opened catalog db first (disk_of tells honest seen moment images faults old log.disk) →
+    EndsOnDisk tells honest seen moment images faults catalog db first (room_from limit first) clients requests log finished →
+    Reports limit catalog requests reported.status reported.text (disk_of tells honest seen moment images faults old reported.disk)

@@ -15,7 +15,7 @@ use Rattle.ss_catalog_requests.specs.declared.request.RequestError.TheVariants a
 use Rattle.ss_top.specs.declared.input.ReadError.{ReadError}
 use Rattle.ss_top.specs.declared.input.ReadError.TheVariants.{Line as OfLine, NoCatalog, Catalog as OfCatalog, Request as OfRequest}
 use Rattle.ss_top.specs.declared.status.Status.{Status}
-use Rattle.ss_top.specs.declared.status.Status.TheVariants.{Done, Usage, Input, ReadFault, WriteFault, NoMemory, Limit}
+use Rattle.ss_top.specs.declared.status.Status.TheVariants.{Done, Usage, Input, ReadFault, WriteFault, Disk, NoMemory, Foreign, OtherCatalog, Limit}
 
 -- the program's exit status
 abbrev pub status_number : Status → ℕ
@@ -24,7 +24,10 @@ status_number Usage = 1
 status_number Input = 2
 status_number ReadFault = 3
 status_number WriteFault = 4
+status_number Disk = 5
 status_number NoMemory = 6
+status_number Foreign = 7
+status_number OtherCatalog = 8
 status_number Limit = 9
 
 -- ---- texts
@@ -37,9 +40,21 @@ usage_text = codes "[\"usage\"]\n"
 abbrev pub read_fault_text : List ℕ
 read_fault_text = codes "[\"read_fault\"]\n"
 
+-- the bytes at status 5 where no client had started
+abbrev pub disk_fault_text : List ℕ
+disk_fault_text = codes "[\"disk_fault\"]\n"
+
 -- the bytes at status 6
 abbrev pub no_memory_text : List ℕ
 no_memory_text = codes "[\"no_memory\"]\n"
+
+-- the bytes at status 7: the file that is no store's, and its first byte that can't be
+abbrev pub foreign_text : ℕ → ℕ → List ℕ
+foreign_text file at = line_text (array_of (string (codes "foreign") ∷ count file ∷ count at ∷ []))
+
+-- the bytes at status 8: the text of the stored catalogue and that of the given one
+abbrev pub other_catalog_text : List ℕ → List ℕ → List ℕ
+other_catalog_text stored given = line_text (array_of (string (codes "other_catalog") ∷ string stored ∷ string given ∷ []))
 
 -- a refused line with its code, and what it is refused for
 abbrev pub input_text : ℕ → List ℕ → List Data → List ℕ

@@ -3,7 +3,7 @@
 ghost use Rattle.std.specs.Prelude.{◌≡◌, ◌≤◌};
 ghost use Rattle.std.specs.IoError.{error_kind};
 ghost use Rattle.ss_top.specs.Statuses.{words_status, usage_text, no_memory_text};
-ghost use Rattle.ss_top.specs.Top.{sink_of, Writes};
+ghost use Rattle.ss_top.specs.Sinks.{sink_of, Writes};
 
 use crate::refusals::{NO_MEMORY, USAGE, write_line};
 use crate::status::Status;

@@ -1,9 +1,9 @@
 //! The lines of an input: a catalogue, and then a request on each line.
 
 ghost use Rattle.std.specs.Prelude.{◌≡◌, IfOk, IfErr, true};
-ghost use Rattle.ss_model.specs.Accepted.{Accepted};
 ghost use Rattle.ss_model.specs.Database.{fits_entry};
 ghost use Rattle.ss_model.specs.Report.{asked_entry};
+ghost use Rattle.ss_recover.specs.Recovering.{IsOwnCatalog};
 ghost use Rattle.ss_engine.specs.Clients.{AllFit};
 ghost use Rattle.ss_top.specs.Starts.{SaysCatalog, AsksFor, AskInOrder, StartLines};
 ghost use Rattle.ss_top.specs.Refused.{RefusesFirst, RefusesLater, RefusesAmong, RefusesLines, ComesOfLines};
@@ -42,7 +42,7 @@ pub struct ParsedInput {
 /// The catalogue of the first line, or the line's first refusal.
 fn catalog_at(alloc: Global, line: &Line) -> Result<Catalog, ReadError>
     ensures ok { IfOk result (SaysCatalog line.now) }
-    ensures accepted { IfOk result Accepted }
+    ensures own { IfOk result IsOwnCatalog }
     ensures refused { IfErr result (RefusesFirst line.now) }
     ensures others { IfErr result ComesOfLines }
 {
@@ -98,7 +98,7 @@ fn requests_at(alloc: Global, catalog: &Catalog, lines: &[Line]) -> Result<Seq<R
 /// Costs what `read_catalog` and `request_of` cost, and time linear in the bytes of the lines.
 pub fn parse_input(alloc: Global, lines: &[Line]) -> Result<ParsedInput, ReadError>
     ensures ok { IfOk result (λ p. StartLines lines.now p.catalog p.requests) }
-    ensures accepted { IfOk result (λ p. Accepted p.catalog) }
+    ensures own { IfOk result (λ p. IsOwnCatalog p.catalog) }
     ensures fit { IfOk result (λ p. AllFit p.catalog p.requests) }
     ensures refused { IfErr result (RefusesLines lines.now) }
     ensures others { IfErr result ComesOfLines }

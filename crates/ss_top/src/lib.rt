@@ -1,11 +1,13 @@
-//! All that the program `sstore` does, as a library: it reads a catalogue and requests, runs them, and writes the report.
+//! All that the program `sstore` does, as a library: it reads a catalogue and requests, runs them on the store of a disk, and
+//! writes the report; or it recovers a store.
 //!
-//! [`sstore`] is the whole program between a source of bytes and a sink, and its contract is the program's promise. It
+//! [`sstore`] is the whole program between a source of bytes, a sink and a disk, and its contract is the program's promise. It
 //! answers a [`Status`], whose number is the exit status.
 //!
-//! - `top`: the call `sstore`, and the same with a limit of its list; `run`: the run of what an input asks for
+//! - `top`: the call `sstore`, and the same with a limit of its list
+//! - `store`: the store is opened or made, and serves a session; `session`: its requests run, and are reported
 //! - `input`: the lines of an input, read as a catalogue and requests, or their first refusal
-//! - `refusals`: what is written where nothing ran, and with which status
+//! - `refusals`: what is written of an input that is refused, and with which status; `store_refusals`: the same of a disk
 //! - `status`: how a run ends
 //! - `command_line`: what is written where the words of the command line can't be had
 //! - `laws`: an input has one answer
@@ -17,8 +19,10 @@ mod command_line;
 mod input;
 mod laws;
 mod refusals;
-mod run;
+mod session;
 mod status;
+mod store;
+mod store_refusals;
 mod top;
 
 pub use command_line::refuse_words;

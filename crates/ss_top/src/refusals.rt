@@ -6,7 +6,7 @@ ghost use Rattle.serde_json.specs.View.{view};
 ghost use Rattle.serde_json.specs.Written.{has_float};
 ghost use Rattle.ss_model.specs.ReportLines.{array_of, count, line_text};
 ghost use Rattle.ss_top.specs.Statuses.{input_text, sql_fault, fault_code, counted_word, bytes_refusal, catalog_refusal, request_refusal, refusal_text, bytes_status, catalog_status, request_status, refusal_status};
-ghost use Rattle.ss_top.specs.Top.{sink_of, Writes, ExitsRefused};
+ghost use Rattle.ss_top.specs.Sinks.{sink_of, Writes, ExitsRefused};
 
 use crate::input::ReadError;
 use crate::status::Status;
@@ -37,7 +37,7 @@ pub fn write_line<K: Sink>(sink: &mut K, text: &str)
 // ---- lines
 
 /// A value as compact JSON, with its line feed.
-fn line_text(alloc: Global, value: &Json) -> Result<String, AllocError>
+pub(crate) fn line_text(alloc: Global, value: &Json) -> Result<String, AllocError>
     requires { has_float (view value.now) ≡ false }
     ensures { IfOk result (λ text. string_bytes text ≡ line_text (view value.now)) }
 {

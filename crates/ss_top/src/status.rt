@@ -16,8 +16,14 @@ pub enum Status {
     ReadFault,
     /// 4: all is as at 0, but writing the report failed.
     WriteFault,
+    /// 5: the disk failed. Before the clients started nothing ran; else no execution below the count that is told is lost.
+    Disk,
     /// 6: the run as a whole is out of memory.
     NoMemory,
+    /// 7: the disk holds something that is no store, and nothing ran.
+    Foreign,
+    /// 8: the disk holds a store of another catalogue, and nothing ran.
+    OtherCatalog,
     /// 9: the list has as many entries as it may, and a request or a step was to follow.
     Limit,
 }
@@ -33,7 +39,10 @@ impl Status {
             Status::Input => 2,
             Status::ReadFault => 3,
             Status::WriteFault => 4,
+            Status::Disk => 5,
             Status::NoMemory => 6,
+            Status::Foreign => 7,
+            Status::OtherCatalog => 8,
             Status::Limit => 9,
         }
     }

@@ -1,23 +1,28 @@
-//! The program's one call: from the bytes of a source to the bytes of a sink.
+//! The program's one call: from the bytes of a source to the bytes of a sink, on a disk.
 
-ghost use Rattle.std.specs.Prelude.{◌≤◌, ◌+◌, ◌^◌, IfOk, IfErr, OnOk, IfSome};
+ghost use Rattle.std.specs.Prelude.{◌≡◌, ◌≤◌, ◌+◌, ◌^◌, IfOk, IfErr, OnOk, IfSome};
 ghost use Rattle.std.specs.Io.KnownBytes.{IsAtEnd};
 ghost use Rattle.ss_lines.specs.Causes.{TakesAtMost};
 ghost use Rattle.ss_lines.specs.Lines.{max_input};
-ghost use Rattle.ss_model.specs.Accepted.{Accepted};
 ghost use Rattle.ss_engine.specs.Clients.{AllFit};
-ghost use Rattle.ss_top.specs.Starts.{Starts};
+ghost use Rattle.ss_headline.specs.Disks.{disk_of};
+ghost use Rattle.ss_recover.specs.Recovering.{IsOwnCatalog};
 ghost use Rattle.ss_top.specs.Refused.{IsRefusedBy};
-ghost use Rattle.ss_top.specs.Top.{source_of, sink_of, LeavesOfRefusedSource, WritesRun, ExitsRun, Ends, most_entries};
+ghost use Rattle.ss_top.specs.Sinks.{source_of, sink_of, LeavesOfRefusedSource};
+ghost use Rattle.ss_top.specs.Starts.{Starts};
+ghost use Rattle.ss_top.specs.Top.{Ends, RunEndsSo, most_entries};
 
 use crate::input::{ParsedInput, ReadError, parse_input};
 use crate::laws::an_input_has_one_answer;
-use crate::refusals::{NO_MEMORY, USAGE, refuse, write_line};
-use crate::run::{ReportedRun, run_and_report};
+use crate::refusals::{USAGE, refuse, write_line};
 use crate::status::Status;
+use crate::store::{recover_store, run_on_store};
+use ss_disk::Disk;
 use ss_engine::Gate;
-use ss_lines::{Sink, Source, read_lines, write_all};
-use ss_words::run_options;
+use ss_headline::nothing_ran;
+use ss_lines::{Sink, Source, read_lines};
+use ss_recover::a_disk_has_one_fault;
+use ss_words::{Command, CommandLine, command_line};
 use std::alloc::Global;
 use std::sync::Wait;
 use std::thread::Threads;
@@ -31,7 +36,7 @@ fn read_input<S: Source>(alloc: Global, source: &mut S) -> Result<ParsedInput, R
     ensures counts { S.faults source.old ≤ S.faults source.new }
     ensures end { OnOk result (IsAtEnd (S.left source.new)) }
     ensures ok { IfOk result (λ p. IfSome (S.left source.old) (λ input. Starts input p.catalog p.requests)) }
-    ensures accepted { IfOk result (λ p. Accepted p.catalog) }
+    ensures own { IfOk result (λ p. IsOwnCatalog p.catalog) }
     ensures fit { IfOk result (λ p. AllFit p.catalog p.requests) }
     ensures refused { IfErr result (λ e. IfSome (S.left source.old) (λ input. IsRefusedBy input e)) }
     ensures leaves { IfErr result (λ e. LeavesOfRefusedSource e (S.faults source.old) (S.faults source.new) (S.left source.old) (S.left source.new)) }
@@ -43,92 +48,97 @@ fn read_input<S: Source>(alloc: Global, source: &mut S) -> Result<ParsedInput, R
     parse_input(alloc, lines.as_slice())
 }
 
-/// Writes the report of a run, and answers how the program ends: at a fault of the sink another way only where all was done.
-fn write_text<K: Sink>(sink: &mut K, reported: &ReportedRun) -> Status
-    ensures counts { K.faults sink.old ≤ K.faults sink.new }
-    ensures ends { WritesRun reported.now.status result reported.now.text
-        (sink_of (K.written sink.old) (K.written sink.new) (K.faults sink.old) (K.faults sink.new)) }
-{
-    match write_all(sink, reported.text.as_slice()) {
-        Ok(()) => reported.status,
-        Err(_) => match reported.status {
-            Status::Done => Status::WriteFault,
-            other => other,
-        },
-    }
-}
-
-/// Runs what an input asks for, and writes the report, or that there was no memory for the run as a whole.
-fn run_input<K: Sink, G: Gate + Drop + Sync, R: Threads + Wait + Sync>(
+/// The command `run`: reads an input, runs what it asks for on the store, and reports.
+fn run<S: Source, K: Sink, D: Disk + Drop + Send, G: Gate + Drop + Sync, R: Threads + Wait + Sync>(
     rt: &R,
     alloc: Global,
-    input: ParsedInput,
-    partitions: u8,
+    source: &mut S,
     sink: &mut K,
+    disk: D,
+    partitions: u8,
     gate: G,
     limit: u64,
-) -> Status
-    requires accepted { Accepted input.catalog }
-    requires fit { AllFit input.catalog input.requests }
+) -> (Status, D)
     requires partitions { (1 ≤ partitions) × (partitions ≤ 8) }
-    requires limit { limit ≤ 2 ^ 60 }
-    ensures counts { K.faults sink.old ≤ K.faults sink.new }
-    ensures ends { ExitsRun input.catalog limit input.requests result
-        (sink_of (K.written sink.old) (K.written sink.new) (K.faults sink.old) (K.faults sink.new)) }
+    ensures ends { RunEndsSo limit (source_of (S.left source.old) (S.left source.new) (S.faults source.old) (S.faults source.new))
+        (sink_of (K.written sink.old) (K.written sink.new) (K.faults sink.old) (K.faults sink.new))
+        (disk_of D.tells D.honest D.seen D.moment D.images D.faults disk result.1) result.0 }
+    ensures taken { TakesAtMost (max_input + 1) (S.left source.old) (S.left source.new) }
+    ensures counts { (S.faults source.old ≤ S.faults source.new) × (K.faults sink.old ≤ K.faults sink.new) × (D.faults disk ≤ D.faults result.1) }
 {
-    match run_and_report(rt, alloc, input, partitions, gate, limit) {
-        Ok(reported) => write_text(sink, &reported),
-        Err(_) => {
-            write_line(sink, NO_MEMORY);
-            Status::NoMemory
-        }
+    // Do nothing: they state the laws by which the one answer of an input is the one given here, and so that of a disk.
+    an_input_has_one_answer();
+    nothing_ran::<D>();
+    a_disk_has_one_fault();
+    match read_input(alloc, source) {
+        Ok(ParsedInput { catalog, requests }) => run_on_store(
+            rt, alloc, sink, disk, catalog, &requests, partitions, gate, limit,
+        ),
+        Err(error) => (refuse(alloc, sink, &error), disk),
     }
 }
 
-/// Does all that the program does: reads a catalogue and requests, runs them, and reports. The list has at most `limit` entries.
+/// Does all that the program does, on the store that a disk holds: for the command `run` it reads a catalogue and requests from the
+/// source, runs them behind what the store has, and reports; for `recover` it runs what is pending there, and reports. A session's
+/// list has at most `limit` entries.
 ///
-/// As many clients as ask run at the same time, and a thread for each partition. Costs time linear in the bytes of the input and of
-/// the report, and what the executions cost. Takes the memory of the input's lines, or of its values with the tables and the report,
-/// whichever is more.
-pub fn sstore_limited<S: Source, K: Sink, G: Gate + Drop + Sync, R: Threads + Wait + Sync>(
+/// As many clients as ask run at the same time, and a thread for each partition; a receipt is asked for once in 16 answers of a
+/// client, and one flush writes what all of them wait for. Costs time linear in the bytes of the input, of the store and of the
+/// report, and what the executions cost, those of the store once more. Takes the memory of the input's lines, or of its values with
+/// the tables and the report, whichever is more; and for a while that of the store's file twice.
+pub fn sstore_limited<
+    S: Source,
+    K: Sink,
+    D: Disk + Drop + Send,
+    G: Gate + Drop + Sync,
+    R: Threads + Wait + Sync,
+>(
     rt: &R,
     alloc: Global,
     words: &[String],
     source: &mut S,
     sink: &mut K,
+    disk: D,
     gate: G,
     limit: u64,
-) -> Status
-    requires { limit ≤ 2 ^ 60 }
+) -> (Status, D)
     ensures { Ends limit words.now (source_of (S.left source.old) (S.left source.new) (S.faults source.old) (S.faults source.new))
-        (sink_of (K.written sink.old) (K.written sink.new) (K.faults sink.old) (K.faults sink.new)) result }
+        (sink_of (K.written sink.old) (K.written sink.new) (K.faults sink.old) (K.faults sink.new))
+        (disk_of D.tells D.honest D.seen D.moment D.images D.faults disk result.1) result.0 }
 {
-    // Does nothing: it states the laws by which the one answer of an input is the one given here.
-    an_input_has_one_answer();
-    let options = match run_options(words) {
-        Some(options) => options,
-        None => {
-            write_line(sink, USAGE);
-            return Status::Usage;
-        }
+    // Do nothing: they state the laws by which a disk that is left alone is as before, and by which a store has room for what is owed.
+    nothing_ran::<D>();
+    a_disk_has_one_fault();
+    let Some(CommandLine { command, options }) = command_line(words) else {
+        write_line(sink, USAGE);
+        return (Status::Usage, disk);
     };
-    match read_input(alloc, source) {
-        Ok(input) => run_input(rt, alloc, input, options.partitions, sink, gate, limit),
-        Err(error) => refuse(alloc, sink, &error),
+    let partitions = options.partitions;
+    match command {
+        Command::Run => run(rt, alloc, source, sink, disk, partitions, gate, limit),
+        Command::Recover => recover_store(rt, alloc, sink, disk, partitions, gate, limit),
     }
 }
 
 /// The same with a list of at most [`MOST_ENTRIES`] entries: the program.
-pub fn sstore<S: Source, K: Sink, G: Gate + Drop + Sync, R: Threads + Wait + Sync>(
+pub fn sstore<
+    S: Source,
+    K: Sink,
+    D: Disk + Drop + Send,
+    G: Gate + Drop + Sync,
+    R: Threads + Wait + Sync,
+>(
     rt: &R,
     alloc: Global,
     words: &[String],
     source: &mut S,
     sink: &mut K,
+    disk: D,
     gate: G,
-) -> Status
+) -> (Status, D)
     ensures { Ends most_entries words.now (source_of (S.left source.old) (S.left source.new) (S.faults source.old) (S.faults source.new))
-        (sink_of (K.written sink.old) (K.written sink.new) (K.faults sink.old) (K.faults sink.new)) result }
+        (sink_of (K.written sink.old) (K.written sink.new) (K.faults sink.old) (K.faults sink.new))
+        (disk_of D.tells D.honest D.seen D.moment D.images D.faults disk result.1) result.0 }
 {
-    sstore_limited(rt, alloc, words, source, sink, gate, MOST_ENTRIES)
+    sstore_limited(rt, alloc, words, source, sink, disk, gate, MOST_ENTRIES)
 }

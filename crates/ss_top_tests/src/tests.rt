@@ -4,7 +4,9 @@ mod edges;
 mod faults;
 mod full;
 mod gates;
+mod stores;
 
+use ss_disk::MemoryDisk;
 use ss_engine::{Gate, NoGate};
 use ss_lines::{MemorySink, MemorySource};
 use ss_top::{Status, sstore};
@@ -41,6 +43,11 @@ impl Ended {
     }
 }
 
+/// An empty disk that never fails.
+fn empty_disk(alloc: Global) -> MemoryDisk {
+    MemoryDisk::new(alloc, Seq::new(alloc))
+}
+
 /// The words of a command line.
 fn words_of(alloc: Global, words: &[&str]) -> Result<Vec<String>, AllocError> {
     let mut owned = Vec::new(alloc);
@@ -62,7 +69,8 @@ fn run_gated<G: Gate + Drop + Sync, R: Threads + Wait + Sync>(
     let words = words_of(alloc, words)?;
     let mut source = MemorySource::new(Seq::from_vec(input));
     let mut sink = MemorySink::new(alloc, room)?;
-    let status = sstore(rt, alloc, &words, &mut source, &mut sink, gate);
+    let disk = empty_disk(alloc);
+    let (status, _) = sstore(rt, alloc, &words, &mut source, &mut sink, disk, gate);
     let written = Vec::from_slice(alloc, sink.as_bytes())?;
     Ok(Ended { status, written })
 }

@@ -1,24 +1,34 @@
 -- What a command asks for is one thing, and within its range.
-use Rattle.std.proofs.Common.{◌≡◌, ◌≤◌, [], ◌∷◌, ◌∙◌, List, ℕ, true, codes, sym, ap, subst, arith, leb-true}
+use Rattle.std.proofs.Common.{◌≡◌, ◌≤◌, [], ◌∷◌, ◌∙◌, List, ℕ, true, codes, sym, refl, ap, ap₂, subst, arith, leb-true}
 use Rattle.std.specs.List.{AllByRecursion}
 use Rattle.std.specs.Str.Parse.{digits_value}
 use Rattle.std.proofs.lemmas.Bool.{and_parts}
 use Rattle.ss_words.specs.declared.names.OptionName.{OptionName}
 use Rattle.ss_words.specs.declared.names.OptionName.TheVariants.{Partitions, Recovery}
-use Rattle.ss_words.specs.declared.run.Options.{Options}
-use Rattle.ss_words.specs.Words.{Asked, asked, fits, is_number_within, AreOptions, IsRunCommand, RunAsksFor, partitions_asked}
+use Rattle.ss_words.specs.declared.names.Command.{Command}
+use Rattle.ss_words.specs.declared.names.Command.TheVariants.{Run, Recover}
+use Rattle.ss_words.specs.declared.command.CommandLine.{CommandLine}
+use Rattle.ss_words.specs.Words.{Asked, asked, fits, is_number_within, AreOptions, IsCommand, AsksFor, command_word, partitions_asked}
 use Rattle.ss_words.proofs.Reading.{one_spelling}
 
-pub asks_is_command : (words : List (List ℕ)) (what : Options) → RunAsksFor words what → IsRunCommand words
-asks_is_command words what h = record { rest = h.rest; options = h.asks.options; command = h.command; are = h.asks.are }
+pub asks_is_command : (words : List (List ℕ)) (line : CommandLine) → AsksFor words line → IsCommand words
+asks_is_command words line h = record { command = line.command; rest = h.rest; options = h.asks.options; begins = h.begins; are = h.asks.are }
 
-pub asks_for_one : (words : List (List ℕ)) (what other : Options) → RunAsksFor words what → RunAsksFor words other → what ≡ other
-asks_for_one words what other h k =
-    let both : codes "run" ∷ k.rest ≡ codes "run" ∷ h.rest = sym k.command ∙ h.command in
+-- commands with one word are one
+same_command : (a b : Command) → command_word a ≡ command_word b → a ≡ b
+same_command Run Run e = refl
+same_command Run Recover e = absurd cc
+same_command Recover Run e = absurd cc
+same_command Recover Recover e = refl
+
+pub asks_for_one : (words : List (List ℕ)) (line other : CommandLine) → AsksFor words line → AsksFor words other → line ≡ other
+asks_for_one words line other h k =
+    let both : command_word other.command ∷ k.rest ≡ command_word line.command ∷ h.rest = sym k.begins ∙ h.begins in
     let behind : k.rest ≡ h.rest = cc in
+    let first : command_word line.command ≡ command_word other.command = cc in
     let same = one_spelling h.rest h.asks.options k.asks.options h.asks.are.spelled (subst (λ w. AreOptions w k.asks.options) behind k.asks.are).spelled in
-    let partitions : what.partitions ≡ other.partitions = h.asks.partitions ∙ ap partitions_asked same ∙ sym k.asks.partitions in
-    ap (λ (n : ℕ). record { partitions = n }) partitions
+    let partitions : line.options.partitions ≡ other.options.partitions = h.asks.partitions ∙ ap partitions_asked same ∙ sym k.asks.partitions in
+    ap₂ (λ (c : Command) (n : ℕ). record { command = c; options = record { partitions = n } }) (same_command line.command other.command first) partitions
 
 -- ---- from one partition to eight
 
@@ -38,5 +48,5 @@ asked_within : (options : List Asked) → AllByRecursion (λ option. fits option
 asked_within [] fit = (omega arith, omega arith)
 asked_within (option ∷ others) fit = one_more option.name option.value others fit.0 (asked_within others fit.1)
 
-pub partitions_are_few : (words : List (List ℕ)) (what : Options) → RunAsksFor words what → (1 ≤ what.partitions) × (what.partitions ≤ 8)
-partitions_are_few words what h = subst IsPartitions (sym h.asks.partitions) (asked_within h.asks.options h.asks.are.fit)
+pub partitions_are_few : (words : List (List ℕ)) (line : CommandLine) → AsksFor words line → (1 ≤ line.options.partitions) × (line.options.partitions ≤ 8)
+partitions_are_few words line h = subst IsPartitions (sym h.asks.partitions) (asked_within h.asks.options h.asks.are.fit)

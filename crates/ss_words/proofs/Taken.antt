@@ -9,7 +9,7 @@ use Rattle.ss_lemmas.proofs.Bools.{some_same}
 use Rattle.ss_lemmas.proofs.EachOf.{all_with, all_such, all_both}
 use Rattle.ss_words.specs.declared.names.OptionName.{OptionName}
 use Rattle.ss_words.specs.declared.names.OptionName.TheVariants.{Partitions, Recovery}
-use Rattle.ss_words.specs.declared.run.Options.{Options}
+use Rattle.ss_words.specs.declared.command.Options.{Options}
 use Rattle.ss_words.specs.declared.found.Found.{Found}
 use Rattle.ss_words.specs.Words.{Asked, asked, is_named, StartsWith, Spells, AreOptions, AreNoOptions, OptionsAskFor, partitions_asked, words_of}
 use Rattle.ss_words.specs.Found.{nothing_found, was_found, with_value, with_option, can_take}

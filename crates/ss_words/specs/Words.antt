@@ -1,4 +1,4 @@
--- Which words of a command line are the command run, and what its options ask for.
+-- Which words of a command line are a command, and what its options ask for.
 use Rattle.std.specs.Prelude.{◌≡◌, ◌⊎◌, ◌&&◌, ◌++◌, ℕ, List, [], ◌∷◌, length, map, Bool, true, false, codes, bytes_eq, nat_le, String, string_bytes, if◌then◌else◌}
 use Rattle.std.specs.List.{AllByRecursion, IsDistinct}
 use Rattle.std.specs.Str.{all_ascii_digits}
@@ -6,7 +6,10 @@ use Rattle.std.specs.Str.Parse.{digits_value, starts_with_minus}
 use Rattle.std.specs.declared.alloc.Global.{Global}
 use Rattle.ss_words.specs.declared.names.OptionName.{OptionName}
 use Rattle.ss_words.specs.declared.names.OptionName.TheVariants.{Partitions, Recovery}
-use Rattle.ss_words.specs.declared.run.Options.{Options}
+use Rattle.ss_words.specs.declared.names.Command.{Command}
+use Rattle.ss_words.specs.declared.names.Command.TheVariants.{Run, Recover}
+use Rattle.ss_words.specs.declared.command.Options.{Options}
+use Rattle.ss_words.specs.declared.command.CommandLine.{CommandLine}
 
 -- ---- The options. One more is a line in each of these two.
 
@@ -85,20 +88,26 @@ pub record OptionsAskFor (words : List (List ℕ)) (what : Options) : Type 0 whe
 abbrev pub AreNoOptions : List (List ℕ) → Type 0
 AreNoOptions words = (options : List Asked) → ¬ (AreOptions words options)
 
--- ---- The command run
+-- ---- The commands. One more is a line.
 
--- the words are run, and behind it options
-pub record IsRunCommand (words : List (List ℕ)) : Type 0 where
+-- the word of a command
+abbrev pub command_word : Command → List ℕ
+command_word Run = codes "run"
+command_word Recover = codes "recover"
+
+-- the words are a command, and behind it options
+pub record IsCommand (words : List (List ℕ)) : Type 0 where
+  pub command : Command
   pub rest : List (List ℕ)
   pub options : List Asked
-  pub command : words ≡ codes "run" ∷ rest
+  pub begins : words ≡ command_word command ∷ rest
   pub are : AreOptions rest options
 
--- the words are run, and behind it options that ask for this
-pub record RunAsksFor (words : List (List ℕ)) (what : Options) : Type 0 where
+-- the words are this command, and behind it options that ask for this
+pub record AsksFor (words : List (List ℕ)) (line : CommandLine) : Type 0 where
   pub rest : List (List ℕ)
-  pub command : words ≡ codes "run" ∷ rest
-  pub asks : OptionsAskFor rest what
+  pub begins : words ≡ command_word line.command ∷ rest
+  pub asks : OptionsAskFor rest line.options
 
 -- the bytes of the words
 abbrev pub words_of : List (String Global) → List (List ℕ)

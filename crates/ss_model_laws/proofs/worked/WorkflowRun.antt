@@ -17,7 +17,7 @@ use Rattle.ss_model.specs.Statements.{insert_row}
 use Rattle.ss_model.specs.Queries.{query_result}
 use Rattle.ss_model.specs.Bodies.{run_body}
 use Rattle.ss_model.specs.Database.{Database, Applied, apply, empty_database}
-use Rattle.ss_model.specs.Replays.{Replays}
+use Rattle.ss_model.specs.Replays.{Replays, after}
 use Rattle.ss_model.specs.Settling.{Settles, Drained}
 use Rattle.ss_model.proofs.CallerLemmas.{literal_value, column_meaning, binary_value, binary_test}
 use Rattle.ss_model_laws.proofs.worked.Workflow.{workflow}
@@ -113,3 +113,6 @@ drained (suc zero) e = refl
 drained (suc (suc zero)) e = refl
 drained (suc (suc (suc zero))) e = refl
 drained (suc (suc (suc (suc q)))) e = cc
+
+pub whole_batch_drains : Drained workflow (after workflow start whole_batch)
+whole_batch_drains = rw pushes (rw splits (rw raises (rw adds (rw joins drained))))

@@ -20,10 +20,10 @@ use Rattle.ss_model.specs.Settling.{Kept, kept}
 use Rattle.ss_model.specs.WholeDatabase.{WholeDatabase}
 use Rattle.ss_model_laws.proofs.CallerLemmas.{accepted, workflow, empty_whole, whole_after}
 use Rattle.ss_record.specs.Numbers.{number_bytes}
-use Rattle.ss_snapshot.specs.Image.{image_bytes}
-use Rattle.ss_snapshot.proofs.CallerLemmas.{no_entries}
+use Rattle.ss_standing.specs.Image.{image_bytes}
 use Rattle.ss_standing.specs.FitsImage.{FitNumbers, FitsImage}
 use Rattle.ss_standing.specs.Laws.{TellsKept}
+use Rattle.ss_standing.proofs.EmptyKept.{no_entries}
 use Rattle.ss_standing.proofs.ImageTells.{no_numbers_fit}
 use Rattle.ss_standing.proofs.Fronts.{empty_fits}
 

@@ -1,5 +1,5 @@
 -- Each law at a store that meets its premises: a batch through the workflow that splits and joins, behind the image of a new store.
-use Rattle.std.proofs.Common.{◌^◌, ◌<◌, ◌≡◌, ℕ, drop, ◌∙◌, pos, inl, inr, ◌+◌, List, [], ◌∷◌, ◌++◌, length, replicate, refl, sym, ap, subst, arith}
+use Rattle.std.proofs.Common.{◌^◌, ◌<◌, ◌≡◌, ℕ, drop, ◌∙◌, pos, inl, inr, List, [], ◌∷◌, ◌++◌, length, replicate, refl, sym, ap, subst, arith}
 use Rattle.std.specs.List.{flat_map}
 use Rattle.std.proofs.lemmas.List.Elements.{All-from_recursion}
 use Rattle.ss_value.specs.declared.value.Value.TheVariants.{Int}
@@ -11,8 +11,8 @@ use Rattle.ss_model.specs.Settling.{kept}
 use Rattle.ss_model.specs.WholeDatabase.{WholeDatabase}
 use Rattle.ss_model.proofs.CallerLemmas.{goes_on}
 use Rattle.ss_model_laws.proofs.CallerLemmas.{accepted, workflow, empty_whole, whole_batch}
-use Rattle.ss_model_laws.proofs.KeptLists.{kept_carries}
-use Rattle.ss_model_laws.proofs.worked.WorkflowRun.{whole_batch_replays}
+use Rattle.ss_model_laws.proofs.CallerLemmas.{kept_carries}
+use Rattle.ss_model_laws.proofs.CallerLemmas.{whole_batch_replays}
 use Rattle.ss_record.specs.Numbers.{number_bytes}
 use Rattle.ss_record.specs.Bounds.{IsShort, IsTypedValue, IsTypedRow, IsRecordable, IsTyped}
 use Rattle.ss_disk.specs.Files.{Files}
@@ -22,12 +22,11 @@ use Rattle.ss_cmdlog.specs.Formatting.{fresh}
 use Rattle.ss_cmdlog.specs.Log.{IsReceipted, present}
 use Rattle.ss_cmdlog.specs.Groups.{groups_of}
 use Rattle.ss_cmdlog.specs.Store.{StandsFor, StandsForPart}
-use Rattle.ss_snapshot.specs.Image.{text_bytes}
-use Rattle.ss_snapshot.specs.EmptyImage.{empty_image_of}
-use Rattle.ss_snapshot.proofs.CallerLemmas.{empty_image, no_table, no_stream, no_sources}
+use Rattle.ss_standing.specs.Image.{text_bytes, empty_image_of}
 use Rattle.ss_standing.specs.Standing.{listed_entries, Replayed, Stands, Prefix, StandsForAtLeast}
 use Rattle.ss_standing.specs.Behind.{HasFront}
 use Rattle.ss_standing.specs.Keeping.{Keeps}
+use Rattle.ss_standing.proofs.EmptyKept.{empty_image, no_table, no_stream, no_sources}
 use Rattle.ss_standing.proofs.ImageTells.{image_tells}
 use Rattle.ss_standing.proofs.OneThing.{entries_tell}
 use Rattle.ss_standing.proofs.Fronts.{generation_goes_on, front_stands, empty_fits, fresh_replayed, forming_stands}
@@ -44,7 +43,7 @@ told : kept workflow start ≡ kept workflow start
 told = image_tells workflow start start start_whole start_whole (empty_fits workflow) (empty_fits workflow) refl
 
 -- no bytes of text, one table, five streams, four counts, and no sources of one border stream
-image_is : length (empty_image_of workflow) ≡ 132
+pub image_is : length (empty_image_of workflow) ≡ 132
 unfolding number_bytes
 image_is = ap length (
     empty_image workflow
@@ -61,7 +60,7 @@ image_is = ap length (
 abbrev entries : List Entry
 entries = listed_entries whole_batch
 
-abbrev store : Stood
+abbrev pub store : Stood
 store = record { first = 0; image = empty_image_of workflow; groups = entries ∷ [] }
 
 abbrev seven : Row
@@ -82,10 +81,10 @@ is_group = record {
   );
 }
 
-files : Files
+pub files : Files
 files = record { selector = 0 ∷ []; first = front_bytes store ++ 0 ∷ []; second = [] }
 
-files_stand : StandsFor files store
+pub files_stand : StandsFor files store
 unfolding files
 files_stand = record {
   byte = 0;
@@ -118,11 +117,11 @@ same_list : whole_batch ≡ whole_batch
 same_list = entries_tell workflow start whole_batch whole_batch whole_batch_replays whole_batch_replays refl
 
 -- a front of the list stands behind the generation
-prefix : Prefix workflow start 0 whole_batch files
+pub prefix : Prefix workflow start 0 whole_batch files
 prefix = front_stands (generation_goes_on kept_carries goes_on) goes_on workflow (fresh (empty_image_of workflow)) 0 start whole_batch files new_store whole_batch_replays has_front
 
 -- the longer generation stands for all of it, which is one thing
-stands : Stands workflow files 5 (kept workflow (after workflow start whole_batch))
+pub stands : Stands workflow files 5 (kept workflow (after workflow start whole_batch))
 stands = inr (record {
   stood = store;
   stands = files_stand;
@@ -142,7 +141,7 @@ part : StandsForPart (fresh (empty_image_of workflow)) (groups_of entries) files
 part = subst (λ (groups : List (List Entry)). StandsForPart (fresh (empty_image_of workflow)) groups files) (sym one_group) (1, omega arith, files_stand)
 
 -- and a prefix with a receipt for all of it
-at_least : StandsForAtLeast workflow 5 files
+pub at_least : StandsForAtLeast workflow 5 files
 at_least = record { count = 5; k = kept workflow (after workflow start whole_batch); stands = stands; enough = omega arith }
 
 -- on a disk of which a crash leaves this at each moment
@@ -167,5 +166,5 @@ each_stands : (image : Files) → present (λ disk. 0) images tt image → Stand
 each_stands image is = subst (StandsForAtLeast workflow 0) (sym is) (record { count = 5; k = kept workflow (after workflow start whole_batch); stands = stands; enough = omega arith })
 
 -- an empty disk stands for the empty database
-nothing : Stands workflow (record { selector = []; first = []; second = [] }) 0 (kept workflow start)
+pub nothing : Stands workflow (record { selector = []; first = []; second = [] }) 0 (kept workflow start)
 nothing = forming_stands workflow (record { selector = []; first = []; second = [] }) start_whole (inl refl)

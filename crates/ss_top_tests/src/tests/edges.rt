@@ -1,6 +1,6 @@
 //! Inputs at the limits of size and depth, and command lines.
 
-use super::{ACCOUNTS, Ended, run_within, words_of};
+use super::{ACCOUNTS, Ended, empty_disk, run_within, words_of};
 use ss_engine::NoGate;
 use ss_lines::{MAX_INPUT, MAX_LINE, MemorySink, MemorySource, Source};
 use ss_top::{Status, sstore};
@@ -72,7 +72,8 @@ fn run_letters<R: Threads + Wait + Sync>(
     let words = words_of(alloc, &["run"])?;
     let mut source = Letters { left: count };
     let mut sink = MemorySink::new(alloc, 64)?;
-    let status = sstore(rt, alloc, &words, &mut source, &mut sink, NoGate);
+    let disk = empty_disk(alloc);
+    let (status, _) = sstore(rt, alloc, &words, &mut source, &mut sink, disk, NoGate);
     let written = Vec::from_slice(alloc, sink.as_bytes())?;
     Ok(Ended { status, written })
 }
@@ -86,7 +87,8 @@ fn ends_with<R: Threads + Wait + Sync>(
     let words = words_of(alloc, words)?;
     let mut source = MemorySource::new(Seq::new(alloc));
     let mut sink = MemorySink::new(alloc, 64)?;
-    Ok(sstore(rt, alloc, &words, &mut source, &mut sink, NoGate))
+    let disk = empty_disk(alloc);
+    Ok(sstore(rt, alloc, &words, &mut source, &mut sink, disk, NoGate).0)
 }
 
 #[test]

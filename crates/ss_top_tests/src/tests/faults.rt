@@ -1,6 +1,6 @@
 //! A source that fails, and sinks that are full.
 
-use super::{ACCOUNTS, run_within, words_of};
+use super::{ACCOUNTS, empty_disk, run_within, words_of};
 use ss_engine::NoGate;
 use ss_lines::{MemorySink, Source};
 use ss_top::{Status, sstore};
@@ -31,7 +31,16 @@ fn a_source_that_fails(rt: HostRuntime) -> Result<(), Fail> {
     let words = words_of(rt.alloc(), &["run"])?;
     let mut source = Broken { faults: 0 };
     let mut sink = MemorySink::new(rt.alloc(), 64)?;
-    let status = sstore(&rt, rt.alloc(), &words, &mut source, &mut sink, NoGate);
+    let disk = empty_disk(rt.alloc());
+    let (status, _) = sstore(
+        &rt,
+        rt.alloc(),
+        &words,
+        &mut source,
+        &mut sink,
+        disk,
+        NoGate,
+    );
     assert!(rt; status == Status::ReadFault);
     assert!(rt; sink.as_bytes() == b"[\"read_fault\"]\n".as_slice());
     Ok(())

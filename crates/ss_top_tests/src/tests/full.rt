@@ -1,6 +1,6 @@
 //! Lists that have as many entries as they may.
 
-use super::{ACCOUNTS, DIAMOND, Ended, with_requests, words_of};
+use super::{ACCOUNTS, DIAMOND, Ended, empty_disk, with_requests, words_of};
 use ss_engine::NoGate;
 use ss_lines::{MemorySink, MemorySource};
 use ss_top::{Status, sstore_limited};
@@ -30,12 +30,13 @@ fn run_limited<R: Threads + Wait + Sync>(
     let input = with_requests(alloc, catalog, requests)?;
     let mut source = MemorySource::new(Seq::from_vec(input));
     let mut sink = MemorySink::new(alloc, room)?;
-    let status = sstore_limited(
+    let (status, _) = sstore_limited(
         rt,
         alloc,
         &words,
         &mut source,
         &mut sink,
+        empty_disk(alloc),
         NoGate,
         u64::from(limit),
     );
@@ -49,7 +50,7 @@ fn no_place_for_a_request(rt: HostRuntime) -> Result<(), Fail> {
     assert!(rt;
         ended.is(
             Status::Limit,
-            "[\"reply\",2,0,[\"done\",[]]]\n[\"reply\",3,1,[\"done\",[[1,5]]]]\n[\"reply\",4,\"list_full\"]\n[\"call\",0,0,0,[\"done\",[]]]\n[\"call\",1,0,1,[\"done\",[[1,5]]]]\n[\"stopped\",9,0]\n",
+            "[\"reply\",2,0,[\"done\",[]]]\n[\"reply\",3,1,[\"done\",[[1,5]]]]\n[\"reply\",4,\"list_full\"]\n[\"call\",0,0,0,[\"done\",[]]]\n[\"call\",1,0,1,[\"done\",[[1,5]]]]\n[\"stopped\",9,2]\n",
         )
     );
     let none = run_limited(&rt, rt.alloc(), ACCOUNTS, PUTS, 0, 1024)?;
@@ -81,7 +82,7 @@ fn no_place_for_a_step(rt: HostRuntime) -> Result<(), Fail> {
     assert!(rt;
         ended.is(
             Status::Limit,
-            "[\"reply\",2,0,[\"done\",[]]]\n[\"push\",0,0,0,[\"done\",[]]]\n[\"step\",1,\"a\",0,[\"done\",[]]]\n[\"step\",2,\"p\",0,[\"done\",[]]]\n[\"stopped\",9,0]\n",
+            "[\"reply\",2,0,[\"done\",[]]]\n[\"push\",0,0,0,[\"done\",[]]]\n[\"step\",1,\"a\",0,[\"done\",[]]]\n[\"step\",2,\"p\",0,[\"done\",[]]]\n[\"stopped\",9,3]\n",
         )
     );
     Ok(())

@@ -1,11 +1,9 @@
-use Rattle.std.proofs.Common.{◌∙◌}
 use Rattle.ss_engine.specs.Clients.{HasMade}
 use Rattle.ss_engine.proofs.ByClient.{many_lanes, of_lanes}
 use Rattle.ss_engine.proofs.clients.run_clients.Goals as goal
 
 pub returns-clause-many : goal.returns-clause-many
-returns-clause-many g c =
-    many_lanes _ (HasMade g.I.Life.first g.I.Life.limit c.args.requests.now) c.lanes_of.result.items _ c.lanes_of.ensures c.serve_beside_executors-clients.ensures ∙ c.in_ok-clients.ensures.many_are
+returns-clause-many g c = many_lanes _ (HasMade g.I.Life.first g.I.Life.limit c.args.requests.now) c.lanes_of.result.items _ c.lanes_of.ensures c.serve_beside_executors-clients.ensures
 
 pub returns-clause-made : goal.returns-clause-made
 returns-clause-made g c = of_lanes _ (HasMade g.I.Life.first g.I.Life.limit c.args.requests.now) c.lanes_of.result.items _ c.lanes_of.ensures c.serve_beside_executors-clients.ensures

@@ -8,7 +8,8 @@ use Rattle.ss_engine.proofs.clients.serve_clients.Goals as goal
 pub for_each_mut-requires-sync-F : goal.for_each_mut-requires-sync-F
 for_each_mut-requires-sync-F g c κs within =
     let e = clients_sync g.row.I g.row.N g.row.G g.row.R g.I.Life (record { mir = erased; lft = κs.1.1.1.1.1.1.0 }) (record { mir = erased; lft = κs.1.1.1.1.1.1.1.1.0 })
-    c.type_bounds.send-I c.type_bounds.sync-I c.type_bounds.sync-N c.type_bounds.sync-G c.type_bounds.sync-R (record { mir = erased; lft = κs.1.1.1.1.1.1.1.0 }) (record { mir = erased; lft = κs.1.1.1.1.1.1.1.1.1.0 }) in
+    c.type_bounds.send-I c.type_bounds.sync-I c.type_bounds.sync-N c.type_bounds.sync-G c.type_bounds.sync-R g.row.D g.D.Disk c.type_bounds.send-D
+    (record { mir = erased; lft = κs.1.1.1.1.1.1.1.0 }) (record { mir = erased; lft = κs.1.1.1.1.1.1.1.1.1.0 }) (record { mir = erased; lft = κs.1.1.1.1.1.1.1.1.1.1.0 }) in
     record { shared = e.shared }
 
 pub returns : goal.returns

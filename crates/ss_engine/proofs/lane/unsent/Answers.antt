@@ -1,13 +1,14 @@
-use Rattle.std.proofs.Common.{refl}
+use Rattle.std.proofs.Common.{◌∙◌, ap, refl}
 use Rattle.ss_engine.specs.declared.reply.Said.TheVariants.{NoMemory}
+use Rattle.ss_engine.specs.Lanes.{LaneView}
 use Rattle.ss_engine.proofs.Coming.{as_before, submitted}
 use Rattle.ss_engine.proofs.Growing.{on_itself}
 use Rattle.ss_engine.proofs.lane.unsent.Goals as goal
 
 pub answered-requires-clause-answered : goal.answered-requires-clause-answered
-answered-requires-clause-answered g c = as_before g.I.Life.clients g.I.Life.first c.lane.inside.ticket c.lane.inside.mark c.lane.inside.note c.lane.inside.answers.items c.lane.invariant
+answered-requires-clause-answered g c = as_before g.I.Life.clients g.I.Life.first c.lane.inside.ticket c.lane.inside.due c.lane.inside.mark c.lane.inside.note c.lane.inside.answers.items c.lane.invariant
 
 pub returns : goal.returns
 returns g c = λ limit what.
-    submitted g.I.Life.catalog g.I.Life.parts g.I.Life.first limit c.lane.inside.ticket what c.lane.inside.answers c.lane.inside.note c.lane.inside.note c.args.lane c.answered.result NoMemory
-    c.lane.view_is c.answered.ensures.client c.answered.ensures.note c.answered.ensures.answers c.answered.ensures.spare (on_itself g.I.Life.catalog g.I.Life.parts c.lane.inside.note) refl
+    submitted g.I.Life.catalog g.I.Life.parts g.I.Life.first limit c.lane.inside.ticket c.lane.inside.due what c.lane.inside.answers c.lane.inside.note c.lane.inside.note c.args.lane c.answered.result NoMemory
+    c.lane.view_is (ap (λ (l : LaneView). l.due.faults) c.lane.view_is ∙ c.requires.going) c.answered.ensures.client c.answered.ensures.note c.answered.ensures.due c.answered.ensures.answers c.answered.ensures.spare (on_itself g.I.Life.catalog g.I.Life.parts c.lane.inside.note) refl

@@ -1,5 +1,5 @@
 use Rattle.std.proofs.Common.{◌∙◌, inr, sym, ap, subst}
-use Rattle.ss_snapshot.specs.EmptyImage.{BeginsWithText}
+use Rattle.ss_standing.specs.Image.{BeginsWithText}
 use Rattle.ss_snapshot.specs.Foreign.{common_bytes}
 use Rattle.ss_snapshot.proofs.CommonBytes.{other, not_other}
 use Rattle.ss_snapshot.proofs.image.catalog_in.Goals as goal

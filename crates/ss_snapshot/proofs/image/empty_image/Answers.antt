@@ -1,9 +1,8 @@
 use Rattle.std.proofs.Common.{◌≡◌, ◌∙◌, ◌++◌, List, ℕ, [], length, sym, ap, append_assoc}
 use Rattle.std.specs.FinMap as finmap
 use Rattle.ss_record.specs.Numbers.{number_bytes}
-use Rattle.ss_snapshot.specs.Image.{text_bytes, table_bytes, window_bytes, stream_bytes, sources_bytes, border_streams}
-use Rattle.ss_snapshot.specs.EmptyImage.{repeated}
-use Rattle.ss_snapshot.proofs.EmptyKept.{empty_image}
+use Rattle.ss_standing.specs.Image.{text_bytes, table_bytes, window_bytes, stream_bytes, sources_bytes, border_streams, repeated}
+use Rattle.ss_standing.proofs.CallerLemmas.{empty_image}
 use Rattle.ss_snapshot.proofs.image.empty_image.Goals as goal
 
 -- six pieces, one after another

@@ -1,6 +1,6 @@
 use Rattle.std.proofs.Common.{◌≡◌, ◌++◌}
 use Rattle.ss_record.specs.Numbers.{number_bytes}
-use Rattle.ss_snapshot.specs.EmptyImage.{repeated}
+use Rattle.ss_standing.specs.Image.{repeated}
 use Rattle.ss_snapshot.proofs.kept.push_counts.Given as goal
 
 abbrev pub invariant-loop : goal.invariant-loop

@@ -1,7 +1,7 @@
 use Rattle.std.proofs.Common.{◌≡◌, ◌∙◌, ◌++◌, ap, sym}
 use Rattle.ss_record.specs.Numbers.{number_bytes}
 use Rattle.ss_model.specs.Database.{is_border_stream}
-use Rattle.ss_snapshot.proofs.EmptyKept.{sources_more, sources_same}
+use Rattle.ss_snapshot.proofs.Repeated.{sources_more, sources_same}
 use Rattle.ss_snapshot.proofs.kept.push_sources.Goals as goal
 use Rattle.ss_snapshot.proofs.kept.push_sources.Goals.{then-is_border_stream+in_ok-push_u64, else-is_border_stream}
 

@@ -2,8 +2,7 @@ use Rattle.std.proofs.Common.{◌≡◌, ◌++◌, length}
 use Rattle.std.specs.List.{filter, range_with_len}
 use Rattle.std.specs.FinMap as finmap
 use Rattle.ss_model.specs.Database.{is_border_stream}
-use Rattle.ss_snapshot.specs.Image.{sources_bytes}
-use Rattle.ss_snapshot.specs.EmptyImage.{repeated}
+use Rattle.ss_standing.specs.Image.{sources_bytes, repeated}
 use Rattle.ss_snapshot.proofs.kept.push_sources.Given as goal
 
 abbrev pub invariant-loop-stream : goal.invariant-loop-stream

@@ -1,6 +1,5 @@
 use Rattle.std.proofs.Common.{◌≡◌, [], ◌++◌}
-use Rattle.ss_snapshot.specs.Image.{stream_bytes}
-use Rattle.ss_snapshot.specs.EmptyImage.{repeated}
+use Rattle.ss_standing.specs.Image.{stream_bytes, repeated}
 use Rattle.ss_snapshot.proofs.kept.push_streams.Given as goal
 
 abbrev pub invariant-loop : goal.invariant-loop

@@ -1,8 +1,9 @@
 use Rattle.std.proofs.Common.{◌∙◌}
 use Rattle.std.specs.FinMap as finmap
 use Rattle.ss_record.specs.Numbers.{number_bytes}
-use Rattle.ss_snapshot.specs.Image.{table_bytes}
-use Rattle.ss_snapshot.proofs.EmptyKept.{one_more, no_table}
+use Rattle.ss_standing.specs.Image.{table_bytes}
+use Rattle.ss_standing.proofs.CallerLemmas.{no_table}
+use Rattle.ss_snapshot.proofs.Repeated.{one_more}
 use Rattle.ss_snapshot.proofs.kept.push_tables.Goals as goal
 
 pub loop-preserved : goal.loop-preserved

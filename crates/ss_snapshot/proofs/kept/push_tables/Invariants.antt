@@ -1,7 +1,6 @@
 use Rattle.std.proofs.Common.{◌≡◌, ◌++◌}
 use Rattle.std.specs.FinMap as finmap
-use Rattle.ss_snapshot.specs.Image.{table_bytes}
-use Rattle.ss_snapshot.specs.EmptyImage.{repeated}
+use Rattle.ss_standing.specs.Image.{table_bytes, repeated}
 use Rattle.ss_snapshot.proofs.kept.push_tables.Given as goal
 
 abbrev pub invariant-loop : goal.invariant-loop

@@ -1,6 +1,6 @@
 use Rattle.std.proofs.Common.{refl, sym, subst, arith}
 use Rattle.ss_snapshot.specs.Foreign.{RefusesCut}
-use Rattle.ss_snapshot.specs.EmptyImage.{BeginsWithText}
+use Rattle.ss_standing.specs.Image.{BeginsWithText}
 use Rattle.ss_snapshot.proofs.Texts.{text_found, uncounted, too_few}
 use Rattle.ss_snapshot.proofs.text.text_in.Goals as goal
 

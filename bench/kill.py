@@ -1,0 +1,169 @@
+#!/usr/bin/env python3
+"""Kills the program in the midst of its runs, recovers its store each time, and goes on.
+
+    python3 bench/kill.py [--kills 100] [--folder FOLDER] [--partitions 2] [--seed 1]
+
+Runs the program that `./sstore` built (build it first), or the one that SSTORE names, on a store in a new folder inside
+FOLDER. In each round eight clients push batches, each from a source of its own: the last ones of the round before again, and
+new ones behind them. After a random time the process gets SIGKILL, until that has been done so often. What its log then has is read here, byte by byte as
+docs/FORMATS.md says, and `sstore FOLDER recover` has to agree with it: each source's pushes are counted and summed once
+each, none that was in the log is missing, and none that was not is there. A round that ends before it is killed has to have
+done all its pushes, those that were there before as duplicates. The last line has what was counted.
+"""
+
+import argparse
+import json
+import os
+import random
+import signal
+import subprocess
+import sys
+import tempfile
+import time
+
+from store_file import entries_of
+
+TOP = os.path.dirname(os.path.dirname(os.path.abspath(__file__)))
+PROGRAM = os.environ.get("SSTORE", os.path.join(TOP, "crates/ss_program/out/ss_program"))
+CLIENTS = 8
+AGAIN = 3  # pushes of the round before that are made again
+
+CATALOGUE = {
+    "tables": [{"name": "sums", "columns": [["source", "int"], ["n", "int"], ["total", "int"]], "key": ["source"], "part": 1}],
+    "streams": [
+        {"name": "readings", "columns": [["source", "int"], ["value", "int"]]},
+        {"name": "checked", "columns": [["source", "int"], ["value", "int"]]},
+    ],
+    "procedures": [
+        {
+            "name": "check",
+            "kind": "border",
+            "inputs": ["readings"],
+            "touch": {"part": 0},
+            "body": [{"emit": "checked", "sql": "SELECT source, value FROM readings"}],
+        },
+        {
+            "name": "add",
+            "kind": "interior",
+            "inputs": ["checked"],
+            "touch": {"part": 1},
+            "body": [
+                {
+                    "for_each": "checked",
+                    "body": [{"sql": "UPDATE sums SET n = n + 1, total = total + :value WHERE source = :source"}],
+                }
+            ],
+        },
+        {
+            "name": "open",
+            "kind": "call",
+            "args": [["source", "int"]],
+            "touch": {"part": 1},
+            "body": [{"insert": "sums", "values": [{"arg": "source"}, 0, 0]}],
+        },
+    ],
+}
+
+
+def value(source, seq):
+    """What a push of this source with this number adds."""
+    return 1000 * source + seq
+
+
+def pushes(numbers, many):
+    """The lines of a round: of each source the last pushes again, and so many new ones, in turn."""
+    lines = [json.dumps(CATALOGUE)]
+    for step in range(AGAIN + many):
+        for source in range(CLIENTS):
+            seq = numbers[source] - AGAIN + step
+            if seq >= 0:
+                row = [source, value(source, seq)]
+                lines.append(json.dumps({"client": source, "push": "readings", "source": f"s{source}", "seq": seq, "rows": [row]}))
+    return "\n".join(lines) + "\n"
+
+
+def accepted(entries):
+    """The next number of each source, where pushes are accepted in their order and once each."""
+    numbers = {}
+    for entry in entries:
+        if entry[0] == "push" and entry[2] == numbers.get(entry[1], 0):
+            numbers[entry[1]] = entry[2] + 1
+    return [numbers.get(f"s{source}", 0) for source in range(CLIENTS)]
+
+
+# ---- runs
+
+
+def call(folder, words, text=""):
+    done = subprocess.run([PROGRAM, folder, *words], input=text, capture_output=True, text=True)
+    return done.returncode, [json.loads(line) for line in done.stdout.splitlines()]
+
+
+def check_tables(lines, numbers):
+    """The printed sums are those of these pushes."""
+    for source, n, total in (line[2] for line in lines if line[:2] == ["row", "sums"]):
+        assert n == numbers[source], f"source {source}: {n} were counted, and {numbers[source]} are in the log"
+        assert total == sum(value(source, seq) for seq in range(n)), f"source {source}: another sum"
+
+
+def killed(folder, words, text, seconds):
+    """Runs so long, and tells the status and the report, where the run ended before it was killed."""
+    process = subprocess.Popen([PROGRAM, folder, *words], stdin=subprocess.PIPE, stdout=subprocess.PIPE, text=True)
+    until = time.monotonic() + seconds
+    try:
+        printed, _ = process.communicate(text, timeout=max(0.0, until - time.monotonic()))
+        return process.returncode, [json.loads(line) for line in printed.splitlines()]
+    except subprocess.TimeoutExpired:
+        process.send_signal(signal.SIGKILL)
+        process.communicate()
+        return None
+
+
+def main():
+    parser = argparse.ArgumentParser(description=__doc__, formatter_class=argparse.RawDescriptionHelpFormatter)
+    parser.add_argument("--kills", type=int, default=100)
+    parser.add_argument("--folder")
+    parser.add_argument("--partitions", type=int, default=2)
+    parser.add_argument("--seed", type=int, default=1)
+    given = parser.parse_args()
+    if not os.access(PROGRAM, os.X_OK):
+        sys.exit("the program isn't built: run ./sstore - run < examples/stored_run.jsonl first")
+    chance = random.Random(given.seed)
+    run = ["run", "--partitions", str(given.partitions)]
+    recover = ["recover", "--partitions", str(given.partitions)]
+    rounds = kills = in_midst = 0
+    with tempfile.TemporaryDirectory(dir=given.folder) as folder:
+        opens = [json.dumps({"call": "open", "args": [source]}) for source in range(CLIENTS)]
+        status, _ = call(folder, run, "\n".join([json.dumps(CATALOGUE), *opens]) + "\n")
+        assert status == 0, "the store was not made"
+        numbers = [0] * CLIENTS
+        while kills < given.kills:
+            rounds += 1
+            many = chance.choice([10, 100, 400])
+            text = pushes(numbers, many)
+            before = len(entries_of(folder)[0])
+            ended = killed(folder, run, text, chance.uniform(0.0, 0.25))
+            entries, _ = entries_of(folder)
+            there = accepted(entries)
+            if ended is None:
+                kills += 1
+                in_midst += len(entries) > before
+            else:
+                status, lines = ended
+                assert status == 0, f"status {status}"
+                assert there == [number + many for number in numbers], "a push was not done"
+                check_tables(lines, there)
+            assert all(new >= old for new, old in zip(there, numbers)), "a push that was there is lost"
+            status, lines = call(folder, recover)
+            assert status == 0, f"recovery ended with {status}: {lines[-1:]}"
+            places = [line[1] for line in lines if line[0] == "step"]
+            assert places == list(range(len(entries), len(entries) + len(places))), "steps at other places"
+            check_tables(lines, there)
+            numbers = there
+        entries, groups = entries_of(folder)
+    print(f"{rounds} rounds, {kills} killed, {in_midst} of them with entries of theirs in the log")
+    print(f"{sum(numbers)} pushes once each, {len(entries)} entries in {groups} groups")
+
+
+if __name__ == "__main__":
+    main()

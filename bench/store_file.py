@@ -1,0 +1,64 @@
+"""Reads the store of a folder, byte by byte as docs/FORMATS.md says, for the scripts beside it."""
+
+import os
+
+
+def number(data, at, size):
+    return int.from_bytes(data[at : at + size], "big"), at + size
+
+
+def row_at(data, at):
+    count, at = number(data, at, 1)
+    row = []
+    for _ in range(count):
+        kind, at = number(data, at, 1)
+        if kind == 0:
+            n, at = number(data, at, 8)
+            row.append(n - (1 << 64) if n >> 63 else n)
+        else:
+            length, at = number(data, at, 1)
+            row.append(data[at : at + length].decode())
+            at += length
+    return row, at
+
+
+def entry_at(data, at):
+    """A record: a push as its source's name and its number, and any other as its kind."""
+    kind, at = number(data, at, 1)
+    if kind == 3:
+        return ("step",), at + 10
+    at += 9
+    if kind == 1:
+        at += 2
+        _, at = row_at(data, at)
+        return ("call",), at
+    at += 2
+    length, at = number(data, at, 1)
+    source = data[at : at + length].decode()
+    seq, at = number(data, at + length, 8)
+    rows, at = number(data, at, 2)
+    for _ in range(rows):
+        _, at = row_at(data, at)
+    return ("push", source, seq), at
+
+
+def entries_of(folder):
+    """The entries of the generation that counts, and how many groups they are in."""
+    selector = open(os.path.join(folder, "selector"), "rb").read() if os.path.exists(os.path.join(folder, "selector")) else b""
+    if not selector:
+        return [], 0
+    data = open(os.path.join(folder, "gen1" if selector[0] % 2 == 0 else "gen2"), "rb").read()
+    assert data[:8] == b"SSTORE1\n", "no store"
+    length, at = number(data, 16, 8)
+    at += length
+    entries, groups = [], 0
+    while data[at] == 1:
+        body, at = number(data, at + 1, 4)
+        count, at = number(data, at, 4)
+        end = at + body
+        for _ in range(count):
+            entry, at = entry_at(data, at)
+            entries.append(entry)
+        assert at == end, "a group of another length"
+        groups += 1
+    return entries, groups

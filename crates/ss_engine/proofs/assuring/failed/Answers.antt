@@ -1,0 +1,14 @@
+use Rattle.std.proofs.Common.{ap, sym, subst}
+use Rattle.ss_commitlog.specs.Tokens.{Known}
+use Rattle.ss_engine.specs.declared.due.Due.{Due}
+use Rattle.ss_engine.specs.Lanes.{IsLane}
+use Rattle.ss_engine.proofs.LanesAssured.{lane_failed}
+use Rattle.ss_engine.proofs.assuring.failed.Goals as goal
+
+pub invariant_of-lane : goal.invariant_of-lane
+invariant_of-lane g c =
+    let seen = c.see-mark.ensures.seen in
+    let more = c.see-mark.ensures.more in
+    subst (λ (d : Due). IsLane g.I.Life.clients g.I.Life.first c.args.ticket d c.see-mark.result.0 c.args.note c.args.answers.items) (sym c.failed_at-due.ensures)
+    (lane_failed g.I.Life.clients g.I.Life.first c.args.ticket c.args.due c.args.mark c.args.note c.see-mark.result.0 c.args.answers.items c.see-mark.result.1 c.see-mark.result.2 c.requires.lane c.requires.going c.requires.failed
+    (ap (λ (k : Known). k.role) seen) (ap (λ (k : Known). k.list) seen) (ap (λ (k : Known). k.count) seen) (ap (λ (k : Known). k.faults) seen) more.0 more.1)

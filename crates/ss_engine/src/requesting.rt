@@ -1,0 +1,69 @@
+//! A client's requests, one after another, with a receipt where one is due.
+
+ghost use Rattle.std.specs.Prelude.{◌≡◌, ◌≤◌, true, length};
+ghost use Rattle.ss_model.specs.Database.{fits_entry};
+ghost use Rattle.ss_model.specs.Report.{asked_entry};
+ghost use Rattle.ss_engine.specs.Assured.{HasRequested};
+ghost use Rattle.ss_engine.specs.Clients.{AllFit, HasMade, MayBegin};
+
+use crate::due::MOST_PENDING;
+use crate::engine::Engine;
+use crate::gate::Gate;
+use crate::lane::{Lane, halted, unsent};
+use ss_disk::Disk;
+use ss_model::{Life, Request};
+use ss_proc::Runner;
+use ss_receipts::{DurableError, Receipts};
+use std::alloc::Global;
+use std::sync::Wait;
+
+/// Makes one request. Where as many listed answers wait for a receipt as may, it asks for one first; and where there is no memory
+/// for that, or the disk has failed, the request is answered so and is not run.
+fn make_request<I: Life, N: Runner + Drop, G: Gate + Drop, R: Wait, D: Disk + Drop>(
+    rt: &R,
+    alloc: Global,
+    engine: &Engine<I, N, G>,
+    receipts: &Receipts<I, D>,
+    lane: Lane<I>,
+    request: &Request,
+) -> Lane<I>
+    requires spare { 1 ≤ lane.spare }
+    requires own { request.now.client ≡ lane.client }
+    requires fits { fits_entry I.catalog (asked_entry lane.client (length lane.answers) request.now.what) ≡ true }
+    ensures { HasRequested I.first I.limit lane request.now.what result }
+{
+    if lane.pending() < MOST_PENDING {
+        return engine.submit(rt, alloc, lane, request);
+    }
+    let (lane, receipt) = engine.ensure_durable(rt, alloc, receipts, lane);
+    match receipt {
+        Ok(_) => engine.submit(rt, alloc, lane, request),
+        Err(DurableError::NoMemory) => unsent(lane),
+        Err(_) => halted(lane),
+    }
+}
+
+/// Makes those of these requests that are the client's, in order, each once the one before is answered, and then asks for a
+/// receipt of all.
+pub(crate) fn make_requests<I: Life, N: Runner + Drop, G: Gate + Drop, R: Wait, D: Disk + Drop>(
+    rt: &R,
+    alloc: Global,
+    engine: &Engine<I, N, G>,
+    receipts: &Receipts<I, D>,
+    mut lane: Lane<I>,
+    requests: &[Request],
+    number: usize,
+) -> Lane<I>
+    requires fit { AllFit I.catalog requests.now }
+    requires begins { MayBegin I.first requests.now number lane }
+    ensures { HasMade I.first I.limit requests.now number result }
+{
+    for request in requests {
+        if usize::from(request.client) == number {
+            lane = make_request(rt, alloc, engine, receipts, lane, request);
+        }
+    }
+    // Whatever comes of it, the close flushes what has no receipt yet.
+    let (lane, _) = engine.ensure_durable(rt, alloc, receipts, lane);
+    lane
+}

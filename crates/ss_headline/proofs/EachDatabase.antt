@@ -1,0 +1,88 @@
+-- What is said of a session holds from each database of which the same is kept.
+use Rattle.std.proofs.Common.{◌≡◌, ◌∙◌, ℕ, ◌+◌, List, [], ◌∷◌, ◌++◌, length, take, refl, sym, ap, subst, get_or}
+use Rattle.ss_model.specs.declared.catalog.Catalog.{Catalog}
+use Rattle.ss_model.specs.declared.entry.Listed.{Listed}
+use Rattle.ss_model.specs.declared.entry.Request.{Request}
+use Rattle.ss_model.specs.Database.{Database}
+use Rattle.ss_model.specs.Replays.{after}
+use Rattle.ss_model.specs.Report.{End, Whole, Stopped, end_lines, reply_lines}
+use Rattle.ss_model.specs.ReportLines.{database_lines, done_line, list_lines, lines_text}
+use Rattle.ss_model.specs.Settling.{Kept, kept, Drained, border_stream, KeptCarries}
+use Rattle.ss_model_kept.proofs.CallerLemmas.{from_kept}
+use Rattle.ss_disk.specs.Files.{Files}
+use Rattle.ss_disk.proofs.CallerLemmas.{leaves_less}
+use Rattle.ss_standing.specs.Standing.{Stands, StandsForFront, Prefix}
+use Rattle.ss_headline.specs.Disks.{DiskChange, disk_of}
+use Rattle.ss_headline.specs.Sentences.{RepliesAndTables, WholeSession, StoppedSession, stop_at}
+use Rattle.ss_headline.specs.Laws.{HoldsFromOther, SessionsHoldFromEach}
+
+module _ (carries : KeptCarries) (catalog : Catalog) (x y : Database) (same : kept catalog x ≡ kept catalog y) where
+  same_tables : (list : List Listed) → database_lines catalog (after catalog x list) ≡ database_lines catalog (after catalog y list)
+  same_tables list =
+      let tables = (from_kept catalog (after catalog x list) (after catalog y list) (carries catalog x y same list).after).contents.tables in
+      λ i. database_lines catalog (record (after catalog x list) { contents = record (after catalog x list).contents { tables = tables i } })
+
+  same_end : (list : List Listed) (end : End) → end_lines catalog x list end ≡ end_lines catalog y list end
+  same_end list Whole = ap (λ ls. ls ++ done_line (length list) ∷ []) (same_tables list)
+  same_end list (Stopped stop) = refl
+
+  replies_carried : (requests : List Request) (first : ℕ) (list : List Listed) (end : End) (text : List ℕ) → RepliesAndTables catalog requests x first list end text
+      → RepliesAndTables catalog requests y first list end text
+  replies_carried requests first list end text r = record {
+    one_by_one = (carries catalog x y same list).replays r.one_by_one;
+    report = record {
+      asked = r.report.asked;
+      in_turn = r.report.in_turn;
+      answers = r.report.answers;
+      answered = r.report.answered;
+      text = r.report.text ∙ ap (λ ls. lines_text (reply_lines catalog requests r.report.answers ++ list_lines catalog first list ++ ls)) (same_end list end);
+    };
+  }
+
+  front_carried : (first : ℕ) (list : List Listed) (least : ℕ) (image : Files) → StandsForFront catalog x first list least image → StandsForFront catalog y first list least image
+  front_carried first list least image f = record {
+    some = f.some;
+    within = f.within;
+    enough = f.enough;
+    stands = subst (λ (k : Kept). Stands catalog image (first + f.some) k) (carries catalog x y same (take f.some list)).after f.stands;
+  }
+
+  drained_carried : (list : List Listed) → Drained catalog (after catalog x list) → Drained catalog (after catalog y list)
+  drained_carried list d = λ q streams.
+      let alike = from_kept catalog (after catalog x list) (after catalog y list) (carries catalog x y same list).after in
+      sym (ap (λ cs. get_or cs q 0) alike.counts) ∙ d q streams ∙ alike.lengths (border_stream catalog q)
+
+  module _ {D : Type 0} (tells honest : Type 0) (seen : D → Files) (moment : D → ℕ) (images : D → ℕ → Files → Type 0) (faults : D → ℕ) where
+    abbrev change : D → D → DiskChange
+    change = disk_of tells honest seen moment images faults
+
+    whole_carried : (requests : List Request) (first : ℕ) (list : List Listed) (text : List ℕ) (old new : D) → WholeSession catalog requests first list text (change old new) x
+        → WholeSession catalog requests first list text (change old new) y
+    whole_carried requests first list text old new s = record {
+      replies_and_tables = replies_carried requests first list Whole text s.replies_and_tables;
+      in_order = (carries catalog x y same list).orders s.in_order;
+      wherever_a_crash_falls = λ quiet. leaves_less moment images old new (Prefix catalog x first list) (Prefix catalog y first list) (s.wherever_a_crash_falls quiet) (front_carried first list first);
+      all_stands = λ quiet image left. subst (λ (k : Kept). Stands catalog image (first + length list) k) (carries catalog x y same list).after (s.all_stands quiet image left);
+      at_the_end = drained_carried list s.at_the_end;
+    }
+
+    stopped_carried : (requests : List Request) (limit first : ℕ) (list : List Listed) (status count : ℕ) (text : List ℕ) (old new : D)
+        → StoppedSession catalog requests limit first list status count text (change old new) x → StoppedSession catalog requests limit first list status count text (change old new) y
+    stopped_carried requests limit first list status count text old new s = record {
+      replies = replies_carried requests first list (stop_at status count limit first list (faults old) (faults new)) text s.replies;
+      in_order = (carries catalog x y same list).orders s.in_order;
+      wherever_a_crash_falls = λ quiet. leaves_less moment images old new (Prefix catalog x first list) (Prefix catalog y first list) (s.wherever_a_crash_falls quiet) (front_carried first list first);
+      every_receipt_stands = record {
+        from_first = s.every_receipt_stands.from_first;
+        receipt = s.every_receipt_stands.receipt;
+        fronts = λ quiet image left. front_carried first list count image (s.every_receipt_stands.fronts quiet image left);
+        few_behind = s.every_receipt_stands.few_behind;
+      };
+    }
+
+    pub holds_from_other : HoldsFromOther change catalog x y
+    holds_from_other = record { whole = whole_carried; stopped = stopped_carried }
+
+pub sessions_hold_from_each : KeptCarries → {D : Type 0} (tells honest : Type 0) (seen : D → Files) (moment : D → ℕ) (images : D → ℕ → Files → Type 0) (faults : D → ℕ)
+    → SessionsHoldFromEach (disk_of tells honest seen moment images faults)
+sessions_hold_from_each carries tells honest seen moment images faults = λ catalog x y same. holds_from_other carries catalog x y same tells honest seen moment images faults

@@ -1,0 +1,57 @@
+-- The sentences come together.
+use Rattle.std.proofs.Common.{◌≡◌, ℕ, ◌+◌, List, length, take, subst, arith, take_all}
+use Rattle.ss_model.specs.declared.catalog.Catalog.{Catalog}
+use Rattle.ss_model.specs.declared.entry.Listed.{Listed}
+use Rattle.ss_model.specs.Database.{Database}
+use Rattle.ss_model.specs.Replays.{after}
+use Rattle.ss_model.specs.Settling.{kept}
+use Rattle.ss_disk.specs.Files.{Files}
+use Rattle.ss_standing.specs.Standing.{Stands, StandsForAll, StandsForFront, StandsForAtLeast}
+use Rattle.ss_standing.specs.Laws.{ReceiptsBoundFronts}
+use Rattle.ss_headline.specs.Disks.{DiskChange, disk_of, AtTheExit}
+use Rattle.ss_headline.specs.Laws.{FewStandBehind, WholeSessions, StoppedSessions}
+use Rattle.ss_headline.specs.Layers.{Closed}
+use Rattle.ss_headline.proofs.Untouched.{quiet_again, crashes_join}
+
+-- a front that ends at the end is all
+front_is_all : (catalog : Catalog) (db : Database) (first : ℕ) (list : List Listed) (image : Files) → StandsForFront catalog db first list (first + length list) image → StandsForAll catalog db first list image
+front_is_all catalog db first list image f =
+    let some_is : f.some ≡ length list = omega (arith, f.within, f.enough) in
+    let whole : take f.some list ≡ list = take_all f.some list (omega (arith, some_is)) in
+    subst (λ (l : List Listed). Stands catalog image (first + length list) (kept catalog (after catalog db l))) whole
+    (subst (λ (m : ℕ). Stands catalog image (first + m) (kept catalog (after catalog db (take f.some list)))) some_is f.stands)
+
+module _ {D : Type 0} (tells honest : Type 0) (seen : D → Files) (moment : D → ℕ) (images : D → ℕ → Files → Type 0) (faults : D → ℕ) (bounds : ReceiptsBoundFronts) where
+  abbrev change : D → D → DiskChange
+  change = disk_of tells honest seen moment images faults
+
+  -- at the exit each image is a front that ends at the receipt at least
+  fronts_at_exit : (catalog : Catalog) (db : Database) (first : ℕ) (list : List Listed) (n : ℕ) (old new : D) → Closed catalog db first list (change old new)
+      → AtTheExit (change old new) (StandsForAtLeast catalog n) → AtTheExit (change old new) (StandsForFront catalog db first list n)
+  fronts_at_exit catalog db first list n old new closed receipt quiet image left =
+      let run = closed.crashes quiet in
+      bounds catalog db first list n image (run.each (moment new) image run.later (omega arith) left) (receipt quiet image left)
+
+  pub whole_sessions : WholeSessions change
+  whole_sessions = λ catalog requests db first list text old mid new opened closed settled report. record {
+    replies_and_tables = record { one_by_one = closed.replays; report = report };
+    in_order = closed.orders;
+    wherever_a_crash_falls = crashes_join tells honest seen moment images faults catalog db first list old mid new opened closed;
+    all_stands = λ quiet image left.
+        front_is_all catalog db first list image
+        (fronts_at_exit catalog db first list (first + length list) mid new closed settled.receipt (quiet_again tells honest seen moment images faults catalog db first old mid new opened quiet) image left);
+    at_the_end = settled.drained;
+  }
+
+  pub stopped_sessions : FewStandBehind → StoppedSessions change
+  stopped_sessions few = λ catalog requests limit db first list status count text old mid new opened closed receipted report. record {
+    replies = record { one_by_one = closed.replays; report = report };
+    in_order = closed.orders;
+    wherever_a_crash_falls = crashes_join tells honest seen moment images faults catalog db first list old mid new opened closed;
+    every_receipt_stands = record {
+      from_first = receipted.from_first;
+      receipt = λ quiet. receipted.receipt (quiet_again tells honest seen moment images faults catalog db first old mid new opened quiet);
+      fronts = λ quiet. fronts_at_exit catalog db first list count mid new closed receipted.receipt (quiet_again tells honest seen moment images faults catalog db first old mid new opened quiet);
+      few_behind = λ client. few client first list count receipted.from_first (receipted.few client);
+    };
+  }

@@ -1,0 +1,214 @@
+-- The laws at a store that is made on an empty disk, run and closed: a client's batch goes through the workflow that splits and joins.
+use Rattle.std.proofs.Common.{◌≡◌, ◌⊎◌, ◌<◌, ◌==◌, ℕ, zero, suc, pos, codes, List, [], ◌∷◌, ◌++◌, replicate, take, true, false, cond, Some, None, ◌+◌, ◌≤◌, inl, inr, refl, sym, subst, arith, append-nil}
+use Rattle.std.specs.List.{AllByRecursion, cons_option, filter_map}
+use Rattle.std.proofs.lemmas.List.Elements.{All-nil}
+use Rattle.ss_value.specs.declared.value.Value.TheVariants.{Int}
+use Rattle.ss_model.specs.declared.entry.Answer.{Answer}
+use Rattle.ss_model.specs.declared.entry.Answer.TheVariants.{Listed as ListedAnswer, NoMemory}
+use Rattle.ss_model.specs.declared.entry.Asked.TheVariants.{Push as PushAsked}
+use Rattle.ss_model.specs.declared.entry.Entry.{Entry}
+use Rattle.ss_model.specs.declared.entry.Entry.TheVariants.{Push, Step as StepEntry}
+use Rattle.ss_model.specs.declared.entry.Listed.{Listed}
+use Rattle.ss_model.specs.declared.entry.Outcome.TheVariants.{Done, Aborted}
+use Rattle.ss_model.specs.declared.entry.Reason.TheVariants.{Raised}
+use Rattle.ss_model.specs.declared.entry.Request.{Request}
+use Rattle.ss_model.specs.Database.{Database, empty_database}
+use Rattle.ss_model.specs.Orders.{MatchesCounts}
+use Rattle.ss_model.specs.Replays.{after}
+use Rattle.ss_model.specs.Report.{End, Whole, Report, Rising, client_index, report_text}
+use Rattle.ss_model.specs.Settled.{NoneReady}
+use Rattle.ss_model.specs.Settling.{kept, pending_steps}
+use Rattle.ss_model_laws.proofs.CallerLemmas.{accepted, workflow, empty_whole, matching_stays, replays_orders, whole_batch, whole_batch_drains, whole_batch_replays}
+use Rattle.ss_report_laws.specs.Replies.{mine, weave, AreAnswered}
+use Rattle.ss_report_laws.proofs.CallerLemmas.{answered_nothing, answered_request, answered_report, answered_step, pushed_one}
+use Rattle.ss_disk.specs.Files.{Files}
+use Rattle.ss_disk.specs.Moments.{LeavesOnly}
+use Rattle.ss_disk.proofs.CallerLemmas.{one_call}
+use Rattle.ss_cmdlog.specs.Generation.{Stood, IsGroup, front_bytes}
+use Rattle.ss_cmdlog.specs.Formatting.{fresh}
+use Rattle.ss_cmdlog.specs.Store.{IsEmpty, StandsFor}
+use Rattle.ss_standing.specs.Image.{empty_image_of}
+use Rattle.ss_standing.specs.Standing.{Stands, Prefix, StandsForAtLeast}
+use Rattle.ss_standing.proofs.CallerLemmas.{forming_stands, new_image_is, nothing_stands, batch_store, batch_files, batch_files_stand, batch_prefix, batch_at_least}
+use Rattle.ss_headline.specs.Disks.{DiskChange, disk_of, NothingRan}
+use Rattle.ss_headline.specs.Sentences.{WholeSession, StoppedSession, stop_at}
+use Rattle.ss_headline.specs.Runs.{IsWholeRun, IsStoppedRun}
+use Rattle.ss_headline.specs.Untouched.{FormingRanNothing}
+use Rattle.ss_headline.specs.Owed.{owed, outside, ListsAsked, FullListsHaveAll}
+use Rattle.ss_headline.specs.Laws.{WholeSessions, StoppedSessions, WholeRuns, StoppedRuns, RunsHoldFromEach}
+use Rattle.ss_headline.specs.Layers.{Opened, Closed, Settled, FewUnreceipted, Receipted}
+use Rattle.ss_headline.proofs.Untouched.{none_stands}
+use Rattle.ss_headline.proofs.Owed.{owed_is_enough}
+
+abbrev push : Entry
+push = Push 0 0 0 (codes "a") 0 ((Int (pos 7) ∷ []) ∷ [])
+
+abbrev pushed_entry : Listed
+pushed_entry = record { entry = push; outcome = Done [] }
+
+abbrev start : Database
+start = empty_database workflow
+
+-- ---- the disk: empty, with a new store, and with the batch behind its image
+
+abbrev new_store : Stood
+new_store = fresh (empty_image_of workflow)
+
+new_files : Files
+new_files = record { selector = 0 ∷ []; first = front_bytes new_store ++ 0 ∷ []; second = [] }
+
+new_files_stand : StandsFor new_files new_store
+unfolding new_files
+new_files_stand = record {
+  byte = 0;
+  selector = refl;
+  current = record {
+    stood = record { first = omega arith; image = omega (arith, new_image_is); groups = All-nil IsGroup };
+    gate = 0;
+    rest = [];
+    closed = λ e. absurd (omega (arith, e));
+    spelled = refl;
+  };
+}
+
+-- what a read gives of the disk after so many calls
+abbrev seen : ℕ → Files
+seen zero = record { selector = []; first = []; second = [] }
+seen (suc zero) = new_files
+seen (suc (suc n)) = batch_files
+
+-- each call is a moment, at which a crash leaves just that
+abbrev images : ℕ → ℕ → Files → Type 0
+images disk t image = image ≡ seen t
+
+abbrev change : ℕ → ℕ → DiskChange
+change = disk_of (Unit {0}) (Unit {0}) seen (λ disk. disk) images (λ disk. 0)
+
+quiet : (change 0 2).quiet
+quiet = (tt, λ image is. is)
+
+next_call : (n : ℕ) (P : Files → Type 0) → P (seen n) → P (seen (suc n)) → LeavesOnly (λ disk. disk) images n (suc n) P
+next_call n P before after =
+    one_call (λ disk. disk) images n (suc n) P (record { later = omega arith; by_one = omega arith; kept = λ t image le left. left; keeps = λ t image le left. left })
+    (λ image is. subst P (sym is) before) (λ image is. subst P (sym is) after)
+
+-- ---- the store is made
+
+new_stands : Stands workflow new_files 0 (kept workflow start)
+new_stands = forming_stands workflow new_files (empty_whole workflow accepted) (inr new_files_stand)
+
+opened : Opened workflow start 0 (change 0 1)
+opened = record {
+  whole = empty_whole workflow accepted;
+  stood = λ t. nothing_stands;
+  crashes = λ q. next_call 0 (λ image. Stands workflow image 0 (kept workflow start)) nothing_stands new_stands;
+  settled = λ q image is. is;
+  faults = omega arith;
+}
+
+-- ---- the batch runs, and the engine is closed
+
+matches : MatchesCounts workflow start
+matches = (matching_stays workflow accepted.structure.streams.wired).starts
+
+closed : Closed workflow start 0 whole_batch (change 1 2)
+closed = record {
+  replays = whole_batch_replays;
+  orders = replays_orders workflow accepted.structure.streams.wired start whole_batch matches whole_batch_replays;
+  crashes = λ q. next_call 1 (Prefix workflow start 0 whole_batch) (none_stands workflow start 0 whole_batch new_files new_stands) batch_prefix;
+}
+
+all_receipted : (image : Files) → image ≡ batch_files → StandsForAtLeast workflow 5 image
+all_receipted image is = subst (StandsForAtLeast workflow 5) (sym is) batch_at_least
+
+settled : Settled workflow start 0 whole_batch (change 1 2)
+settled = record {
+  drained = whole_batch_drains;
+  receipt = λ q image is. all_receipted image is;
+  logged = λ t. record { stood = batch_store; stands = batch_files_stand; before = []; ends = refl };
+}
+
+-- the client's entry is below the receipt, which is for all of the list
+few : (client : ℕ) → FewUnreceipted client 0 whole_batch 5
+few client = record {
+  receipted = mine client 0 whole_batch;
+  others = [];
+  parts = sym (append-nil (mine client 0 whole_batch));
+  below = elim (0 == client) as (λ b. AllByRecursion (λ (p : ℕ × Listed). p.0 < 5) (cond b ((0, pushed_entry) ∷ []) [])) [ true ↦ (omega arith, tt) | false ↦ tt ];
+  few = omega arith;
+}
+
+receipted : Receipted workflow 0 whole_batch 5 (change 1 2)
+receipted = record { from_first = omega arith; receipt = λ q image is. all_receipted image is; few = few }
+
+-- ---- what the client was told
+
+abbrev request : Request
+request = record { line = 2; client = 0; what = PushAsked 0 (codes "a") 0 ((Int (pos 7) ∷ []) ∷ []) }
+
+abbrev nothing_told : List (List Answer)
+nothing_told = replicate 8 []
+
+abbrev told : List (List Answer)
+told = (ListedAnswer 0 (Done []) ∷ []) ∷ replicate 7 []
+
+pushed : (end : End) → AreAnswered (request ∷ []) 0 (take 1 whole_batch) end told
+pushed end =
+    answered_request [] 0 [] end nothing_told told request pushed_entry refl
+    (pushed_one 0 (ListedAnswer 0 (Done [])) nothing_told told (omega arith) refl) (answered_nothing 0 end 8)
+
+answered : (end : End) → AreAnswered (request ∷ []) 0 whole_batch end told
+answered end =
+    answered_step (request ∷ []) 0 (take 4 whole_batch) end told 3 0 (record { entry = StepEntry 3 0; outcome = Done [] }) refl
+    (answered_step (request ∷ []) 0 (take 3 whole_batch) end told 2 0 (record { entry = StepEntry 2 0; outcome = Done [] }) refl
+    (answered_step (request ∷ []) 0 (take 2 whole_batch) end told 1 0 (record { entry = StepEntry 1 0; outcome = Aborted (Raised (pos 3)) }) refl
+    (answered_step (request ∷ []) 0 (take 1 whole_batch) end told 0 0 (record { entry = StepEntry 0 0; outcome = Done [] }) refl (pushed end))))
+
+abbrev report : End → List ℕ
+report end = report_text workflow (request ∷ []) (weave NoMemory (request ∷ []) told) 0 whole_batch start end
+
+reported : (end : End) → Report workflow (request ∷ []) start 0 whole_batch end (report end)
+reported end = answered_report workflow (request ∷ []) start 0 whole_batch end NoMemory told (answered end)
+
+-- ---- the laws there, at a limit that the list meets
+
+whole_session : WholeSessions change → WholeSession workflow (request ∷ []) 0 whole_batch (report Whole) (change 0 2) start
+whole_session law = law workflow (request ∷ []) start 0 whole_batch (report Whole) 0 1 2 opened closed settled (reported Whole)
+
+abbrev full_end : End
+full_end = stop_at 9 5 5 0 whole_batch 0 0
+
+stopped_session : StoppedSessions change → StoppedSession workflow (request ∷ []) 5 0 whole_batch 9 5 (report full_end) (change 0 2) start
+stopped_session law = law workflow (request ∷ []) 5 start 0 whole_batch 9 5 (report full_end) 0 1 2 opened closed receipted (reported full_end)
+
+whole_run : WholeRuns change → IsWholeRun 5 workflow (request ∷ []) start 0 whole_batch (report Whole) (change 0 2)
+whole_run law = law 5 workflow (request ∷ []) start 0 whole_batch NoMemory told 0 1 2 opened closed settled (answered Whole) (omega arith)
+
+stopped_run : StoppedRuns change → IsStoppedRun 5 workflow (request ∷ []) start 0 whole_batch 9 5 (report full_end) (change 0 2)
+stopped_run law = law 5 workflow (request ∷ []) start 0 whole_batch 9 5 NoMemory told 0 1 2 opened closed receipted (answered full_end) (omega arith)
+
+-- the disk was empty, and stood for the empty database
+from_empty : RunsHoldFromEach change → (opening : Database) (first : ℕ) → IsWholeRun 5 workflow (request ∷ []) opening first whole_batch (report Whole) (change 0 2) → 0 ≡ first
+from_empty law opening first run = (law.whole 5 workflow (request ∷ []) opening first whole_batch (report Whole) 0 2 run tt 0 start nothing_stands).0
+
+-- while the store is made nothing has run
+nothing : FormingRanNothing (Unit {0}) (Unit {0}) seen (λ disk. disk) images (λ disk. 0) → NothingRan workflow (change 0 1)
+nothing law = law workflow 0 1 (λ h. next_call 0 (λ image. (image ≡ seen 0) ⊎ (IsEmpty (seen 0) × Stands workflow image 0 (kept workflow start))) (inl refl) (inr (refl, new_stands)))
+
+-- ---- what was owed
+
+rises : (client : ℕ) → Rising (filter_map (λ (l : Listed). client_index client l.entry) whole_batch)
+rises client = elim (0 == client) as (λ b. Rising (cons_option (cond b (Some 0) None) [])) [ true ↦ tt | false ↦ tt ]
+
+lists : ListsAsked workflow start (request ∷ []) whole_batch
+lists = record { replays = whole_batch_replays; asked = ((0, omega arith, refl), (tt, (tt, (tt, (tt, tt))))); in_turn = rises }
+
+-- the push and four steps, which is just what the list has
+owes_five : owed workflow start (request ∷ []) ≡ 5
+owes_five = refl
+
+enough : 5 + pending_steps workflow (after workflow start whole_batch) + outside (request ∷ []) whole_batch ≤ 5
+enough = owed_is_enough workflow accepted start (empty_whole workflow accepted).in_step (request ∷ []) whole_batch lists
+
+none_left : FullListsHaveAll → (outside (request ∷ []) whole_batch ≡ 0) × NoneReady workflow (after workflow start whole_batch)
+none_left law = law workflow accepted start (empty_whole workflow accepted).in_step (request ∷ []) whole_batch lists (omega (arith, owes_five))

@@ -1,0 +1,48 @@
+-- What the calls below the top one owe, so that a run is what the headline says.
+use Rattle.std.specs.Prelude.{◌≡◌, ℕ, ◌+◌, ◌<◌, ◌≤◌, List, ◌++◌, length}
+use Rattle.std.specs.List.{AllByRecursion}
+use Rattle.ss_model.specs.declared.catalog.Catalog.{Catalog}
+use Rattle.ss_model.specs.declared.entry.Listed.{Listed}
+use Rattle.ss_model.specs.Database.{Database}
+use Rattle.ss_model.specs.Orders.{Orders}
+use Rattle.ss_model.specs.Replays.{Replays, after}
+use Rattle.ss_model.specs.Settling.{Drained, kept}
+use Rattle.ss_model.specs.WholeDatabase.{WholeDatabase}
+use Rattle.ss_report_laws.specs.Replies.{mine}
+use Rattle.ss_standing.specs.Standing.{Stands, Prefix, StandsForAtLeast}
+use Rattle.ss_headline.specs.Disks.{DiskChange, AtEachMoment, AtTheExit}
+use Rattle.ss_headline.specs.Runs.{LogEndsWith}
+
+-- a store was recovered, or made on an empty disk: the files stood for this, as does what a crash leaves at each moment, and the disk is quiet again
+pub record Opened (catalog : Catalog) (db : Database) (first : ℕ) (disk : DiskChange) : Type 0 where
+  pub whole : WholeDatabase catalog db
+  pub stood : disk.tells → Stands catalog disk.seen_before first (kept catalog db)
+  pub crashes : AtEachMoment disk (λ image. Stands catalog image first (kept catalog db))
+  pub settled : AtTheExit disk (λ image. image ≡ disk.seen_now)
+  pub faults : disk.faults_before ≤ disk.faults_now
+
+-- an engine was closed: its list since it was opened, and what a crash leaves at each moment since then
+pub record Closed (catalog : Catalog) (db : Database) (first : ℕ) (list : List Listed) (disk : DiskChange) : Type 0 where
+  pub replays : Replays catalog db list
+  pub orders : Orders catalog db list
+  pub crashes : AtEachMoment disk (Prefix catalog db first list)
+
+-- the engine had settled, and all was flushed: no batch is pending, all of the list is receipted, and the log ends with it
+pub record Settled (catalog : Catalog) (db : Database) (first : ℕ) (list : List Listed) (disk : DiskChange) : Type 0 where
+  pub drained : Drained catalog (after catalog db list)
+  pub receipt : AtTheExit disk (StandsForAtLeast catalog (first + length list))
+  pub logged : disk.tells → LogEndsWith list disk.seen_now
+
+-- a client's entries but for the last 16 at most stand below this place
+pub record FewUnreceipted (client first : ℕ) (list : List Listed) (count : ℕ) : Type 0 where
+  pub receipted : List (ℕ × Listed)
+  pub others : List (ℕ × Listed)
+  pub parts : mine client first list ≡ receipted ++ others
+  pub below : AllByRecursion (λ (p : ℕ × Listed). p.0 < count) receipted
+  pub few : length others ≤ 16
+
+-- the receipts that clients were given: the greatest of them, or the place of the opening, and how few entries are not below it
+pub record Receipted (catalog : Catalog) (first : ℕ) (list : List Listed) (count : ℕ) (disk : DiskChange) : Type 0 where
+  pub from_first : first ≤ count
+  pub receipt : AtTheExit disk (StandsForAtLeast catalog count)
+  pub few : (client : ℕ) → FewUnreceipted client first list count

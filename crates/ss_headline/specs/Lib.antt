@@ -1,0 +1,7 @@
+pub mod Disks
+pub mod Sentences
+pub mod Runs
+pub mod Layers
+pub mod Untouched
+pub mod Laws
+pub mod Owed

@@ -1,0 +1,79 @@
+-- The headline, a record or a name for each of its sentences.
+use Rattle.std.specs.Prelude.{◌==◌, ℕ, ◌-◌, ◌^◌, ◌≤◌, min, List, length, drop}
+use Rattle.ss_model.specs.declared.catalog.Catalog.{Catalog}
+use Rattle.ss_model.specs.declared.entry.Listed.{Listed}
+use Rattle.ss_model.specs.declared.entry.Request.{Request}
+use Rattle.ss_model.specs.Database.{Database}
+use Rattle.ss_model.specs.Orders.{Orders}
+use Rattle.ss_model.specs.Replays.{Replays, after}
+use Rattle.ss_model.specs.Report.{Report, End, Whole, Stopped}
+use Rattle.ss_model.specs.Settling.{Drained}
+use Rattle.ss_report_laws.specs.Replies.{mine}
+use Rattle.ss_standing.specs.Standing.{Prefix, StandsForAll, StandsForFront, StandsForAtLeast}
+use Rattle.ss_headline.specs.Disks.{DiskChange, AtEachMoment, AtTheExit}
+
+-- ---- the one serial list
+
+-- the text tells one list, which begins at a database and a place, and replies and tables are those of this list, run in its order
+pub record RepliesAndTables (catalog : Catalog) (requests : List Request) (db : Database) (first : ℕ) (list : List Listed) (end : End)
+    (text : List ℕ) : Type 0 where
+  pub one_by_one : Replays catalog db list
+  pub report : Report catalog requests db first list end text
+
+-- each procedure takes its batches in order, and each batch meets the procedures of its workflow in graph order and none twice
+abbrev pub InOrder : Catalog → Database → List Listed → Type 0
+InOrder catalog db list = Orders catalog db list
+
+-- each accepted batch has met each procedure of its workflow exactly once
+abbrev pub AtTheEnd : Catalog → Database → List Listed → Type 0
+AtTheEnd catalog db list = Drained catalog (after catalog db list)
+
+-- ---- crashes
+
+-- wherever a crash falls, from the beginning of the call on, it leaves a disk that stands for a front of the list
+abbrev pub WhereverACrashFalls : Catalog → Database → ℕ → List Listed → DiskChange → Type 0
+WhereverACrashFalls catalog db first list disk = AtEachMoment disk (Prefix catalog db first list)
+
+-- at the exit it leaves one that stands for the whole list
+abbrev pub AllStands : Catalog → Database → ℕ → List Listed → DiskChange → Type 0
+AllStands catalog db first list disk = AtTheExit disk (StandsForAll catalog db first list)
+
+-- a client's entries from a place on, in a list that begins at a place
+abbrev pub entries_from : ℕ → ℕ → ℕ → List Listed → List (ℕ × Listed)
+entries_from client place first list = mine client place (drop (place - first) list)
+
+-- at the exit each execution below this place stands, and of each client at most 16 entries are from there on
+pub record EveryReceiptStands (catalog : Catalog) (db : Database) (first : ℕ) (list : List Listed) (count : ℕ) (disk : DiskChange) : Type 0 where
+  pub from_first : first ≤ count
+  pub receipt : AtTheExit disk (StandsForAtLeast catalog count)
+  pub fronts : AtTheExit disk (StandsForFront catalog db first list count)
+  pub few_behind : (client : ℕ) → length (entries_from client count first list) ≤ 16
+
+-- ---- a whole run
+
+pub record WholeSession (catalog : Catalog) (requests : List Request) (first : ℕ) (list : List Listed) (text : List ℕ) (disk : DiskChange)
+    (db : Database) : Type 0 where
+  pub replies_and_tables : RepliesAndTables catalog requests db first list Whole text
+  pub in_order : InOrder catalog db list
+  pub wherever_a_crash_falls : WhereverACrashFalls catalog db first list disk
+  pub all_stands : AllStands catalog db first list disk
+  pub at_the_end : AtTheEnd catalog db list
+
+-- ---- a run that stopped
+
+-- the most entries of a session that begins at this place
+abbrev pub room_from : ℕ → ℕ → ℕ
+room_from limit first = min limit (2 ^ 60 - first)
+
+-- the stop with this status and count, of this list, at a disk with these faults before and now
+abbrev pub stop_at : ℕ → ℕ → ℕ → ℕ → List Listed → ℕ → ℕ → End
+stop_at status count limit first list before now =
+    Stopped (record { status = status; count = count; at_limit = length list == room_from limit first; faults_before = before; faults_after = now })
+
+-- it stopped with this status, and the executions below this count are receipted
+pub record StoppedSession (catalog : Catalog) (requests : List Request) (limit first : ℕ) (list : List Listed) (status count : ℕ) (text : List ℕ)
+    (disk : DiskChange) (db : Database) : Type 0 where
+  pub replies : RepliesAndTables catalog requests db first list (stop_at status count limit first list disk.faults_before disk.faults_now) text
+  pub in_order : InOrder catalog db list
+  pub wherever_a_crash_falls : WhereverACrashFalls catalog db first list disk
+  pub every_receipt_stands : EveryReceiptStands catalog db first list count disk

@@ -1,0 +1,25 @@
+//! The headline in strong mode, on the definitions alone, and the laws that compose it.
+//!
+//! Whatever interleaving the clients and partitions take, and wherever a crash falls, the replies and tables of a run are
+//! those of the one serial list that it prints; in it each procedure takes its batches in order, each batch meets the
+//! procedures of its workflow in graph order and none twice, every receipted execution stands, and at the end each accepted
+//! batch has met each of them exactly once.
+//!
+//! - `specs/Sentences` has a name for each sentence, and the two sessions in which they stand together, a whole and a
+//!   stopped one; `specs/Disks` says what a call did to its disk
+//! - `specs/Runs`: a run on a disk is a session from each database that the disk stood for
+//! - `specs/Layers`: what the calls below the top one owe, which are an opening, an engine that is settled and closed, and
+//!   the receipts that clients were given
+//! - `specs/Untouched`: calls that ran nothing; `specs/Owed`:
+//!   how many executions a run owes
+//! - `laws`: that these make up a run. Each is the contract of a function that does nothing, on any kind of disk;
+//!   `proofs/worked/Premises` meets their premises at a store that is made, run and closed
+#![tactic(auto)]
+
+mod laws;
+
+pub use laws::{
+    few_stand_behind, full_lists_have_all, logs_end_with_lists, nothing_ran, owed_is_enough,
+    runs_hold_from_each, sessions_hold_from_each, stopped_runs, stopped_sessions, whole_runs,
+    whole_sessions,
+};

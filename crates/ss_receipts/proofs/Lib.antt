@@ -1,0 +1,9 @@
+pub mod CallerLemmas
+pub mod Recordable
+pub mod Since
+pub mod Growing
+pub mod Flushing
+pub mod Opening
+pub mod Tokens
+pub mod Keepers
+pub mod Crossing

@@ -1,0 +1,6 @@
+use Rattle.ss_standing.specs.Standing.{Prefix}
+use Rattle.ss_receipts.proofs.Since.{disk_since}
+use Rattle.ss_receipts.proofs.laws.the_past_is_of_the_disk.Goals as goal
+
+pub returns : goal.returns
+returns g c = λ catalog db first list old new since. disk_since g.D.Disk.moment g.D.Disk.images old new (Prefix catalog db first list) since

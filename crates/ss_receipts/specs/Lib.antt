@@ -1,0 +1,4 @@
+pub mod Past
+pub mod Holding
+pub mod Durable
+pub mod Laws

@@ -1,0 +1,72 @@
+//! A flush of the rest of a list.
+
+ghost use Rattle.std.specs.Prelude.{◌≡◌, ◌+◌, ◌≤◌, ℕ, List, length, None};
+ghost use Rattle.ss_model.specs.declared.entry.Listed.{Listed};
+ghost use Rattle.ss_model.specs.Accepted.{Accepted};
+ghost use Rattle.ss_receipts.specs.Holding.{Holds, AreRest};
+ghost use Rattle.ss_receipts.specs.Durable.{IsDurable};
+
+use crate::durable::DurableError;
+use ss_cmdlog::{
+    CmdLog, LogError, Receipt, first_groups_hold_the_first_entries, groups_hold_the_entries,
+};
+use ss_disk::Disk;
+use ss_model::{Entry, Life};
+use ss_standing::{generations_go_on, log_receipts_tell, prefixes_go_on};
+use ss_value::Seq;
+
+/// What a flush has left.
+#[derive(Drop)]
+pub(crate) struct Flushed {
+    /// Every place below it is receipted.
+    pub count: u64,
+    /// The disk's count of faults where it failed, and else 0.
+    pub faults: u64,
+    pub answer: Result<Receipt, DurableError>,
+}
+
+/// Writes the rest of a list behind what a log holds of it. One flush.
+pub(crate) fn flush_rest<I: Life, D: Disk + Drop>(
+    log: &mut CmdLog<D>,
+    count: u64,
+    entries: &Seq<Entry>,
+) -> Flushed
+    requires accepted { Accepted I.catalog }
+    requires going { log.old.halted ≡ None }
+    requires rest { (list : List Listed) × (fault : ℕ) × AreRest I.catalog I.opening I.first list count entries.now
+        × Holds I.catalog I.opening I.first I.moment I.faults I.past D.tells D.honest D.seen D.moment D.images D.faults list log.old count fault }
+    ensures holds { (list : List Listed) (fault : ℕ) → AreRest I.catalog I.opening I.first list count entries.now
+        → Holds I.catalog I.opening I.first I.moment I.faults I.past D.tells D.honest D.seen D.moment D.images D.faults list log.old count fault
+        → Holds I.catalog I.opening I.first I.moment I.faults I.past D.tells D.honest D.seen D.moment D.images D.faults list log.new result.count result.faults }
+    ensures more { count ≤ result.count }
+    ensures answer { IsDurable (count + length entries.now) result.count result.faults result.answer }
+{
+    groups_hold_the_entries();
+    first_groups_hold_the_first_entries();
+    generations_go_on();
+    prefixes_go_on::<D>();
+    log_receipts_tell::<D>();
+    match log.flush(entries) {
+        Ok(receipt) => Flushed {
+            count: receipt.count,
+            faults: 0,
+            answer: Ok(receipt),
+        },
+        Err(LogError::NoMemory) => Flushed {
+            count: log.count(),
+            faults: 0,
+            answer: Err(DurableError::NoMemory),
+        },
+        Err(LogError::DiskFault) => {
+            let Some(faults) = log.halted() else {
+                unreachable!()
+            };
+            Flushed {
+                count,
+                faults,
+                answer: Err(DurableError::DiskFault),
+            }
+        }
+        Err(_) => unreachable!(),
+    }
+}

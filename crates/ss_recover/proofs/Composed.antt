@@ -1,0 +1,55 @@
+-- What holds behind a run that only reads holds from its beginning.
+use Rattle.std.proofs.Common.{◌⊎◌, ℕ, ◌≤◌, Option, subst}
+use Rattle.ss_model.specs.declared.catalog.Catalog.{Catalog}
+use Rattle.ss_model.specs.Database.{Database as Model}
+use Rattle.ss_model.specs.Settling.{Kept, kept}
+use Rattle.ss_disk.specs.Files.{Files}
+use Rattle.ss_cmdlog.specs.Opening.{OnlyReads}
+use Rattle.ss_cmdlog.specs.Store.{IsEmpty}
+use Rattle.ss_standing.specs.Standing.{Stands, StandsForReplayed}
+use Rattle.ss_recover.specs.declared.recovered.Recovered.{Recovered}
+use Rattle.ss_recover.specs.declared.error.RecoverError.{RecoverError}
+use Rattle.ss_recover.specs.declared.error.RecoverError.TheVariants.{NoMemory, DiskFault, Foreign, OtherCatalog, Nothing}
+use Rattle.ss_recover.specs.Faults.{HasFaultAt, IsStore}
+use Rattle.ss_recover.specs.Recovering.{IsRecovered, RefusesAsSaid}
+use Rattle.ss_recover.proofs.Moments.{only_that, since, reads_since, forms_since, rose_since}
+
+module _ {D : Type 0} (tells honest : Type 0) (told_by : honest → tells) (seen : D → Files) (moment : D → ℕ) (images : D → ℕ → Files → Type 0) (given : Option Catalog) (old mid : D)
+    (reads : OnlyReads tells honest seen moment images old mid) where
+  pub recovered_since : (parts : ℕ) (r : Recovered D) (db : Model) → IsRecovered tells honest seen moment images given parts mid r db → IsRecovered tells honest seen moment images given parts old r db
+  recovered_since parts r db is =
+      let stood : tells → Stands r.catalog (seen old) r.first (kept r.catalog db) = λ told. subst (λ (d : Files). Stands r.catalog d r.first (kept r.catalog db)) (reads.same told) (is.stood told) in
+      let moments = λ (true' : honest). since moment images old mid r.log.disk _ _ (reads.moments true') (λ image s. s) (is.moments true') in
+      record {
+        own = is.own;
+        given_one = is.given_one;
+        goes_on = is.goes_on;
+        was = λ told. subst (λ (d : Files). IsEmpty d ⊎ IsStore d r.catalog) (reads.same told) (is.was told);
+        stood = stood;
+        moments = moments;
+        quiet = λ true' only. only_that moment images old r.log.disk (seen old) _ only (stood (told_by true')) (moments true');
+      }
+
+  module _ (faults : D → ℕ) (new : D) (later : faults old ≤ faults mid) where
+    pub refused_since : (e : RecoverError) → RefusesAsSaid tells honest seen moment images faults given mid new e → RefusesAsSaid tells honest seen moment images faults given old new e
+    refused_since NoMemory is = λ true'. since moment images old mid new _ _ (reads.moments true') (λ image. forms_since given (seen old) (seen mid) image (reads.same (told_by true'))) (is true')
+    refused_since DiskFault is =
+        (λ true'. since moment images old mid new _ _ (reads.moments true') (λ image. forms_since given (seen old) (seen mid) image (reads.same (told_by true'))) (is.0 true'), rose_since (faults old) (faults mid) (faults new) later is.1)
+    refused_since (Foreign which at) is =
+        (reads_since tells honest seen moment images old mid new reads is.0, λ told. subst (λ (d : Files). HasFaultAt d which at) (reads.same told) (is.1 told))
+    refused_since (OtherCatalog stored text) is =
+        let other = is.1 in (
+          reads_since tells honest seen moment images old mid new reads is.0,
+          record {
+            ours = other.ours;
+            is_given = other.is_given;
+            text_is = other.text_is;
+            theirs = other.theirs;
+            own = other.own;
+            stored_is = other.stored_is;
+            store = λ told. subst (λ (d : Files). IsStore d other.theirs) (reads.same told) (other.store told);
+            stands = λ told. subst (λ (d : Files). (count : ℕ) × (k : Kept) × StandsForReplayed other.theirs d count k) (reads.same told) (other.stands told);
+            another = other.another;
+          },
+        )
+    refused_since Nothing is = (reads_since tells honest seen moment images old mid new reads is.0, is.1, λ told. subst IsEmpty (reads.same told) (is.2 told))

@@ -1,0 +1,144 @@
+-- A disk is empty, or a store, or has one first fault.
+use Rattle.std.proofs.Common.{◌≡◌, inl, inr, ⊎_elim, ◌∙◌, ◌<◌, ◌≤◌, ◌+◌, ◌^◌, ℕ, zero, suc, List, [], ◌∷◌, ◌++◌, length, take, drop, slice_get, Option, Some, None, Result, Ok, Err, ap, arith, refl, subst, sym, take-append-drop}
+use Rattle.std.proofs.lemmas.Bool.{cases_lt}
+use Rattle.std.proofs.lemmas.List.{length-map, take-map, take-take}
+use Rattle.std.proofs.lemmas.Option.{slice_get-map, slice_get_within}
+use Rattle.std.specs.Option.{option_map}
+use Rattle.ss_lemmas.proofs.LoopItem.{drop_at, some_at}
+use Rattle.ss_model.specs.declared.catalog.Catalog.{Catalog}
+use Rattle.ss_model.specs.declared.entry.Entry.{Entry}
+use Rattle.ss_model.specs.declared.entry.Listed.{Listed}
+use Rattle.ss_model.specs.declared.entry.Outcome.{Outcome}
+use Rattle.ss_model.specs.Database.{Applied, Database as Model, apply, empty_database}
+use Rattle.ss_model.specs.Replays.{Replays, after}
+use Rattle.ss_model.proofs.CallerLemmas.{goes_on}
+use Rattle.ss_disk.specs.Files.{Files}
+use Rattle.ss_cmdlog.specs.Generation.{Stood}
+use Rattle.ss_cmdlog.specs.Opening.{number_of, store_at}
+use Rattle.ss_cmdlog.specs.Store.{IsEmpty, current_file, entries_of}
+use Rattle.ss_snapshot.specs.EmptyImage.{IsEmptyImage}
+use Rattle.ss_snapshot.specs.Foreign.{IsForeignAt}
+use Rattle.ss_snapshot.specs.Laws.{HasOneCatalog, HasOneOffset, IsImageOrForeign}
+use Rattle.ss_standing.specs.Standing.{listed_entries}
+use Rattle.ss_standing.proofs.CallerLemmas.{entries_tell}
+use Rattle.ss_recover.specs.Faults.{ReadsAs, record_place, image_place}
+use Rattle.ss_recover.specs.Laws.{EmptyHasNoFault, StoreHasNoFault, StoreHasOneCatalog, HasOneFault}
+use Rattle.ss_recover.specs.Replaying.{DoesNotReplay, StopsBehind}
+
+-- ---- lists
+
+-- what stands at a place below so many stands there in the first of them
+at_front : {A : Type 0} (xs : List A) (m n : ℕ) → n < m → slice_get (take m xs) n ≡ slice_get xs n
+at_front [] zero n lt = absurd (omega arith)
+at_front [] (suc m) n lt = refl
+at_front (x ∷ xs) zero n lt = absurd (omega arith)
+at_front (x ∷ xs) (suc m) zero lt = refl
+at_front (x ∷ xs) (suc m) (suc n) lt = at_front xs m n (omega arith)
+
+no_outcome : (o : Option Applied) (l : Outcome) → o ≡ None → option_map (λ (a : Applied). a.outcome) o ≡ Some l → ⊥
+no_outcome o l none some = (let both : None ≡ Some l = ap (option_map (λ (a : Applied). a.outcome)) (sym none) ∙ some in cc)
+
+module _ (catalog : Catalog) (d : Model) (first : ℕ) where
+  -- of a list that replays, each entry at its place, none doesn't replay behind those before it
+  none_stops : (list front : List Listed) → Replays catalog d list → first + length list ≤ 2 ^ 60 → Replays catalog d front → listed_entries front ≡ take (length front) (listed_entries list) → length front < length list
+      → (e : Entry) → slice_get (listed_entries list) (length front) ≡ Some e → DoesNotReplay catalog (after catalog d front) (first + length front) e → ⊥
+  none_stops list front replays few fronts same within e there (inl last) = omega (arith, last)
+  none_stops list front replays few fronts same within e there (inr none) =
+      let n = length front in
+      let (x, here) = some_at list n within in
+      let whole : take n list ++ (x ∷ drop (suc n) list) ≡ list = ap (λ (l : List Listed). take n list ++ l) (sym (drop_at list n x here)) ∙ take-append-drop n list in
+      let parts = (goes_on catalog d (take n list) (x ∷ drop (suc n) list)).splits (subst (Replays catalog d) (sym whole) replays) in
+      let is_front : front ≡ take n list = entries_tell catalog d front (take n list) fronts parts.0 (same ∙ take-map (λ (l : Listed). l.entry) n list) in
+      let entry_is : Some x.entry ≡ Some e = sym (slice_get-map (λ (l : Listed). l.entry) list n ∙ ap (option_map (λ (l : Listed). l.entry)) here) ∙ there in
+      let same_entry : x.entry ≡ e = cc in
+      no_outcome (apply catalog (after catalog d (take n list)) x.entry) x.outcome
+      (subst (λ (l : List Listed). apply catalog (after catalog d l) x.entry ≡ None) is_front (subst (λ (f : Entry). apply catalog (after catalog d front) f ≡ None) (sym same_entry) none)) parts.1.0
+
+  -- two lists that stop are one
+  one_stop : (entries : List Entry) (a b : List Listed) → StopsBehind catalog d first entries a → StopsBehind catalog d first entries b → length a < length b → ⊥
+  one_stop entries a b stops others shorter =
+      none_stops b a others.replays others.few stops.replays
+      (stops.before ∙ sym (ap (take (length a)) others.before ∙ take-take (length a) (length b) entries (omega (arith, shorter)))) shorter
+      stops.entry (ap (λ (es : List Entry). slice_get es (length a)) others.before ∙ at_front entries (length b) (length a) shorter ∙ stops.there) stops.stops
+
+-- ---- files
+
+ok_is : {A E : Type 0} (x y : A) → ◌≡◌ {A = Result A E} (Ok x) (Ok y) → x ≡ y
+ok_is x y is = cc
+
+err_is : {A E : Type 0} (x y : E) → ◌≡◌ {A = Result A E} (Err x) (Err y) → x ≡ y
+err_is x y is = cc
+
+one_reading : (disk : Files) (which other : ℕ) (s t : Stood) → ReadsAs disk which s → ReadsAs disk other t → (s ≡ t) × (which ≡ other)
+one_reading disk which other s t a b =
+    let bytes : a.byte ∷ [] ≡ b.byte ∷ [] = sym a.selector ∙ b.selector in
+    let byte : a.byte ≡ b.byte = cc in
+    (ok_is s t (sym a.read ∙ b.read), a.named ∙ ap (λ (n : ℕ). number_of (current_file n)) byte ∙ sym b.named)
+
+unread : (disk : Files) (which other at : ℕ) (s : Stood) → ReadsAs disk which s → store_at disk ≡ Err (other, at) → ⊥
+unread disk which other at s reads err = (let both : Ok s ≡ Err (other, at) = sym reads.read ∙ err in cc)
+
+unselected : (disk : Files) (which : ℕ) (s : Stood) → IsEmpty disk → ReadsAs disk which s → ⊥
+unselected disk which s empty reads = (let both : [] ≡ reads.byte ∷ [] = sym empty ∙ reads.selector in cc)
+
+pub empty_no_fault : EmptyHasNoFault
+empty_no_fault disk which at empty (inl bytes) = bytes.0 empty
+empty_no_fault disk which at empty (inr (inl image)) = unselected disk which image.s empty image.reads
+empty_no_fault disk which at empty (inr (inr entry)) = unselected disk which entry.s empty entry.reads
+
+module _ (one : HasOneCatalog) (either : IsImageOrForeign) (offset : HasOneOffset) where
+  one_image : (disk : Files) (which other : ℕ) (s t : Stood) (a b : Catalog) → ReadsAs disk which s → ReadsAs disk other t → IsEmptyImage s.image a → IsEmptyImage t.image b → a ≡ b
+  one_image disk which other s t a b reads others image images =
+      let same = (one_reading disk which other s t reads others).0 in
+      one t.image a b (subst (λ (u : Stood). IsEmptyImage u.image a) same image) images
+
+  image_not : (disk : Files) (which other off : ℕ) (s t : Stood) (a : Catalog) → ReadsAs disk which s → ReadsAs disk other t → IsEmptyImage s.image a → IsForeignAt t.image off → ⊥
+  image_not disk which other off s t a reads others image foreign =
+      either t.image a off (subst (λ (u : Stood). IsEmptyImage u.image a) (one_reading disk which other s t reads others).0 image) foreign
+
+  pub store_no_fault : StoreHasNoFault
+  store_no_fault disk catalog which at store (inl bytes) = unread disk store.which which at store.s store.reads bytes.1
+  store_no_fault disk catalog which at store (inr (inl image)) = image_not disk store.which which image.offset store.s image.s catalog store.reads image.reads store.image image.foreign
+  store_no_fault disk catalog which at store (inr (inr entry)) =
+      let same = (one_reading disk which store.which entry.s store.s entry.reads store.reads).0 in
+      let catalogs = one_image disk which store.which entry.s store.s entry.catalog catalog entry.reads store.reads entry.image store.image in
+      let stops : StopsBehind catalog (empty_database catalog) store.s.first (entries_of store.s) entry.list =
+      subst (λ (c : Catalog). StopsBehind c (empty_database c) store.s.first (entries_of store.s) entry.list) catalogs (subst (λ (u : Stood). StopsBehind entry.catalog (empty_database entry.catalog) u.first (entries_of u) entry.list) same entry.stops) in
+      let there = ap (λ (es : List Entry). slice_get es (length entry.list)) store.entries ∙ stops.there in
+      let within = slice_get_within (listed_entries store.list) (length entry.list) stops.entry there in
+      none_stops catalog (empty_database catalog) store.s.first store.list entry.list store.replays store.few stops.replays (stops.before ∙ ap (take (length entry.list)) (sym store.entries))
+      (omega (arith, within, length-map store.list (λ (l : Listed). l.entry))) stops.entry there stops.stops
+
+  pub store_one_catalog : StoreHasOneCatalog
+  store_one_catalog disk a b store other = one_image disk store.which other.which store.s other.s a b store.reads other.reads store.image other.image
+
+  same_length : (catalog : Catalog) (d : Model) (first : ℕ) (entries : List Entry) (a b : List Listed) → StopsBehind catalog d first entries a → StopsBehind catalog d first entries b → length a ≡ length b
+  same_length catalog d first entries a b stops others = ⊎_elim
+      (λ (lt : length a < length b). absurd (one_stop catalog d first entries a b stops others lt))
+      (λ (le : length b ≤ length a). ⊎_elim
+      (λ (lt : length b < length a). absurd (one_stop catalog d first entries b a others stops lt))
+      (λ (ge : length a ≤ length b). omega (arith, le, ge))
+      (cases_lt (length b) (length a)))
+      (cases_lt (length a) (length b))
+
+  pub one_fault : HasOneFault
+  one_fault disk which at other place (inl a) (inl b) =
+      let both = err_is (which, at) (other, place) (sym a.1 ∙ b.1) in
+      (ap (λ (p : ℕ × ℕ). p.0) both, ap (λ (p : ℕ × ℕ). p.1) both)
+  one_fault disk which at other place (inl a) (inr (inl b)) = absurd (unread disk other which at b.s b.reads a.1)
+  one_fault disk which at other place (inl a) (inr (inr b)) = absurd (unread disk other which at b.s b.reads a.1)
+  one_fault disk which at other place (inr (inl a)) (inl b) = absurd (unread disk which other place a.s a.reads b.1)
+  one_fault disk which at other place (inr (inr a)) (inl b) = absurd (unread disk which other place a.s a.reads b.1)
+  one_fault disk which at other place (inr (inl a)) (inr (inr b)) = absurd (image_not disk other which a.offset b.s a.s b.catalog b.reads a.reads b.image a.foreign)
+  one_fault disk which at other place (inr (inr a)) (inr (inl b)) = absurd (image_not disk which other b.offset a.s b.s a.catalog a.reads b.reads a.image b.foreign)
+  one_fault disk which at other place (inr (inl a)) (inr (inl b)) =
+      let same = one_reading disk which other a.s b.s a.reads b.reads in
+      let offsets = offset b.s.image a.offset b.offset (subst (λ (u : Stood). IsForeignAt u.image a.offset) same.0 a.foreign) b.foreign in
+      (same.1, a.place ∙ ap (λ (n : ℕ). image_place + n) offsets ∙ sym b.place)
+  one_fault disk which at other place (inr (inr a)) (inr (inr b)) =
+      let same = one_reading disk which other a.s b.s a.reads b.reads in
+      let catalogs = one_image disk which other a.s b.s a.catalog b.catalog a.reads b.reads a.image b.image in
+      let stops : StopsBehind b.catalog (empty_database b.catalog) b.s.first (entries_of b.s) a.list =
+      subst (λ (c : Catalog). StopsBehind c (empty_database c) b.s.first (entries_of b.s) a.list) catalogs (subst (λ (u : Stood). StopsBehind a.catalog (empty_database a.catalog) u.first (entries_of u) a.list) same.0 a.stops) in
+      let lengths = same_length b.catalog (empty_database b.catalog) b.s.first (entries_of b.s) a.list b.list stops b.stops in
+      (same.1, a.place ∙ (λ k. image_place + length (same.0 k).image + record_place (same.0 k).groups (lengths k)) ∙ sym b.place)

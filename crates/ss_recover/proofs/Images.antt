@@ -1,0 +1,35 @@
+-- The empty database, by its image.
+use Rattle.std.proofs.Common.{◌≡◌, ℕ, List, ap}
+use Rattle.ss_model.specs.declared.catalog.Catalog.{Catalog}
+use Rattle.ss_model.specs.declared.entry.Listed.{Listed}
+use Rattle.ss_model.specs.Accepted.{Accepted}
+use Rattle.ss_model.specs.Database.{Database as Model, empty_database}
+use Rattle.ss_model.specs.Settling.{kept}
+use Rattle.ss_model_laws.proofs.CallerLemmas.{empty_whole}
+use Rattle.ss_cmdlog.specs.Generation.{Stood}
+use Rattle.ss_standing.specs.Image.{empty_image_of}
+use Rattle.ss_standing.specs.Standing.{IsImageAt, Replayed}
+use Rattle.ss_standing.proofs.CallerLemmas.{empty_fits}
+use Rattle.ss_recover.specs.Recovering.{LeadsTo}
+use Rattle.ss_recover.proofs.Premises.{empty_had}
+
+-- bytes that are the empty database's image are that at any place
+pub empty_image_at : (catalog : Catalog) → Accepted catalog → (first : ℕ) (bytes : List ℕ) → bytes ≡ empty_image_of catalog → IsImageAt catalog first bytes (empty_database catalog)
+empty_image_at catalog accepted first bytes is = record {
+  whole = empty_whole catalog accepted;
+  had = empty_had catalog first;
+  fits = empty_fits catalog;
+  spelled = is;
+}
+
+-- what a generation's entries lead to it stands for
+pub leads_replayed : (catalog : Catalog) (s : Stood) (list : List Listed) (place : ℕ) (db : Model) → LeadsTo catalog s list place db → Replayed catalog s place (kept catalog db)
+leads_replayed catalog s list place db leads = record {
+  opening = leads.opening;
+  image = leads.image;
+  list = list;
+  entries = leads.entries;
+  replays = leads.replays;
+  count_is = leads.placed;
+  kept_is = ap (kept catalog) leads.reached;
+}

@@ -1,0 +1,12 @@
+pub mod CallerLemmas
+pub mod Own
+pub mod Premises
+pub mod Replaying
+pub mod Valued
+pub mod Moments
+pub mod Composed
+pub mod Images
+pub mod Places
+pub mod Formed
+pub mod Restored
+pub mod Faulty

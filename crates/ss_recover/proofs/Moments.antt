@@ -1,0 +1,52 @@
+-- What calls leave of a disk, one run of them after another.
+use Rattle.std.proofs.Common.{◌≡◌, inl, inr, ⊎_elim, ◌∙◌, ℕ, ◌≤◌, Option, arith, subst, sym}
+use Rattle.ss_value.specs.FaultCounts.{Rose}
+use Rattle.ss_model.specs.declared.catalog.Catalog.{Catalog}
+use Rattle.ss_disk.specs.Files.{Files}
+use Rattle.ss_disk.specs.Crash.{Only}
+use Rattle.ss_disk.specs.Moments.{LeavesOnly}
+use Rattle.ss_disk.proofs.CallerLemmas.{runs_join, leaves_less}
+use Rattle.ss_cmdlog.specs.Log.{present}
+use Rattle.ss_cmdlog.specs.Opening.{OnlyReads}
+use Rattle.ss_recover.specs.Recovering.{LeavesOldOr, MayForm}
+
+-- a count that rose since a later moment rose since an earlier one
+pub rose_since : (before mid now : ℕ) → before ≤ mid → Rose mid now → Rose before now
+rose_since before mid now le rose = omega (arith, le, rose)
+
+module _ {D : Type 0} (moment : D → ℕ) (images : D → ℕ → Files → Type 0) where
+  -- what was left at first, or something more
+  pub old_or : (old new : D) (P : Files → Type 0) → LeavesOnly moment images old new (present moment images old) → LeavesOldOr moment images old new P
+  old_or old new P run = leaves_less moment images old new _ _ run (λ image left. inl left)
+
+  -- of a disk of which a crash leaves one thing, which has it too, a crash leaves what has it alone
+  pub only_that : (old new : D) (files : Files) (P : Files → Type 0) → Only files (present moment images old) → P files → LeavesOldOr moment images old new P → LeavesOnly moment images old new P
+  only_that old new files P only has run =
+      leaves_less moment images old new _ _ run (λ image either. ⊎_elim (λ (left : present moment images old image). subst P (sym (only image left)) has) (λ (p : P image). p) either)
+
+  -- what a run left at its end it left at some moment
+  at_end : (old new : D) (P : Files → Type 0) → LeavesOnly moment images old new P → (image : Files) → present moment images new image → P image
+  at_end old new P run image left = run.each (moment new) image run.later (omega arith) left
+
+  -- behind a run that leaves nothing new
+  pub since : (old mid new : D) (P Q : Files → Type 0) → LeavesOnly moment images old mid (present moment images old) → ((image : Files) → P image → Q image) → LeavesOldOr moment images mid new P → LeavesOldOr moment images old new Q
+  since old mid new P Q first more second =
+      runs_join moment images old mid new _ (old_or old mid Q first)
+      (leaves_less moment images mid new _ _ second
+      (λ image either. ⊎_elim (λ (left : present moment images mid image). inl (at_end old mid (present moment images old) first image left)) (λ (p : P image). inr (more image p)) either))
+
+  pub only_since : (old mid new : D) → LeavesOnly moment images old mid (present moment images old) → LeavesOnly moment images mid new (present moment images mid) → LeavesOnly moment images old new (present moment images old)
+  only_since old mid new first second =
+      runs_join moment images old mid new _ first (leaves_less moment images mid new _ _ second (at_end old mid (present moment images old) first))
+
+-- two runs that only read
+pub reads_since : {D : Type 0} (tells honest : Type 0) (seen : D → Files) (moment : D → ℕ) (images : D → ℕ → Files → Type 0) (old mid new : D) → OnlyReads tells honest seen moment images old mid
+    → OnlyReads tells honest seen moment images mid new → OnlyReads tells honest seen moment images old new
+reads_since tells honest seen moment images old mid new first second = record {
+  same = λ told. second.same told ∙ first.same told;
+  moments = λ true'. only_since moment images old mid new (first.moments true') (second.moments true');
+}
+
+-- a store that is being made on the same files
+pub forms_since : (given : Option Catalog) (old mid image : Files) → mid ≡ old → MayForm given mid image → MayForm given old image
+forms_since given old mid image same forms = subst (λ (d : Files). MayForm given d image) same forms

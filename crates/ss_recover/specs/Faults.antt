@@ -1,0 +1,78 @@
+-- Which disks hold a store, and the first fault of one that isn't empty and holds none, by three passes over its current file.
+use Rattle.std.specs.Prelude.{◌≡◌, ◌≢◌, ◌⊎◌, ◌≤◌, ◌+◌, ◌-◌, ◌^◌, ℕ, nat_lt, if◌then◌else◌, List, [], ◌∷◌, length, take, Ok, Err}
+use Rattle.ss_model.specs.declared.catalog.Catalog.{Catalog}
+use Rattle.ss_model.specs.declared.entry.Entry.{Entry}
+use Rattle.ss_model.specs.declared.entry.Listed.{Listed}
+use Rattle.ss_model.specs.Accepted.{Accepted}
+use Rattle.ss_model.specs.Database.{empty_database}
+use Rattle.ss_model.specs.Replays.{Replays}
+use Rattle.ss_record.specs.Spelling.{records}
+use Rattle.ss_disk.specs.Files.{Files}
+use Rattle.ss_cmdlog.specs.Generation.{Stood}
+use Rattle.ss_cmdlog.specs.Store.{current_file, entries_of}
+use Rattle.ss_cmdlog.specs.Opening.{number_of, store_at}
+use Rattle.ss_snapshot.specs.EmptyImage.{IsEmptyImage}
+use Rattle.ss_snapshot.specs.Foreign.{IsForeignAt}
+use Rattle.ss_standing.specs.Standing.{listed_entries}
+use Rattle.ss_recover.specs.Replaying.{StopsBehind}
+
+-- in front of the image stand the magic, the first place and the image's length, of eight bytes each
+abbrev pub image_place : ℕ
+image_place = 24
+
+-- in front of the records of a group stand its gate and two numbers of four bytes
+abbrev pub group_head : ℕ
+group_head = 9
+
+-- where the record of the entry at this position stands behind the image
+abbrev pub record_place : List (List Entry) → ℕ → ℕ
+record_place [] n = 0
+record_place (es ∷ groups) n =
+    if nat_lt n (length es) then group_head + length (records (take n es)) else group_head + length (records es) + record_place groups (n - length es)
+
+-- the current file, which has this number, is read as this generation
+pub record ReadsAs (disk : Files) (which : ℕ) (s : Stood) : Type 0 where
+  pub read : store_at disk ≡ Ok s
+  pub byte : ℕ
+  pub selector : disk.selector ≡ byte ∷ []
+  pub named : which ≡ number_of (current_file byte)
+
+-- the files are a store of this catalogue: the image is that of its empty database, and the entries replay on this one, each at
+-- its place
+pub record IsStore (disk : Files) (catalog : Catalog) : Type 0 where
+  pub which : ℕ
+  pub s : Stood
+  pub reads : ReadsAs disk which s
+  pub accepted : Accepted catalog
+  pub image : IsEmptyImage s.image catalog
+  pub list : List Listed
+  pub entries : listed_entries list ≡ entries_of s
+  pub replays : Replays catalog (empty_database catalog) list
+  pub few : s.first + length list ≤ 2 ^ 60
+
+-- the first pass: the bytes are no generation, whatever its image says
+abbrev pub HasForeignBytes : Files → ℕ → ℕ → Type 0
+HasForeignBytes disk which at = (disk.selector ≢ []) × (store_at disk ≡ Err (which, at))
+
+-- the second: the image is that of no empty database
+pub record HasForeignImage (disk : Files) (which at : ℕ) : Type 0 where
+  pub s : Stood
+  pub reads : ReadsAs disk which s
+  pub offset : ℕ
+  pub foreign : IsForeignAt s.image offset
+  pub place : at ≡ image_place + offset
+
+-- the third: an entry doesn't replay behind those before it, and is told at its record
+pub record HasForeignEntry (disk : Files) (which at : ℕ) : Type 0 where
+  pub s : Stood
+  pub reads : ReadsAs disk which s
+  pub catalog : Catalog
+  pub accepted : Accepted catalog
+  pub image : IsEmptyImage s.image catalog
+  pub list : List Listed
+  pub stops : StopsBehind catalog (empty_database catalog) s.first (entries_of s) list
+  pub place : at ≡ image_place + length s.image + record_place s.groups (length list)
+
+-- the first pass that finds a fault gives the place
+abbrev pub HasFaultAt : Files → ℕ → ℕ → Type 0
+HasFaultAt disk which at = HasForeignBytes disk which at ⊎ HasForeignImage disk which at ⊎ HasForeignEntry disk which at

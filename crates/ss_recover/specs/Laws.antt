@@ -1,0 +1,22 @@
+-- A disk is empty, or a store of one catalogue, or has one first fault.
+use Rattle.std.specs.Prelude.{◌≡◌, ℕ}
+use Rattle.ss_model.specs.declared.catalog.Catalog.{Catalog}
+use Rattle.ss_disk.specs.Files.{Files}
+use Rattle.ss_cmdlog.specs.Store.{IsEmpty}
+use Rattle.ss_recover.specs.Faults.{HasFaultAt, IsStore}
+
+-- law: an empty disk has no fault
+abbrev pub EmptyHasNoFault : Type 0
+EmptyHasNoFault = (disk : Files) (which at : ℕ) → IsEmpty disk → HasFaultAt disk which at → ⊥
+
+-- law: nor has a store
+abbrev pub StoreHasNoFault : Type 0
+StoreHasNoFault = (disk : Files) (catalog : Catalog) (which at : ℕ) → IsStore disk catalog → HasFaultAt disk which at → ⊥
+
+-- law: a disk is a store of one catalogue at most
+abbrev pub StoreHasOneCatalog : Type 0
+StoreHasOneCatalog = (disk : Files) (a b : Catalog) → IsStore disk a → IsStore disk b → a ≡ b
+
+-- law: and has one first fault at most
+abbrev pub HasOneFault : Type 0
+HasOneFault = (disk : Files) (which at other place : ℕ) → HasFaultAt disk which at → HasFaultAt disk other place → (which ≡ other) × (at ≡ place)

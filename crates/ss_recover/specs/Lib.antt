@@ -1,0 +1,6 @@
+pub mod Replaying
+pub mod Faults
+pub mod Loading
+pub mod Recovering
+pub mod Errors
+pub mod Laws

@@ -1,0 +1,65 @@
+-- What a store's contents come to, apart from its disk.
+use Rattle.std.specs.Prelude.{◌≡◌, ◌⊎◌, ◌≤◌, ◌+◌, ◌-◌, ◌*◌, ◌^◌, ℕ, suc, nat_lt, if◌then◌else◌, List, [], ◌∷◌, length}
+use Rattle.ss_model.specs.declared.catalog.Catalog.{Catalog}
+use Rattle.ss_model.specs.declared.entry.Entry.{Entry}
+use Rattle.ss_model.specs.declared.entry.Listed.{Listed}
+use Rattle.ss_model.specs.Accepted.{Accepted}
+use Rattle.ss_model.specs.Database.{empty_database}
+use Rattle.ss_model.specs.Replays.{Replays, after}
+use Rattle.ss_record.specs.Spelling.{records}
+use Rattle.ss_shard.specs.Databases.{StandsFor}
+use Rattle.ss_shard.specs.Parts.{IsWholeShard}
+use Rattle.ss_cmdlog.specs.declared.open.Loaded.{Loaded}
+use Rattle.ss_snapshot.specs.EmptyImage.{IsEmptyImage}
+use Rattle.ss_snapshot.specs.Foreign.{IsForeignAt}
+use Rattle.ss_standing.specs.Standing.{listed_entries}
+use Rattle.ss_recover.specs.declared.stored.Stored.{Stored}
+use Rattle.ss_recover.specs.declared.stored.StoredError.{StoredError}
+use Rattle.ss_recover.specs.declared.stored.StoredError.TheVariants.{NoMemory, Foreign}
+use Rattle.ss_recover.specs.Faults.{image_place, group_head}
+use Rattle.ss_recover.specs.Replaying.{StopsBehind}
+
+-- the image is that of the catalogue's empty database, and the entries replay on this one, up to the last place
+pub record IsStored (loaded : Loaded) (parts : ℕ) (r : Stored) : Type 0 where
+  pub accepted : Accepted r.catalog
+  pub image : IsEmptyImage loaded.image r.catalog
+  pub entries : listed_entries r.known ≡ loaded.entries
+  pub replays : Replays r.catalog (empty_database r.catalog) r.known
+  pub placed : r.first ≡ loaded.first + length r.known
+  pub few : r.first ≤ 2 ^ 60
+  pub dealt : IsWholeShard r.catalog parts r.database.whole
+  pub holds : StandsFor r.catalog r.database (after r.catalog (empty_database r.catalog) r.known)
+
+-- bytes are no image, and are told at the first one that can't be, by its place in the file
+pub record HasOddImage (image : List ℕ) (at : ℕ) : Type 0 where
+  pub offset : ℕ
+  pub foreign : IsForeignAt image offset
+  pub place : at ≡ image_place + offset
+
+-- why they aren't: out of memory says nothing
+abbrev pub RefusesImage : List ℕ → StoredError → Type 0
+RefusesImage image NoMemory = Unit {0}
+RefusesImage image (Foreign at) = HasOddImage image at
+
+-- how many groups begin up to the entry at this position, by how many entries each has
+abbrev pub groups_begun : List ℕ → ℕ → ℕ
+groups_begun [] n = 0
+groups_begun (m ∷ ms) n = if nat_lt n m then 1 else suc (groups_begun ms (n - m))
+
+-- where the record stands that is behind those of these entries: the image has so many bytes, and the groups so many entries
+abbrev pub place_behind : ℕ → List ℕ → List Entry → ℕ
+place_behind image sizes entries = image_place + image + group_head * groups_begun sizes (length entries) + length (records entries)
+
+-- behind such an image an entry doesn't replay
+pub record HasOddEntry (loaded : Loaded) (at : ℕ) : Type 0 where
+  pub catalog : Catalog
+  pub accepted : Accepted catalog
+  pub image : IsEmptyImage loaded.image catalog
+  pub list : List Listed
+  pub stops : StopsBehind catalog (empty_database catalog) loaded.first loaded.entries list
+  pub place : at ≡ place_behind (length loaded.image) loaded.sizes (listed_entries list)
+
+-- why contents are no store's: out of memory says nothing
+abbrev pub RefusesLoaded : Loaded → StoredError → Type 0
+RefusesLoaded loaded NoMemory = Unit {0}
+RefusesLoaded loaded (Foreign at) = HasOddImage loaded.image at ⊎ HasOddEntry loaded at

@@ -1,0 +1,118 @@
+-- What recovery gives, and what it leaves of the disk.
+use Rattle.std.specs.Prelude.{◌≡◌, ◌≢◌, ◌⊎◌, ◌≤◌, ◌+◌, ◌^◌, ℕ, List, length, Option, Some, None}
+use Rattle.ss_value.specs.FaultCounts.{Rose}
+use Rattle.ss_model.specs.declared.catalog.Catalog.{Catalog}
+use Rattle.ss_model.specs.declared.entry.Listed.{Listed}
+use Rattle.ss_model.specs.Accepted.{Accepted}
+use Rattle.ss_model.specs.Database.{Database as Model, empty_database}
+use Rattle.ss_model.specs.Replays.{Replays, after}
+use Rattle.ss_model.specs.Settling.{Kept, kept}
+use Rattle.ss_model.specs.WholeDatabase.{WholeDatabase, HadAtMost}
+use Rattle.ss_disk.specs.Files.{Files}
+use Rattle.ss_disk.specs.Crash.{Only}
+use Rattle.ss_disk.specs.Moments.{LeavesOnly}
+use Rattle.ss_shard.specs.declared.database.Database.{Database}
+use Rattle.ss_shard.specs.Databases.{StandsFor}
+use Rattle.ss_shard.specs.Parts.{IsWholeShard}
+use Rattle.ss_cmdlog.specs.Generation.{Stood}
+use Rattle.ss_cmdlog.specs.Log.{IsOpen, present}
+use Rattle.ss_cmdlog.specs.Opening.{OnlyReads}
+use Rattle.ss_cmdlog.specs.Store.{IsEmpty, entries_of}
+use Rattle.ss_snapshot.specs.EmptyImage.{IsReadFromItsText}
+use Rattle.ss_standing.specs.Standing.{listed_entries, IsImageAt, Replayed, Stands, StandsForReplayed}
+use Rattle.ss_recover.specs.declared.recovered.Recovered.{Recovered}
+use Rattle.ss_recover.specs.declared.error.RecoverError.{RecoverError}
+use Rattle.ss_recover.specs.declared.error.RecoverError.TheVariants.{NoMemory, DiskFault, Foreign, OtherCatalog, Nothing}
+use Rattle.ss_recover.specs.Faults.{HasFaultAt, IsStore}
+
+-- a catalogue that is accepted, and is what its own text is read as
+abbrev pub IsOwnCatalog : Catalog → Type 0
+IsOwnCatalog catalog = Accepted catalog × IsReadFromItsText catalog
+
+-- the program's database stands for this one, which is whole, and is dealt to so many partitions
+pub record IsReady (catalog : Catalog) (parts : ℕ) (database : Database) (db : Model) : Type 0 where
+  pub whole : WholeDatabase catalog db
+  pub dealt : IsWholeShard catalog parts database.whole
+  pub holds : StandsFor catalog database db
+
+-- the generation's entries, with these outcomes, lead from its image to this place and to this database
+pub record LeadsTo (catalog : Catalog) (s : Stood) (list : List Listed) (place : ℕ) (db : Model) : Type 0 where
+  pub opening : Model
+  pub image : IsImageAt catalog s.first s.image opening
+  pub entries : listed_entries list ≡ entries_of s
+  pub replays : Replays catalog opening list
+  pub placed : place ≡ s.first + length list
+  pub reached : db ≡ after catalog opening list
+
+-- what was recovered stands for this database, and its log is open on a generation that stands for the same
+pub record GoesOn {D : Type 0} (tells honest : Type 0) (seen : D → Files) (now : D → Files → Type 0) (parts : ℕ) (r : Recovered D) (db : Model) : Type 0 where
+  pub ready : IsReady r.catalog parts r.database db
+  pub had : HadAtMost r.first db
+  pub few : r.first ≤ 2 ^ 60
+  pub s : Stood
+  pub log : IsOpen tells honest seen now r.log s
+  pub count : r.log.count ≡ r.first
+  pub leads : LeadsTo r.catalog s r.known r.first db
+  pub generation : Replayed r.catalog s r.first (kept r.catalog db)
+
+-- the database that was recovered: the empty one, behind the entries of the log
+abbrev pub recovered_database : {D : Type 0} → Recovered D → Model
+recovered_database r = after r.catalog (empty_database r.catalog) r.known
+
+-- since then a crash leaves what it could leave at first, or what stands for so many executions and for what is kept after them
+abbrev pub LeavesOldOr : {D : Type 0} → (D → ℕ) → (D → ℕ → Files → Type 0) → D → D → (Files → Type 0) → Type 0
+LeavesOldOr moment images old new P = LeavesOnly moment images old new (λ image. present moment images old image ⊎ P image)
+
+-- an image stands for so many executions as were recovered, and for what is kept of the database after them
+abbrev pub StandsForIt : {D : Type 0} → Recovered D → Model → Files → Type 0
+StandsForIt r db image = Stands r.catalog image r.first (kept r.catalog db)
+
+-- a database was recovered from a disk, which stood for it, or made on an empty one; of the given catalogue, if there is one
+pub record IsRecovered {D : Type 0} (tells honest : Type 0) (seen : D → Files) (moment : D → ℕ) (images : D → ℕ → Files → Type 0)
+    (given : Option Catalog) (parts : ℕ) (old : D) (r : Recovered D) (db : Model) : Type 0 where
+  pub own : IsOwnCatalog r.catalog
+  pub given_one : (catalog : Catalog) → given ≡ Some catalog → r.catalog ≡ catalog
+  pub goes_on : GoesOn tells honest seen (present moment images) parts r db
+  pub was : tells → IsEmpty (seen old) ⊎ IsStore (seen old) r.catalog
+  pub stood : tells → StandsForIt r db (seen old)
+  pub moments : honest → LeavesOldOr moment images old r.log.disk (StandsForIt r db)
+  pub quiet : honest → Only (seen old) (present moment images old) → LeavesOnly moment images old r.log.disk (StandsForIt r db)
+
+-- ---- refusals
+
+-- an image of a disk on which a store of the given catalogue was being made
+abbrev pub MayForm : Option Catalog → Files → Files → Type 0
+MayForm None disk image = ⊥
+MayForm (Some catalog) disk image = IsEmpty disk × Stands catalog image 0 (kept catalog (empty_database catalog))
+
+-- so many executions were recovered of a catalogue with this text, which is another than the given one's
+pub record HasOtherText (tells : Type 0) (disk : Files) (given : Option Catalog) (stored text : List ℕ) : Type 0 where
+  pub ours : Catalog
+  pub is_given : given ≡ Some ours
+  pub text_is : text ≡ ours.text
+  pub theirs : Catalog
+  pub own : IsOwnCatalog theirs
+  pub stored_is : stored ≡ theirs.text
+  pub store : tells → IsStore disk theirs
+  pub stands : tells → (count : ℕ) × (k : Kept) × StandsForReplayed theirs disk count k
+  pub another : stored ≢ text
+
+-- a catalogue is given, and has another text
+pub record DiffersFrom (stored : Catalog) (given : Option Catalog) (e : RecoverError) : Type 0 where
+  pub ours : Catalog
+  pub is_given : given ≡ Some ours
+  pub another : stored.text ≢ ours.text
+  pub told : e ≡ OtherCatalog stored.text ours.text
+
+-- a refusal, and what it leaves of the disk
+abbrev pub RefusesAsSaid : {D : Type 0} → Type 0 → Type 0 → (D → Files) → (D → ℕ) → (D → ℕ → Files → Type 0) → (D → ℕ) → Option Catalog →
+    D → D → RecoverError → Type 0
+RefusesAsSaid tells honest seen moment images faults given old new NoMemory = honest → LeavesOldOr moment images old new (MayForm given (seen old))
+RefusesAsSaid tells honest seen moment images faults given old new DiskFault =
+    (honest → LeavesOldOr moment images old new (MayForm given (seen old))) × Rose (faults old) (faults new)
+RefusesAsSaid tells honest seen moment images faults given old new (Foreign which at) =
+    OnlyReads tells honest seen moment images old new × (tells → HasFaultAt (seen old) which at)
+RefusesAsSaid tells honest seen moment images faults given old new (OtherCatalog stored text) =
+    OnlyReads tells honest seen moment images old new × HasOtherText tells (seen old) given stored text
+RefusesAsSaid tells honest seen moment images faults given old new Nothing =
+    OnlyReads tells honest seen moment images old new × (given ≡ None) × (tells → IsEmpty (seen old))

@@ -1,0 +1,85 @@
+//! All entries of a log.
+
+ghost use Rattle.std.specs.Prelude.{◌≡◌, ◌≤◌, ◌+◌, ◌^◌, length, map, IfOk, IfErr};
+ghost use Rattle.ss_model.specs.Accepted.{Accepted};
+ghost use Rattle.ss_model.specs.Database.{Database as Model};
+ghost use Rattle.ss_shard.specs.Databases.{IsWhole};
+ghost use Rattle.ss_shard.specs.Parts.{dealing_of};
+ghost use Rattle.ss_standing.specs.Standing.{listed_entries};
+ghost use Rattle.ss_recover.specs.Replaying.{IsOnAt, IsReplayed, StopsAsSaid};
+
+use crate::entry::replay_entry;
+use crate::values::replays;
+use ss_model::{Catalog, Entry, Listed};
+use ss_proc::Runner;
+use ss_shard::Database;
+use ss_value::{Reserved, Seq};
+use std::alloc::Global;
+
+/// What a replay comes to.
+#[derive(Drop)]
+pub struct Replayed {
+    /// The entries in their order, each with its outcome.
+    pub list: Seq<Listed>,
+    /// The database behind them.
+    pub database: Database,
+}
+
+/// Why entries don't replay.
+#[derive(Drop)]
+pub enum ReplayError {
+    /// Out of memory, which says nothing of the entries.
+    NoMemory,
+    /// An entry doesn't replay: those before the first such one, each with its outcome.
+    Foreign { before: Seq<Listed> },
+}
+
+/// Runs these entries in their order on a database, from a place on, with the triggers between executions off: a step runs
+/// only where it is an entry. Gives the list and the database behind it.
+///
+/// Refuses `Foreign` exactly where an entry doesn't replay on the database that those before it leave, with those before
+/// the first such one: what it names isn't in the catalogue or not of its kind, what it carries doesn't fit, it is a step that
+/// isn't the next one of its procedure or has no batch on an input, or it would stand at place 2^60.
+///
+/// Linear in the entries, and costs what each costs to run and to commit. Entries are moved into the list, and none is
+/// copied; room for the list is made once, before the first entry runs.
+pub fn replay<N: Runner>(
+    alloc: Global,
+    catalog: &Catalog,
+    runner: &N,
+    database: Database,
+    first: u64,
+    entries: Seq<Entry>,
+) -> Result<Replayed, ReplayError>
+    requires accepted { Accepted catalog.now }
+    requires whole { IsWhole catalog.now database }
+    requires first { first ≤ 2 ^ 60 }
+    requires on { (d : Model) × IsOnAt catalog.now database first d }
+    ensures entries { IfOk result (λ r. listed_entries r.list ≡ entries) }
+    ensures placed { IfOk result (λ r. first + length r.list ≤ 2 ^ 60) }
+    ensures replayed { IfOk result (λ r. (d : Model) → IsOnAt catalog.now database first d → IsReplayed catalog.now d r.list r.database) }
+    ensures whole { IfOk result (λ r. IsWhole catalog.now r.database) }
+    ensures dealt { IfOk result (λ r. map dealing_of r.database.whole.tables ≡ map dealing_of database.whole.tables) }
+    ensures foreign { IfErr result (λ e. (d : Model) → IsOnAt catalog.now database first d → StopsAsSaid catalog.now d first entries e) }
+{
+    let mut database = database;
+    let mut list = Reserved::new(alloc);
+    let Ok(()) = list.reserve(entries.len()) else {
+        return Err(ReplayError::NoMemory);
+    };
+    for entry in entries.into_vec() {
+        if !replays(catalog, &database, first + list.len() as u64, &entry) {
+            return Err(ReplayError::Foreign {
+                before: list.into_seq(),
+            });
+        }
+        let Ok(outcome) = replay_entry(alloc, catalog, runner, &mut database, &entry) else {
+            return Err(ReplayError::NoMemory);
+        };
+        list.add(Listed { entry, outcome });
+    }
+    Ok(Replayed {
+        list: list.into_seq(),
+        database,
+    })
+}

@@ -1,0 +1,63 @@
+//! A new store.
+
+ghost use Rattle.std.specs.Prelude.{◌≡◌, ◌≤◌, Some, IfOk, IfErr, MatchResult};
+ghost use Rattle.ss_cmdlog.specs.Log.{IsSettled, present};
+ghost use Rattle.ss_cmdlog.specs.Store.{IsEmpty};
+ghost use Rattle.ss_recover.specs.Errors.{forming_refusal};
+ghost use Rattle.ss_recover.specs.Recovering.{IsOwnCatalog, IsRecovered, RefusesAsSaid, recovered_database};
+
+use crate::error::RecoverError;
+use crate::recovered::Recovered;
+use ss_cmdlog::{CmdLog, LogError};
+use ss_disk::Disk;
+use ss_model::Catalog;
+use ss_shard::opening;
+use ss_snapshot::empty_image;
+use ss_standing::forming_stands;
+use ss_value::Seq;
+use std::alloc::Global;
+
+/// The refusal of a call that makes a store.
+fn refusal(refused: LogError) -> RecoverError
+    ensures { result ≡ forming_refusal refused }
+{
+    match refused {
+        LogError::DiskFault => RecoverError::DiskFault,
+        _ => RecoverError::NoMemory,
+    }
+}
+
+/// Makes a store of a catalogue's empty database on an empty disk of which nothing is unsynced.
+pub(crate) fn form<D: Disk>(
+    alloc: Global,
+    disk: D,
+    catalog: Catalog,
+    partitions: u8,
+) -> Result<Recovered<D>, (RecoverError, D)>
+    requires own { IsOwnCatalog catalog }
+    requires some { 1 ≤ partitions }
+    requires few { partitions ≤ 8 }
+    requires empty { D.tells → IsEmpty (D.seen disk) }
+    requires settled { D.honest → IsSettled D.seen (present D.moment D.images) disk }
+    ensures recovered { IfOk result (λ r. IsRecovered D.tells D.honest D.seen D.moment D.images (Some catalog) partitions disk r (recovered_database r)) }
+    ensures refused { IfErr result (λ refused. RefusesAsSaid D.tells D.honest D.seen D.moment D.images D.faults (Some catalog) disk refused.1 refused.0) }
+    ensures later { MatchResult result (λ r. D.faults disk ≤ D.faults r.log.disk) (λ refused. D.faults disk ≤ D.faults refused.1) }
+{
+    forming_stands();
+    let Ok(database) = opening(alloc, &catalog, partitions) else {
+        return Err((RecoverError::NoMemory, disk));
+    };
+    let Ok(image) = empty_image(alloc, &catalog) else {
+        return Err((RecoverError::NoMemory, disk));
+    };
+    match CmdLog::format(alloc, disk, image.as_slice()) {
+        Ok(log) => Ok(Recovered {
+            database,
+            catalog,
+            first: 0,
+            known: Seq::new(alloc),
+            log,
+        }),
+        Err((refused, disk)) => Err((refusal(refused), disk)),
+    }
+}

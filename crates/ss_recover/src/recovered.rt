@@ -1,0 +1,22 @@
+//! What is recovered.
+
+use ss_cmdlog::CmdLog;
+use ss_disk::Disk;
+use ss_model::{Catalog, Listed};
+use ss_shard::Database;
+use ss_value::Seq;
+
+/// What a disk stands for, and the log that goes on behind it.
+#[derive(Drop)]
+pub struct Recovered<D: Disk> {
+    /// The database.
+    pub database: Database,
+    /// The catalogue of the store.
+    pub catalog: Catalog,
+    /// The place of the next execution: how many there have been since the store was made.
+    pub first: u64,
+    /// The entries that were replayed, each with its outcome.
+    pub known: Seq<Listed>,
+    /// The log, open behind them.
+    pub log: CmdLog<D>,
+}

@@ -1,0 +1,77 @@
+//! Recovery.
+
+ghost use Rattle.std.specs.Prelude.{◌≡◌, ◌≢◌, ◌⊎◌, ◌≤◌, [], true, false, None, Ok, OnOk, IfOk, IfErr, IfSome, MatchResult};
+ghost use Rattle.ss_value.specs.FaultCounts.{HasCause};
+ghost use Rattle.ss_cmdlog.specs.Log.{IsSettled, present};
+ghost use Rattle.ss_cmdlog.specs.Opening.{OnlyReads};
+ghost use Rattle.ss_cmdlog.specs.Store.{IsEmpty};
+ghost use Rattle.ss_recover.specs.Recovering.{IsOwnCatalog, IsRecovered, RefusesAsSaid, recovered_database};
+
+use crate::error::RecoverError;
+use crate::forming::form;
+use crate::recovered::Recovered;
+use crate::restoring::restore;
+use ss_disk::{Disk, FileNo};
+use ss_model::Catalog;
+use ss_proc::Runner;
+use ss_value::Failed;
+use std::alloc::Global;
+
+/// Whether nothing was formatted yet, told behind a sync.
+fn is_empty<D: Disk>(disk: &mut D) -> Result<bool, Failed>
+    ensures empty { D.tells → result ≡ Ok true → IsEmpty (D.seen disk.old) }
+    ensures stored { D.tells → result ≡ Ok false → (D.seen disk.old).selector ≢ [] }
+    ensures settled { D.honest → OnOk result (IsSettled D.seen (present D.moment D.images) disk.new) }
+    ensures reads { OnlyReads D.tells D.honest D.seen D.moment D.images disk.old disk.new }
+    ensures cause { HasCause (D.faults disk.old) (D.faults disk.new) result }
+{
+    disk.sync()?;
+    let length = disk.len(FileNo::Selector)?;
+    Ok(length == 0)
+}
+
+/// Recovers what a disk stands for: the database, and the log that goes on behind its entries.
+///
+/// It begins with a sync. A store is opened, its image is read, and its entries are replayed in their order with the triggers
+/// between executions off, as in strong recovery (Meehan et al., PVLDB 8, 2015, section 2.4): the executions that the store
+/// lists come to what they came to, and no others run. An empty disk is made a store of the given catalogue. The database is
+/// dealt to so many partitions, 1 to 8.
+///
+/// Refuses `Nothing` exactly where the disk is empty and no catalogue is given, and `OtherCatalog` where the store is of
+/// another one than is given, by their texts. `Foreign` tells the first byte that can't be in a disk that is neither empty nor a
+/// store: of the generation, else of its image, else the record of the first entry that doesn't replay. `DiskFault` comes only
+/// where the disk counted a fault.
+///
+/// A crash at any moment leaves what it could leave before, or what stands for what is recovered. Behind `Foreign`,
+/// `OtherCatalog` and `Nothing` a read gives what it gave. Behind the other two an empty disk may have become a store of the
+/// given catalogue, before any execution; a crash leaves this or what it could leave before.
+///
+/// Linear in the current file, which is read whole into one buffer, and costs what the entries cost to run; room for their
+/// list is made once. A disk that isn't empty has seven calls, of which none changes it; making a store takes nine.
+pub fn recover<N: Runner, D: Disk>(
+    alloc: Global,
+    runner: &N,
+    mut disk: D,
+    catalog: Option<Catalog>,
+    partitions: u8,
+) -> Result<Recovered<D>, (RecoverError, D)>
+    requires own { IfSome catalog IsOwnCatalog }
+    requires some { 1 ≤ partitions }
+    requires few { partitions ≤ 8 }
+    ensures recovered { IfOk result (λ r. IsRecovered D.tells D.honest D.seen D.moment D.images catalog partitions disk r (recovered_database r)) }
+    ensures refused { IfErr result (λ refused. RefusesAsSaid D.tells D.honest D.seen D.moment D.images D.faults catalog disk refused.1 refused.0) }
+    ensures later { MatchResult result (λ r. D.faults disk ≤ D.faults r.log.disk) (λ refused. D.faults disk ≤ D.faults refused.1) }
+    ensures nothing { D.tells → IsEmpty (D.seen disk) → catalog ≡ None
+        → IfErr result (λ refused. (refused.0 ≡ RecoverError.Nothing) ⊎ (refused.0 ≡ RecoverError.DiskFault)) × OnOk result ⊥ }
+{
+    let Ok(empty) = is_empty(&mut disk) else {
+        return Err((RecoverError::DiskFault, disk));
+    };
+    if !empty {
+        return restore(alloc, runner, disk, catalog, partitions);
+    }
+    match catalog {
+        Some(catalog) => form(alloc, disk, catalog, partitions),
+        None => Err((RecoverError::Nothing, disk)),
+    }
+}

@@ -1,0 +1,99 @@
+//! What a store's contents come to.
+
+ghost use Rattle.std.specs.Prelude.{◌≡◌, ◌≤◌, ◌^◌, All, IfOk, IfErr};
+ghost use Rattle.ss_model.specs.Accepted.{Accepted};
+ghost use Rattle.ss_record.specs.Bounds.{IsRecordable};
+ghost use Rattle.ss_snapshot.specs.EmptyImage.{IsEmptyImage};
+ghost use Rattle.ss_recover.specs.Loading.{IsStored, RefusesImage, RefusesLoaded};
+
+use crate::entries::{ReplayError, Replayed, replay};
+use crate::place::{image_byte, place_behind};
+use ss_cmdlog::Loaded;
+use ss_model::{Catalog, Listed};
+use ss_proc::Runner;
+use ss_shard::{Database, opening};
+use ss_snapshot::{ImageError, read_empty_image};
+use ss_value::{NoMemory, Seq};
+use std::alloc::Global;
+
+/// The database that a store's entries lead to, and they with their outcomes.
+#[derive(Drop)]
+pub(crate) struct Stored {
+    pub database: Database,
+    pub catalog: Catalog,
+    pub first: u64,
+    pub known: Seq<Listed>,
+}
+
+/// Why contents are no store's.
+#[derive(Clone, Copy, Debug, PartialEq, Eq, Drop)]
+pub(crate) enum StoredError {
+    /// Out of memory, which says nothing of them.
+    NoMemory,
+    /// The first byte that can't be, by its place in the file.
+    Foreign { at: u64 },
+}
+
+impl From<NoMemory> for StoredError {
+    ghost use Rattle.std.specs.Prelude.{◌≡◌};
+    ghost use Rattle.ss_recover.specs.declared.stored.StoredError.TheVariants.{NoMemory as OutOfMemory};
+
+    ghost from_gives = { λ _ e. e ≡ OutOfMemory };
+
+    fn from(_: NoMemory) -> StoredError {
+        StoredError::NoMemory
+    }
+}
+
+/// The catalogue of an image.
+fn catalog_of(alloc: Global, image: &[u8]) -> Result<Catalog, StoredError>
+    ensures ok { IfOk result (IsEmptyImage image.now) }
+    ensures accepted { IfOk result Accepted }
+    ensures refused { IfErr result (RefusesImage image.now) }
+{
+    match read_empty_image(alloc, image) {
+        Ok(catalog) => Ok(catalog),
+        Err(ImageError::NoMemory) => Err(StoredError::NoMemory),
+        Err(ImageError::Foreign { at }) => Err(StoredError::Foreign {
+            at: image_byte(at)?,
+        }),
+    }
+}
+
+/// Reads the image and replays the entries, on a database that is dealt to so many partitions.
+///
+/// Linear in the image; and costs what the replay costs. A refused entry's record is sought by the records before it.
+pub(crate) fn stored_in<N: Runner>(
+    alloc: Global,
+    runner: &N,
+    loaded: Loaded,
+    partitions: u8,
+) -> Result<Stored, StoredError>
+    requires first { loaded.first ≤ 2 ^ 60 }
+    requires recordable { All IsRecordable loaded.entries }
+    requires some { 1 ≤ partitions }
+    requires few { partitions ≤ 8 }
+    ensures ok { IfOk result (IsStored loaded partitions) }
+    ensures refused { IfErr result (RefusesLoaded loaded) }
+{
+    let Loaded {
+        first,
+        image,
+        entries,
+        sizes,
+    } = loaded;
+    let catalog = catalog_of(alloc, image.as_slice())?;
+    let database = opening(alloc, &catalog, partitions)?;
+    match replay(alloc, &catalog, runner, database, first, entries) {
+        Ok(Replayed { list, database }) => Ok(Stored {
+            database,
+            catalog,
+            first: first + list.len() as u64,
+            known: list,
+        }),
+        Err(ReplayError::NoMemory) => Err(StoredError::NoMemory),
+        Err(ReplayError::Foreign { before }) => Err(StoredError::Foreign {
+            at: place_behind(alloc, image.len(), sizes.as_slice(), before.as_slice())?,
+        }),
+    }
+}

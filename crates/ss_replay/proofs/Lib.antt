@@ -1,4 +1,0 @@
-pub mod CallerLemmas
-pub mod Premises
-pub mod Replaying
-pub mod Valued

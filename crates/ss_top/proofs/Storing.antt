@@ -1,0 +1,253 @@
+-- What a command comes to, by what was recovered and how it was told.
+use Rattle.std.proofs.Common.{◌≡◌, ◌≢◌, ◌≤◌, ◌⊎◌, ◌∙◌, inl, inr, ℕ, Bool, true, false, cond, List, [], Some, None, refl, sym, ap, subst}
+use Rattle.std.specs.Prelude.{Option, IfSome, IsUtf8}
+use Rattle.ss_value.specs.FaultCounts.{Rose}
+use Rattle.ss_model.specs.declared.catalog.Catalog.{Catalog}
+use Rattle.ss_model.specs.declared.entry.Answer.{Answer}
+use Rattle.ss_model.specs.declared.entry.Request.{Request}
+use Rattle.ss_model.specs.Accepted.{Accepted}
+use Rattle.ss_disk.specs.Files.{Files}
+use Rattle.ss_disk.proofs.CallerLemmas.{leaves_less}
+use Rattle.ss_cmdlog.specs.Log.{present}
+use Rattle.ss_cmdlog.specs.Store.{IsEmpty}
+use Rattle.ss_headline.specs.Disks.{DiskChange, disk_of, AsBefore, NothingRan}
+use Rattle.ss_headline.specs.Untouched.{ReadingIsAsBefore, FormingRanNothing}
+use Rattle.ss_recover.specs.declared.error.RecoverError.{RecoverError}
+use Rattle.ss_recover.specs.declared.error.RecoverError.TheVariants as recovery
+use Rattle.ss_recover.specs.declared.recovered.Recovered.{Recovered}
+use Rattle.ss_recover.specs.Faults.{IsStore}
+use Rattle.ss_recover.specs.Recovering.{IsOwnCatalog, IsRecovered, LeavesOldOr, MayForm, RefusesAsSaid, recovered_database}
+use Rattle.ss_top.specs.declared.status.Status.{Status}
+use Rattle.ss_top.specs.declared.status.Status.TheVariants.{Done, Usage, Input, ReadFault, WriteFault, Disk, NoMemory, Foreign, OtherCatalog, Limit}
+use Rattle.ss_engine.specs.declared.settling.Settling.{Settling}
+use Rattle.ss_engine.specs.declared.settling.Settling.TheVariants as settling
+use Rattle.ss_top.specs.Runs.{some_say_full, settled_status, session_status, Reports}
+use Rattle.ss_top.specs.Sinks.{SinkChange, Writes}
+use Rattle.ss_top.specs.Statuses.{no_memory_text, other_catalog_text}
+use Rattle.ss_top.specs.StoreRefusals.{TellsReport, TellsRefusal, WritesWhole, HasTexts}
+use Rattle.ss_top.specs.Serving.{ComesTo, RecoversTo, IsOpenedFor}
+use Rattle.ss_top.specs.Stores.{CameTo, RecoveredTo, Ran, RanAs, WasOf, nothing_text}
+
+-- ---- a session was reported
+
+module _ (limit : ℕ) (catalog : Catalog) (requests : List Request) (disk : DiskChange) (was : WasOf catalog disk) (w : SinkChange) where
+  abbrev Came : Status → Type 0
+  Came ended = ComesTo limit catalog requests ended w disk
+
+  ran : {written : List ℕ → Type 0} (status : Status) (text : List ℕ) → RanAs limit catalog requests status text disk → written text → Ran limit catalog requests status written disk
+  ran status text is wrote = record { was = was; text = text; ran = is; wrote = wrote }
+
+  whole : (ended : Status) (text : List ℕ) → RanAs limit catalog requests Done text disk → WritesWhole ended text w → Came ended
+  whole Done text is wrote = record { came = ran Done text is wrote; cause = tt }
+  whole WriteFault text is wrote = record { came = ran Done text is wrote.0; cause = wrote.1 }
+  whole Usage text is wrote = absurd wrote
+  whole Input text is wrote = absurd wrote
+  whole ReadFault text is wrote = absurd wrote
+  whole Disk text is wrote = absurd wrote
+  whole NoMemory text is wrote = absurd wrote
+  whole Foreign text is wrote = absurd wrote
+  whole OtherCatalog text is wrote = absurd wrote
+  whole Limit text is wrote = absurd wrote
+
+  -- by the status of the session
+  told : (status : Status) (text : List ℕ) → RanAs limit catalog requests status text disk → (status ≡ Disk → Rose disk.faults_before disk.faults_now) → (ended : Status) → TellsReport status (Some text) ended w → Came ended
+  told Done text is rose ended tells = whole ended text is tells
+  told Disk text is rose ended tells = subst Came (sym tells.is) (record { came = inr (ran Disk text is tells.reported); cause = rose refl })
+  told NoMemory text is rose ended tells = subst Came (sym tells.is) (record { came = inr (inr (ran NoMemory text is (inl tells.reported))); cause = tt })
+  told Limit text is rose ended tells = subst Came (sym tells.is) (record { came = ran Limit text is tells.reported; cause = tt })
+  told Usage text is rose ended tells = absurd is
+  told Input text is rose ended tells = absurd is
+  told ReadFault text is rose ended tells = absurd is
+  told WriteFault text is rose ended tells = absurd is
+  told Foreign text is rose ended tells = absurd is
+  told OtherCatalog text is rose ended tells = absurd is
+
+  pub session_told : (status : Status) (text : Option (List ℕ)) → Reports limit catalog requests status text disk → (ended : Status) → TellsReport status text ended w → Came ended
+  session_told status (Some text) r ended tells = told status text (subst (λ t. RanAs limit catalog requests status t disk) (sym r.written) r.ran) r.rose ended tells
+  session_told status None r ended tells =
+      subst Came (sym tells.is) (record { came = inr (inr (ran NoMemory r.whole (subst (λ s. RanAs limit catalog requests s r.whole disk) r.unwritten r.ran) (inr tells.reported))); cause = tt })
+
+-- what isn't of another catalogue isn't told as that
+pub told_own : (w : SinkChange) (status : Status) (text : Option (List ℕ)) (ended : Status) → status ≢ OtherCatalog → TellsReport status text ended w → ended ≢ OtherCatalog
+told_own w status None ended own tells other = let wrong : NoMemory ≡ OtherCatalog = sym tells.is ∙ other in absurd (cc)
+told_own w status (Some text) ended own tells other = by status own tells
+  where
+    whole : (e : Status) → e ≡ OtherCatalog → WritesWhole e text w → ⊥
+    whole Done is wrote = cc
+    whole WriteFault is wrote = cc
+    whole OtherCatalog is wrote = wrote
+    whole Usage is wrote = cc
+    whole Input is wrote = cc
+    whole ReadFault is wrote = cc
+    whole Disk is wrote = cc
+    whole NoMemory is wrote = cc
+    whole Foreign is wrote = cc
+    whole Limit is wrote = cc
+
+    by : (s : Status) → s ≢ OtherCatalog → TellsReport s (Some text) ended w → ⊥
+    by Done own' tells' = whole ended other tells'
+    by OtherCatalog own' tells' = own' refl
+    by Disk own' tells' = let wrong : Disk ≡ OtherCatalog = sym tells'.is ∙ other in cc
+    by NoMemory own' tells' = let wrong : NoMemory ≡ OtherCatalog = sym tells'.is ∙ other in cc
+    by Limit own' tells' = let wrong : Limit ≡ OtherCatalog = sym tells'.is ∙ other in cc
+    by Usage own' tells' = let wrong : Usage ≡ OtherCatalog = sym tells'.is ∙ other in cc
+    by Input own' tells' = let wrong : Input ≡ OtherCatalog = sym tells'.is ∙ other in cc
+    by ReadFault own' tells' = let wrong : ReadFault ≡ OtherCatalog = sym tells'.is ∙ other in cc
+    by WriteFault own' tells' = let wrong : WriteFault ≡ OtherCatalog = sym tells'.is ∙ other in cc
+    by Foreign own' tells' = let wrong : Foreign ≡ OtherCatalog = sym tells'.is ∙ other in cc
+
+-- nor has a session the status of another catalogue
+pub session_own : (failed : Bool) (answers : List (List Answer)) (end : Settling) (flushed : Bool) (status : Status) → status ≡ session_status failed answers end flushed → status ≢ OtherCatalog
+session_own failed answers end flushed status is other = by failed (some_say_full answers) end flushed (sym is ∙ other)
+  where
+    by : (f full : Bool) (e : Settling) (ok : Bool) → cond f Disk (cond full Limit (settled_status e ok)) ≡ OtherCatalog → ⊥
+    by true full e ok same = cc
+    by false true e ok same = cc
+    by false false settling.Done true same = cc
+    by false false settling.Done false same = cc
+    by false false (settling.ListFull count) ok same = cc
+    by false false settling.NoMemory ok same = cc
+
+-- ---- nothing was recovered
+
+module _ {D : Type 0} (tells honest : Type 0) (seen : D → Files) (moment : D → ℕ) (images : D → ℕ → Files → Type 0) (faults : D → ℕ) (read : ReadingIsAsBefore tells honest seen moment images faults)
+    (forming : FormingRanNothing tells honest seen moment images faults) (limit : ℕ) (w : SinkChange) (old new : D) where
+  abbrev change : DiskChange
+  change = disk_of tells honest seen moment images faults old new
+
+  as_before_ran_nothing : (catalog : Catalog) → AsBefore change → NothingRan catalog change
+  as_before_ran_nothing catalog before quiet = leaves_less moment images old new (λ image. image ≡ seen old) _ (before quiet) (λ image is. inl is)
+
+  module _ (catalog : Catalog) (requests : List Request) where
+    abbrev CameSo : Status → Type 0
+    CameSo ended = ComesTo limit catalog requests ended w change
+
+    short_of_memory : AsBefore change → Writes no_memory_text w → CameSo NoMemory
+    short_of_memory before reported = record { came = inl (record { nothing_ran = as_before_ran_nothing catalog before; written = reported }); cause = tt }
+
+    -- a refusal of a run on this catalogue
+    pub run_refused : (error : RecoverError) → RefusesAsSaid tells honest seen moment images faults (Some catalog) old new error → (ended : Status) → TellsRefusal error ended w → CameSo ended
+    run_refused recovery.NoMemory refuses ended t = subst CameSo (sym t.is) (record { came = inl (record { nothing_ran = forming catalog old new refuses; written = t.reported }); cause = tt })
+    run_refused recovery.DiskFault refuses ended t = subst CameSo (sym t.is) (record { came = inl (record { nothing_ran = forming catalog old new refuses.0; written = t.reported }); cause = refuses.1 })
+    run_refused (recovery.Foreign file at) refuses ended (inl t) =
+        subst CameSo (sym t.is) (record { came = record { file = file; place = at; fault = refuses.1; ends = record { as_before = read old new refuses.0.moments; written = t.reported } }; cause = tt })
+    run_refused (recovery.Foreign file at) refuses ended (inr t) = subst CameSo (sym t.is) (short_of_memory (read old new refuses.0.moments) t.reported)
+    run_refused (recovery.OtherCatalog stored given) refuses ended (inl t) =
+        let other = refuses.1 in
+        let ours : other.ours ≡ catalog = (let same : Some other.ours ≡ Some catalog = sym other.is_given in cc) in
+        let given_is : given ≡ catalog.text = other.text_is ∙ ap (λ (c : Catalog). c.text) ours in
+        subst CameSo (sym t.is) (record {
+          came = record {
+            stored = other.theirs;
+            accepted = other.own.0;
+            store = other.store;
+            differs = λ same. other.another (other.stored_is ∙ same ∙ sym given_is);
+            ends = record {
+              as_before = read old new refuses.0.moments;
+              written = subst (λ (text : List ℕ). Writes (other_catalog_text text catalog.text) w) other.stored_is (subst (λ (text : List ℕ). Writes (other_catalog_text stored text) w) given_is t.reported);
+            };
+          };
+          cause = tt;
+        })
+    run_refused (recovery.OtherCatalog stored given) refuses ended (inr t) = subst CameSo (sym t.is) (short_of_memory (read old new refuses.0.moments) t.reported)
+    run_refused recovery.Nothing refuses ended t = let no : Some catalog ≡ None = refuses.1 in absurd (cc)
+
+  -- a refusal of a recovery
+  abbrev RecoveredSo : Status → Type 0
+  RecoveredSo ended = RecoversTo limit ended w change
+
+  -- where no catalogue is given no store is made
+  only_read : (honest → LeavesOldOr moment images old new (MayForm None (seen old))) → AsBefore change
+  only_read left = read old new (λ h. leaves_less moment images old new _ (present moment images old) (left h) (λ image either. by image either))
+    where
+      by : (image : Files) → present moment images old image ⊎ MayForm None (seen old) image → present moment images old image
+      by image (inl stays) = stays
+      by image (inr made) = absurd made
+
+  nothing_told : (ended : Status) → (tells → IsEmpty (seen old)) → AsBefore change → WritesWhole ended nothing_text w → RecoveredSo ended
+  nothing_told Done empty before wrote = record { came = inl (record { empty = empty; as_before = before; written = wrote }); cause = tt }
+  nothing_told WriteFault empty before wrote = record { came = inl (record { empty = empty; as_before = before; written = wrote.0 }); cause = wrote.1 }
+  nothing_told Usage empty before wrote = absurd wrote
+  nothing_told Input empty before wrote = absurd wrote
+  nothing_told ReadFault empty before wrote = absurd wrote
+  nothing_told Disk empty before wrote = absurd wrote
+  nothing_told NoMemory empty before wrote = absurd wrote
+  nothing_told Foreign empty before wrote = absurd wrote
+  nothing_told OtherCatalog empty before wrote = absurd wrote
+  nothing_told Limit empty before wrote = absurd wrote
+
+  pub recovery_refused : (error : RecoverError) → RefusesAsSaid tells honest seen moment images faults None old new error → (ended : Status) → TellsRefusal error ended w → RecoveredSo ended
+  recovery_refused recovery.NoMemory refuses ended t = subst RecoveredSo (sym t.is) (record { came = inl (record { as_before = only_read refuses; written = t.reported }); cause = tt })
+  recovery_refused recovery.DiskFault refuses ended t = subst RecoveredSo (sym t.is) (record { came = inl (record { as_before = only_read refuses.0; written = t.reported }); cause = refuses.1 })
+  recovery_refused (recovery.Foreign file at) refuses ended (inl t) =
+      subst RecoveredSo (sym t.is) (record { came = record { file = file; place = at; fault = refuses.1; ends = record { as_before = read old new refuses.0.moments; written = t.reported } }; cause = tt })
+  recovery_refused (recovery.Foreign file at) refuses ended (inr t) = subst RecoveredSo (sym t.is) (record { came = inl (record { as_before = read old new refuses.0.moments; written = t.reported }); cause = tt })
+  recovery_refused (recovery.OtherCatalog stored given) refuses ended t = let no : None ≡ Some refuses.1.ours = refuses.1.is_given in absurd (cc)
+  recovery_refused recovery.Nothing refuses ended t = nothing_told ended refuses.2 (read old new refuses.0.moments) t
+
+-- the texts that are told of a refusal are UTF-8
+pub texts_told : {D : Type 0} (tells honest : Type 0) (seen : D → Files) (moment : D → ℕ) (images : D → ℕ → Files → Type 0) (faults : D → ℕ) (given : Option Catalog) (old new : D) (error : RecoverError)
+    → RefusesAsSaid tells honest seen moment images faults given old new error → IfSome given IsOwnCatalog → HasTexts error
+texts_told tells honest seen moment images faults given old new recovery.NoMemory refuses own = tt
+texts_told tells honest seen moment images faults given old new recovery.DiskFault refuses own = tt
+texts_told tells honest seen moment images faults given old new (recovery.Foreign file at) refuses own = tt
+texts_told tells honest seen moment images faults given old new (recovery.OtherCatalog stored text) refuses own =
+    let other = refuses.1 in
+    let ours : IsOwnCatalog other.ours = subst (λ o. IfSome o IsOwnCatalog) other.is_given own in
+    (subst IsUtf8 (sym other.stored_is) other.own.1.utf8, subst IsUtf8 (sym other.text_is) ours.1.utf8)
+texts_told tells honest seen moment images faults given old new recovery.Nothing refuses own = tt
+
+-- the same where no client started
+pub unstarted : {D : Type 0} (tells honest : Type 0) (seen : D → Files) (moment : D → ℕ) (images : D → ℕ → Files → Type 0) (faults : D → ℕ) (limit : ℕ) (requests : List Request) (w : SinkChange) (old new : D) (r : Recovered D)
+    → new ≡ r.log.disk → IsOpenedFor tells honest seen moment images faults old r → Writes no_memory_text w → ComesTo limit r.catalog requests NoMemory w (disk_of tells honest seen moment images faults old new)
+unstarted tells honest seen moment images faults limit requests w old new r same opened reported =
+    subst (λ disk. ComesTo limit r.catalog requests NoMemory w (disk_of tells honest seen moment images faults old disk)) (sym same)
+    (record { came = inr (inl (record { db = recovered_database r; first = r.first; opened = opened.opened; written = reported })); cause = tt })
+
+-- what was recovered is opened
+pub recovered_opened : {D : Type 0} (tells honest : Type 0) (seen : D → Files) (moment : D → ℕ) (images : D → ℕ → Files → Type 0) (faults : D → ℕ) (given : Option Catalog) (parts : ℕ) (old : D) (r : Recovered D)
+    → IsRecovered tells honest seen moment images given parts old r (recovered_database r) → faults old ≤ faults r.log.disk → IsOpenedFor tells honest seen moment images faults old r
+recovered_opened tells honest seen moment images faults given parts old r is later = record {
+  opened = record {
+    whole = is.goes_on.ready.whole;
+    stood = is.stood;
+    crashes = λ quiet. is.quiet quiet.0 quiet.1;
+    settled = λ quiet. is.goes_on.log.only quiet.0;
+    faults = later;
+  };
+  was = is.was;
+}
+
+-- a store that was recovered without a catalogue was there before
+pub was_stored : {D : Type 0} (tells honest : Type 0) (seen : D → Files) (moment : D → ℕ) (images : D → ℕ → Files → Type 0) (parts : ℕ) (old : D) (r : Recovered D) (e : IsRecovered tells honest seen moment images None parts old r (recovered_database r))
+    → (tells → IsEmpty (seen old) → ⊥) → tells → IsStore (seen old) r.catalog
+was_stored tells honest seen moment images parts old r is not_empty told = by (is.was told)
+  where
+    by : IsEmpty (seen old) ⊎ IsStore (seen old) r.catalog → IsStore (seen old) r.catalog
+    by (inl empty) = absurd (not_empty told empty)
+    by (inr store) = store
+
+-- a recovered store is what a recovery came to
+pub store_recovered : (limit : ℕ) (catalog : Catalog) (disk : DiskChange) (w : SinkChange) → Accepted catalog → (disk.tells → IsStore disk.seen_before catalog) → (ended : Status) → (ended ≡ OtherCatalog → ⊥)
+    → (requests : List Request) → requests ≡ [] → ComesTo limit catalog requests ended w disk → RecoversTo limit ended w disk
+store_recovered limit catalog disk w accepted stored ended own requests none came = record { came = by ended own (subst (λ rs. CameTo limit catalog rs ended w disk) none came.came); cause = came.cause }
+  where
+    by : (s : Status) → (s ≡ OtherCatalog → ⊥) → CameTo limit catalog [] s w disk → RecoveredTo limit s w disk
+    by Done own came = inr (record { catalog = catalog; accepted = accepted; stored = stored; came = came })
+    by WriteFault own came = inr (record { catalog = catalog; accepted = accepted; stored = stored; came = came })
+    by Disk own came = inr (record { catalog = catalog; accepted = accepted; stored = stored; came = came })
+    by NoMemory own came = inr (record { catalog = catalog; accepted = accepted; stored = stored; came = came })
+    by Limit own came = record { catalog = catalog; accepted = accepted; stored = stored; came = came }
+    by Foreign own came = came
+    by OtherCatalog own came = absurd (own refl)
+    by Usage own came = absurd came
+    by Input own came = absurd came
+    by ReadFault own came = absurd came
+
+-- what was recovered is of the given catalogue
+pub of_given : {limit : ℕ} {stored given : Catalog} {requests : List Request} {ended : Status} {w : SinkChange} {disk : DiskChange} → stored ≡ given → ComesTo limit stored requests ended w disk → ComesTo limit given requests ended w disk
+of_given {limit} {stored} {given} {requests} {ended} {w} {disk} same came = subst (λ catalog. ComesTo limit catalog requests ended w disk) same came
+
+-- an empty disk was told
+pub told_nothing : (w : SinkChange) (error : RecoverError) (ended : Status) (text : List ℕ) → error ≡ recovery.Nothing → text ≡ nothing_text → WritesWhole ended text w → TellsRefusal error ended w
+told_nothing w error ended text is same wrote = subst (λ e. TellsRefusal e ended w) (sym is) (subst (λ t. WritesWhole ended t w) same wrote)

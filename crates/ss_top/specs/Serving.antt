@@ -1,0 +1,35 @@
+-- What serving requests on a store comes to, with the causes of its status.
+use Rattle.std.specs.Prelude.{ℕ, List}
+use Rattle.ss_value.specs.FaultCounts.{Rose}
+use Rattle.ss_model.specs.declared.catalog.Catalog.{Catalog}
+use Rattle.ss_model.specs.declared.entry.Request.{Request}
+use Rattle.ss_disk.specs.Files.{Files}
+use Rattle.ss_headline.specs.Disks.{DiskChange, disk_of}
+use Rattle.ss_headline.specs.Layers.{Opened}
+use Rattle.ss_recover.specs.declared.recovered.Recovered.{Recovered}
+use Rattle.ss_recover.specs.Recovering.{recovered_database}
+use Rattle.ss_top.specs.declared.status.Status.{Status}
+use Rattle.ss_top.specs.declared.status.Status.TheVariants.{WriteFault, Disk}
+use Rattle.ss_top.specs.Sinks.{SinkChange}
+use Rattle.ss_top.specs.Stores.{CameTo, RecoveredTo, WasOf}
+
+-- a fault of the sink or of the disk is answered only where it was counted
+abbrev pub HasStoreCause : Status → SinkChange → DiskChange → Type 0
+HasStoreCause WriteFault w disk = Rose w.faults_before w.faults_now
+HasStoreCause Disk w disk = Rose disk.faults_before disk.faults_now
+HasStoreCause _ w disk = Unit {0}
+
+-- running these requests of this catalogue
+pub record ComesTo (limit : ℕ) (catalog : Catalog) (requests : List Request) (status : Status) (w : SinkChange) (disk : DiskChange) : Type 0 where
+  pub came : CameTo limit catalog requests status w disk
+  pub cause : HasStoreCause status w disk
+
+-- a recovery
+pub record RecoversTo (limit : ℕ) (status : Status) (w : SinkChange) (disk : DiskChange) : Type 0 where
+  pub came : RecoveredTo limit status w disk
+  pub cause : HasStoreCause status w disk
+
+-- the store was opened on this disk, or made on it
+pub record IsOpenedFor {D : Type 0} (tells honest : Type 0) (seen : D → Files) (moment : D → ℕ) (images : D → ℕ → Files → Type 0) (faults : D → ℕ) (old : D) (r : Recovered D) : Type 0 where
+  pub opened : Opened r.catalog (recovered_database r) r.first (disk_of tells honest seen moment images faults old r.log.disk)
+  pub was : WasOf r.catalog (disk_of tells honest seen moment images faults old r.log.disk)

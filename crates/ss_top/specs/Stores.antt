@@ -1,0 +1,144 @@
+-- What running requests on a store comes to, by the status with which the program ends.
+use Rattle.std.specs.Prelude.{◌≡◌, ◌≢◌, ◌⊎◌, ◌<◌, ◌≤◌, ℕ, List, [], length, codes}
+use Rattle.ss_model.specs.declared.catalog.Catalog.{Catalog}
+use Rattle.ss_model.specs.declared.entry.Listed.{Listed}
+use Rattle.ss_model.specs.declared.entry.Request.{Request}
+use Rattle.ss_model.specs.Accepted.{Accepted}
+use Rattle.ss_model.specs.Database.{Database}
+use Rattle.ss_model.specs.Replays.{after}
+use Rattle.ss_cmdlog.specs.Store.{IsEmpty}
+use Rattle.ss_headline.specs.Disks.{DiskChange, AsBefore, NothingRan}
+use Rattle.ss_headline.specs.Layers.{Opened}
+use Rattle.ss_headline.specs.Owed.{outside, owed}
+use Rattle.ss_headline.specs.Sentences.{room_from}
+use Rattle.ss_headline.specs.Runs.{IsWholeRun, IsStoppedRun}
+use Rattle.ss_recover.specs.Faults.{HasFaultAt, IsStore}
+use Rattle.ss_engine.specs.Closings.{SomeReady}
+use Rattle.ss_top.specs.declared.status.Status.{Status}
+use Rattle.ss_top.specs.declared.status.Status.TheVariants.{Done, WriteFault, Disk, NoMemory, Foreign, OtherCatalog, Limit}
+use Rattle.ss_top.specs.Sinks.{SinkChange, Writes, WritesAll, WritesPrefix}
+use Rattle.ss_top.specs.Statuses.{status_number, disk_fault_text, foreign_text, no_memory_text, other_catalog_text}
+
+-- ---- before the clients start
+
+-- nothing ran, and this was written: the disk is as it was, or, where it was empty, a store was being made on it
+pub record EndsBefore (catalog : Catalog) (text : List ℕ) (w : SinkChange) (disk : DiskChange) : Type 0 where
+  pub nothing_ran : NothingRan catalog disk
+  pub written : Writes text w
+
+-- nothing ran, this was written, and the disk is as it was
+pub record EndsUntouched (text : List ℕ) (w : SinkChange) (disk : DiskChange) : Type 0 where
+  pub as_before : AsBefore disk
+  pub written : Writes text w
+
+-- the disk stood for a database, no client started, and a crash leaves what stands for the same
+pub record EndsOpened (catalog : Catalog) (text : List ℕ) (w : SinkChange) (disk : DiskChange) : Type 0 where
+  pub db : Database
+  pub first : ℕ
+  pub opened : Opened catalog db first disk
+  pub written : Writes text w
+
+-- the disk is neither empty nor a store, and this is the first byte that can't be of one
+pub record IsForeign (w : SinkChange) (disk : DiskChange) : Type 0 where
+  pub file : ℕ
+  pub place : ℕ
+  pub fault : disk.tells → HasFaultAt disk.seen_before file place
+  pub ends : EndsUntouched (foreign_text file place) w disk
+
+-- the disk is a store of a catalogue with another text
+pub record IsOther (given : List ℕ) (w : SinkChange) (disk : DiskChange) : Type 0 where
+  pub stored : Catalog
+  pub accepted : Accepted stored
+  pub store : disk.tells → IsStore disk.seen_before stored
+  pub differs : stored.text ≢ given
+  pub ends : EndsUntouched (other_catalog_text stored.text given) w disk
+
+-- the disk was empty, or a store of this catalogue
+abbrev pub WasOf : Catalog → DiskChange → Type 0
+WasOf catalog disk = disk.tells → IsEmpty disk.seen_before ⊎ IsStore disk.seen_before catalog
+
+-- ---- once the clients have started
+
+-- a whole run: one list, from a database and a place on
+pub record WholeRun (limit : ℕ) (catalog : Catalog) (requests : List Request) (text : List ℕ) (disk : DiskChange) : Type 0 where
+  pub opening : Database
+  pub first : ℕ
+  pub list : List Listed
+  pub run : IsWholeRun limit catalog requests opening first list text disk
+
+-- a run that stopped with this status, and with a count below which all executions are receipted
+pub record StoppedRun (limit : ℕ) (catalog : Catalog) (requests : List Request) (status : Status) (text : List ℕ) (disk : DiskChange) : Type 0 where
+  pub opening : Database
+  pub first : ℕ
+  pub list : List Listed
+  pub count : ℕ
+  pub run : IsStoppedRun limit catalog requests opening first list (status_number status) count text disk
+
+-- a run that stopped where its list has all its room, and a request or a ready step was to follow, so that more was owed than there was
+-- room for
+pub record FullRun (limit : ℕ) (catalog : Catalog) (requests : List Request) (text : List ℕ) (disk : DiskChange) : Type 0 where
+  pub stopped : StoppedRun limit catalog requests Limit text disk
+  pub full : length stopped.list ≡ room_from limit stopped.first
+  pub more : (1 ≤ outside requests stopped.list) ⊎ SomeReady catalog (after catalog stopped.opening stopped.list)
+  pub owed_more : room_from limit stopped.first < owed catalog stopped.opening requests
+
+-- a session that ended with this status has this report
+abbrev pub RanAs : ℕ → Catalog → List Request → Status → List ℕ → DiskChange → Type 0
+RanAs limit catalog requests Done text disk = WholeRun limit catalog requests text disk
+RanAs limit catalog requests Disk text disk = StoppedRun limit catalog requests Disk text disk
+RanAs limit catalog requests NoMemory text disk = StoppedRun limit catalog requests NoMemory text disk
+RanAs limit catalog requests Limit text disk = FullRun limit catalog requests text disk
+RanAs limit catalog requests _ text disk = ⊥
+
+-- a session on an empty disk or a store of this catalogue ended with the first status, of whose report this was written
+pub record Ran (limit : ℕ) (catalog : Catalog) (requests : List Request) (status : Status) (written : List ℕ → Type 0) (disk : DiskChange) : Type 0 where
+  pub was : WasOf catalog disk
+  pub text : List ℕ
+  pub ran : RanAs limit catalog requests status text disk
+  pub wrote : written text
+
+-- a stopped report was written, or, at status 6, that there was no memory for it
+abbrev pub WritesStop : Status → SinkChange → List ℕ → Type 0
+WritesStop NoMemory w text = Writes text w ⊎ Writes no_memory_text w
+WritesStop _ w text = Writes text w
+
+-- ---- by status
+
+-- what running these requests of this catalogue has come to
+abbrev pub CameTo : ℕ → Catalog → List Request → Status → SinkChange → DiskChange → Type 0
+CameTo limit catalog requests Done w disk = Ran limit catalog requests Done (WritesAll w) disk
+CameTo limit catalog requests WriteFault w disk = Ran limit catalog requests Done (λ text. WritesPrefix text w) disk
+CameTo limit catalog requests Disk w disk = EndsBefore catalog disk_fault_text w disk ⊎ Ran limit catalog requests Disk (WritesStop Disk w) disk
+CameTo limit catalog requests NoMemory w disk =
+    EndsBefore catalog no_memory_text w disk ⊎ EndsOpened catalog no_memory_text w disk ⊎ Ran limit catalog requests NoMemory (WritesStop NoMemory w) disk
+CameTo limit catalog requests Limit w disk = Ran limit catalog requests Limit (WritesStop Limit w) disk
+CameTo limit catalog requests Foreign w disk = IsForeign w disk
+CameTo limit catalog requests OtherCatalog w disk = IsOther catalog.text w disk
+CameTo limit catalog requests _ w disk = ⊥
+
+-- the report on an empty disk: there were no executions
+abbrev pub nothing_text : List ℕ
+nothing_text = codes "[\"done\",0]\n"
+
+-- an empty disk was recovered: there is no execution, and the disk is as it was
+pub record RecoversNothing (told : List ℕ → Type 0) (disk : DiskChange) : Type 0 where
+  pub empty : disk.tells → IsEmpty disk.seen_before
+  pub as_before : AsBefore disk
+  pub written : told nothing_text
+
+-- a store was recovered, whose catalogue is accepted: what was pending ran
+pub record RecoversStore (limit : ℕ) (status : Status) (w : SinkChange) (disk : DiskChange) : Type 0 where
+  pub catalog : Catalog
+  pub accepted : Accepted catalog
+  pub stored : disk.tells → IsStore disk.seen_before catalog
+  pub came : CameTo limit catalog [] status w disk
+
+-- what a recovery has come to
+abbrev pub RecoveredTo : ℕ → Status → SinkChange → DiskChange → Type 0
+RecoveredTo limit Done w disk = RecoversNothing (WritesAll w) disk ⊎ RecoversStore limit Done w disk
+RecoveredTo limit WriteFault w disk = RecoversNothing (λ text. WritesPrefix text w) disk ⊎ RecoversStore limit WriteFault w disk
+RecoveredTo limit Disk w disk = EndsUntouched disk_fault_text w disk ⊎ RecoversStore limit Disk w disk
+RecoveredTo limit NoMemory w disk = EndsUntouched no_memory_text w disk ⊎ RecoversStore limit NoMemory w disk
+RecoveredTo limit Limit w disk = RecoversStore limit Limit w disk
+RecoveredTo limit Foreign w disk = IsForeign w disk
+RecoveredTo limit _ w disk = ⊥

@@ -1,0 +1,241 @@
+//! A session on what was recovered of a store: its requests run, and are reported.
+
+ghost use Rattle.std.specs.Prelude.{◌≡◌, ◌≢◌, ◌≤◌, ◌<◌, ◌+◌, ◌^◌, length, IfOk, IfErr, IfSome};
+ghost use Rattle.std.specs.List.{AllByRecursion};
+ghost use Rattle.ss_model.specs.declared.entry.Request.{Request};
+ghost use Rattle.ss_model.specs.Accepted.{Accepted};
+ghost use Rattle.ss_model.specs.Database.{Database as Model};
+ghost use Rattle.ss_cmdlog.specs.Log.{present};
+ghost use Rattle.ss_headline.specs.Disks.{disk_of};
+ghost use Rattle.ss_headline.specs.Layers.{Opened};
+ghost use Rattle.ss_headline.specs.Sentences.{room_from};
+ghost use Rattle.ss_recover.specs.Recovering.{GoesOn};
+ghost use Rattle.ss_engine.specs.Clients.{AllFit};
+ghost use Rattle.ss_engine.specs.Sessions.{AreOfClients, IsLeftOver};
+ghost use Rattle.ss_top.specs.Runs.{says_full, say_full, some_say_full, settled_status, session_status, end_for, Reports, ReportsFinished};
+
+use crate::status::Status;
+use ss_commitlog::Opening;
+use ss_disk::Disk;
+use ss_engine::{Closed, Finished, Gate, Settling, run_session};
+use ss_headline::{full_lists_have_all, stopped_runs, whole_runs};
+use ss_model::{Answer, Request};
+use ss_proc::PlainRunner;
+use ss_recover::Recovered;
+use ss_report::{End, write_report};
+use ss_shard::Database;
+use ss_value::Seq;
+use std::alloc::Global;
+use std::sync::Wait;
+use std::thread::Threads;
+
+/// Places are below this.
+const PLACES: u64 = 1 << 60;
+
+/// How a session ended, its report where there was memory for it, and the disk.
+#[derive(Drop)]
+pub(crate) struct Reported<D: Disk> {
+    pub(crate) status: Status,
+    pub(crate) text: Option<Seq<u8>>,
+    pub(crate) disk: D,
+}
+
+/// How many clients there are: the greatest number of a client that asks, plus one, and one where none asks. Linear.
+fn client_count(requests: &[Request]) -> u8
+    requires { AllByRecursion (λ (r : Request). r.client < 8) requests.now }
+    ensures some { 1 ≤ result }
+    ensures few { result ≤ 8 }
+    ensures of_clients { AreOfClients result requests.now }
+{
+    let mut count = 1;
+    for request in requests {
+        if request.client >= count {
+            count = request.client + 1;
+        }
+    }
+    count
+}
+
+/// How many entries a session may have that begins at a place.
+fn room_from(limit: u64, first: u64) -> u64
+    requires { first ≤ 2 ^ 60 }
+    ensures { result ≡ room_from limit first }
+{
+    limit.min(PLACES - first)
+}
+
+/// Whether a request was answered that the list is full.
+fn says_full(answer: &Answer) -> bool
+    ensures { result ≡ says_full answer.now }
+{
+    matches!(answer, Answer::ListFull { .. })
+}
+
+/// Whether one of a client's was. Linear.
+fn say_full(answers: &Seq<Answer>) -> bool
+    ensures { result ≡ say_full answers.now }
+{
+    answers.as_slice().iter().any(says_full)
+}
+
+/// Whether one of any client's was. Linear.
+fn some_say_full(answers: &[Seq<Answer>]) -> bool
+    ensures { result ≡ some_say_full answers.now }
+{
+    answers.iter().any(say_full)
+}
+
+/// How a session ended whose disk has not failed: the list is full, or there was no memory to settle or to write all of it, or
+/// all is done.
+fn settled_status(settling: &Settling, flushed: bool) -> Status
+    ensures { result ≡ settled_status settling.now flushed }
+{
+    match settling {
+        Settling::ListFull { .. } => Status::Limit,
+        Settling::NoMemory => Status::NoMemory,
+        Settling::Done if flushed => Status::Done,
+        Settling::Done => Status::NoMemory,
+    }
+}
+
+/// How a session ended. Linear in the answers.
+fn session_status(
+    failed: bool,
+    answers: &[Seq<Answer>],
+    settling: &Settling,
+    flushed: bool,
+) -> Status
+    ensures { result ≡ session_status failed answers.now settling.now flushed }
+{
+    if failed {
+        return Status::Disk;
+    }
+    if some_say_full(answers) {
+        return Status::Limit;
+    }
+    settled_status(settling, flushed)
+}
+
+/// What the report says of how it ended: the tables, or where it stopped.
+fn end_for(status: Status, database: Option<Database>, count: u64, faults: u64) -> End
+    ensures { result ≡ end_for status database count faults }
+{
+    match (status, database) {
+        (Status::Done, Some(database)) => End::Tables(database),
+        _ => End::Stopped {
+            status: status.number(),
+            count,
+            faults,
+        },
+    }
+}
+
+/// The report of a finished session.
+///
+/// Linear in the bytes of the report. Where there is no memory for it the session has stopped for want of memory, whatever it
+/// ended with.
+fn report_session<D: Disk + Drop>(
+    alloc: Global,
+    finished: Finished<D>,
+    requests: &Seq<Request>,
+    first: u64,
+) -> Reported<D>
+    requires places { first + length finished.closed.list < 2 ^ 64 }
+    requires left { (d : Model) × IfSome finished.closed.database (IsLeftOver finished.closed.catalog d) }
+    ensures finished { ReportsFinished D.tells D.honest D.seen D.moment D.images D.faults requests.now first finished result }
+    ensures own { result.status ≢ Status.OtherCatalog }
+    ensures disk { result.disk ≡ finished.log.disk }
+{
+    // Do nothing: they state the laws by which a list, its receipts and its answers are a run, and what a full list leaves out.
+    whole_runs::<D>();
+    stopped_runs::<D>();
+    full_lists_have_all();
+    let Finished {
+        closed,
+        log,
+        receipted,
+        flushed,
+    } = finished;
+    let Closed {
+        list,
+        database,
+        catalog,
+        answers,
+        end,
+    } = closed;
+    let halted = log.halted();
+    let status = session_status(halted.is_some(), answers.as_slice(), &end, flushed.is_ok());
+    let end = end_for(status, database, receipted, halted.unwrap_or(0));
+    let disk = log.into_disk();
+    match write_report(alloc, &catalog, requests, &answers, first, &list, &end) {
+        Ok(text) => Reported {
+            status,
+            text: Some(text),
+            disk,
+        },
+        Err(_) => Reported {
+            status: Status::NoMemory,
+            text: None,
+            disk,
+        },
+    }
+}
+
+/// Runs requests on what was recovered, each client's in a thread of its own, on so many partitions, and makes the report.
+/// Hands the disk back where there was no memory to begin.
+pub(crate) fn run_and_report<
+    D: Disk + Drop + Send,
+    G: Gate + Drop + Sync,
+    R: Threads + Wait + Sync,
+>(
+    rt: &R,
+    alloc: Global,
+    recovered: Recovered<D>,
+    requests: &Seq<Request>,
+    partitions: u8,
+    gate: G,
+    limit: u64,
+) -> Result<Reported<D>, D>
+    ghost db: { Model }
+    requires accepted { Accepted recovered.catalog }
+    requires goes_on { GoesOn D.tells D.honest D.seen (present D.moment D.images) partitions recovered db }
+    requires fit { AllFit recovered.catalog requests.now }
+    requires partitions { (1 ≤ partitions) × (partitions ≤ 8) }
+    ensures reported { IfOk result (λ r. (old : D)
+        → Opened recovered.catalog db recovered.first (disk_of D.tells D.honest D.seen D.moment D.images D.faults old recovered.log.disk)
+        → Reports limit recovered.catalog requests.now r.status r.text (disk_of D.tells D.honest D.seen D.moment D.images D.faults old r.disk)) }
+    ensures own { IfOk result (λ r. r.status ≢ Status.OtherCatalog) }
+    ensures later { IfOk result (λ r. D.faults recovered.log.disk ≤ D.faults r.disk) }
+    ensures unstarted { IfErr result (λ disk. disk ≡ recovered.log.disk) }
+{
+    let clients = client_count(requests.as_slice());
+    let Recovered {
+        database,
+        catalog,
+        first,
+        log,
+        ..
+    } = recovered;
+    let Database { whole, streams } = database;
+    let opening = Opening {
+        first,
+        limit: room_from(limit, first),
+        parts: partitions,
+        clients,
+    };
+    match run_session(
+        rt,
+        alloc,
+        log,
+        catalog,
+        whole,
+        streams,
+        PlainRunner,
+        gate,
+        requests,
+        opening,
+    ) {
+        Ok(finished) => Ok(report_session(alloc, finished, requests, first)),
+        Err((_, log)) => Err(log.into_disk()),
+    }
+}

@@ -1,0 +1,134 @@
+//! The store of a run: what is recovered of it serves a session, and else it is told why nothing is.
+
+ghost use Rattle.std.specs.Prelude.{◌≡◌, ◌≢◌, ◌≤◌};
+ghost use Rattle.ss_model.specs.Accepted.{Accepted};
+ghost use Rattle.ss_cmdlog.specs.Log.{present};
+ghost use Rattle.ss_headline.specs.Disks.{disk_of};
+ghost use Rattle.ss_recover.specs.Recovering.{GoesOn, IsOwnCatalog, recovered_database};
+ghost use Rattle.ss_engine.specs.Clients.{AllFit};
+ghost use Rattle.ss_top.specs.Sinks.{sink_of};
+ghost use Rattle.ss_top.specs.StoreRefusals.{TellsReport};
+ghost use Rattle.ss_top.specs.Serving.{ComesTo, RecoversTo, IsOpenedFor};
+
+use crate::refusals::{NO_MEMORY, write_line};
+use crate::session::{Reported, run_and_report};
+use crate::status::Status;
+use crate::store_refusals::{refuse_store, write_whole};
+use ss_disk::Disk;
+use ss_engine::Gate;
+use ss_headline::nothing_ran;
+use ss_lines::{Sink, write_all};
+use ss_model::{Catalog, Request};
+use ss_proc::PlainRunner;
+use ss_recover::{Recovered, recover};
+use ss_value::Seq;
+use std::alloc::Global;
+use std::sync::Wait;
+use std::thread::Threads;
+
+/// Writes the report of a session, or that there was no memory for it, and answers how the program ends: at a fault of the sink
+/// in another way only where all was done. Takes no memory.
+fn write_report<K: Sink>(sink: &mut K, status: Status, text: &Option<Seq<u8>>) -> Status
+    ensures told { TellsReport status text.now result (sink_of (K.written sink.old) (K.written sink.new) (K.faults sink.old) (K.faults sink.new)) }
+    ensures counts { K.faults sink.old ≤ K.faults sink.new }
+{
+    let Some(text) = text else {
+        write_line(sink, NO_MEMORY);
+        return Status::NoMemory;
+    };
+    if let Status::Done = status {
+        return write_whole(sink, text.as_slice());
+    }
+    // Where the sink fails this status stays: status 4 comes only in place of 0.
+    let _ = write_all(sink, text.as_slice());
+    status
+}
+
+/// Runs requests on what was recovered, and writes the report.
+fn serve<K: Sink, D: Disk + Drop + Send, G: Gate + Drop + Sync, R: Threads + Wait + Sync>(
+    rt: &R,
+    alloc: Global,
+    sink: &mut K,
+    recovered: Recovered<D>,
+    requests: &Seq<Request>,
+    partitions: u8,
+    gate: G,
+    limit: u64,
+) -> (Status, D)
+    requires accepted { Accepted recovered.catalog }
+    requires goes_on { GoesOn D.tells D.honest D.seen (present D.moment D.images) partitions recovered (recovered_database recovered) }
+    requires fit { AllFit recovered.catalog requests.now }
+    requires partitions { (1 ≤ partitions) × (partitions ≤ 8) }
+    ensures served { (old : D) → IsOpenedFor D.tells D.honest D.seen D.moment D.images D.faults old recovered
+        → ComesTo limit recovered.catalog requests.now result.0
+        (sink_of (K.written sink.old) (K.written sink.new) (K.faults sink.old) (K.faults sink.new))
+        (disk_of D.tells D.honest D.seen D.moment D.images D.faults old result.1) }
+    ensures own { result.0 ≢ Status.OtherCatalog }
+    ensures counts { (K.faults sink.old ≤ K.faults sink.new) × (D.faults recovered.log.disk ≤ D.faults result.1) }
+{
+    match run_and_report(rt, alloc, recovered, requests, partitions, gate, limit) {
+        Ok(Reported { status, text, disk }) => (write_report(sink, status, &text), disk),
+        Err(disk) => {
+            write_line(sink, NO_MEMORY);
+            (Status::NoMemory, disk)
+        }
+    }
+}
+
+/// Opens the store of a catalogue, or makes one on an empty disk, runs requests on it, and writes the report.
+pub(crate) fn run_on_store<
+    K: Sink,
+    D: Disk + Drop + Send,
+    G: Gate + Drop + Sync,
+    R: Threads + Wait + Sync,
+>(
+    rt: &R,
+    alloc: Global,
+    sink: &mut K,
+    disk: D,
+    catalog: Catalog,
+    requests: &Seq<Request>,
+    partitions: u8,
+    gate: G,
+    limit: u64,
+) -> (Status, D)
+    requires own { IsOwnCatalog catalog }
+    requires fit { AllFit catalog requests.now }
+    requires partitions { (1 ≤ partitions) × (partitions ≤ 8) }
+    ensures came { ComesTo limit catalog requests.now result.0
+        (sink_of (K.written sink.old) (K.written sink.new) (K.faults sink.old) (K.faults sink.new))
+        (disk_of D.tells D.honest D.seen D.moment D.images D.faults disk result.1) }
+    ensures counts { (K.faults sink.old ≤ K.faults sink.new) × (D.faults disk ≤ D.faults result.1) }
+{
+    nothing_ran::<D>();
+    match recover(alloc, &PlainRunner, disk, Some(catalog), partitions) {
+        Ok(recovered) => serve(
+            rt, alloc, sink, recovered, requests, partitions, gate, limit,
+        ),
+        Err((error, disk)) => (refuse_store(alloc, sink, &error), disk),
+    }
+}
+
+/// Opens the store of a disk, runs what is pending on it, and writes the report; of an empty disk it reports that there is
+/// nothing.
+pub(crate) fn recover_store<
+    K: Sink,
+    D: Disk + Drop + Send,
+    G: Gate + Drop + Sync,
+    R: Threads + Wait + Sync,
+>(rt: &R, alloc: Global, sink: &mut K, disk: D, partitions: u8, gate: G, limit: u64) -> (Status, D)
+    requires partitions { (1 ≤ partitions) × (partitions ≤ 8) }
+    ensures came { RecoversTo limit result.0
+        (sink_of (K.written sink.old) (K.written sink.new) (K.faults sink.old) (K.faults sink.new))
+        (disk_of D.tells D.honest D.seen D.moment D.images D.faults disk result.1) }
+    ensures counts { (K.faults sink.old ≤ K.faults sink.new) × (D.faults disk ≤ D.faults result.1) }
+{
+    nothing_ran::<D>();
+    let requests = Seq::new(alloc);
+    match recover(alloc, &PlainRunner, disk, None, partitions) {
+        Ok(recovered) => serve(
+            rt, alloc, sink, recovered, &requests, partitions, gate, limit,
+        ),
+        Err((error, disk)) => (refuse_store(alloc, sink, &error), disk),
+    }
+}

@@ -1,0 +1,70 @@
+//! What the words of a command line ask for.
+
+ghost use Rattle.std.specs.Prelude.{List, ℕ, ◌≡◌, MatchOption};
+ghost use Rattle.ss_words.specs.Words.{Asked, asked, words_of, StartsWith, AreNoOptions, OptionsAskFor, IsCommand, AsksFor};
+
+use crate::found::Found;
+use crate::names::{Command, OptionName, command_named, option_named};
+
+/// What the options of a command ask for.
+///
+/// Recovery is strong in every run so far, so that no field says it.
+#[derive(Clone, Copy, Debug, PartialEq, Eq, Drop)]
+pub struct Options {
+    /// Into how many partitions the database is split: 1 to 8, and 1 where no option says it.
+    pub partitions: u8,
+}
+
+/// The option at the front of the words, by its name, its value and the words behind it. Linear in the bytes of its words.
+fn front_option(words: &[String]) -> Option<(OptionName, &str, &[String])>
+    ensures { MatchOption result ((option : Asked) (rest : List (List ℕ)) → ¬ (StartsWith (words_of words.now) option rest))
+        (λ p. StartsWith (words_of words.now) (asked p.0 p.1.now) (words_of p.2.now)) }
+{
+    let (word, behind) = words.split_first()?;
+    if let Some((name, value)) = word.as_str().split_once('=') {
+        return Some((option_named(name)?, value, behind));
+    }
+    let name = option_named(word.as_str())?;
+    let (value, behind) = behind.split_first()?;
+    // It is more likely the next option than a value.
+    if value.as_str().starts_with('-') {
+        return None;
+    }
+    Some((name, value.as_str(), behind))
+}
+
+/// What the words ask for, where they are options, none twice, each with a value that fits it.
+fn read_options(words: &[String]) -> Option<Options>
+    ensures { MatchOption result (AreNoOptions (words_of words.now)) (OptionsAskFor (words_of words.now)) }
+{
+    let mut found = Found::nothing();
+    let mut left = words;
+    while !left.is_empty() {
+        let (name, value, behind) = front_option(left)?;
+        found = found.with(name, value)?;
+        left = behind;
+    }
+    Some(Options {
+        partitions: found.partitions.unwrap_or(1),
+    })
+}
+
+/// What a command line asks for.
+#[derive(Clone, Copy, Debug, PartialEq, Eq, Drop)]
+pub struct CommandLine {
+    pub command: Command,
+    pub options: Options,
+}
+
+/// What the words of a command line ask for, where they are a command and options behind it; `None` just where they are not.
+/// The words are those behind the program's own name, and behind the path of the store.
+///
+/// Costs time linear in the bytes of the words, and takes no memory.
+pub fn command_line(words: &[String]) -> Option<CommandLine>
+    ensures { MatchOption result (¬ (IsCommand (words_of words.now))) (AsksFor (words_of words.now)) }
+{
+    let (word, behind) = words.split_first()?;
+    let command = command_named(word.as_str())?;
+    let options = read_options(behind)?;
+    Some(CommandLine { command, options })
+}
