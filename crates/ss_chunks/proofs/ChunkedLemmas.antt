@@ -1,8 +1,9 @@
 -- A search through chunks is a search through their items.
-use Rattle.std.proofs.Common.{◌≡◌, ℕ, zero, suc, ◌+◌, ◌-◌, ◌<◌, ◌≤◌, Bool, true, false, cond, List, [], ◌∷◌, ◌++◌, length, take, drop, slice_index_or, slice_set, refl, sym, ap, subst, ◌∙◌, arith, Some, slice_get, length-append, append_assoc, length-drop}
+use Rattle.std.proofs.Common.{◌≡◌, ℕ, zero, suc, ◌+◌, ◌-◌, ◌<◌, ◌≤◌, Bool, true, false, cond, List, [], ◌∷◌, ◌++◌, length, take, drop, slice_index_or, slice_set, refl, sym, ap, subst, ◌∙◌, ◌⊎◌, inl, inr, arith, Some, slice_get, length-append, append_assoc, length-drop}
 use Rattle.std.specs.List.{prefix_len, insert, remove}
 use Rattle.std.specs.List.Sorted.{IsPartitionedBy, IsPartitionPoint}
 use Rattle.std.specs.Option.{IfSome}
+use Rattle.std.proofs.lemmas.Bool.{cases_Bool, false_from_ne_true}
 use Rattle.std.proofs.lemmas.List.Folds.{length-flat_map-take}
 use Rattle.std.proofs.lemmas.List.Concat.{get_or-flat_map, flat_map-append}
 use Rattle.ss_chunks.specs.Chunks.{items_in, IsFilled, starts, SearchStopsIn, PassIn}
@@ -26,6 +27,9 @@ remove_past [] zero l = refl
 remove_past [] (suc n) l = refl
 remove_past (x ∷ xs) zero l = absurd (omega arith)
 remove_past (x ∷ xs) (suc n) l = ap (λ t. x ∷ t) (remove_past xs n (omega arith))
+
+true_false : true ≡ false → ⊥
+true_false h = cc
 
 module _ {T : Type 0} where
   prefix_past : (p : T → Bool) (xs ys : List T) → ((k : ℕ) (d : T) → k < length xs → p (slice_index_or xs k d) ≡ true) → prefix_len p (xs ++ ys) ≡ length xs + prefix_len p ys
@@ -120,6 +124,40 @@ module _ {T : Type 0} where
       head_at [] [] zs d l = absurd (omega arith)
       head_at [] (y ∷ ys) zs d l = refl
       head_at (x ∷ xs) ys zs d l = head_at xs ys zs d l
+
+  -- where the others are parted, the whole is one place further, or at its front
+  outer_point : (q : Vec T → Bool) (first : Vec T) (others : List (Vec T)) (n : ℕ) → IsPartitionedBy q (first ∷ others) → n ≤ length others
+      → IsPartitionPoint (λ (c : Vec T). q c ≡ true) (λ (c : Vec T). q c ≡ false) others n
+      → (outer : ℕ) × IsPartitionPoint (λ (c : Vec T). q c ≡ true) (λ (c : Vec T). q c ≡ false) (first ∷ others) outer × (n ≡ outer - 1)
+  outer_point q first others n parted few at = by (cases_Bool (q first))
+    where
+      passes : q first ≡ true → (k : ℕ) (d : Vec T) → zero ≤ k → k < suc n → q (slice_index_or (first ∷ others) k d) ≡ true
+      passes e zero d low high = e
+      passes e (suc k) d low high = at.0 k d (omega arith) (omega (arith, high))
+
+      stops : (k : ℕ) (d : Vec T) → suc n ≤ k → k < suc (length others) → q (slice_index_or (first ∷ others) k d) ≡ false
+      stops zero d low high = absurd (omega (arith, low))
+      stops (suc k) d low high = at.1 k d (omega (arith, low)) (omega (arith, high))
+
+      none : q first ≡ false → (k : ℕ) (d : Vec T) → zero ≤ k → k < suc (length others) → q (slice_index_or (first ∷ others) k d) ≡ false
+      none e k d low high = false_from_ne_true (q (slice_index_or (first ∷ others) k d)) (λ t. true_false (sym (parted zero k d low high t) ∙ e))
+
+      at_front : q first ≡ false → (m : ℕ) → m ≤ length others → ((k : ℕ) (d : Vec T) → zero ≤ k → k < m → q (slice_index_or others k d) ≡ true) → m ≡ 0
+      at_front e zero low up = refl
+      at_front e (suc m) low up = absurd (true_false (sym (up zero first (omega arith) (omega arith)) ∙ none e (suc zero) first (omega arith) (omega (arith, low))))
+
+      by : (q first ≡ true) ⊎ (q first ≡ false) → (outer : ℕ) × IsPartitionPoint (λ (c : Vec T). q c ≡ true) (λ (c : Vec T). q c ≡ false) (first ∷ others) outer × (n ≡ outer - 1)
+      by (inl e) = (suc n, (passes e, stops), omega arith)
+      by (inr e) = (zero, ((λ k d low high. absurd (omega (arith, high))), none e), at_front e n few at.0)
+
+  -- so a search of the others by how they start finds the chunk in which a search of all items stops
+  pub rank_behind : (p : T → Bool) (first : Vec T) (others : List (Vec T)) (n : ℕ) → IsFilled (first ∷ others) → IsPartitionedBy p (items_in (first ∷ others)) → n ≤ length others
+      → IsPartitionPoint (λ (c : Vec T). starts p c.items ≡ true) (λ (c : Vec T). starts p c.items ≡ false) others n → SearchStopsIn p (first ∷ others) n
+  rank_behind p first others n f h few at = λ front back chunk is here.
+      let o = outer_point (λ (c : Vec T). starts p c.items) first others n (parted_starts p (first ∷ others) f h) few at in
+      let Point : List (Vec T) → Type 0 = λ cs. IsPartitionPoint (λ (c : Vec T). starts p c.items ≡ true) (λ (c : Vec T). starts p c.items ≡ false) cs o.0 in
+      ap (λ (cs : List (Vec T)). prefix_len p (items_in cs)) is
+      ∙ rank_chunked p front chunk back o.0 (subst IsFilled is f) (subst (λ (cs : List (Vec T)). IsPartitionedBy p (items_in cs)) is h) (subst Point is o.1) (here ∙ o.2)
 
   -- ---- one chunk made two
 

@@ -77,7 +77,7 @@ module _ (I : RattleType) (life : Ghosts I.Denot) where
             ),
           ),
         ),
-        (search (sendable, crosses) depth 60 fits 30000, tt),
+        (search (sendable, crosses) depth 20, (search (sendable, crosses) depth 60 fits 30000, tt)),
       ))
 
   pub engine_sync : (N G : RattleType) → IsSend I → IsSync I → IsSync N → IsSync G → IsSync (engine.the_row I N G life)

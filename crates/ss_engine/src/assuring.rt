@@ -58,23 +58,11 @@ impl<I: Life, N: Runner + Drop, G: Gate + Drop> Engine<I, N, G> {
         match answer {
             Ok(receipt) => {
                 let due = due.receipted();
-                let lane = Lane {
-                    ticket,
-                    due,
-                    mark,
-                    note,
-                    answers,
-                };
+                let lane = lane_of(ticket, due, mark, note, answers);
                 (lane, Ok(receipt))
             }
             Err(DurableError::NoMemory) => {
-                let lane = Lane {
-                    ticket,
-                    due,
-                    mark,
-                    note,
-                    answers,
-                };
+                let lane = lane_of(ticket, due, mark, note, answers);
                 (lane, Err(DurableError::NoMemory))
             }
             Err(DurableError::DiskFault) => {
@@ -86,6 +74,26 @@ impl<I: Life, N: Runner + Drop, G: Gate + Drop> Engine<I, N, G> {
                 (lane, Err(DurableError::Halted { faults }))
             }
         }
+    }
+}
+
+/// The lane of its parts. Takes no memory.
+fn lane_of<I: Life>(
+    ticket: Ticket,
+    due: Due,
+    mark: Mark<I>,
+    note: Note<I>,
+    answers: Reserved<Answer>,
+) -> Lane<I>
+    requires { IsLane I.clients I.first ticket due mark note answers.items }
+    ensures { result ≡ lane_view ticket due note answers }
+{
+    Lane {
+        ticket,
+        due,
+        mark,
+        note,
+        answers,
     }
 }
 
@@ -106,12 +114,5 @@ fn failed<I: Life>(
 {
     let (mark, _, faults) = log.see(mark);
     let due = due.failed_at(faults);
-    let lane = Lane {
-        ticket,
-        due,
-        mark,
-        note,
-        answers,
-    };
-    (lane, faults)
+    (lane_of(ticket, due, mark, note, answers), faults)
 }

@@ -36,8 +36,8 @@ use links::{link, live_from, live_with, unlink};
 /// - `row`, `len`, `mark_dead`, `unmark`, `replace`: constant.
 /// - `get`, `holds_key_of`, `put_new`, `remove_fresh`, `purge`, `after`, `behind`: a search, logarithmic in n. It compares
 ///   numbers that are side by side in memory, and rows only where these tie. The number of a row is its first key value
-///   where that is an Int; all Texts have one number, so where a key begins with a Text, each step of a search compares
-///   rows.
+///   where that is an Int from -2 ^ 62 to 2 ^ 62 - 1, and where it is a Text its first seven bytes; so a search reads the
+///   rows whose first key values begin alike, and few others.
 /// - `get` and `holds_key_of` besides: one step for each dead row with the very key. So where a key is deleted and inserted
 ///   again k times in one execution, the last time costs k steps.
 /// - `first`, `first_near`, and `after_near` with the hint that came with the slot: constant. Where rows were inserted

@@ -1,11 +1,11 @@
-//! Marks: slots with the prefixes of their rows' keys. A prefix is a key's first value as a number.
+//! Marks: slots with the prefixes of their rows' keys. A prefix is a key's first value as a number, a Text by its first bytes.
 //!
 //! A search through an order compares prefixes, which are side by side in memory, and reads a row, which is
 //! elsewhere, only where two prefixes are equal.
 
-ghost use Rattle.std.specs.Prelude.{◌≡◌};
+ghost use Rattle.std.specs.Prelude.{◌≡◌, ◌≤◌, ◌<◌, ◌+◌, ◌-◌, ◌*◌, ◌^◌};
 ghost use Rattle.std.specs.Option.{option_copied};
-ghost use Rattle.ss_fragment.specs.Prefixes.{number_prefix, value_prefix, optional_prefix, sought_prefix};
+ghost use Rattle.ss_fragment.specs.Prefixes.{number_prefix, bytes_prefix, value_prefix, optional_prefix, sought_prefix};
 
 use ss_value::Value;
 
@@ -16,22 +16,46 @@ pub struct Mark {
     pub slot: usize,
 }
 
+/// The least Int whose prefix is its own: half of all Ints have one.
+const LEAST: i64 = -(1 << 62);
+
+/// The least prefix of a Text: those of Ints are below it.
+const TEXTS: u64 = 1 << 63;
+
+/// How many bytes of a Text its prefix has.
+const DIGITS: u32 = 7;
+
 /// An Int as a number without a sign, in the same order.
 #[inline]
 fn number_prefix(number: i64) -> u64
     ensures { result ≡ number_prefix number }
 {
-    number.abs_diff(i64::MIN)
+    number.max(LEAST).abs_diff(LEAST).min(TEXTS - 1)
 }
 
-/// A value as a number. Every Text has the greatest one, since no Text comes before an Int.
+/// A number with so many bytes more, as its last digits to the base 256. Behind the last byte come zeros.
+fn with_bytes(number: u64, digits: u32, bytes: &[u8]) -> u64
+    requires few { digits ≤ 7 }
+    requires room { number < 256 ^ (7 - digits) }
+    ensures { result ≡ number * 256 ^ digits + bytes_prefix digits bytes.now }
+{
+    if digits == 0 {
+        return number;
+    }
+    match bytes.split_first() {
+        None => with_bytes(number * 256, digits - 1, bytes),
+        Some((byte, rest)) => with_bytes(number * 256 + u64::from(*byte), digits - 1, rest),
+    }
+}
+
+/// A value as a number: a Text by its first bytes, behind all Ints.
 #[inline]
 fn value_prefix(value: &Value) -> u64
     ensures { result ≡ value_prefix value.now }
 {
     match value {
         Value::Int(number) => number_prefix(*number),
-        Value::Text(_) => u64::MAX,
+        Value::Text(text) => TEXTS + with_bytes(0, DIGITS, text.as_bytes()),
     }
 }
 

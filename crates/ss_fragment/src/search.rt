@@ -1,6 +1,6 @@
 //! What a search looks for, and how slots compare to it.
 
-ghost use Rattle.std.specs.Prelude.{◌≡◌, slice_get};
+ghost use Rattle.std.specs.Prelude.{◌≡◌, [], ◌∷◌, slice_get};
 ghost use Rattle.std.specs.Option.{option_copied};
 ghost use Rattle.ss_fragment.specs.Cells.{at_cmp, rows_by, row_by_key, by_sought, hit_at};
 ghost use Rattle.ss_fragment.specs.Targets.{target_of, target_at, is_before, is_past, stops, slot_cmp, is_past_slot};
@@ -57,17 +57,25 @@ fn compare_at(a: Option<&Value>, b: Option<&Value>) -> Ordering
     }
 }
 
+/// How two rows compare by one column.
+#[inline]
+fn compare_column(column: u8, a: &[Value], b: &[Value]) -> Ordering
+    ensures { result ≡ rows_by (column ∷ []) a.now b.now }
+{
+    compare_at(a.get(usize::from(column)), b.get(usize::from(column)))
+}
+
 /// How two rows compare by the columns of a key.
 pub fn compare_by(key: &[u8], a: &[Value], b: &[Value]) -> Ordering
     ensures { result ≡ rows_by key.now a.now b.now }
 {
-    match key.split_first() {
-        None => Ordering::Equal,
-        Some((column, rest)) => match compare_at(a.get(*column as usize), b.get(*column as usize)) {
-            Ordering::Equal => compare_by(rest, a, b),
-            other => other,
-        },
+    for column in key {
+        let found = compare_column(*column, a, b);
+        if found.is_ne() {
+            return found;
+        }
     }
+    Ordering::Equal
 }
 
 /// How a row's key, in these columns, compares to a key. No copy of it is made.

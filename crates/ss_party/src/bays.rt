@@ -7,6 +7,7 @@ ghost use Rattle.ss_party.specs.Turns.{bay_count, turn_of, IsTaken, IsGathered};
 
 use crate::moving::{empty_slots, fill_slots};
 use crate::rule::{BayTable, Gives};
+use crate::sleepers::Sleepers;
 use crate::tagged::Tagged;
 use crate::taking::{take_all, take_if_full, take_members, take_when_full};
 use crate::turn::Turn;
@@ -21,6 +22,7 @@ use std::sync::{Mutex, Wait};
 #[derive(Drop)]
 pub struct Bays<T: Tagged> {
     table: BayTable<T>,
+    sleepers: Sleepers,
     // Nobody waits for it: `close` has it alone. The lock lets the bays be shared where values may only be sent.
     room: Mutex<Room<T>>,
 }
@@ -66,6 +68,7 @@ impl<T: Tagged> Bays<T> {
         match BayTable::<T>::new(alloc, &ones[..count], slots, &()) {
             Ok((table, _seat)) => Ok(Bays {
                 table,
+                sleepers: Sleepers::new(),
                 room: Mutex::new(Room { list: items }),
             }),
             Err(refused) => {
@@ -94,7 +97,7 @@ impl<T: Tagged> Bays<T> {
         let Turn { bay, mut seat } = turn;
         let _nothing = self.table.shared.exchange(&mut seat, bay, Some(value));
         self.table.shared.store::<Gives>(&mut seat, bay, 1);
-        self.table.shared.wake_one(bay);
+        self.sleepers.wake(&self.table, bay);
     }
 
     /// Takes the value of bay p, with the turn to fill it, and waits while the bay is empty.
@@ -104,7 +107,7 @@ impl<T: Tagged> Bays<T> {
         requires { p < bay_count self.now }
         ensures { IsTaken T.tag self.now p result }
     {
-        take_when_full(rt, &self.table, p as usize)
+        take_when_full(rt, &self.table, &self.sleepers, p as usize)
     }
 
     /// Takes the values of all bays of a set, and of no others, each with the turn of its bay. It takes them in rising
@@ -121,8 +124,8 @@ impl<T: Tagged> Bays<T> {
         requires { (p : ℕ) → IsBitSet set p → p < bay_count self.now }
         ensures ok { IfOk result (λ taken. IsGathered T.tag self.now set taken) }
     {
-        let list = Vec::with_capacity(alloc, 8)?;
-        Ok(take_members(rt, &self.table, set, list))
+        let list = Vec::with_capacity(alloc, self.table.slot_count())?;
+        Ok(take_members(rt, &self.table, &self.sleepers, set, list))
     }
 
     /// Takes the value of each bay in rising order, and waits at each while it is empty. The bays are gone.
@@ -131,9 +134,13 @@ impl<T: Tagged> Bays<T> {
     pub fn close<R: Wait>(self, rt: &R) -> Seq<T>
         ensures { TagsFrom T.tag 0 result × (length result ≡ bay_count self) }
     {
-        let Bays { table, room } = self;
+        let Bays {
+            table,
+            sleepers,
+            room,
+        } = self;
         let Room { mut list } = room.into_inner();
-        take_all(rt, &table, &mut list);
+        take_all(rt, &table, &sleepers, &mut list);
         Seq::from_vec(list)
     }
 }

@@ -20,6 +20,7 @@
 mod bays;
 mod moving;
 mod rule;
+mod sleepers;
 mod tagged;
 mod taking;
 mod turn;

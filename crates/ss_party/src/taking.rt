@@ -9,6 +9,7 @@ ghost use Rattle.ss_party.specs.Tags.{TagsFrom};
 ghost use Rattle.ss_party.specs.Turns.{IsTaken, IsGathered};
 
 use crate::rule::{BayTable, Takes};
+use crate::sleepers::Sleepers;
 use crate::tagged::Tagged;
 use crate::turn::{Turn, end};
 use ss_value::{PartSet, Seq};
@@ -33,6 +34,7 @@ pub(crate) fn take_if_full<T: Tagged>(table: &BayTable<T>, p: usize) -> Option<(
 pub(crate) fn take_when_full<T: Tagged, R: Wait>(
     rt: &R,
     table: &BayTable<T>,
+    sleepers: &Sleepers,
     p: usize,
 ) -> (T, Turn<T>)
     requires bays { AreBays table.now.shared.table_id }
@@ -43,7 +45,7 @@ pub(crate) fn take_when_full<T: Tagged, R: Wait>(
         if let Some(taken) = take_if_full(table, p) {
             return taken;
         }
-        table.shared.park(rt, p, 0);
+        sleepers.sleep(rt, table, p);
     }
     unreachable!()
 }
@@ -52,30 +54,36 @@ pub(crate) fn take_when_full<T: Tagged, R: Wait>(
 pub(crate) fn take_members<T: Tagged, R: Wait>(
     rt: &R,
     table: &BayTable<T>,
+    sleepers: &Sleepers,
     set: PartSet,
     mut list: Vec<(T, Turn<T>)>,
 ) -> Seq<(T, Turn<T>)>
     requires bays { AreBays table.now.shared.table_id }
     requires members { (p : ℕ) → IsBitSet set p → p < table.now.shared.table_id.slots }
-    requires list { (list.items ≡ []) × (8 ≤ vec_capacity list) }
+    requires list { (list.items ≡ []) × (table.now.shared.table_id.slots ≤ vec_capacity list) }
     ensures { IsGathered T.tag table.now.shared.table_id set result }
 {
     for p in 0..table.slot_count() {
         if set.has(p as u8) {
-            list.push_reserved(take_when_full(rt, table, p));
+            list.push_reserved(take_when_full(rt, table, sleepers, p));
         }
     }
     Seq::from_vec(list)
 }
 
 /// The value of each bay in rising order, into a list that has the room. No bay is filled again.
-pub(crate) fn take_all<T: Tagged, R: Wait>(rt: &R, table: &BayTable<T>, list: &mut Vec<T>)
+pub(crate) fn take_all<T: Tagged, R: Wait>(
+    rt: &R,
+    table: &BayTable<T>,
+    sleepers: &Sleepers,
+    list: &mut Vec<T>,
+)
     requires bays { AreBays table.now.shared.table_id }
     requires list { (list.old.items ≡ []) × (table.now.shared.table_id.slots ≤ vec_capacity list.old) }
     ensures { TagsFrom T.tag 0 list.new.items × (length list.new.items ≡ table.now.shared.table_id.slots) }
 {
     for p in 0..table.slot_count() {
-        let (value, turn) = take_when_full(rt, table, p);
+        let (value, turn) = take_when_full(rt, table, sleepers, p);
         end(turn);
         list.push_reserved(value);
     }

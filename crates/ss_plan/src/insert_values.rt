@@ -17,7 +17,7 @@ pub fn given_row<'a>(alloc: Global, values: &'a [Expr], params: &'a Row) -> Resu
     ensures ok { IfOk result (λ row. try_map (expr_value [] params.now) values.now ≡ Ok row) }
     ensures stops { IfErr result (λ stop. StopsAs (try_map (expr_value [] params.now) values.now) stop) }
 {
-    let mut row = Seq::new(alloc);
+    let mut row = Seq::with_capacity(alloc, values.len())?;
     for tree in values {
         let value = evaluate(alloc, tree, Tuple::Empty, params)?.into_value(alloc)?;
         row.push(value)?;

@@ -62,7 +62,7 @@ fn sought_key(
 ) -> Result<Option<Row>, NoMemory>
     ensures { IfOk result (λ key. key ≡ key_sought params.now test.now columns.now) }
 {
-    let mut key = Seq::new(alloc);
+    let mut key = Seq::with_capacity(alloc, columns.len())?;
     for column in columns {
         let Some(value) = bound_value(alloc, RangeEnd::Both, *column, test, params)? else {
             return Ok(None);
@@ -112,10 +112,13 @@ fn seen_with<'a, 'b>(from: ShardRows<'a, 'b>, table: u16, key: &Row) -> Option<(
 fn at_most_one<'a>(alloc: Global, row: Option<(Slot, &'a Row)>) -> Result<FoundRows<'a>, NoMemory>
     ensures { IfOk result (λ found. rows_found found ≡ one_or_none (option_map lent_row row.entry)) }
 {
-    let mut rows = Seq::new(alloc);
-    if let Some(row) = row {
-        rows.push(row)?;
-    }
+    let Some(row) = row else {
+        return Ok(FoundRows {
+            rows: Seq::new(alloc),
+        });
+    };
+    let mut rows = Seq::with_capacity(alloc, 1)?;
+    rows.push(row)?;
     Ok(FoundRows { rows })
 }
 

@@ -1,5 +1,5 @@
 -- Where a run has all that it needs it ends as done, or at out of memory.
-use Rattle.std.proofs.Common.{◌≡◌, ◌⊎◌, ◌∙◌, inl, inr, ℕ, List, [], ◌∷◌, sym, ap, subst, arith}
+use Rattle.std.proofs.Common.{◌≡◌, ◌⊎◌, ◌∙◌, inl, inr, ℕ, List, [], ◌∷◌, Some, sym, ap, subst, arith}
 use Rattle.ss_model.specs.declared.catalog.Catalog.{Catalog}
 use Rattle.ss_model.specs.declared.entry.Request.{Request}
 use Rattle.ss_disk.specs.Files.{Files}
@@ -7,10 +7,16 @@ use Rattle.ss_cmdlog.specs.Store.{IsEmpty}
 use Rattle.ss_headline.specs.Disks.{DiskChange}
 use Rattle.ss_recover.specs.Faults.{HasFaultAt, IsStore}
 use Rattle.ss_recover.specs.Laws.{EmptyHasNoFault, StoreHasNoFault, StoreHasOneCatalog}
+use Rattle.ss_top.specs.declared.session.Printing.{Printing}
+use Rattle.ss_top.specs.declared.session.Printing.TheVariants.{InFull, Summary}
 use Rattle.ss_top.specs.declared.status.Status.{Status}
 use Rattle.ss_top.specs.declared.status.Status.TheVariants.{Done, Usage, Input, ReadFault, WriteFault, Disk, NoMemory, Foreign, OtherCatalog, Limit}
 use Rattle.ss_top.specs.Complete.{HasRoom, IsDoneOrShort}
 use Rattle.ss_top.specs.Sinks.{SinkChange, SinkHeld}
+use Rattle.ss_catalog.specs.Answers.{HasOneCatalog}
+use Rattle.ss_catalog.specs.Reads.{Reads}
+use Rattle.ss_words.specs.declared.names.Show.{Show}
+use Rattle.ss_top.specs.Shows.{IsCompleteShow, RanShow, ShowEnds, show_requests}
 use Rattle.ss_top.specs.Stores.{CameTo, RecoveredTo}
 use Rattle.ss_top.specs.Serving.{HasStoreCause}
 use Rattle.ss_top.specs.Top.{DiskHeld}
@@ -29,21 +35,21 @@ module _ (limit : ℕ) (w : SinkChange) (disk : DiskChange) (no_fault : EmptyHas
   same_catalog a b store (inl empty) = absurd (empty_is_none disk.seen_before a empty store)
   same_catalog a b store (inr other) = one_catalog disk.seen_before a b store other
 
-  pub came_complete : (catalog : Catalog) (requests : List Request) (ended : Status) → CameTo limit catalog requests ended w disk → HasStoreCause ended w disk → HasRoom limit catalog requests disk → IsDoneOrShort ended
-  came_complete catalog requests Done came cause room = tt
-  came_complete catalog requests NoMemory came cause room = tt
-  came_complete catalog requests WriteFault came cause room = calm cause
-  came_complete catalog requests Disk came cause room = still cause
-  came_complete catalog requests Foreign came cause room = not_foreign catalog room.was came.file came.place (came.fault room.tells)
-  came_complete catalog requests OtherCatalog came cause room = came.differs (ap (λ (c : Catalog). c.text) (same_catalog came.stored catalog (came.store room.tells) room.was))
-  came_complete catalog requests Limit came cause room =
+  pub came_complete : (printing : Printing) (catalog : Catalog) (requests : List Request) (ended : Status) → CameTo limit printing catalog requests ended w disk → HasStoreCause ended w disk → HasRoom limit catalog requests disk → IsDoneOrShort ended
+  came_complete printing catalog requests Done came cause room = tt
+  came_complete printing catalog requests NoMemory came cause room = tt
+  came_complete printing catalog requests WriteFault came cause room = calm cause
+  came_complete printing catalog requests Disk came cause room = still cause
+  came_complete printing catalog requests Foreign came cause room = not_foreign catalog room.was came.file came.place (came.fault room.tells)
+  came_complete printing catalog requests OtherCatalog came cause room = came.differs (ap (λ (c : Catalog). c.text) (same_catalog came.stored catalog (came.store room.tells) room.was))
+  came_complete printing catalog requests Limit came cause room =
       let run = came.ran.stopped.run in
       let enough = room.room came.ran.stopped.opening came.ran.stopped.first run.session.whole (run.session.stood room.tells) in
       let more = came.ran.owed_more in
       omega (arith, enough, more)
-  came_complete catalog requests Usage came cause room = came
-  came_complete catalog requests Input came cause room = came
-  came_complete catalog requests ReadFault came cause room = came
+  came_complete printing catalog requests Usage came cause room = came
+  came_complete printing catalog requests Input came cause room = came
+  came_complete printing catalog requests ReadFault came cause room = came
 
   -- a recovery of a store that has room for what is pending
   pub recovered_complete : (catalog : Catalog) (ended : Status) → RecoveredTo limit ended w disk → HasStoreCause ended w disk → HasRoom limit catalog [] disk → IsDoneOrShort ended
@@ -53,9 +59,31 @@ module _ (limit : ℕ) (w : SinkChange) (disk : DiskChange) (no_fault : EmptyHas
   recovered_complete catalog Disk came cause room = still cause
   recovered_complete catalog Limit came cause room =
       let same : came.catalog ≡ catalog = same_catalog came.catalog catalog (came.stored room.tells) room.was in
-      came_complete came.catalog [] Limit came.came tt (subst (λ c. HasRoom limit c [] disk) (sym same) room)
+      came_complete InFull came.catalog [] Limit came.came tt (subst (λ c. HasRoom limit c [] disk) (sym same) room)
   recovered_complete catalog Foreign came cause room = not_foreign catalog room.was came.file came.place (came.fault room.tells)
   recovered_complete catalog OtherCatalog came cause room = came
   recovered_complete catalog Usage came cause room = came
   recovered_complete catalog Input came cause room = came
   recovered_complete catalog ReadFault came cause room = came
+
+  -- a show that has room for all that it owes
+  pub show_complete : HasOneCatalog → (show : Show) (ended : Status) → ShowEnds limit show ended w disk → HasStoreCause ended w disk → IsCompleteShow limit show disk ended
+  show_complete one show ended ends cause catalog voter room = by ended ends cause
+    where
+      ran : (status : Status) → RanShow limit show status w disk → HasStoreCause status w disk → IsDoneOrShort status
+      ran status r cause =
+          let value : r.voter.value ≡ voter.value = (let same : Some r.voter.value ≡ Some voter.value = sym r.voter.json ∙ voter.json in cc) in
+          let same : r.catalog ≡ catalog = one voter.value r.catalog catalog (subst (λ d. Reads d r.catalog) value r.voter.reads) voter.reads in
+          came_complete (Summary show.votes) r.catalog (show_requests show) status r.came cause (subst (λ c. HasRoom limit c (show_requests show) disk) (sym same) room)
+
+      by : (status : Status) → ShowEnds limit show status w disk → HasStoreCause status w disk → IsDoneOrShort status
+      by Done r cause' = tt
+      by NoMemory r cause' = tt
+      by WriteFault r cause' = ran WriteFault r cause'
+      by Disk r cause' = ran Disk r cause'
+      by Foreign r cause' = ran Foreign r cause'
+      by OtherCatalog r cause' = ran OtherCatalog r cause'
+      by Limit r cause' = ran Limit r cause'
+      by Usage r cause' = ran Usage r cause'
+      by Input r cause' = ran Input r cause'
+      by ReadFault r cause' = ran ReadFault r cause'

@@ -12,10 +12,12 @@ use Rattle.ss_lines.specs.Lines.{max_input}
 use Rattle.ss_model.specs.declared.catalog.Catalog.{Catalog}
 use Rattle.ss_model.specs.declared.entry.Request.{Request}
 use Rattle.ss_model.specs.Accepted.{Accepted}
+use Rattle.ss_catalog.specs.Answers.{HasOneCatalog}
 use Rattle.ss_catalog.specs.declared.error.CatalogError.TheVariants as of_catalog
 use Rattle.ss_catalog_requests.specs.declared.request.RequestError.TheVariants as of_request
 use Rattle.ss_words.specs.declared.names.Command.{Command}
-use Rattle.ss_words.specs.declared.names.Command.TheVariants.{Run, Recover}
+use Rattle.ss_words.specs.declared.names.Command.TheVariants.{Run, Recover, Voter}
+use Rattle.ss_words.specs.declared.names.Show.{Show}
 use Rattle.ss_words.specs.declared.command.CommandLine.{CommandLine}
 use Rattle.ss_words.specs.declared.command.Options.{Options}
 use Rattle.ss_words.specs.Words.{IsCommand, AsksFor, words_of}
@@ -24,6 +26,7 @@ use Rattle.ss_headline.specs.Disks.{DiskChange, AsBefore}
 use Rattle.ss_recover.specs.Laws.{EmptyHasNoFault, StoreHasNoFault, StoreHasOneCatalog}
 use Rattle.ss_top.specs.declared.input.ReadError.{ReadError}
 use Rattle.ss_top.specs.declared.input.ReadError.TheVariants.{Line as OfLine, NoCatalog, Catalog as OfCatalog, Request as OfRequest}
+use Rattle.ss_top.specs.declared.session.Printing.TheVariants.{InFull, Summary}
 use Rattle.ss_top.specs.declared.status.Status.{Status}
 use Rattle.ss_top.specs.declared.status.Status.TheVariants.{Done, Usage, Input, ReadFault, WriteFault, Disk, NoMemory, Foreign, OtherCatalog, Limit}
 use Rattle.ss_top.specs.Complete.{HasRoom, IsDoneOrShort}
@@ -33,9 +36,10 @@ use Rattle.ss_top.specs.Sinks.{SourceChange, SinkChange, Writes, ExitsRefused, L
 use Rattle.ss_top.specs.Starts.{Starts}
 use Rattle.ss_top.specs.Statuses.{refusal_status, refusal_text, usage_text, no_memory_text}
 use Rattle.ss_top.specs.Stores.{CameTo, RecoveredTo}
-use Rattle.ss_top.specs.Serving.{RecoversTo, HasStoreCause}
-use Rattle.ss_top.specs.Top.{Ends, RunEndsSo, RunEnds, RanInput, HasCause, IsComplete, WritesOnly, LeavesOfSource, DiskHeld}
-use Rattle.ss_top.proofs.Completing.{came_complete, recovered_complete}
+use Rattle.ss_top.specs.Serving.{ComesToShow, RecoversTo, HasStoreCause}
+use Rattle.ss_top.specs.Shows.{ShowEnds}
+use Rattle.ss_top.specs.Top.{Ends, EndsVoter, RunEndsSo, RunEnds, RanInput, HasCause, IsComplete, WritesOnly, LeavesOfSource, DiskHeld}
+use Rattle.ss_top.proofs.Completing.{came_complete, recovered_complete, show_complete}
 use Rattle.ss_top.proofs.TopAnswers.{refused_ends_refused, refused_ends_started}
 use Rattle.ss_top.proofs.TopRefusals.{read_fault_text_is}
 
@@ -229,10 +233,10 @@ module _ (limit : ℕ) (s : SourceChange) (w : SinkChange) (disk : DiskChange) w
     not_refused : (ended : Status) → IfSome s.before (λ input. ExitsAsRefused input ended)
     not_refused ended = IfSome_then s.before starts (λ input start e has. absurd (false≢true (sym has.says ∙ either input catalog requests e start has.first)))
 
-    ran : (status : Status) (input : List ℕ) → CameTo limit catalog requests status w disk → Starts input catalog requests → RanInput limit input status w disk
+    ran : (status : Status) (input : List ℕ) → CameTo limit InFull catalog requests status w disk → Starts input catalog requests → RanInput limit input status w disk
     ran status input came start = record { catalog = catalog; requests = requests; starts = start; accepted = accepted; came = came }
 
-    came_so : (ended : Status) → CameTo limit catalog requests ended w disk → IfSome s.before (λ input. RunEnds limit input ended w disk)
+    came_so : (ended : Status) → CameTo limit InFull catalog requests ended w disk → IfSome s.before (λ input. RunEnds limit input ended w disk)
     came_so Done came = IfSome_then s.before starts (λ input start. ran Done input came start)
     came_so WriteFault came = IfSome_then s.before starts (λ input start. ran WriteFault input came start)
     came_so Disk came = IfSome_then s.before starts (λ input start. ran Disk input came start)
@@ -244,7 +248,7 @@ module _ (limit : ℕ) (s : SourceChange) (w : SinkChange) (disk : DiskChange) w
     came_so Input came = absurd came
     came_so ReadFault came = absurd came
 
-    left_so : (ended : Status) → CameTo limit catalog requests ended w disk → LeavesOfSource ended s.before s.now
+    left_so : (ended : Status) → CameTo limit InFull catalog requests ended w disk → LeavesOfSource ended s.before s.now
     left_so Usage came = absurd came
     left_so Input came = absurd came
     left_so ReadFault came = tt
@@ -256,7 +260,7 @@ module _ (limit : ℕ) (s : SourceChange) (w : SinkChange) (disk : DiskChange) w
     left_so OtherCatalog came = left
     left_so Limit came = left
 
-    started_so : (ended : Status) → CameTo limit catalog requests ended w disk → HasCause ended s w disk → SinkHeld w → DiskHeld disk → OfStarted ended
+    started_so : (ended : Status) → CameTo limit InFull catalog requests ended w disk → HasCause ended s w disk → SinkHeld w → DiskHeld disk → OfStarted ended
     started_so Usage came cause calm still = absurd came
     started_so Input came cause calm still = absurd came
     started_so ReadFault came cause calm still = absurd came
@@ -268,7 +272,7 @@ module _ (limit : ℕ) (s : SourceChange) (w : SinkChange) (disk : DiskChange) w
     started_so OtherCatalog came cause calm still = tt
     started_so Limit came cause calm still = tt
 
-    cause_ran : (ended : Status) → CameTo limit catalog requests ended w disk → HasStoreCause ended w disk → HasCause ended s w disk
+    cause_ran : (ended : Status) → CameTo limit InFull catalog requests ended w disk → HasStoreCause ended w disk → HasCause ended s w disk
     cause_ran Usage came cause = absurd came
     cause_ran Input came cause = absurd came
     cause_ran ReadFault came cause = absurd came
@@ -280,7 +284,7 @@ module _ (limit : ℕ) (s : SourceChange) (w : SinkChange) (disk : DiskChange) w
     cause_ran OtherCatalog came cause = tt
     cause_ran Limit came cause = tt
 
-    only_ran : (ended : Status) → CameTo limit catalog requests ended w disk → WritesOnly ended w
+    only_ran : (ended : Status) → CameTo limit InFull catalog requests ended w disk → WritesOnly ended w
     only_ran Usage came = absurd came
     only_ran ReadFault came = absurd came
     only_ran Done came = tt
@@ -292,13 +296,13 @@ module _ (limit : ℕ) (s : SourceChange) (w : SinkChange) (disk : DiskChange) w
     only_ran OtherCatalog came = tt
     only_ran Limit came = tt
 
-    complete_so : (ended : Status) → CameTo limit catalog requests ended w disk → HasStoreCause ended w disk → SinkHeld w → DiskHeld disk → IfSome s.before (λ input. IsComplete limit input disk ended)
+    complete_so : (ended : Status) → CameTo limit InFull catalog requests ended w disk → HasStoreCause ended w disk → SinkHeld w → DiskHeld disk → IfSome s.before (λ input. IsComplete limit input disk ended)
     complete_so ended came cause calm still = IfSome_then s.before starts (λ input start c rs other room.
         let same = one input catalog c requests rs start other in
-        came_complete limit w disk no_fault store_has_none one_catalog calm still catalog requests ended came cause
+        came_complete limit w disk no_fault store_has_none one_catalog calm still InFull catalog requests ended came cause
         (subst (λ c'. HasRoom limit c' requests disk) (sym same.0) (subst (λ rs'. HasRoom limit c rs' disk) (sym same.1) room)))
 
-    pub run_came : (ended : Status) → CameTo limit catalog requests ended w disk → HasStoreCause ended w disk → EndsSo ended
+    pub run_came : (ended : Status) → CameTo limit InFull catalog requests ended w disk → HasStoreCause ended w disk → EndsSo ended
     run_came ended came store_cause = let cause = cause_ran ended came store_cause in record {
       ends = record {
         came = came_so ended came;
@@ -309,7 +313,7 @@ module _ (limit : ℕ) (s : SourceChange) (w : SinkChange) (disk : DiskChange) w
       };
       only = only_ran ended came;
       cause = cause;
-      no_usage = λ is. subst (λ status. CameTo limit catalog requests status w disk) is came;
+      no_usage = λ is. subst (λ status. CameTo limit InFull catalog requests status w disk) is came;
     }
 
 -- ---- the whole call
@@ -325,6 +329,7 @@ module _ (limit : ℕ) (words : List (String Global)) (s : SourceChange) (w : Si
     usage = (λ is. none, λ _. refl);
     run = λ what asks. absurd (none (asks_is_command _ _ asks));
     recover = λ what asks. absurd (none (asks_is_command _ _ asks));
+    voter = λ what show asks. absurd (none (asks_is_command _ _ asks));
     untouched = λ is. as_before;
     only = reported;
     counts = counts;
@@ -343,6 +348,7 @@ module _ (limit : ℕ) (words : List (String Global)) (s : SourceChange) (w : Si
       usage = (λ is. absurd (so.no_usage is), λ none. absurd (none (asks_is_command _ _ asks)));
       run = λ other more. so.ends;
       recover = λ other more. let no : Run ≡ Recover = other_command Run Recover other asks more in absurd cc;
+      voter = λ other show more. let wrong : Run ≡ Voter show = other_command Run (Voter show) other asks more in absurd cc;
       untouched = λ is. absurd (so.no_usage is);
       only = so.only;
       counts = counts;
@@ -385,9 +391,56 @@ module _ (limit : ℕ) (words : List (String Global)) (s : SourceChange) (w : Si
         complete = λ calm still catalog room. recovered_complete limit w disk no_fault store_has_none one_catalog calm still catalog ended came so.cause room;
         unread = (same, unmoved);
       };
+      voter = λ other show more. let wrong : Recover ≡ Voter show = other_command Recover (Voter show) other asks more in absurd cc;
       untouched = λ is. absurd (subst (λ status. RecoveredTo limit status w disk) is came);
       only = recovered_so ended came;
       counts = counts;
       cause = recovered_cause ended came so.cause;
+      taken = takes_nothing (max_input + 1) s.before s.now same;
+    }
+
+    -- a show has no status of an input, and none of the words
+    show_so : (show : Show) (ended : Status) → ShowEnds limit show ended w disk → WritesOnly ended w × (ended ≡ Usage → ⊥)
+    show_so show Usage ends = absurd ends.came
+    show_so show ReadFault ends = absurd ends.came
+    show_so show Done ends = (tt, λ is. let wrong : ⊥ = cc in wrong)
+    show_so show Input ends = (tt, λ is. let wrong : ⊥ = cc in wrong)
+    show_so show WriteFault ends = (tt, λ is. let wrong : ⊥ = cc in wrong)
+    show_so show Disk ends = (tt, λ is. let wrong : ⊥ = cc in wrong)
+    show_so show NoMemory ends = (tt, λ is. let wrong : ⊥ = cc in wrong)
+    show_so show Foreign ends = (tt, λ is. let wrong : ⊥ = cc in wrong)
+    show_so show OtherCatalog ends = (tt, λ is. let wrong : ⊥ = cc in wrong)
+    show_so show Limit ends = (tt, λ is. let wrong : ⊥ = cc in wrong)
+
+    show_cause : (show : Show) (ended : Status) → ShowEnds limit show ended w disk → HasStoreCause ended w disk → HasCause ended s w disk
+    show_cause show Usage ends cause = absurd ends.came
+    show_cause show Input ends cause = absurd ends.came
+    show_cause show ReadFault ends cause = absurd ends.came
+    show_cause show WriteFault ends cause = cause
+    show_cause show Disk ends cause = cause
+    show_cause show Done ends cause = tt
+    show_cause show NoMemory ends cause = tt
+    show_cause show Foreign ends cause = tt
+    show_cause show OtherCatalog ends cause = tt
+    show_cause show Limit ends cause = tt
+
+    pub ends_voter : HasOneCatalog → EmptyHasNoFault → StoreHasNoFault → StoreHasOneCatalog → (show : Show) → AsksFor (words_of words) (record { command = Voter show; options = what })
+        → s.now ≡ s.before → s.faults_now ≡ s.faults_before → (ended : Status) → ComesToShow limit show ended w disk → Ends limit words s w disk ended
+    ends_voter one no_fault store_has_none one_catalog show asks same unmoved ended so = let came = so.came in record {
+      usage = (λ is. absurd ((show_so show ended came).1 is), λ none. absurd (none (asks_is_command _ _ asks)));
+      run = λ other more. let wrong : Voter show ≡ Run = other_command (Voter show) Run other asks more in absurd cc;
+      recover = λ other more. let wrong : Voter show ≡ Recover = other_command (Voter show) Recover other asks more in absurd cc;
+      voter = λ other another more.
+          let is : Voter show ≡ Voter another = other_command (Voter show) (Voter another) other asks more in
+          let is_show : show ≡ another = cc in
+          subst (λ (x : Show). EndsVoter limit x s w disk ended) is_show (record {
+            came = came;
+            complete = λ calm still. show_complete limit w disk no_fault store_has_none one_catalog calm still one show ended came so.cause;
+            unread = (same, unmoved);
+          });
+      untouched = λ is. absurd ((show_so show ended came).1 is);
+      only = (show_so show ended came).0;
+      counts = counts;
+      cause = show_cause show ended came so.cause;
       taken = takes_nothing (max_input + 1) s.before s.now same;
     }

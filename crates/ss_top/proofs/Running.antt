@@ -46,11 +46,13 @@ use Rattle.ss_engine.specs.Clients.{AreListedOr, IsUnlisted}
 use Rattle.ss_engine.specs.Closings.{EndedWith, SomeReady}
 use Rattle.ss_engine.specs.Dues.{FewOpen}
 use Rattle.ss_engine.specs.Sessions.{EndsOnDisk, IsLeftOver}
+use Rattle.ss_top.specs.declared.session.Printing.{Printing}
+use Rattle.ss_top.specs.declared.session.Printing.TheVariants.{InFull, Summary}
 use Rattle.ss_top.specs.declared.status.Status.{Status}
 use Rattle.ss_top.specs.declared.status.Status.TheVariants.{Done, Usage, Input, ReadFault, WriteFault, Disk, NoMemory, Foreign, OtherCatalog, Limit}
 use Rattle.ss_top.specs.Runs.{say_full, some_say_full, settled_status, session_status, end_for, Reports}
 use Rattle.ss_top.specs.Statuses.{status_number}
-use Rattle.ss_top.specs.Stores.{WholeRun, StoppedRun, FullRun, RanAs}
+use Rattle.ss_top.specs.Stores.{IsPrinted, WholeRun, StoppedRun, FullRun, RanAs}
 use Rattle.ss_top.proofs.Outside.{outside_by_one}
 
 -- ---- answers at a stop, and at the end of a whole run
@@ -124,7 +126,7 @@ module _ {D : Type 0} (tells honest : Type 0) (seen : D → Files) (moment : D �
   abbrev change : D → D → DiskChange
   change = disk_of tells honest seen moment images faults
 
-  module _ (limit : ℕ) (catalog : Catalog) (db : Model) (first clients : ℕ) (requests : List Request) (old : D) (log : CmdLog D) (ended : Finished D) (few : first ≤ 2 ^ 60) (accepted : Accepted catalog) (in_step : IsInStep catalog db)
+  module _ (limit : ℕ) (printing : Printing) (catalog : Catalog) (db : Model) (first clients : ℕ) (requests : List Request) (old : D) (log : CmdLog D) (ended : Finished D) (few : first ≤ 2 ^ 60) (accepted : Accepted catalog) (in_step : IsInStep catalog db)
       (opened : Opened catalog db first (change old log.disk)) (e : EndsOnDisk tells honest seen moment images faults catalog db first (room_from limit first) clients requests log ended) (small : e.ends.fault < 2 ^ 64)
       (whole_law : WholeRuns change) (stopped_law : StoppedRuns change) (full_law : FullListsHaveAll) where
     abbrev list : List Listed
@@ -242,36 +244,48 @@ module _ {D : Type 0} (tells honest : Type 0) (seen : D → Files) (moment : D �
 
     -- ---- a whole run
 
-    whole_run : ended.log.halted ≡ None → some_say_full answers ≡ false → IsOk ended.flushed → Drained catalog (after catalog db list) → (database : Database) → IsLeftOver catalog (after catalog db list) database
-        → (text : List ℕ) → IsReportOf catalog requests answers first list (written.Tables database) text → WholeRun limit catalog requests text (change old new)
-    whole_run going none ok drained database left text is =
+    -- its report
+    abbrev whole_text : List ℕ
+    whole_text = report_text catalog requests (weave NoMemoryAnswer requests answers) first list db Whole
+
+    whole_run : ended.log.halted ≡ None → some_say_full answers ≡ false → IsOk ended.flushed → Drained catalog (after catalog db list) → (text : List ℕ) → IsPrinted printing list whole_text text
+        → WholeRun limit printing catalog requests text (change old new)
+    whole_run going none ok drained text printed =
         let calm = calm_at (faults log.disk) (faults new) ended.log.halted e.ends.fault e.ends.holds.halt going in
         let answered : AreAnswered requests first list Whole answers = record {
           many = e.ends.run.many;
           each = e.ends.run.each;
           others = λ client. at_whole (room_from limit first) (length list) e.ends.fault calm (answers_of answers client) (e.ends.run.others client) (none_of answers client none);
         } in
-        let run = whole_law limit catalog requests db first list NoMemoryAnswer answers old log.disk new opened closed (settled ok going drained) answered e.ends.run.within in record {
+        record {
           opening = db;
           first = first;
           list = list;
-          run = subst (λ t. IsWholeRun limit catalog requests db first list t (change old new)) (sym (is db left.0.shard.contents.tables)) run;
+          report = whole_text;
+          run = whole_law limit catalog requests db first list NoMemoryAnswer answers old log.disk new opened closed (settled ok going drained) answered e.ends.run.within;
+          printed = printed;
         }
+
+    -- the text that was written of it
+    printed_as : (p : Printing) (database : Database) → IsLeftOver catalog (after catalog db list) database → (n : ℕ) (text : List ℕ)
+        → IsReportOf catalog requests answers first list (end_for Done p (Some database) ended.receipted n) text → IsPrinted p list whole_text text
+    printed_as InFull database left n text written' = written' db left.0.shard.contents.tables
+    printed_as (Summary votes) database left n text written' = written'
 
     -- ---- by how it ended
 
     -- the report with this status and these faults was written
     abbrev IsWritten : Status → ℕ → List ℕ → Type 0
-    IsWritten status n text = IsReportOf catalog requests answers first list (end_for status ended.closed.database ended.receipted n) text
+    IsWritten status n text = IsReportOf catalog requests answers first list (end_for status printing ended.closed.database ended.receipted n) text
 
     abbrev Is : Status → List ℕ → Type 0
-    Is status text = RanAs limit catalog requests status text (change old new)
+    Is status text = RanAs limit printing catalog requests status text (change old new)
 
     by_database : ended.log.halted ≡ None → some_say_full answers ≡ false → IsOk ended.flushed → Drained catalog (after catalog db list) → ended.closed.end ≡ settling.Done
         → (o : Option Database) → ended.closed.database ≡ o → IfNone o (ended.closed.end ≡ settling.NoMemory) → IfSome o (IsLeftOver catalog (after catalog db list)) → (n : ℕ) (text : List ℕ)
-        → IsReportOf catalog requests answers first list (end_for Done o ended.receipted n) text → Is Done text
-    by_database going none ok drained done None is lost left n text written' = let no : settling.Done ≡ settling.NoMemory = sym done ∙ lost in absurd (cc)
-    by_database going none ok drained done (Some database) is lost left n text written' = whole_run going none ok drained database left text written'
+        → IsReportOf catalog requests answers first list (end_for Done printing o ended.receipted n) text → Is Done text
+    by_database going none ok drained done None is lost left n text written' = let wrong : settling.Done ≡ settling.NoMemory = sym done ∙ lost in absurd (cc)
+    by_database going none ok drained done (Some database) is lost left n text written' = whole_run going none ok drained text (printed_as printing database left n text written')
 
     by_settling : ended.log.halted ≡ None → some_say_full answers ≡ false → (end : Settling) → ended.closed.end ≡ end → EndedWith catalog db (room_from limit first) list end
         → (flushed : Bool) → (flushed ≡ true → IsOk ended.flushed) → (n : ℕ) (text : List ℕ) → IsWritten (settled_status end flushed) n text → Is (settled_status end flushed) text
@@ -296,7 +310,7 @@ module _ {D : Type 0} (tells honest : Type 0) (seen : D → Files) (moment : D �
 
     -- the status and the report that was written of it
     pub reported : (failed : Bool) → is_some ended.log.halted ≡ failed → (flushed : Bool) → (flushed ≡ true → IsOk ended.flushed) → (status : Status) → status ≡ session_status failed answers ended.closed.end flushed
-        → (n : ℕ) (text : List ℕ) → IsWritten status n text → Reports limit catalog requests status (Some text) (change old new)
+        → (n : ℕ) (text : List ℕ) → IsWritten status n text → Reports limit printing catalog requests status (Some text) (change old new)
     reported failed is flushed ok status told n text written' = record {
       whole = text;
       ran = subst (λ s. Is s text) (sym told) (by_failed failed is flushed ok n text (subst (λ s. IsWritten s n text) told written'));
@@ -317,7 +331,7 @@ module _ {D : Type 0} (tells honest : Type 0) (seen : D → Files) (moment : D �
         by_status false none disk = absurd (not_disk (some_say_full answers) flushed ended.closed.end disk)
 
     -- there was no memory for a report
-    pub unreported : Reports limit catalog requests NoMemory None (change old new)
+    pub unreported : Reports limit printing catalog requests NoMemory None (change old new)
     unreported = record {
       whole = stop_text 6 NoMemoryAnswer;
       ran = record { opening = db; first = first; list = list; count = ended.receipted; run = run_stopped 6 NoMemoryAnswer };
@@ -331,18 +345,19 @@ module _ {D : Type 0} (tells honest : Type 0) (seen : D → Files) (moment : D �
     places = let within = e.ends.run.within in omega (arith, within, few)
 
 -- the tables of an end are those of the database
-pub end_tables : (catalog : Catalog) (d : Model) (status : Status) (database : Option Database) (count n : ℕ) → IfSome database (IsLeftOver catalog d) → HasEndTables catalog (end_for status database count n)
-end_tables catalog d Done None count n left = tt
-end_tables catalog d Done (Some database) count n left = left.1.of_catalog.tables
-end_tables catalog d Usage database count n left = tt
-end_tables catalog d Input database count n left = tt
-end_tables catalog d ReadFault database count n left = tt
-end_tables catalog d WriteFault database count n left = tt
-end_tables catalog d Disk database count n left = tt
-end_tables catalog d NoMemory database count n left = tt
-end_tables catalog d Foreign database count n left = tt
-end_tables catalog d OtherCatalog database count n left = tt
-end_tables catalog d Limit database count n left = tt
+pub end_tables : (catalog : Catalog) (d : Model) (status : Status) (printing : Printing) (database : Option Database) (count n : ℕ) → IfSome database (IsLeftOver catalog d) → HasEndTables catalog (end_for status printing database count n)
+end_tables catalog d Done InFull None count n left = tt
+end_tables catalog d Done (Summary votes) database count n left = tt
+end_tables catalog d Done InFull (Some database) count n left = left.1.of_catalog.tables
+end_tables catalog d Usage printing database count n left = tt
+end_tables catalog d Input printing database count n left = tt
+end_tables catalog d ReadFault printing database count n left = tt
+end_tables catalog d WriteFault printing database count n left = tt
+end_tables catalog d Disk printing database count n left = tt
+end_tables catalog d NoMemory printing database count n left = tt
+end_tables catalog d Foreign printing database count n left = tt
+end_tables catalog d OtherCatalog printing database count n left = tt
+end_tables catalog d Limit printing database count n left = tt
 
 -- the places of a session with this room
 pub within_places : (limit first room : ℕ) → first ≤ 2 ^ 60 → room ≡ room_from limit first → first + room ≤ 2 ^ 60

@@ -5,7 +5,8 @@ pub mod Inputs
 pub mod Sinks
 pub mod Stores
 pub mod StoreRefusals
+pub mod Complete
+pub mod Shows
 pub mod Serving
 pub mod Runs
-pub mod Complete
 pub mod Top

@@ -21,6 +21,8 @@ use Rattle.ss_engine.specs.declared.settling.Settling.TheVariants as settling
 use Rattle.ss_engine.specs.Sessions.{EndsOnDisk}
 use Rattle.ss_report.specs.declared.run_end.End.{End}
 use Rattle.ss_report.specs.declared.run_end.End.TheVariants as report
+use Rattle.ss_top.specs.declared.session.Printing.{Printing}
+use Rattle.ss_top.specs.declared.session.Printing.TheVariants.{InFull, Summary}
 use Rattle.ss_top.specs.declared.session.Reported.{Reported}
 use Rattle.ss_top.specs.declared.status.Status.{Status}
 use Rattle.ss_top.specs.declared.status.Status.TheVariants.{Done, Disk, NoMemory, Limit}
@@ -50,23 +52,24 @@ settled_status settling.NoMemory flushed = NoMemory
 abbrev pub session_status : Bool → List (List Answer) → Settling → Bool → Status
 session_status failed answers end flushed = cond failed Disk (cond (some_say_full answers) Limit (settled_status end flushed))
 
--- what the report says of it: its tables, or where it stopped
-abbrev pub end_for : Status → Option Database → ℕ → ℕ → End
-end_for Done (Some database) count faults = report.Tables database
-end_for status database count faults = report.Stopped (status_number status) count faults
+-- what the report says of it: its tables, or the numbers that sum it up, or where it stopped
+abbrev pub end_for : Status → Printing → Option Database → ℕ → ℕ → End
+end_for Done InFull (Some database) count faults = report.Tables database
+end_for Done (Summary votes) database count faults = report.Voter votes
+end_for status printing database count faults = report.Stopped (status_number status) count faults
 
 -- a session ended with this status, and this is its report, where there was memory for one; else it stopped for want of memory
-pub record Reports (limit : ℕ) (catalog : Catalog) (requests : List Request) (status : Status) (text : Option (List ℕ)) (disk : DiskChange) : Type 0 where
+pub record Reports (limit : ℕ) (printing : Printing) (catalog : Catalog) (requests : List Request) (status : Status) (text : Option (List ℕ)) (disk : DiskChange) : Type 0 where
   pub whole : List ℕ
-  pub ran : RanAs limit catalog requests status whole disk
+  pub ran : RanAs limit printing catalog requests status whole disk
   pub written : IfSome text (λ some. some ≡ whole)
   pub unwritten : IfNone text (status ≡ NoMemory)
   pub rose : status ≡ Disk → Rose disk.faults_before disk.faults_now
 
 -- the report of a finished session, wherever it began: the status and the text are those of its run on the disk that was opened for it
-abbrev pub ReportsFinished : {D : Type 0} → Type 0 → Type 0 → (D → Files) → (D → ℕ) → (D → ℕ → Files → Type 0) → (D → ℕ) → List Request → ℕ → Finished D → Reported D → Type 0
-ReportsFinished {D} tells honest seen moment images faults requests first finished reported =
+abbrev pub ReportsFinished : {D : Type 0} → Type 0 → Type 0 → (D → Files) → (D → ℕ) → (D → ℕ → Files → Type 0) → (D → ℕ) → Printing → List Request → ℕ → Finished D → Reported D → Type 0
+ReportsFinished {D} tells honest seen moment images faults printing requests first finished reported =
     (limit clients : ℕ) (catalog : Catalog) (db : Model) (old : D) (log : CmdLog D) → first ≤ 2 ^ 60 → Accepted catalog → IsInStep catalog db →
     Opened catalog db first (disk_of tells honest seen moment images faults old log.disk) →
     EndsOnDisk tells honest seen moment images faults catalog db first (room_from limit first) clients requests log finished →
-    Reports limit catalog requests reported.status reported.text (disk_of tells honest seen moment images faults old reported.disk)
+    Reports limit printing catalog requests reported.status reported.text (disk_of tells honest seen moment images faults old reported.disk)

@@ -8,9 +8,12 @@ use Rattle.ss_headline.specs.Disks.{DiskChange, disk_of}
 use Rattle.ss_headline.specs.Layers.{Opened}
 use Rattle.ss_recover.specs.declared.recovered.Recovered.{Recovered}
 use Rattle.ss_recover.specs.Recovering.{recovered_database}
+use Rattle.ss_words.specs.declared.names.Show.{Show}
+use Rattle.ss_top.specs.declared.session.Printing.{Printing}
 use Rattle.ss_top.specs.declared.status.Status.{Status}
 use Rattle.ss_top.specs.declared.status.Status.TheVariants.{WriteFault, Disk}
 use Rattle.ss_top.specs.Sinks.{SinkChange}
+use Rattle.ss_top.specs.Shows.{ShowEnds}
 use Rattle.ss_top.specs.Stores.{CameTo, RecoveredTo, WasOf}
 
 -- a fault of the sink or of the disk is answered only where it was counted
@@ -20,13 +23,18 @@ HasStoreCause Disk w disk = Rose disk.faults_before disk.faults_now
 HasStoreCause _ w disk = Unit {0}
 
 -- running these requests of this catalogue
-pub record ComesTo (limit : ℕ) (catalog : Catalog) (requests : List Request) (status : Status) (w : SinkChange) (disk : DiskChange) : Type 0 where
-  pub came : CameTo limit catalog requests status w disk
+pub record ComesTo (limit : ℕ) (printing : Printing) (catalog : Catalog) (requests : List Request) (status : Status) (w : SinkChange) (disk : DiskChange) : Type 0 where
+  pub came : CameTo limit printing catalog requests status w disk
   pub cause : HasStoreCause status w disk
 
 -- a recovery
 pub record RecoversTo (limit : ℕ) (status : Status) (w : SinkChange) (disk : DiskChange) : Type 0 where
   pub came : RecoveredTo limit status w disk
+  pub cause : HasStoreCause status w disk
+
+-- a show
+pub record ComesToShow (limit : ℕ) (show : Show) (status : Status) (w : SinkChange) (disk : DiskChange) : Type 0 where
+  pub came : ShowEnds limit show status w disk
   pub cause : HasStoreCause status w disk
 
 -- the store was opened on this disk, or made on it

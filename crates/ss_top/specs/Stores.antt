@@ -6,6 +6,7 @@ use Rattle.ss_model.specs.declared.entry.Request.{Request}
 use Rattle.ss_model.specs.Accepted.{Accepted}
 use Rattle.ss_model.specs.Database.{Database}
 use Rattle.ss_model.specs.Replays.{after}
+use Rattle.ss_model.specs.Report.{voter_text}
 use Rattle.ss_cmdlog.specs.Store.{IsEmpty}
 use Rattle.ss_headline.specs.Disks.{DiskChange, AsBefore, NothingRan}
 use Rattle.ss_headline.specs.Layers.{Opened}
@@ -14,6 +15,8 @@ use Rattle.ss_headline.specs.Sentences.{room_from}
 use Rattle.ss_headline.specs.Runs.{IsWholeRun, IsStoppedRun}
 use Rattle.ss_recover.specs.Faults.{HasFaultAt, IsStore}
 use Rattle.ss_engine.specs.Closings.{SomeReady}
+use Rattle.ss_top.specs.declared.session.Printing.{Printing}
+use Rattle.ss_top.specs.declared.session.Printing.TheVariants.{InFull, Summary}
 use Rattle.ss_top.specs.declared.status.Status.{Status}
 use Rattle.ss_top.specs.declared.status.Status.TheVariants.{Done, WriteFault, Disk, NoMemory, Foreign, OtherCatalog, Limit}
 use Rattle.ss_top.specs.Sinks.{SinkChange, Writes, WritesAll, WritesPrefix}
@@ -59,12 +62,19 @@ WasOf catalog disk = disk.tells → IsEmpty disk.seen_before ⊎ IsStore disk.se
 
 -- ---- once the clients have started
 
--- a whole run: one list, from a database and a place on
-pub record WholeRun (limit : ℕ) (catalog : Catalog) (requests : List Request) (text : List ℕ) (disk : DiskChange) : Type 0 where
+-- a whole run is printed in full, by its report, or by the line that sums up its list
+abbrev pub IsPrinted : Printing → List Listed → List ℕ → List ℕ → Type 0
+IsPrinted InFull list report text = text ≡ report
+IsPrinted (Summary votes) list report text = text ≡ voter_text votes list
+
+-- a whole run: one list, from a database and a place on, with its report, and what is printed of it
+pub record WholeRun (limit : ℕ) (printing : Printing) (catalog : Catalog) (requests : List Request) (text : List ℕ) (disk : DiskChange) : Type 0 where
   pub opening : Database
   pub first : ℕ
   pub list : List Listed
-  pub run : IsWholeRun limit catalog requests opening first list text disk
+  pub report : List ℕ
+  pub run : IsWholeRun limit catalog requests opening first list report disk
+  pub printed : IsPrinted printing list report text
 
 -- a run that stopped with this status, and with a count below which all executions are receipted
 pub record StoppedRun (limit : ℕ) (catalog : Catalog) (requests : List Request) (status : Status) (text : List ℕ) (disk : DiskChange) : Type 0 where
@@ -83,18 +93,18 @@ pub record FullRun (limit : ℕ) (catalog : Catalog) (requests : List Request) (
   pub owed_more : room_from limit stopped.first < owed catalog stopped.opening requests
 
 -- a session that ended with this status has this report
-abbrev pub RanAs : ℕ → Catalog → List Request → Status → List ℕ → DiskChange → Type 0
-RanAs limit catalog requests Done text disk = WholeRun limit catalog requests text disk
-RanAs limit catalog requests Disk text disk = StoppedRun limit catalog requests Disk text disk
-RanAs limit catalog requests NoMemory text disk = StoppedRun limit catalog requests NoMemory text disk
-RanAs limit catalog requests Limit text disk = FullRun limit catalog requests text disk
-RanAs limit catalog requests _ text disk = ⊥
+abbrev pub RanAs : ℕ → Printing → Catalog → List Request → Status → List ℕ → DiskChange → Type 0
+RanAs limit printing catalog requests Done text disk = WholeRun limit printing catalog requests text disk
+RanAs limit printing catalog requests Disk text disk = StoppedRun limit catalog requests Disk text disk
+RanAs limit printing catalog requests NoMemory text disk = StoppedRun limit catalog requests NoMemory text disk
+RanAs limit printing catalog requests Limit text disk = FullRun limit catalog requests text disk
+RanAs limit printing catalog requests _ text disk = ⊥
 
 -- a session on an empty disk or a store of this catalogue ended with the first status, of whose report this was written
-pub record Ran (limit : ℕ) (catalog : Catalog) (requests : List Request) (status : Status) (written : List ℕ → Type 0) (disk : DiskChange) : Type 0 where
+pub record Ran (limit : ℕ) (printing : Printing) (catalog : Catalog) (requests : List Request) (status : Status) (written : List ℕ → Type 0) (disk : DiskChange) : Type 0 where
   pub was : WasOf catalog disk
   pub text : List ℕ
-  pub ran : RanAs limit catalog requests status text disk
+  pub ran : RanAs limit printing catalog requests status text disk
   pub wrote : written text
 
 -- a stopped report was written, or, at status 6, that there was no memory for it
@@ -105,16 +115,16 @@ WritesStop _ w text = Writes text w
 -- ---- by status
 
 -- what running these requests of this catalogue has come to
-abbrev pub CameTo : ℕ → Catalog → List Request → Status → SinkChange → DiskChange → Type 0
-CameTo limit catalog requests Done w disk = Ran limit catalog requests Done (WritesAll w) disk
-CameTo limit catalog requests WriteFault w disk = Ran limit catalog requests Done (λ text. WritesPrefix text w) disk
-CameTo limit catalog requests Disk w disk = EndsBefore catalog disk_fault_text w disk ⊎ Ran limit catalog requests Disk (WritesStop Disk w) disk
-CameTo limit catalog requests NoMemory w disk =
-    EndsBefore catalog no_memory_text w disk ⊎ EndsOpened catalog no_memory_text w disk ⊎ Ran limit catalog requests NoMemory (WritesStop NoMemory w) disk
-CameTo limit catalog requests Limit w disk = Ran limit catalog requests Limit (WritesStop Limit w) disk
-CameTo limit catalog requests Foreign w disk = IsForeign w disk
-CameTo limit catalog requests OtherCatalog w disk = IsOther catalog.text w disk
-CameTo limit catalog requests _ w disk = ⊥
+abbrev pub CameTo : ℕ → Printing → Catalog → List Request → Status → SinkChange → DiskChange → Type 0
+CameTo limit printing catalog requests Done w disk = Ran limit printing catalog requests Done (WritesAll w) disk
+CameTo limit printing catalog requests WriteFault w disk = Ran limit printing catalog requests Done (λ text. WritesPrefix text w) disk
+CameTo limit printing catalog requests Disk w disk = EndsBefore catalog disk_fault_text w disk ⊎ Ran limit printing catalog requests Disk (WritesStop Disk w) disk
+CameTo limit printing catalog requests NoMemory w disk =
+    EndsBefore catalog no_memory_text w disk ⊎ EndsOpened catalog no_memory_text w disk ⊎ Ran limit printing catalog requests NoMemory (WritesStop NoMemory w) disk
+CameTo limit printing catalog requests Limit w disk = Ran limit printing catalog requests Limit (WritesStop Limit w) disk
+CameTo limit printing catalog requests Foreign w disk = IsForeign w disk
+CameTo limit printing catalog requests OtherCatalog w disk = IsOther catalog.text w disk
+CameTo limit printing catalog requests _ w disk = ⊥
 
 -- the report on an empty disk: there were no executions
 abbrev pub nothing_text : List ℕ
@@ -131,7 +141,7 @@ pub record RecoversStore (limit : ℕ) (status : Status) (w : SinkChange) (disk 
   pub catalog : Catalog
   pub accepted : Accepted catalog
   pub stored : disk.tells → IsStore disk.seen_before catalog
-  pub came : CameTo limit catalog [] status w disk
+  pub came : CameTo limit InFull catalog [] status w disk
 
 -- what a recovery has come to
 abbrev pub RecoveredTo : ℕ → Status → SinkChange → DiskChange → Type 0

@@ -9,16 +9,19 @@ use Rattle.ss_model.specs.declared.catalog.Catalog.{Catalog}
 use Rattle.ss_model.specs.declared.entry.Request.{Request}
 use Rattle.ss_model.specs.Accepted.{Accepted}
 use Rattle.ss_headline.specs.Disks.{DiskChange, AsBefore}
+use Rattle.ss_top.specs.declared.session.Printing.TheVariants.{InFull}
 use Rattle.ss_top.specs.declared.status.Status.{Status}
 use Rattle.ss_top.specs.declared.status.Status.TheVariants.{Usage, Input, ReadFault, WriteFault, Disk, NoMemory}
 use Rattle.ss_top.specs.Complete.{HasRoom, IsDoneOrShort}
 use Rattle.ss_top.specs.Inputs.{ExitsAsRefused, ExitsAsStarted, DidNotRise}
+use Rattle.ss_top.specs.Shows.{ShowEnds, IsCompleteShow}
 use Rattle.ss_top.specs.Sinks.{SinkChange, SinkHeld, SourceChange, SourceHeld, Writes, IsRefused}
 use Rattle.ss_top.specs.Starts.{Starts}
 use Rattle.ss_top.specs.Statuses.{usage_text, read_fault_text, no_memory_text}
 use Rattle.ss_top.specs.Stores.{CameTo, EndsUntouched, RecoveredTo}
-use Rattle.ss_words.specs.declared.names.Command.TheVariants.{Run, Recover}
+use Rattle.ss_words.specs.declared.names.Command.TheVariants.{Run, Recover, Voter}
 use Rattle.ss_words.specs.declared.command.Options.{Options}
+use Rattle.ss_words.specs.declared.names.Show.{Show}
 use Rattle.ss_words.specs.Words.{IsCommand, AsksFor, words_of}
 
 -- the most entries that the list of a run may have
@@ -56,7 +59,7 @@ pub record RanInput (limit : ℕ) (input : List ℕ) (status : Status) (w : Sink
   pub requests : List Request
   pub starts : Starts input catalog requests
   pub accepted : Accepted catalog
-  pub came : CameTo limit catalog requests status w disk
+  pub came : CameTo limit InFull catalog requests status w disk
 
 -- the input's first refusal was written, and the disk is as it was
 pub record RefusedInput (input : List ℕ) (w : SinkChange) (disk : DiskChange) : Type 0 where
@@ -100,12 +103,20 @@ pub record EndsRecover (limit : ℕ) (s : SourceChange) (w : SinkChange) (disk :
   pub complete : SinkHeld w → DiskHeld disk → (catalog : Catalog) → HasRoom limit catalog [] disk → IsDoneOrShort ended
   pub unread : (s.now ≡ s.before) × (s.faults_now ≡ s.faults_before)
 
+-- what the command voter promises: the headline of its script, that it does all of it where there is room for it, and that it reads
+-- nothing
+pub record EndsVoter (limit : ℕ) (show : Show) (s : SourceChange) (w : SinkChange) (disk : DiskChange) (ended : Status) : Type 0 where
+  pub came : ShowEnds limit show ended w disk
+  pub complete : SinkHeld w → DiskHeld disk → IsCompleteShow limit show disk ended
+  pub unread : (s.now ≡ s.before) × (s.faults_now ≡ s.faults_before)
+
 -- all that the program promises of a call with these words, on this source, sink and disk, whose list has at most so many entries
 pub record Ends (limit : ℕ) (words : List (String Global)) (s : SourceChange) (w : SinkChange) (disk : DiskChange) (ended : Status) : Type 0 where
   -- the words alone decide whether they are a command, and which; where they are none the disk is as it was
   pub usage : (ended ≡ Usage) ↔ ¬ (IsCommand (words_of words))
   pub run : (what : Options) → AsksFor (words_of words) (record { command = Run; options = what }) → EndsRun limit s w disk ended
   pub recover : (what : Options) → AsksFor (words_of words) (record { command = Recover; options = what }) → EndsRecover limit s w disk ended
+  pub voter : (what : Options) (show : Show) → AsksFor (words_of words) (record { command = Voter show; options = what }) → EndsVoter limit show s w disk ended
   pub untouched : ended ≡ Usage → AsBefore disk
   pub only : WritesOnly ended w
   -- a fault is answered only where it was counted, and counts never fall

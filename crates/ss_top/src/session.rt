@@ -32,6 +32,15 @@ use std::thread::Threads;
 /// Places are below this.
 const PLACES: u64 = 1 << 60;
 
+/// How a run that did all is printed.
+#[derive(Clone, Copy, Drop)]
+pub(crate) enum Printing {
+    /// By its report.
+    InFull,
+    /// By the line that sums up its list, which has so many votes.
+    Summary { votes: u64 },
+}
+
 /// How a session ended, its report where there was memory for it, and the disk.
 #[derive(Drop)]
 pub(crate) struct Reported<D: Disk> {
@@ -116,12 +125,19 @@ fn session_status(
     settled_status(settling, flushed)
 }
 
-/// What the report says of how it ended: the tables, or where it stopped.
-fn end_for(status: Status, database: Option<Database>, count: u64, faults: u64) -> End
-    ensures { result ≡ end_for status database count faults }
+/// What the report says of how it ended: the tables, or the numbers that sum it up, or where it stopped.
+fn end_for(
+    status: Status,
+    printing: Printing,
+    database: Option<Database>,
+    count: u64,
+    faults: u64,
+) -> End
+    ensures { result ≡ end_for status printing database count faults }
 {
-    match (status, database) {
-        (Status::Done, Some(database)) => End::Tables(database),
+    match (status, printing, database) {
+        (Status::Done, Printing::InFull, Some(database)) => End::Tables(database),
+        (Status::Done, Printing::Summary { votes }, _) => End::Voter { votes },
         _ => End::Stopped {
             status: status.number(),
             count,
@@ -139,10 +155,11 @@ fn report_session<D: Disk + Drop>(
     finished: Finished<D>,
     requests: &Seq<Request>,
     first: u64,
+    printing: Printing,
 ) -> Reported<D>
     requires places { first + length finished.closed.list < 2 ^ 64 }
     requires left { (d : Model) × IfSome finished.closed.database (IsLeftOver finished.closed.catalog d) }
-    ensures finished { ReportsFinished D.tells D.honest D.seen D.moment D.images D.faults requests.now first finished result }
+    ensures finished { ReportsFinished D.tells D.honest D.seen D.moment D.images D.faults printing requests.now first finished result }
     ensures own { result.status ≢ Status.OtherCatalog }
     ensures disk { result.disk ≡ finished.log.disk }
 {
@@ -165,7 +182,7 @@ fn report_session<D: Disk + Drop>(
     } = closed;
     let halted = log.halted();
     let status = session_status(halted.is_some(), answers.as_slice(), &end, flushed.is_ok());
-    let end = end_for(status, database, receipted, halted.unwrap_or(0));
+    let end = end_for(status, printing, database, receipted, halted.unwrap_or(0));
     let disk = log.into_disk();
     match write_report(alloc, &catalog, requests, &answers, first, &list, &end) {
         Ok(text) => Reported {
@@ -195,6 +212,7 @@ pub(crate) fn run_and_report<
     partitions: u8,
     gate: G,
     limit: u64,
+    printing: Printing,
 ) -> Result<Reported<D>, D>
     ghost db: { Model }
     requires accepted { Accepted recovered.catalog }
@@ -203,7 +221,7 @@ pub(crate) fn run_and_report<
     requires partitions { (1 ≤ partitions) × (partitions ≤ 8) }
     ensures reported { IfOk result (λ r. (old : D)
         → Opened recovered.catalog db recovered.first (disk_of D.tells D.honest D.seen D.moment D.images D.faults old recovered.log.disk)
-        → Reports limit recovered.catalog requests.now r.status r.text (disk_of D.tells D.honest D.seen D.moment D.images D.faults old r.disk)) }
+        → Reports limit printing recovered.catalog requests.now r.status r.text (disk_of D.tells D.honest D.seen D.moment D.images D.faults old r.disk)) }
     ensures own { IfOk result (λ r. r.status ≢ Status.OtherCatalog) }
     ensures later { IfOk result (λ r. D.faults recovered.log.disk ≤ D.faults r.disk) }
     ensures unstarted { IfErr result (λ disk. disk ≡ recovered.log.disk) }
@@ -235,7 +253,7 @@ pub(crate) fn run_and_report<
         requests,
         opening,
     ) {
-        Ok(finished) => Ok(report_session(alloc, finished, requests, first)),
+        Ok(finished) => Ok(report_session(alloc, finished, requests, first, printing)),
         Err((_, log)) => Err(log.into_disk()),
     }
 }

@@ -11,7 +11,7 @@ ghost use Rattle.ss_top.specs.StoreRefusals.{TellsReport};
 ghost use Rattle.ss_top.specs.Serving.{ComesTo, RecoversTo, IsOpenedFor};
 
 use crate::refusals::{NO_MEMORY, write_line};
-use crate::session::{Reported, run_and_report};
+use crate::session::{Printing, Reported, run_and_report};
 use crate::status::Status;
 use crate::store_refusals::{refuse_store, write_whole};
 use ss_disk::Disk;
@@ -54,19 +54,22 @@ fn serve<K: Sink, D: Disk + Drop + Send, G: Gate + Drop + Sync, R: Threads + Wai
     partitions: u8,
     gate: G,
     limit: u64,
+    printing: Printing,
 ) -> (Status, D)
     requires accepted { Accepted recovered.catalog }
     requires goes_on { GoesOn D.tells D.honest D.seen (present D.moment D.images) partitions recovered (recovered_database recovered) }
     requires fit { AllFit recovered.catalog requests.now }
     requires partitions { (1 ≤ partitions) × (partitions ≤ 8) }
     ensures served { (old : D) → IsOpenedFor D.tells D.honest D.seen D.moment D.images D.faults old recovered
-        → ComesTo limit recovered.catalog requests.now result.0
+        → ComesTo limit printing recovered.catalog requests.now result.0
         (sink_of (K.written sink.old) (K.written sink.new) (K.faults sink.old) (K.faults sink.new))
         (disk_of D.tells D.honest D.seen D.moment D.images D.faults old result.1) }
     ensures own { result.0 ≢ Status.OtherCatalog }
     ensures counts { (K.faults sink.old ≤ K.faults sink.new) × (D.faults recovered.log.disk ≤ D.faults result.1) }
 {
-    match run_and_report(rt, alloc, recovered, requests, partitions, gate, limit) {
+    match run_and_report(
+        rt, alloc, recovered, requests, partitions, gate, limit, printing,
+    ) {
         Ok(Reported { status, text, disk }) => (write_report(sink, status, &text), disk),
         Err(disk) => {
             write_line(sink, NO_MEMORY);
@@ -91,11 +94,12 @@ pub(crate) fn run_on_store<
     partitions: u8,
     gate: G,
     limit: u64,
+    printing: Printing,
 ) -> (Status, D)
     requires own { IsOwnCatalog catalog }
     requires fit { AllFit catalog requests.now }
     requires partitions { (1 ≤ partitions) × (partitions ≤ 8) }
-    ensures came { ComesTo limit catalog requests.now result.0
+    ensures came { ComesTo limit printing catalog requests.now result.0
         (sink_of (K.written sink.old) (K.written sink.new) (K.faults sink.old) (K.faults sink.new))
         (disk_of D.tells D.honest D.seen D.moment D.images D.faults disk result.1) }
     ensures counts { (K.faults sink.old ≤ K.faults sink.new) × (D.faults disk ≤ D.faults result.1) }
@@ -103,7 +107,7 @@ pub(crate) fn run_on_store<
     nothing_ran::<D>();
     match recover(alloc, &PlainRunner, disk, Some(catalog), partitions) {
         Ok(recovered) => serve(
-            rt, alloc, sink, recovered, requests, partitions, gate, limit,
+            rt, alloc, sink, recovered, requests, partitions, gate, limit, printing,
         ),
         Err((error, disk)) => (refuse_store(alloc, sink, &error), disk),
     }
@@ -127,7 +131,15 @@ pub(crate) fn recover_store<
     let requests = Seq::new(alloc);
     match recover(alloc, &PlainRunner, disk, None, partitions) {
         Ok(recovered) => serve(
-            rt, alloc, sink, recovered, &requests, partitions, gate, limit,
+            rt,
+            alloc,
+            sink,
+            recovered,
+            &requests,
+            partitions,
+            gate,
+            limit,
+            Printing::InFull,
         ),
         Err((error, disk)) => (refuse_store(alloc, sink, &error), disk),
     }

@@ -9,20 +9,24 @@ ghost use Rattle.ss_headline.specs.Disks.{disk_of};
 ghost use Rattle.ss_recover.specs.Recovering.{IsOwnCatalog};
 ghost use Rattle.ss_top.specs.Refused.{IsRefusedBy};
 ghost use Rattle.ss_top.specs.Sinks.{source_of, sink_of, LeavesOfRefusedSource};
+ghost use Rattle.ss_top.specs.Serving.{ComesToShow};
 ghost use Rattle.ss_top.specs.Starts.{Starts};
 ghost use Rattle.ss_top.specs.Top.{Ends, RunEndsSo, most_entries};
 
 use crate::input::{ParsedInput, ReadError, parse_input};
 use crate::laws::an_input_has_one_answer;
-use crate::refusals::{USAGE, refuse, write_line};
+use crate::refusals::{NO_MEMORY, USAGE, refuse, write_line};
+use crate::session::Printing;
 use crate::status::Status;
 use crate::store::{recover_store, run_on_store};
+use crate::voter::show_input;
+use ss_catalog::a_value_has_one_answer;
 use ss_disk::Disk;
 use ss_engine::Gate;
 use ss_headline::nothing_ran;
 use ss_lines::{Sink, Source, read_lines};
 use ss_recover::a_disk_has_one_fault;
-use ss_words::{Command, CommandLine, command_line};
+use ss_words::{Command, CommandLine, Show, command_line};
 use std::alloc::Global;
 use std::sync::Wait;
 use std::thread::Threads;
@@ -72,15 +76,53 @@ fn run<S: Source, K: Sink, D: Disk + Drop + Send, G: Gate + Drop + Sync, R: Thre
     a_disk_has_one_fault();
     match read_input(alloc, source) {
         Ok(ParsedInput { catalog, requests }) => run_on_store(
-            rt, alloc, sink, disk, catalog, &requests, partitions, gate, limit,
+            rt,
+            alloc,
+            sink,
+            disk,
+            catalog,
+            &requests,
+            partitions,
+            gate,
+            limit,
+            Printing::InFull,
         ),
         Err(error) => (refuse(alloc, sink, &error), disk),
     }
 }
 
+/// The command `voter`: makes the script of a show, runs it on the store as `run` does, and sums it up.
+fn voter<K: Sink, D: Disk + Drop + Send, G: Gate + Drop + Sync, R: Threads + Wait + Sync>(
+    rt: &R,
+    alloc: Global,
+    sink: &mut K,
+    disk: D,
+    show: &Show,
+    partitions: u8,
+    gate: G,
+    limit: u64,
+) -> (Status, D)
+    requires partitions { (1 ≤ partitions) × (partitions ≤ 8) }
+    requires few { show.now.votes ≤ 200000 }
+    requires clients { (1 ≤ show.now.clients) × (show.now.clients ≤ 8) }
+    ensures came { ComesToShow limit show.now result.0 (sink_of (K.written sink.old) (K.written sink.new) (K.faults sink.old) (K.faults sink.new))
+        (disk_of D.tells D.honest D.seen D.moment D.images D.faults disk result.1) }
+    ensures counts { (K.faults sink.old ≤ K.faults sink.new) × (D.faults disk ≤ D.faults result.1) }
+{
+    nothing_ran::<D>();
+    let Ok(ParsedInput { catalog, requests }) = show_input(alloc, show) else {
+        write_line(sink, NO_MEMORY);
+        return (Status::NoMemory, disk);
+    };
+    let printing = Printing::Summary { votes: show.votes };
+    run_on_store(
+        rt, alloc, sink, disk, catalog, &requests, partitions, gate, limit, printing,
+    )
+}
+
 /// Does all that the program does, on the store that a disk holds: for the command `run` it reads a catalogue and requests from the
-/// source, runs them behind what the store has, and reports; for `recover` it runs what is pending there, and reports. A session's
-/// list has at most `limit` entries.
+/// source, runs them behind what the store has, and reports; for `recover` it runs what is pending there, and reports; for `voter`
+/// it runs the script of a show, and sums it up. A session's list has at most `limit` entries.
 ///
 /// As many clients as ask run at the same time, and a thread for each partition; a receipt is asked for once in 16 answers of a
 /// client, and one flush writes what all of them wait for. Costs time linear in the bytes of the input, of the store and of the
@@ -109,6 +151,7 @@ pub fn sstore_limited<
     // Do nothing: they state the laws by which a disk that is left alone is as before, and by which a store has room for what is owed.
     nothing_ran::<D>();
     a_disk_has_one_fault();
+    a_value_has_one_answer();
     let Some(CommandLine { command, options }) = command_line(words) else {
         write_line(sink, USAGE);
         return (Status::Usage, disk);
@@ -117,6 +160,7 @@ pub fn sstore_limited<
     match command {
         Command::Run => run(rt, alloc, source, sink, disk, partitions, gate, limit),
         Command::Recover => recover_store(rt, alloc, sink, disk, partitions, gate, limit),
+        Command::Voter(show) => voter(rt, alloc, sink, disk, &show, partitions, gate, limit),
     }
 }
 

@@ -39,6 +39,16 @@ impl<T> Seq<T> {
         }
     }
 
+    /// The empty list, with room for so many items before it has to move.
+    pub fn with_capacity(alloc: Global, count: usize) -> Result<Seq<T>, NoMemory>
+        ensures { IfOk result (λ list. list ≡ []) }
+    {
+        match Vec::with_capacity(alloc, count) {
+            Ok(items) => Ok(Seq { items }),
+            Err(_) => Err(NoMemory),
+        }
+    }
+
     /// The list of a `Vec`, which is moved and not copied.
     pub fn from_vec(items: Vec<T>) -> Seq<T>
         ensures { result ≡ items.items }

@@ -14,7 +14,7 @@ use std::marker::Model;
 /// A text: UTF-8 of at most 255 bytes, which its type's invariant says. Takes its bytes and three words.
 #[derive(Drop)]
 pub struct Text {
-    bytes: Vec<u8>,
+    text: String,
 }
 
 impl Model for Text {
@@ -23,10 +23,11 @@ impl Model for Text {
     ghost Value = { List ℕ };
 
     ghost use Rattle.ss_value.specs.Words.{IsText};
+    ghost use Rattle.std.specs.Prelude.{string_bytes};
 
-    ghost view = { λ t. t.bytes.items };
+    ghost view = { λ t. string_bytes t.text };
 
-    ghost invariant = { λ t. IsText t.bytes.items };
+    ghost invariant = { λ t. IsText (string_bytes t.text) };
 }
 
 /// Why bytes are refused as a text, a name or a row.
@@ -47,22 +48,18 @@ pub enum ValueError {
 }
 
 impl Text {
-    /// The text as a `str`. Linear in its bytes, since they are checked to be UTF-8 again.
+    /// The text as a `str`, at no cost.
     pub fn as_str(&self) -> &str
         ensures { result.now ≡ self.now }
     {
-        match std::str::from_utf8(self.bytes.as_slice()) {
-            Ok(text) => text,
-            // The type's invariant: the bytes are UTF-8.
-            Err(_) => unreachable!(),
-        }
+        self.text.as_str()
     }
 
     /// Its bytes, at no cost.
     pub fn as_bytes(&self) -> &[u8]
         ensures { result.now ≡ self.now }
     {
-        self.bytes.as_slice()
+        self.text.as_bytes()
     }
 
     /// The number of its bytes.
@@ -70,7 +67,7 @@ impl Text {
         ensures bytes { result ≡ length self.now }
         ensures short { result ≤ 255 }
     {
-        self.bytes.len()
+        self.text.len()
     }
 
     /// This text and another as one, and None exactly where that has over 255 bytes. Linear in the bytes of both.
@@ -78,20 +75,20 @@ impl Text {
         ensures ok { IfOk result (λ joined. IfSome joined (λ text. text ≡ self.now ++ other.now)) }
         ensures within { IfOk result (λ joined. IsSome joined ↔ (length (self.now ++ other.now) ≤ 255)) }
     {
-        if self.bytes.len() + other.bytes.len() > 255 {
+        if self.len() + other.len() > 255 {
             return Ok(None);
         }
-        let mut bytes = Vec::from_slice(alloc, self.bytes.as_slice())?;
-        bytes.extend_from_slice(other.bytes.as_slice())?;
-        Ok(Some(Text { bytes }))
+        let mut text = String::from_str(alloc, self.as_str())?;
+        text.push_str(other.as_str())?;
+        Ok(Some(Text { text }))
     }
 
     /// An equal text. Linear in its bytes.
     pub fn copy(&self, alloc: Global) -> Result<Text, NoMemory>
         ensures { IfOk result (λ copy. copy ≡ self.now) }
     {
-        match Vec::from_slice(alloc, self.bytes.as_slice()) {
-            Ok(bytes) => Ok(Text { bytes }),
+        match String::from_str(alloc, self.text.as_str()) {
+            Ok(text) => Ok(Text { text }),
             Err(_) => Err(NoMemory),
         }
     }
@@ -110,11 +107,11 @@ pub fn text_of(alloc: Global, bytes: &[u8]) -> Result<Text, ValueError>
     if bytes.len() > 255 {
         return Err(ValueError::TextTooLong);
     }
-    if std::str::from_utf8(bytes).is_err() {
+    let Ok(text) = std::str::from_utf8(bytes) else {
         return Err(ValueError::NotUtf8);
-    }
-    match Vec::from_slice(alloc, bytes) {
-        Ok(bytes) => Ok(Text { bytes }),
+    };
+    match String::from_str(alloc, text) {
+        Ok(text) => Ok(Text { text }),
         Err(_) => Err(ValueError::NoMemory),
     }
 }
@@ -122,7 +119,7 @@ pub fn text_of(alloc: Global, bytes: &[u8]) -> Result<Text, ValueError>
 /// A name: 1 to 32 characters of `a` to `z`, `0` to `9` and `_`, the first a letter, which its type's invariant says.
 #[derive(Drop)]
 pub struct Name {
-    bytes: Vec<u8>,
+    text: String,
 }
 
 impl Model for Name {
@@ -131,22 +128,19 @@ impl Model for Name {
     ghost Value = { List ℕ };
 
     ghost use Rattle.ss_value.specs.Words.{is_name};
+    ghost use Rattle.std.specs.Prelude.{string_bytes};
 
-    ghost view = { λ n. n.bytes.items };
+    ghost view = { λ n. string_bytes n.text };
 
-    ghost invariant = { λ n. IsTrue (is_name n.bytes.items) };
+    ghost invariant = { λ n. IsTrue (is_name (string_bytes n.text)) };
 }
 
 impl Name {
-    /// The name as a `str`. Linear in its bytes.
+    /// The name as a `str`, at no cost.
     pub fn as_str(&self) -> &str
         ensures { result.now ≡ self.now }
     {
-        match std::str::from_utf8(self.bytes.as_slice()) {
-            Ok(text) => text,
-            // The characters of a name are ASCII, so its bytes are UTF-8.
-            Err(_) => unreachable!(),
-        }
+        self.text.as_str()
     }
 
     /// Its bytes, at no cost.
@@ -154,15 +148,15 @@ impl Name {
         ensures bytes { result.now ≡ self.now }
         ensures name { IsTrue (is_name self.now) }
     {
-        self.bytes.as_slice()
+        self.text.as_bytes()
     }
 
     /// An equal name. Linear in its bytes.
     pub fn copy(&self, alloc: Global) -> Result<Name, NoMemory>
         ensures { IfOk result (λ copy. copy ≡ self.now) }
     {
-        match Vec::from_slice(alloc, self.bytes.as_slice()) {
-            Ok(bytes) => Ok(Name { bytes }),
+        match String::from_str(alloc, self.text.as_str()) {
+            Ok(text) => Ok(Name { text }),
             Err(_) => Err(NoMemory),
         }
     }
@@ -204,8 +198,12 @@ pub fn name_of(alloc: Global, bytes: &[u8]) -> Result<Name, ValueError>
     if !is_name(bytes) {
         return Err(ValueError::WrongShape);
     }
-    match Vec::from_slice(alloc, bytes) {
-        Ok(bytes) => Ok(Name { bytes }),
+    // The characters of a name are ASCII, so its bytes are UTF-8.
+    let Ok(text) = std::str::from_utf8(bytes) else {
+        unreachable!()
+    };
+    match String::from_str(alloc, text) {
+        Ok(text) => Ok(Name { text }),
         Err(_) => Err(ValueError::NoMemory),
     }
 }

@@ -1,52 +1,102 @@
--- What a command asks for is one thing, and within its range.
-use Rattle.std.proofs.Common.{◌≡◌, ◌≤◌, [], ◌∷◌, ◌∙◌, List, ℕ, true, codes, sym, refl, ap, ap₂, subst, arith, leb-true}
+-- What a command asks for is one thing, and within its ranges.
+use Rattle.std.proofs.Common.{◌≡◌, ◌≤◌, [], ◌∷◌, ◌∙◌, List, ℕ, Bool, true, false, cond, Option, Some, None, unwrap_or, refl, sym, ap, ap₂, subst, arith, leb-true}
 use Rattle.std.specs.List.{AllByRecursion}
 use Rattle.std.specs.Str.Parse.{digits_value}
 use Rattle.std.proofs.lemmas.Bool.{and_parts}
+use Rattle.ss_lemmas.proofs.Bools.{some_same}
 use Rattle.ss_words.specs.declared.names.OptionName.{OptionName}
-use Rattle.ss_words.specs.declared.names.OptionName.TheVariants.{Partitions, Recovery}
+use Rattle.ss_words.specs.declared.names.OptionName.TheVariants.{Partitions, Recovery, Seed, Votes, Clients}
 use Rattle.ss_words.specs.declared.names.Command.{Command}
-use Rattle.ss_words.specs.declared.names.Command.TheVariants.{Run, Recover}
+use Rattle.ss_words.specs.declared.names.Command.TheVariants.{Run, Recover, Voter}
+use Rattle.ss_words.specs.declared.names.Show.{Show}
 use Rattle.ss_words.specs.declared.command.CommandLine.{CommandLine}
-use Rattle.ss_words.specs.Words.{Asked, asked, fits, is_number_within, AreOptions, IsCommand, AsksFor, command_word, partitions_asked}
+use Rattle.ss_words.specs.Words.{Asked, asked, fits, is_named, is_number_within, AreOptions, IsCommand, IsMadeFrom, IsShowAsked, AsksFor, command_word, number_asked, partitions_asked}
 use Rattle.ss_words.proofs.Reading.{one_spelling}
 
 pub asks_is_command : (words : List (List ℕ)) (line : CommandLine) → AsksFor words line → IsCommand words
 asks_is_command words line h = record { command = line.command; rest = h.rest; options = h.asks.options; begins = h.begins; are = h.asks.are }
 
--- commands with one word are one
-same_command : (a b : Command) → command_word a ≡ command_word b → a ≡ b
-same_command Run Run e = refl
-same_command Run Recover e = absurd cc
-same_command Recover Run e = absurd cc
-same_command Recover Recover e = refl
+-- ---- one thing
+
+same_show : (show other : Show) (options : List Asked) → IsShowAsked options show → IsShowAsked options other → show ≡ other
+same_show show other options h k =
+    let seed = some_same _ _ (sym h.seed ∙ k.seed) in
+    let votes = some_same _ _ (sym h.votes ∙ k.votes) in
+    let clients = some_same _ _ (sym h.clients ∙ k.clients) in
+    let of : ℕ → ℕ → ℕ → Show = λ seed votes clients. record { seed = seed; votes = votes; clients = clients } in
+    let first : of show.seed show.votes ≡ of other.seed other.votes = ap₂ of seed votes in
+    ap₂ (λ (f : ℕ → Show) (n : ℕ). f n) first clients
+
+-- commands with one word, made from the same options, are one
+same_command : (a b : Command) (options : List Asked) → command_word a ≡ command_word b → IsMadeFrom a options → IsMadeFrom b options → a ≡ b
+same_command Run Run options e h k = refl
+same_command Run Recover options e h k = absurd cc
+same_command Run (Voter other) options e h k = absurd cc
+same_command Recover Run options e h k = absurd cc
+same_command Recover Recover options e h k = refl
+same_command Recover (Voter other) options e h k = absurd cc
+same_command (Voter show) Run options e h k = absurd cc
+same_command (Voter show) Recover options e h k = absurd cc
+same_command (Voter show) (Voter other) options e h k = ap (λ (s : Show). Voter s) (same_show show other options h k)
 
 pub asks_for_one : (words : List (List ℕ)) (line other : CommandLine) → AsksFor words line → AsksFor words other → line ≡ other
 asks_for_one words line other h k =
     let both : command_word other.command ∷ k.rest ≡ command_word line.command ∷ h.rest = sym k.begins ∙ h.begins in
     let behind : k.rest ≡ h.rest = cc in
     let first : command_word line.command ≡ command_word other.command = cc in
-    let same = one_spelling h.rest h.asks.options k.asks.options h.asks.are.spelled (subst (λ w. AreOptions w k.asks.options) behind k.asks.are).spelled in
-    let partitions : line.options.partitions ≡ other.options.partitions = h.asks.partitions ∙ ap partitions_asked same ∙ sym k.asks.partitions in
-    ap₂ (λ (c : Command) (n : ℕ). record { command = c; options = record { partitions = n } }) (same_command line.command other.command first) partitions
+    let same = one_spelling h.rest k.asks.options h.asks.options (subst (λ w. AreOptions w k.asks.options) behind k.asks.are.are).spelled h.asks.are.are.spelled in
+    let partitions : line.options.partitions ≡ other.options.partitions = h.asks.partitions ∙ ap partitions_asked (sym same) ∙ sym k.asks.partitions in
+    let command = same_command line.command other.command h.asks.options first h.asks.show (subst (IsMadeFrom other.command) same k.asks.show) in
+    ap₂ (λ (c : Command) (n : ℕ). record { command = c; options = record { partitions = n } }) command partitions
 
--- ---- from one partition to eight
+-- ---- within its ranges
 
-abbrev IsPartitions : ℕ → Type 0
-IsPartitions n = (1 ≤ n) × (n ≤ 8)
+abbrev IsWithin : ℕ → ℕ → ℕ → Type 0
+IsWithin least most n = (least ≤ n) × (n ≤ most)
 
-within : (value : List ℕ) → is_number_within 1 8 value ≡ true → IsPartitions (digits_value 10 value)
-within value e =
+within : (least most : ℕ) (value : List ℕ) → is_number_within least most value ≡ true → IsWithin least most (digits_value 10 value)
+within least most value e =
     let ends = and_parts _ _ e in
-    (leb-true 1 (digits_value 10 value) (and_parts _ _ ends.0).1, leb-true (digits_value 10 value) 8 ends.1)
+    (leb-true least (digits_value 10 value) (and_parts _ _ ends.0).1, leb-true (digits_value 10 value) most ends.1)
 
-one_more : (name : OptionName) (value : List ℕ) (others : List Asked) → fits name value ≡ true → IsPartitions (partitions_asked others) → IsPartitions (partitions_asked (asked name value ∷ others))
-one_more Partitions value others e h = within value e
-one_more Recovery value others e h = h
+-- an option more is two lines here
+fits_too : (name other : OptionName) (value : List ℕ) → is_named name (asked other value) ≡ true → fits other value ≡ true → fits name value ≡ true
+fits_too Partitions Partitions value e fit = fit
+fits_too Partitions other value e fit = absurd cc
+fits_too Recovery Recovery value e fit = fit
+fits_too Recovery other value e fit = absurd cc
+fits_too Seed Seed value e fit = fit
+fits_too Seed other value e fit = absurd cc
+fits_too Votes Votes value e fit = fit
+fits_too Votes other value e fit = absurd cc
+fits_too Clients Clients value e fit = fit
+fits_too Clients other value e fit = absurd cc
 
-asked_within : (options : List Asked) → AllByRecursion (λ option. fits option.name option.value ≡ true) options → IsPartitions (partitions_asked options)
-asked_within [] fit = (omega arith, omega arith)
-asked_within (option ∷ others) fit = one_more option.name option.value others fit.0 (asked_within others fit.1)
+-- the number of an option, where each fits
+number_fits : (name : OptionName) (least most : ℕ) → ((value : List ℕ) → fits name value ≡ true → is_number_within least most value ≡ true)
+    → (options : List Asked) → AllByRecursion (λ option. fits option.name option.value ≡ true) options → (n : ℕ) → number_asked name options ≡ Some n → IsWithin least most n
+number_fits name least most range [] fit n e = absurd cc
+number_fits name least most range (option ∷ others) fit n e = by (is_named name option) refl (number_fits name least most range others fit.1 n) e
+  where
+    by : (b : Bool) → is_named name option ≡ b → (number_asked name others ≡ Some n → IsWithin least most n)
+        → cond b (Some (digits_value 10 option.value)) (number_asked name others) ≡ Some n → IsWithin least most n
+    by true is later e = subst (IsWithin least most) (some_same _ _ e) (within least most option.value (range option.value (fits_too name option.name option.value is fit.0)))
+    by false is later e = later e
+
+or_one : (o : Option ℕ) → ((n : ℕ) → o ≡ Some n → IsWithin 1 8 n) → IsWithin 1 8 (unwrap_or o 1)
+or_one None h = (omega arith, omega arith)
+or_one (Some n) h = h n refl
 
 pub partitions_are_few : (words : List (List ℕ)) (line : CommandLine) → AsksFor words line → (1 ≤ line.options.partitions) × (line.options.partitions ≤ 8)
-partitions_are_few words line h = subst IsPartitions (sym h.asks.partitions) (asked_within h.asks.options h.asks.are.fit)
+partitions_are_few words line h =
+    subst (IsWithin 1 8) (sym h.asks.partitions) (or_one (number_asked Partitions h.asks.options) (number_fits Partitions 1 8 (λ value fit. fit) h.asks.options h.asks.are.are.fit))
+
+pub show_is_small : (words : List (List ℕ)) (line : CommandLine) (show : Show) → line.command ≡ Voter show → AsksFor words line
+    → (show.seed ≤ 9999999) × (1 ≤ show.votes) × (show.votes ≤ 200000) × (1 ≤ show.clients) × (show.clients ≤ 8)
+show_is_small words line show is h =
+    let made : IsShowAsked h.asks.options show = subst (λ (c : Command). IsMadeFrom c h.asks.options) is h.asks.show in
+    let fit = h.asks.are.are.fit in
+    let seed = number_fits Seed 0 9999999 (λ value fit. fit) h.asks.options fit show.seed made.seed in
+    let votes = number_fits Votes 1 200000 (λ value fit. fit) h.asks.options fit show.votes made.votes in
+    let clients = number_fits Clients 1 8 (λ value fit. fit) h.asks.options fit show.clients made.clients in
+    (seed.1, votes.0, votes.1, clients.0, clients.1)

@@ -1,8 +1,9 @@
 -- The option at the front of words is one, and so is what is behind it.
 use Rattle.std.proofs.Common.{◌≡◌, ◌==◌, ◌⊎◌, ◌++◌, ℕ, List, [], ◌∷◌, codes, cond, bytes_eq, Option, Some, None, inl, inr, refl, sym, ap, ap₂, ◌∙◌}
+use Rattle.std.specs.List.{find}
 use Rattle.ss_lemmas.proofs.Bools.{some_same}
 use Rattle.ss_words.specs.declared.names.OptionName.{OptionName}
-use Rattle.ss_words.specs.declared.names.OptionName.TheVariants.{Partitions, Recovery}
+use Rattle.ss_words.specs.declared.names.OptionName.TheVariants.{Partitions, Recovery, Seed, Votes, Clients}
 use Rattle.ss_words.specs.Words.{Asked, asked, dashed, StartsWith}
 
 -- what stands before the first =, and behind it where there is one
@@ -10,22 +11,34 @@ abbrev pub cut : List ℕ → List ℕ × Option (List ℕ)
 cut [] = ([], None)
 cut (b ∷ bs) = cond (b == 61) ([], Some bs) (b ∷ (cut bs).0, (cut bs).1)
 
+-- an option more is a name here, and a line in each of the three below
+abbrev all_names : List OptionName
+all_names = Partitions ∷ Recovery ∷ Seed ∷ Votes ∷ Clients ∷ []
+
 -- the option of a name
 abbrev pub named : List ℕ → Option OptionName
-named word = cond (bytes_eq word (dashed Partitions)) (Some Partitions) (cond (bytes_eq word (dashed Recovery)) (Some Recovery) None)
+named word = find (λ name. bytes_eq word (dashed name)) all_names
 
--- an option more is a line in each of these three
 pub cut_bare : (name : OptionName) → cut (dashed name) ≡ (dashed name, None)
 cut_bare Partitions = refl
 cut_bare Recovery = refl
+cut_bare Seed = refl
+cut_bare Votes = refl
+cut_bare Clients = refl
 
 pub cut_joined : (name : OptionName) (value : List ℕ) → cut (dashed name ++ codes "=" ++ value) ≡ (dashed name, Some value)
 cut_joined Partitions value = refl
 cut_joined Recovery value = refl
+cut_joined Seed value = refl
+cut_joined Votes value = refl
+cut_joined Clients value = refl
 
 pub named_dashed : (name : OptionName) → named (dashed name) ≡ Some name
 named_dashed Partitions = refl
 named_dashed Recovery = refl
+named_dashed Seed = refl
+named_dashed Votes = refl
+named_dashed Clients = refl
 
 dashed_same : (m n : OptionName) → dashed m ≡ dashed n → m ≡ n
 dashed_same m n e = some_same m n (sym (named_dashed m) ∙ ap named e ∙ named_dashed n)

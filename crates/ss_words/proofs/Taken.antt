@@ -1,6 +1,7 @@
 -- Options that are taken one after the other: what is still to come of those that the words spell.
 use Rattle.std.specs.declared.alloc.Global.{Global}
-use Rattle.std.proofs.Common.{◌≡◌, ◌≢◌, ◌<◌, String, string_bytes, length, if◌then◌else◌, arith, ◌||◌, Bool, true, false, true≢false, not, List, [], ◌∷◌, ℕ, Option, Some, None, is_some, unwrap_or, inl, inr, refl, sym, ap, subst, ◌∙◌}
+use Rattle.std.proofs.Common.{◌≡◌, ◌≢◌, ◌<◌, String, string_bytes, length, if◌then◌else◌, arith, ◌||◌, Bool, true, false, true≢false, not, List, [], ◌∷◌, ℕ, Option, Some, None, is_some, inl, inr, refl, sym, ap, subst, ◌∙◌}
+use Rattle.std.specs.Option.{option_or}
 use Rattle.std.specs.List.{AllByRecursion, IsDistinct}
 use Rattle.std.specs.Str.Parse.{digits_value}
 use Rattle.std.proofs.lemmas.List.{length-map}
@@ -8,11 +9,10 @@ use Rattle.std.proofs.lemmas.Bool.{and_parts, and_from, or_parts, or_from, not-t
 use Rattle.ss_lemmas.proofs.Bools.{some_same}
 use Rattle.ss_lemmas.proofs.EachOf.{all_with, all_such, all_both}
 use Rattle.ss_words.specs.declared.names.OptionName.{OptionName}
-use Rattle.ss_words.specs.declared.names.OptionName.TheVariants.{Partitions, Recovery}
-use Rattle.ss_words.specs.declared.command.Options.{Options}
+use Rattle.ss_words.specs.declared.names.OptionName.TheVariants.{Partitions, Recovery, Seed, Votes, Clients}
 use Rattle.ss_words.specs.declared.found.Found.{Found}
-use Rattle.ss_words.specs.Words.{Asked, asked, is_named, StartsWith, Spells, AreOptions, AreNoOptions, OptionsAskFor, partitions_asked, words_of}
-use Rattle.ss_words.specs.Found.{nothing_found, was_found, with_value, with_option, can_take}
+use Rattle.ss_words.specs.Words.{Asked, asked, is_named, StartsWith, Spells, AreOptions, AreNoOptions, number_asked, words_of}
+use Rattle.ss_words.specs.Found.{HaveFound, nothing_found, was_found, with_value, with_option, can_take}
 use Rattle.ss_words.proofs.Cuts.{one_option, starts_with_some}
 
 -- the words left are options that may come behind those found
@@ -20,29 +20,59 @@ pub record MayFollow (found : Found) (words : List (List ℕ)) (options : List A
   pub are : AreOptions words options
   pub new : AllByRecursion (λ option. was_found found option.name ≡ false) options
 
--- how many partitions are asked for by what was found and these options
-abbrev pub partitions_with : Found → List Asked → ℕ
-partitions_with found options = unwrap_or found.partitions (partitions_asked options)
+-- the numbers of what was found and of these options: of partitions, a seed, votes and clients
+abbrev pub Numbers : Type 0
+Numbers = Option ℕ × Option ℕ × Option ℕ × Option ℕ
+
+abbrev pub numbers_with : Found → List Asked → Numbers
+numbers_with found options = (
+  option_or found.partitions (number_asked Partitions options),
+  option_or found.seed (number_asked Seed options),
+  option_or found.votes (number_asked Votes options),
+  option_or found.clients (number_asked Clients options),
+)
 
 -- an option more is a line in the first and the third of these, and two in the second
 new_is : (name : OptionName) → was_found nothing_found name ≡ false
 new_is Partitions = refl
 new_is Recovery = refl
+new_is Seed = refl
+new_is Votes = refl
+new_is Clients = refl
 
 found_with : (found : Found) (name other : OptionName) (value : List ℕ) → was_found (with_value found name value) other ≡ is_named name (asked other value) || was_found found other
 found_with found Partitions Partitions value = refl
 found_with found Partitions other value = refl
 found_with found Recovery Recovery value = refl
 found_with found Recovery other value = refl
+found_with found Seed Seed value = refl
+found_with found Seed other value = refl
+found_with found Votes Votes value = refl
+found_with found Votes other value = refl
+found_with found Clients Clients value = refl
+found_with found Clients other value = refl
 
-number_first : (o : Option ℕ) (n m : ℕ) → is_some o ≡ false → unwrap_or o n ≡ n
-number_first None n m e = refl
-number_first (Some x) n m e = absurd cc
+number_first : (o p : Option ℕ) → is_some o ≡ false → option_or o p ≡ p
+number_first None p e = refl
+number_first (Some n) p e = absurd cc
 
-partitions_first : (found : Found) (name : OptionName) (value : List ℕ) (options : List Asked) → was_found found name ≡ false
-    → partitions_with found (asked name value ∷ options) ≡ partitions_with (with_value found name value) options
-partitions_first found Partitions value options e = number_first found.partitions (digits_value 10 value) 0 e
-partitions_first found Recovery value options e = refl
+number_last : (o : Option ℕ) → option_or o None ≡ o
+number_last None = refl
+number_last (Some n) = refl
+
+module _ (found : Found) (value : List ℕ) (options : List Asked) where
+  abbrev number : Option ℕ
+  number = Some (digits_value 10 value)
+
+  abbrev old : Numbers
+  old = numbers_with found options
+
+  numbers_first : (name : OptionName) → was_found found name ≡ false → numbers_with found (asked name value ∷ options) ≡ numbers_with (with_value found name value) options
+  numbers_first Partitions e = ap (λ (n : Option ℕ). (n, old.1, old.2, old.3)) (number_first found.partitions number e)
+  numbers_first Recovery e = refl
+  numbers_first Seed e = ap (λ (n : Option ℕ). (old.0, n, old.2, old.3)) (number_first found.seed number e)
+  numbers_first Votes e = ap (λ (n : Option ℕ). (old.0, old.1, n, old.3)) (number_first found.votes number e)
+  numbers_first Clients e = ap (λ (n : Option ℕ). (old.0, old.1, old.2, n)) (number_first found.clients number e)
 
 module _ (found : Found) (words : List (List ℕ)) (option : Asked) (rest : List (List ℕ)) (front : StartsWith words option rest) where
   -- what follows a found option is not named as it is, and not found before
@@ -92,8 +122,8 @@ module _ (found : Found) (words : List (List ℕ)) (option : Asked) (rest : List
 
 -- words that are options, and what is still left of them behind those found
 pub record IsReading (all : List (List ℕ)) (found : Found) (words : List (List ℕ)) : Type 0 where
-  pub to : (options : List Asked) → AreOptions all options → (others : List Asked) × MayFollow found words others × (partitions_asked options ≡ partitions_with found others)
-  pub from : (others : List Asked) → MayFollow found words others → (options : List Asked) × AreOptions all options × (partitions_asked options ≡ partitions_with found others)
+  pub to : (options : List Asked) → AreOptions all options → (others : List Asked) × MayFollow found words others × (numbers_with nothing_found options ≡ numbers_with found others)
+  pub from : (others : List Asked) → MayFollow found words others → (options : List Asked) × AreOptions all options × (numbers_with nothing_found options ≡ numbers_with found others)
 
 pub reading_starts : (all : List (List ℕ)) → IsReading all nothing_found all
 reading_starts all = record {
@@ -104,13 +134,13 @@ reading_starts all = record {
 module _ (all : List (List ℕ)) (found : Found) (words : List (List ℕ)) (h : IsReading all found words) where
   pub reading_goes_on : (option : Asked) (rest : List (List ℕ)) → StartsWith words option rest → can_take found option ≡ true → IsReading all (with_option found option) rest
   reading_goes_on option rest front take =
-      let first : (options : List Asked) → partitions_with found (option ∷ options) ≡ partitions_with (with_option found option) options =
-      λ options. partitions_first found option.name option.value options (not-true _ (and_parts _ _ take).0) in
+      let first : (options : List Asked) → numbers_with found (option ∷ options) ≡ numbers_with (with_option found option) options =
+      λ options. numbers_first found option.value options option.name (not-true _ (and_parts _ _ take).0) in
       record {
         to = λ options are.
             let k = h.to options are in
             let b = without_it found words option rest front k.0 k.1 in
-            (b.0, b.3, k.2 ∙ ap (partitions_with found) b.1 ∙ first b.0);
+            (b.0, b.3, k.2 ∙ ap (numbers_with found) b.1 ∙ first b.0);
         from = λ others m.
             let k = h.from (option ∷ others) (with_it found words option rest front others take m) in
             (k.0, k.1, k.2 ∙ first others);
@@ -129,11 +159,18 @@ module _ (all : List (List ℕ)) (found : Found) (words : List (List ℕ)) (h : 
       let b = without_it found words option rest front k.0 k.1 in
       true≢false (sym b.2 ∙ no_take)
 
-  pub reading_ends : (what : Options) → words ≡ [] → what.partitions ≡ unwrap_or found.partitions 1 → OptionsAskFor all what
+  pub reading_ends : words ≡ [] → HaveFound all found
   unfolding IsDistinct
-  reading_ends what e is =
+  reading_ends e =
       let k = h.from [] (record { are = record { spelled = e; once = tt; fit = tt }; new = tt }) in
-      record { options = k.0; are = k.1; partitions = is ∙ sym k.2 }
+      record {
+        options = k.0;
+        are = k.1;
+        partitions = sym (ap (λ (n : Numbers). n.0) k.2 ∙ number_last found.partitions);
+        seed = sym (ap (λ (n : Numbers). n.1) k.2 ∙ number_last found.seed);
+        votes = sym (ap (λ (n : Numbers). n.2) k.2 ∙ number_last found.votes);
+        clients = sym (ap (λ (n : Numbers). n.3) k.2 ∙ number_last found.clients);
+      }
 
 -- ---- what the loop over the words has at hand
 

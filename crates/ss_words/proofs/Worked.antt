@@ -2,32 +2,46 @@
 use Rattle.std.proofs.Common.{◌≡◌, List, [], ◌∷◌, ℕ, true, true≢false, codes, Some, None, inl, inr, refl, sym, subst, ◌∙◌}
 use Rattle.std.specs.List.{AllByRecursion, IsDistinct}
 use Rattle.ss_lemmas.proofs.Bools.{some_same}
-use Rattle.ss_words.specs.declared.names.OptionName.TheVariants.{Partitions, Recovery}
+use Rattle.ss_words.specs.declared.names.OptionName.TheVariants.{Partitions, Recovery, Seed, Votes, Clients}
 use Rattle.ss_words.specs.declared.names.Command.{Command}
-use Rattle.ss_words.specs.declared.names.Command.TheVariants.{Run, Recover}
+use Rattle.ss_words.specs.declared.names.Command.TheVariants.{Run, Recover, Voter}
 use Rattle.ss_words.specs.declared.command.CommandLine.{CommandLine}
-use Rattle.ss_words.specs.Words.{Asked, asked, fits, is_named, AreOptions, IsCommand, AsksFor, command_word}
+use Rattle.ss_words.specs.Words.{Asked, asked, is_among, belongs, required, AreOptionsOf, IsCommand, AsksFor, command_word}
 use Rattle.ss_words.proofs.Reading.{read, read_is}
 
--- the command run with these words behind it
 abbrev run : List (List ℕ) → List (List ℕ)
 run words = codes "run" ∷ words
 
+abbrev voter : List (List ℕ) → List (List ℕ)
+voter words = codes "voter" ∷ words
+
 abbrev on : ℕ → CommandLine
 on partitions = record { command = Run; options = record { partitions = partitions } }
+
+abbrev show_of : ℕ → ℕ → ℕ → ℕ → CommandLine
+show_of partitions seed votes clients = record { command = Voter (record { seed = seed; votes = votes; clients = clients }); options = record { partitions = partitions } }
 
 -- ---- commands
 
 alone : AsksFor (run []) (on 1)
 unfolding IsDistinct
-alone = record { rest = []; begins = refl; asks = record { options = []; are = record { spelled = refl; once = tt; fit = tt }; partitions = refl } }
+alone = record {
+  rest = [];
+  begins = refl;
+  asks = record { options = []; are = record { are = record { spelled = refl; once = tt; fit = tt }; belong = tt; complete = tt }; partitions = refl; show = tt };
+}
 
 eight : AsksFor (run (codes "--partitions" ∷ codes "8" ∷ [])) (on 8)
 unfolding IsDistinct
 eight = record {
   rest = _;
   begins = refl;
-  asks = record { options = asked Partitions (codes "8") ∷ []; are = record { spelled = ([], inl (refl, refl), refl); once = (tt, tt); fit = (refl, tt) }; partitions = refl };
+  asks = record {
+    options = asked Partitions (codes "8") ∷ [];
+    are = record { are = record { spelled = ([], inl (refl, refl), refl); once = (tt, tt); fit = (refl, tt) }; belong = (refl, tt); complete = tt };
+    partitions = refl;
+    show = tt;
+  };
 }
 
 seven_digits : AsksFor (run (codes "--partitions=0000007" ∷ [])) (on 7)
@@ -35,18 +49,11 @@ unfolding IsDistinct
 seven_digits = record {
   rest = _;
   begins = refl;
-  asks = record { options = asked Partitions (codes "0000007") ∷ []; are = record { spelled = ([], inr refl, refl); once = (tt, tt); fit = (refl, tt) }; partitions = refl };
-}
-
-both : AsksFor (run (codes "--partitions=08" ∷ codes "--recovery" ∷ codes "strong" ∷ [])) (on 8)
-unfolding IsDistinct
-both = record {
-  rest = _;
-  begins = refl;
   asks = record {
-    options = asked Partitions (codes "08") ∷ asked Recovery (codes "strong") ∷ [];
-    are = record { spelled = (codes "--recovery" ∷ codes "strong" ∷ [], inr refl, ([], inl (refl, refl), refl)); once = ((refl, tt), (tt, tt)); fit = (refl, (refl, tt)) };
+    options = asked Partitions (codes "0000007") ∷ [];
+    are = record { are = record { spelled = ([], inr refl, refl); once = (tt, tt); fit = (refl, tt) }; belong = (refl, tt); complete = tt };
     partitions = refl;
+    show = tt;
   };
 }
 
@@ -57,34 +64,108 @@ strong_first = record {
   begins = refl;
   asks = record {
     options = asked Recovery (codes "strong") ∷ asked Partitions (codes "3") ∷ [];
-    are = record { spelled = (codes "--partitions" ∷ codes "3" ∷ [], inr refl, ([], inl (refl, refl), refl)); once = ((refl, tt), (tt, tt)); fit = (refl, (refl, tt)) };
+    are = record {
+      are = record { spelled = (codes "--partitions" ∷ codes "3" ∷ [], inr refl, ([], inl (refl, refl), refl)); once = ((refl, tt), (tt, tt)); fit = (refl, (refl, tt)) };
+      belong = (refl, (refl, tt));
+      complete = tt;
+    };
     partitions = refl;
+    show = tt;
   };
 }
 
-recovery : AsksFor (codes "recover" ∷ []) (record { command = Recover; options = record { partitions = 1 } })
+recovery : AsksFor (codes "recover" ∷ codes "--partitions=08" ∷ codes "--recovery" ∷ codes "strong" ∷ []) (record { command = Recover; options = record { partitions = 8 } })
 unfolding IsDistinct
-recovery = record { rest = []; begins = refl; asks = record { options = []; are = record { spelled = refl; once = tt; fit = tt }; partitions = refl } }
+recovery = record {
+  rest = _;
+  begins = refl;
+  asks = record {
+    options = asked Partitions (codes "08") ∷ asked Recovery (codes "strong") ∷ [];
+    are = record {
+      are = record { spelled = (codes "--recovery" ∷ codes "strong" ∷ [], inr refl, ([], inl (refl, refl), refl)); once = ((refl, tt), (tt, tt)); fit = (refl, (refl, tt)) };
+      belong = (refl, (refl, tt));
+      complete = tt;
+    };
+    partitions = refl;
+    show = tt;
+  };
+}
+
+a_show : AsksFor (voter (codes "--seed" ∷ codes "0" ∷ codes "--votes" ∷ codes "200000" ∷ codes "--clients" ∷ codes "8" ∷ [])) (show_of 1 0 200000 8)
+unfolding IsDistinct
+a_show = record {
+  rest = _;
+  begins = refl;
+  asks = record {
+    options = asked Seed (codes "0") ∷ asked Votes (codes "200000") ∷ asked Clients (codes "8") ∷ [];
+    are = record {
+      are = record {
+        spelled = (
+          codes "--votes" ∷ codes "200000" ∷ codes "--clients" ∷ codes "8" ∷ [],
+          inl (refl, refl),
+          (codes "--clients" ∷ codes "8" ∷ [], inl (refl, refl), ([], inl (refl, refl), refl)),
+        );
+        once = ((refl, (refl, tt)), ((refl, tt), (tt, tt)));
+        fit = (refl, (refl, (refl, tt)));
+      };
+      belong = (refl, (refl, (refl, tt)));
+      complete = (refl, (refl, (refl, tt)));
+    };
+    partitions = refl;
+    show = record { seed = refl; votes = refl; clients = refl };
+  };
+}
+
+show_on_two : AsksFor (voter (codes "--clients=1" ∷ codes "--partitions=2" ∷ codes "--votes=1" ∷ codes "--seed=9999999" ∷ [])) (show_of 2 9999999 1 1)
+unfolding IsDistinct
+show_on_two = record {
+  rest = _;
+  begins = refl;
+  asks = record {
+    options = asked Clients (codes "1") ∷ asked Partitions (codes "2") ∷ asked Votes (codes "1") ∷ asked Seed (codes "9999999") ∷ [];
+    are = record {
+      are = record {
+        spelled = (
+          codes "--partitions=2" ∷ codes "--votes=1" ∷ codes "--seed=9999999" ∷ [],
+          inr refl,
+          (codes "--votes=1" ∷ codes "--seed=9999999" ∷ [], inr refl, (codes "--seed=9999999" ∷ [], inr refl, ([], inr refl, refl))),
+        );
+        once = ((refl, (refl, (refl, tt))), ((refl, (refl, tt)), ((refl, tt), (tt, tt))));
+        fit = (refl, (refl, (refl, (refl, tt))));
+      };
+      belong = (refl, (refl, (refl, (refl, tt))));
+      complete = (refl, (refl, (refl, tt)));
+    };
+    partitions = refl;
+    show = record { seed = refl; votes = refl; clients = refl };
+  };
+}
 
 -- ---- none
 
-module _ (words : List (List ℕ)) where
-  options_of : (h : IsCommand (run words)) → read None words ≡ Some h.options
+-- the words are a command of this word, with these options
+abbrev IsWith : List ℕ → List (List ℕ) → List Asked → Type 0
+IsWith word words options = (command : Command) × (word ≡ command_word command) × AreOptionsOf command words options
+
+module _ (word : List ℕ) (words : List (List ℕ)) where
+  options_of : (h : IsCommand (word ∷ words)) → (h.rest ≡ words) × (read None words ≡ Some h.options)
   options_of h =
-      let same : h.rest ≡ words = let e : run words ≡ command_word h.command ∷ h.rest = h.begins in cc in
-      read_is words h.options (subst (λ w. AreOptions w h.options) same h.are).spelled
+      let e : word ∷ words ≡ command_word h.command ∷ h.rest = h.begins in
+      let same : h.rest ≡ words = cc in
+      (same, read_is words h.options (subst (λ w. AreOptionsOf h.command w h.options) same h.are).are.spelled)
 
   -- words that spell no options
-  unspelled : read None words ≡ None → ¬ (IsCommand (run words))
-  unspelled e h = let never : None ≡ Some h.options = sym e ∙ options_of h in absurd cc
+  unspelled : read None words ≡ None → ¬ (IsCommand (word ∷ words))
+  unspelled e h = let never : None ≡ Some h.options = sym e ∙ (options_of h).1 in absurd cc
 
-  -- words that spell these options, of which some doesn't fit
-  unfit : (options : List Asked) → read None words ≡ Some options → ¬ (AllByRecursion (λ option. fits option.name option.value ≡ true) options) → ¬ (IsCommand (run words))
-  unfit options e never h = never (subst (AllByRecursion (λ option. fits option.name option.value ≡ true)) (some_same h.options options (sym (options_of h) ∙ e)) h.are.fit)
-
-  -- words that spell these options, of which two have one name
-  twice : (options : List Asked) → read None words ≡ Some options → ¬ (IsDistinct (λ option. is_named option.name) options) → ¬ (IsCommand (run words))
-  twice options e never h = never (subst (IsDistinct (λ option. is_named option.name)) (some_same h.options options (sym (options_of h) ∙ e)) h.are.once)
+  -- words that spell these options, which no command of this word has
+  unlike : (options : List Asked) → read None words ≡ Some options → ¬ (IsWith word words options) → ¬ (IsCommand (word ∷ words))
+  unlike options e never h =
+      let o = options_of h in
+      let same : h.options ≡ options = some_same h.options options (sym o.1 ∙ e) in
+      let begins : word ∷ words ≡ command_word h.command ∷ h.rest = h.begins in
+      let named : word ≡ command_word h.command = cc in
+      never (h.command, named, subst (AreOptionsOf h.command words) same (subst (λ w. AreOptionsOf h.command w h.options) o.0 h.are))
 
 no_words : ¬ (IsCommand [])
 no_words h = let e : [] ≡ command_word h.command ∷ h.rest = h.begins in absurd cc
@@ -93,6 +174,7 @@ no_words h = let e : [] ≡ command_word h.command ∷ h.rest = h.begins in absu
 no_such : (c : Command) → codes "--partitions" ≡ command_word c → ⊥
 no_such Run e = cc
 no_such Recover e = cc
+no_such (Voter show) e = cc
 
 no_command : ¬ (IsCommand (codes "--partitions" ∷ codes "1" ∷ []))
 no_command h =
@@ -100,38 +182,65 @@ no_command h =
     no_such h.command cc
 
 nine : ¬ (IsCommand (run (codes "--partitions" ∷ codes "9" ∷ [])))
-nine = unfit _ (asked Partitions (codes "9") ∷ []) refl (λ fit. true≢false (sym fit.0))
+nine = unlike _ _ (asked Partitions (codes "9") ∷ []) refl (λ w. true≢false (sym w.2.are.fit.0))
 
 zero_partitions : ¬ (IsCommand (run (codes "--partitions=0" ∷ [])))
-zero_partitions = unfit _ (asked Partitions (codes "0") ∷ []) refl (λ fit. true≢false (sym fit.0))
+zero_partitions = unlike _ _ (asked Partitions (codes "0") ∷ []) refl (λ w. true≢false (sym w.2.are.fit.0))
 
 minus : ¬ (IsCommand (run (codes "--partitions" ∷ codes "-1" ∷ [])))
-minus = unspelled _ refl
+minus = unspelled _ _ refl
 
 minus_joined : ¬ (IsCommand (run (codes "--partitions=-1" ∷ [])))
-minus_joined = unfit _ (asked Partitions (codes "-1") ∷ []) refl (λ fit. true≢false (sym fit.0))
+minus_joined = unlike _ _ (asked Partitions (codes "-1") ∷ []) refl (λ w. true≢false (sym w.2.are.fit.0))
 
 plus : ¬ (IsCommand (run (codes "--partitions" ∷ codes "+1" ∷ [])))
-plus = unfit _ (asked Partitions (codes "+1") ∷ []) refl (λ fit. true≢false (sym fit.0))
+plus = unlike _ _ (asked Partitions (codes "+1") ∷ []) refl (λ w. true≢false (sym w.2.are.fit.0))
 
 no_value : ¬ (IsCommand (run (codes "--partitions" ∷ [])))
-no_value = unspelled _ refl
+no_value = unspelled _ _ refl
 
 empty_value : ¬ (IsCommand (run (codes "--partitions=" ∷ [])))
-empty_value = unfit _ (asked Partitions [] ∷ []) refl (λ fit. true≢false (sym fit.0))
+empty_value = unlike _ _ (asked Partitions [] ∷ []) refl (λ w. true≢false (sym w.2.are.fit.0))
 
 eight_digits : ¬ (IsCommand (run (codes "--partitions" ∷ codes "00000001" ∷ [])))
-eight_digits = unfit _ (asked Partitions (codes "00000001") ∷ []) refl (λ fit. true≢false (sym fit.0))
+eight_digits = unlike _ _ (asked Partitions (codes "00000001") ∷ []) refl (λ w. true≢false (sym w.2.are.fit.0))
 
 named_twice : ¬ (IsCommand (run (codes "--partitions" ∷ codes "1" ∷ codes "--partitions=1" ∷ [])))
 unfolding IsDistinct
-named_twice = twice _ (asked Partitions (codes "1") ∷ asked Partitions (codes "1") ∷ []) refl (λ once. true≢false once.0.0)
+named_twice = unlike _ _ (asked Partitions (codes "1") ∷ asked Partitions (codes "1") ∷ []) refl (λ w. true≢false w.2.are.once.0.0)
 
 dashes : ¬ (IsCommand (run (codes "--" ∷ [])))
-dashes = unspelled _ refl
+dashes = unspelled _ _ refl
 
 another_word : ¬ (IsCommand (run (codes "x" ∷ [])))
-another_word = unspelled _ refl
+another_word = unspelled _ _ refl
 
 weak : ¬ (IsCommand (run (codes "--recovery" ∷ codes "weak" ∷ [])))
-weak = unfit _ (asked Recovery (codes "weak") ∷ []) refl (λ fit. true≢false (sym fit.0))
+weak = unlike _ _ (asked Recovery (codes "weak") ∷ []) refl (λ w. true≢false (sym w.2.are.fit.0))
+
+-- an option of a show behind another command
+seed_of_run : ¬ (IsCommand (run (codes "--seed=1" ∷ [])))
+seed_of_run = unlike _ _ (asked Seed (codes "1") ∷ []) refl never
+  where
+    never : ¬ (IsWith (codes "run") (codes "--seed=1" ∷ []) (asked Seed (codes "1") ∷ []))
+    never w = by w.0 w.1 w.2.belong.0
+      where
+        by : (command : Command) → codes "run" ≡ command_word command → belongs command (asked Seed (codes "1")) ≡ true → ⊥
+        by Run e f = cc
+        by Recover e f = cc
+        by (Voter show) e f = cc
+
+-- a show without its seed
+no_seed : ¬ (IsCommand (voter (codes "--votes=1" ∷ codes "--clients=1" ∷ [])))
+no_seed = unlike _ _ (asked Votes (codes "1") ∷ asked Clients (codes "1") ∷ []) refl never
+  where
+    never : ¬ (IsWith (codes "voter") (codes "--votes=1" ∷ codes "--clients=1" ∷ []) (asked Votes (codes "1") ∷ asked Clients (codes "1") ∷ []))
+    never w = by w.0 w.1 w.2.complete
+      where
+        by : (command : Command) → codes "voter" ≡ command_word command → AllByRecursion (λ name. is_among (asked Votes (codes "1") ∷ asked Clients (codes "1") ∷ []) name ≡ true) (required command) → ⊥
+        by Run e f = cc
+        by Recover e f = cc
+        by (Voter show) e f = true≢false (sym f.0)
+
+votes_past_the_range : ¬ (IsCommand (voter (codes "--votes=200001" ∷ codes "--seed=1" ∷ codes "--clients=1" ∷ [])))
+votes_past_the_range = unlike _ _ (asked Votes (codes "200001") ∷ asked Seed (codes "1") ∷ asked Clients (codes "1") ∷ []) refl (λ w. true≢false (sym w.2.are.fit.0))

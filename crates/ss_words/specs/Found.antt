@@ -1,23 +1,32 @@
 -- What is kept of the options that were found so far.
-use Rattle.std.specs.Prelude.{◌&&◌, ℕ, List, Bool, true, false, not, is_some, Some, None}
+use Rattle.std.specs.Prelude.{◌≡◌, ◌&&◌, ◌||◌, ℕ, List, Bool, true, false, not, is_some, Some, None}
 use Rattle.std.specs.Str.Parse.{digits_value}
 use Rattle.ss_words.specs.declared.names.OptionName.{OptionName}
-use Rattle.ss_words.specs.declared.names.OptionName.TheVariants.{Partitions, Recovery}
+use Rattle.ss_words.specs.declared.names.OptionName.TheVariants.{Partitions, Recovery, Seed, Votes, Clients}
+use Rattle.ss_words.specs.declared.names.Command.{Command}
+use Rattle.ss_words.specs.declared.names.Command.TheVariants.{Run, Recover, Voter}
+use Rattle.ss_words.specs.declared.names.Show.{Show}
 use Rattle.ss_words.specs.declared.found.Found.{Found}
-use Rattle.ss_words.specs.Words.{Asked, fits}
+use Rattle.ss_words.specs.Words.{Asked, AreOptions, command_word, fits, number_asked}
 
 abbrev pub nothing_found : Found
-nothing_found = record { partitions = None; recovery = false }
+nothing_found = record { partitions = None; recovery = false; seed = None; votes = None; clients = None }
 
 -- whether the option of a name was found
 abbrev pub was_found : Found → OptionName → Bool
 was_found found Partitions = is_some found.partitions
 was_found found Recovery = found.recovery
+was_found found Seed = is_some found.seed
+was_found found Votes = is_some found.votes
+was_found found Clients = is_some found.clients
 
 -- with an option of this name and value
 abbrev pub with_value : Found → OptionName → List ℕ → Found
 with_value found Partitions value = record found { partitions = Some (digits_value 10 value) }
 with_value found Recovery value = record found { recovery = true }
+with_value found Seed value = record found { seed = Some (digits_value 10 value) }
+with_value found Votes value = record found { votes = Some (digits_value 10 value) }
+with_value found Clients value = record found { clients = Some (digits_value 10 value) }
 
 abbrev pub with_option : Found → Asked → Found
 with_option found option = with_value found option.name option.value
@@ -25,3 +34,33 @@ with_option found option = with_value found option.name option.value
 -- whether an option may be one of them: it wasn't found yet, and its value fits
 abbrev pub can_take : Found → Asked → Bool
 can_take found option = not (was_found found option.name) && fits option.name option.value
+
+-- the words are options, none twice, and these are their numbers
+pub record HaveFound (words : List (List ℕ)) (found : Found) : Type 0 where
+  pub options : List Asked
+  pub are : AreOptions words options
+  pub partitions : found.partitions ≡ number_asked Partitions options
+  pub seed : found.seed ≡ number_asked Seed options
+  pub votes : found.votes ≡ number_asked Votes options
+  pub clients : found.clients ≡ number_asked Clients options
+
+-- the options of a show were all found, and are this show's
+pub record HasShow (found : Found) (show : Show) : Type 0 where
+  pub seed : found.seed ≡ Some show.seed
+  pub votes : found.votes ≡ Some show.votes
+  pub clients : found.clients ≡ Some show.clients
+
+-- whether one of them was found
+abbrev pub is_for_show : Found → Bool
+is_for_show found = is_some found.seed || is_some found.votes || is_some found.clients
+
+-- of the options of a show, the command has what was found
+abbrev pub HasWhatItNeeds : Found → Command → Type 0
+HasWhatItNeeds found Run = is_for_show found ≡ false
+HasWhatItNeeds found Recover = is_for_show found ≡ false
+HasWhatItNeeds found (Voter show) = HasShow found show
+
+-- the command has this word, and what was found are options of it
+pub record Suits (word : List ℕ) (found : Found) (command : Command) : Type 0 where
+  pub named : word ≡ command_word command
+  pub needs : HasWhatItNeeds found command

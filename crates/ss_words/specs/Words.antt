@@ -1,14 +1,14 @@
 -- Which words of a command line are a command, and what its options ask for.
-use Rattle.std.specs.Prelude.{◌≡◌, ◌⊎◌, ◌&&◌, ◌++◌, ℕ, List, [], ◌∷◌, length, map, Bool, true, false, codes, bytes_eq, nat_le, String, string_bytes, if◌then◌else◌}
-use Rattle.std.specs.List.{AllByRecursion, IsDistinct}
+use Rattle.std.specs.Prelude.{◌≡◌, ◌⊎◌, ◌&&◌, ◌++◌, ℕ, List, [], ◌∷◌, length, map, Bool, true, false, Option, None, Some, unwrap_or, codes, bytes_eq, nat_le, String, string_bytes, if◌then◌else◌}
+use Rattle.std.specs.List.{AllByRecursion, IsDistinct, list_any}
 use Rattle.std.specs.Str.{all_ascii_digits}
 use Rattle.std.specs.Str.Parse.{digits_value, starts_with_minus}
 use Rattle.std.specs.declared.alloc.Global.{Global}
 use Rattle.ss_words.specs.declared.names.OptionName.{OptionName}
-use Rattle.ss_words.specs.declared.names.OptionName.TheVariants.{Partitions, Recovery}
+use Rattle.ss_words.specs.declared.names.OptionName.TheVariants.{Partitions, Recovery, Seed, Votes, Clients}
 use Rattle.ss_words.specs.declared.names.Command.{Command}
-use Rattle.ss_words.specs.declared.names.Command.TheVariants.{Run, Recover}
-use Rattle.ss_words.specs.declared.command.Options.{Options}
+use Rattle.ss_words.specs.declared.names.Command.TheVariants.{Run, Recover, Voter}
+use Rattle.ss_words.specs.declared.names.Show.{Show}
 use Rattle.ss_words.specs.declared.command.CommandLine.{CommandLine}
 
 -- ---- The options. One more is a line in each of these two.
@@ -17,6 +17,9 @@ use Rattle.ss_words.specs.declared.command.CommandLine.{CommandLine}
 abbrev pub dashed : OptionName → List ℕ
 dashed Partitions = codes "--partitions"
 dashed Recovery = codes "--recovery"
+dashed Seed = codes "--seed"
+dashed Votes = codes "--votes"
+dashed Clients = codes "--clients"
 
 -- whether a value is one digit to seven, and the number that they write from least to most
 abbrev pub is_number_within : ℕ → ℕ → List ℕ → Bool
@@ -27,6 +30,9 @@ is_number_within least most value =
 abbrev pub fits : OptionName → List ℕ → Bool
 fits Partitions value = is_number_within 1 8 value
 fits Recovery value = bytes_eq value (codes "strong")
+fits Seed value = is_number_within 0 9999999 value
+fits Votes value = is_number_within 1 200000 value
+fits Clients value = is_number_within 1 8 value
 
 -- ---- Their spelling
 
@@ -69,45 +75,85 @@ pub record AreOptions (words : List (List ℕ)) (options : List Asked) : Type 0 
   pub once : IsDistinct (λ option. is_named option.name) options
   pub fit : AllByRecursion (λ option. fits option.name option.value ≡ true) options
 
--- the number of the option of a name, or else the default
-abbrev pub number_asked : OptionName → ℕ → List Asked → ℕ
-number_asked name default [] = default
-number_asked name default (option ∷ others) = if is_named name option then digits_value 10 option.value else number_asked name default others
-
--- how many partitions are asked for
-abbrev pub partitions_asked : List Asked → ℕ
-partitions_asked options = number_asked Partitions 1 options
-
--- the words are such options, and this is what they ask for
-pub record OptionsAskFor (words : List (List ℕ)) (what : Options) : Type 0 where
-  pub options : List Asked
-  pub are : AreOptions words options
-  pub partitions : what.partitions ≡ partitions_asked options
-
 -- the words are no options
 abbrev pub AreNoOptions : List (List ℕ) → Type 0
 AreNoOptions words = (options : List Asked) → ¬ (AreOptions words options)
 
--- ---- The commands. One more is a line.
+-- the number of the option of a name, where it is among them
+abbrev pub number_asked : OptionName → List Asked → Option ℕ
+number_asked name [] = None
+number_asked name (option ∷ others) = if is_named name option then Some (digits_value 10 option.value) else number_asked name others
+
+-- how many partitions are asked for: one where no option says it
+abbrev pub partitions_asked : List Asked → ℕ
+partitions_asked options = unwrap_or (number_asked Partitions options) 1
+
+-- the show is the one that is asked for
+pub record IsShowAsked (options : List Asked) (show : Show) : Type 0 where
+  pub seed : number_asked Seed options ≡ Some show.seed
+  pub votes : number_asked Votes options ≡ Some show.votes
+  pub clients : number_asked Clients options ≡ Some show.clients
+
+-- ---- The commands. One more is a line in each of these four.
 
 -- the word of a command
 abbrev pub command_word : Command → List ℕ
 command_word Run = codes "run"
 command_word Recover = codes "recover"
+command_word (Voter show) = codes "voter"
 
--- the words are a command, and behind it options
+-- the options that must stand behind a command
+abbrev pub required : Command → List OptionName
+required Run = []
+required Recover = []
+required (Voter show) = Seed ∷ Votes ∷ Clients ∷ []
+
+-- and those that may
+abbrev pub optional : Command → List OptionName
+optional Run = Partitions ∷ Recovery ∷ []
+optional Recover = Partitions ∷ Recovery ∷ []
+optional (Voter show) = Partitions ∷ Recovery ∷ []
+
+-- a command is made from its options: a voter has the show that they ask for
+abbrev pub IsMadeFrom : Command → List Asked → Type 0
+IsMadeFrom Run options = Unit {0}
+IsMadeFrom Recover options = Unit {0}
+IsMadeFrom (Voter show) options = IsShowAsked options show
+
+-- whether an option is one that must stand behind the command, or may
+abbrev pub belongs : Command → Asked → Bool
+belongs command option = list_any (λ name. is_named name option) (required command ++ optional command)
+
+-- whether an option of this name is among them
+abbrev pub is_among : List Asked → OptionName → Bool
+is_among options name = list_any (is_named name) options
+
+-- the words are options, each belongs to the command, and none is missing that it must have
+pub record AreOptionsOf (command : Command) (words : List (List ℕ)) (options : List Asked) : Type 0 where
+  pub are : AreOptions words options
+  pub belong : AllByRecursion (λ option. belongs command option ≡ true) options
+  pub complete : AllByRecursion (λ name. is_among options name ≡ true) (required command)
+
+-- the words are a command, of whatever show, and behind it its options
 pub record IsCommand (words : List (List ℕ)) : Type 0 where
   pub command : Command
   pub rest : List (List ℕ)
   pub options : List Asked
   pub begins : words ≡ command_word command ∷ rest
-  pub are : AreOptions rest options
+  pub are : AreOptionsOf command rest options
+
+-- the words are options of this command, and ask for this
+pub record OptionsAskFor (words : List (List ℕ)) (line : CommandLine) : Type 0 where
+  pub options : List Asked
+  pub are : AreOptionsOf line.command words options
+  pub partitions : line.options.partitions ≡ partitions_asked options
+  pub show : IsMadeFrom line.command options
 
 -- the words are this command, and behind it options that ask for this
 pub record AsksFor (words : List (List ℕ)) (line : CommandLine) : Type 0 where
   pub rest : List (List ℕ)
   pub begins : words ≡ command_word line.command ∷ rest
-  pub asks : OptionsAskFor rest line.options
+  pub asks : OptionsAskFor rest line
 
 -- the bytes of the words
 abbrev pub words_of : List (String Global) → List (List ℕ)

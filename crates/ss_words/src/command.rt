@@ -1,10 +1,11 @@
 //! What the words of a command line ask for.
 
 ghost use Rattle.std.specs.Prelude.{List, ℕ, ◌≡◌, MatchOption};
-ghost use Rattle.ss_words.specs.Words.{Asked, asked, words_of, StartsWith, AreNoOptions, OptionsAskFor, IsCommand, AsksFor};
+ghost use Rattle.ss_words.specs.Words.{Asked, asked, words_of, StartsWith, AreNoOptions, IsCommand, AsksFor};
+ghost use Rattle.ss_words.specs.Found.{HaveFound};
 
 use crate::found::Found;
-use crate::names::{Command, OptionName, command_named, option_named};
+use crate::names::{Command, OptionName, option_named};
 
 /// What the options of a command ask for.
 ///
@@ -33,9 +34,9 @@ fn front_option(words: &[String]) -> Option<(OptionName, &str, &[String])>
     Some((name, value.as_str(), behind))
 }
 
-/// What the words ask for, where they are options, none twice, each with a value that fits it.
-fn read_options(words: &[String]) -> Option<Options>
-    ensures { MatchOption result (AreNoOptions (words_of words.now)) (OptionsAskFor (words_of words.now)) }
+/// What the words say, where they are options, none twice, each with a value that fits it. Linear in their bytes.
+fn read_options(words: &[String]) -> Option<Found>
+    ensures { MatchOption result (AreNoOptions (words_of words.now)) (HaveFound (words_of words.now)) }
 {
     let mut found = Found::nothing();
     let mut left = words;
@@ -44,9 +45,7 @@ fn read_options(words: &[String]) -> Option<Options>
         found = found.with(name, value)?;
         left = behind;
     }
-    Some(Options {
-        partitions: found.partitions.unwrap_or(1),
-    })
+    Some(found)
 }
 
 /// What a command line asks for.
@@ -64,7 +63,10 @@ pub fn command_line(words: &[String]) -> Option<CommandLine>
     ensures { MatchOption result (¬ (IsCommand (words_of words.now))) (AsksFor (words_of words.now)) }
 {
     let (word, behind) = words.split_first()?;
-    let command = command_named(word.as_str())?;
-    let options = read_options(behind)?;
+    let found = read_options(behind)?;
+    let command = found.command(word.as_str())?;
+    let options = Options {
+        partitions: found.partitions.unwrap_or(1),
+    };
     Some(CommandLine { command, options })
 }

@@ -1,10 +1,10 @@
-//! The options that were found so far.
+//! The options that were found so far, and the command that they suit.
 
-ghost use Rattle.std.specs.Prelude.{◌≡◌, if◌then◌else◌};
+ghost use Rattle.std.specs.Prelude.{◌≡◌, if◌then◌else◌, MatchOption};
 ghost use Rattle.ss_words.specs.Words.{asked};
-ghost use Rattle.ss_words.specs.Found.{nothing_found, can_take, with_option};
+ghost use Rattle.ss_words.specs.Found.{nothing_found, can_take, with_option, is_for_show, HasShow, Suits};
 
-use crate::names::OptionName;
+use crate::names::{Command, OptionName, Show};
 use crate::numbers::number_within;
 
 /// What each option was found with: a field for each.
@@ -14,6 +14,12 @@ pub(crate) struct Found {
     pub(crate) partitions: Option<u8>,
     /// Whether recovery was named. Its one word says nothing that the default doesn't.
     pub(crate) recovery: bool,
+    /// The seed of a show.
+    pub(crate) seed: Option<u64>,
+    /// The number of its votes.
+    pub(crate) votes: Option<u64>,
+    /// The number of its clients.
+    pub(crate) clients: Option<u8>,
 }
 
 impl Found {
@@ -24,27 +30,63 @@ impl Found {
         Found {
             partitions: None,
             recovery: false,
+            seed: None,
+            votes: None,
+            clients: None,
         }
     }
 
     /// These options and one more, or none where it was found already or its value doesn't fit. Linear in the value's bytes.
-    pub(crate) fn with(self, name: OptionName, value: &str) -> Option<Found>
+    pub(crate) fn with(mut self, name: OptionName, value: &str) -> Option<Found>
         ensures { result ≡ if can_take self (asked name value.now) then Some (with_option self (asked name value.now)) else None }
     {
         match name {
             OptionName::Partitions if self.partitions.is_none() => {
-                let partitions = number_within(value, 1, 8)? as u8;
-                Some(Found {
-                    partitions: Some(partitions),
-                    ..self
-                })
+                self.partitions = Some(number_within(value, 1, 8)? as u8);
             }
             OptionName::Recovery if !self.recovery && value == "strong" => {
-                Some(Found {
-                    recovery: true,
-                    ..self
-                })
+                self.recovery = true;
             }
+            OptionName::Seed if self.seed.is_none() => {
+                self.seed = Some(u64::from(number_within(value, 0, 9_999_999)?));
+            }
+            OptionName::Votes if self.votes.is_none() => {
+                self.votes = Some(u64::from(number_within(value, 1, 200_000)?));
+            }
+            OptionName::Clients if self.clients.is_none() => {
+                self.clients = Some(number_within(value, 1, 8)? as u8);
+            }
+            _ => return None,
+        }
+        Some(self)
+    }
+
+    /// Whether an option was found that only a show has.
+    fn is_for_show(self) -> bool
+        ensures { result ≡ is_for_show self }
+    {
+        self.seed.is_some() || self.votes.is_some() || self.clients.is_some()
+    }
+
+    /// The show of these options, where each was found that a show must have.
+    fn show(self) -> Option<Show>
+        ensures { MatchOption result ((show : Show) → ¬ (HasShow self show)) (HasShow self) }
+    {
+        Some(Show {
+            seed: self.seed?,
+            votes: self.votes?,
+            clients: self.clients?,
+        })
+    }
+
+    /// The command with this word, where these are options of it, and all that it must have. Constant in time.
+    pub(crate) fn command(self, word: &str) -> Option<Command>
+        ensures { MatchOption result ((command : Command) → ¬ (Suits word.now self command)) (Suits word.now self) }
+    {
+        match word {
+            "run" if !self.is_for_show() => Some(Command::Run),
+            "recover" if !self.is_for_show() => Some(Command::Recover),
+            "voter" => Some(Command::Voter(self.show()?)),
             _ => None,
         }
     }

@@ -1,21 +1,31 @@
 //! The words of the command line of the program `sstore`, read exactly.
 //!
 //! A command is its word, and options behind it in any order, none twice. An option is written in two words, its name and
-//! its value, or in one with `=` between them. There are two commands, `run` and `recover`, and each has two options:
+//! its value, or in one with `=` between them. The commands are `run`, `recover` and `voter`, and each may have two options:
 //!
-//! - `--partitions`, a number from 1 to 8 in one digit to seven: into how many partitions the database is split
+//! - `--partitions`, a number from 1 to 8: into how many partitions the database is split, 1 where it isn't said
 //! - `--recovery`, the word `strong`: how the state is had again after a crash
 //!
-//! A command more is a variant of `Command`, a line in `command_named`, and in `specs/` one for its word.
-//! An option more is a variant of `OptionName`, a line in `option_named`, a field and an arm in `found`, and in `specs/` a line
-//! for its name, its values and what is kept of it.
+//! Behind `voter` must stand three more, which no other command has. They say which show of the benchmark is run:
 //!
-//! Source: S-Store (Meehan et al., PVLDB 8, 2015) for strong recovery, and for the partitions of H-Store, on which it stands.
+//! - `--seed`, a number from 0 to 9999999: what its calls are drawn from
+//! - `--votes`, a number from 1 to 200000: how many are called in
+//! - `--clients`, a number from 1 to 8: how many call them in
+//!
+//! A number is one digit to seven.
+//!
+//! A command more is a variant of `Command`, a line in `Found::command`, and in `specs/` a line for its word, its options, what it
+//! has of them, and what it needs of those found.
+//! An option more is a variant of `OptionName`, a line in `option_named`, a field and an arm in `found`, and in `specs/` a line
+//! for its name, its values, what is kept of it, and its place in the lists of the commands.
+//!
+//! Source: S-Store (Meehan et al., PVLDB 8, 2015) for strong recovery, for the partitions of H-Store, on which it stands, and for the
+//! benchmark of a voted show.
 //! How the words are written is this project's own rule.
 //!
 //! - `names`: the commands and the options, by name
 //! - `numbers`: numbers within a range
-//! - `found`: the options that were found so far
+//! - `found`: the options that were found so far, and the command that they suit
 //! - `command`: `command_line`, what the words ask for
 //! - `laws`: words spell one list of options at most
 #![tactic(auto)]
@@ -28,4 +38,4 @@ mod numbers;
 
 pub use command::{CommandLine, Options, command_line};
 pub use laws::words_have_one_spelling;
-pub use names::{Command, OptionName};
+pub use names::{Command, OptionName, Show};

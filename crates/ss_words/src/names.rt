@@ -1,26 +1,28 @@
 //! The commands and the options, by name.
 
 ghost use Rattle.std.specs.Prelude.{◌≡◌, ◌≢◌, MatchOption};
-ghost use Rattle.ss_words.specs.Words.{command_word, dashed};
+ghost use Rattle.ss_words.specs.Words.{dashed};
 
-/// A command. Which word it is stands in the definition, `specs/Words.antt`.
+/// What a show of the benchmark is made from.
+#[derive(Clone, Copy, Debug, PartialEq, Eq, Drop)]
+pub struct Show {
+    /// What the calls are drawn from: 0 to 9999999.
+    pub seed: u64,
+    /// How many votes are called in: 1 to 200000.
+    pub votes: u64,
+    /// How many clients call them in: 1 to 8.
+    pub clients: u8,
+}
+
+/// A command. Which word it is, and which options may and must stand behind it, is in the definition, `specs/Words.antt`.
 #[derive(Clone, Copy, Debug, PartialEq, Eq, Drop)]
 pub enum Command {
     /// `run`: reads a catalogue and requests, runs them and reports.
     Run,
     /// `recover`: reads nothing, and reports what a store has once all that was pending has run.
     Recover,
-}
-
-/// The command with this word. Constant in time.
-pub(crate) fn command_named(word: &str) -> Option<Command>
-    ensures { MatchOption result ((command : Command) → word.now ≢ command_word command) (λ command. word.now ≡ command_word command) }
-{
-    match word {
-        "run" => Some(Command::Run),
-        "recover" => Some(Command::Recover),
-        _ => None,
-    }
+    /// `voter`: runs a show of the benchmark.
+    Voter(Show),
 }
 
 /// An option. What it is called and which values fit it stand in the definition, `specs/Words.antt`.
@@ -30,6 +32,12 @@ pub enum OptionName {
     Partitions,
     /// `--recovery`: the word `strong`.
     Recovery,
+    /// `--seed`: a number from 0 to 9999999.
+    Seed,
+    /// `--votes`: a number from 1 to 200000.
+    Votes,
+    /// `--clients`: a number from 1 to 8.
+    Clients,
 }
 
 /// The option whose name this is, with its two dashes. Constant in time.
@@ -39,6 +47,9 @@ pub(crate) fn option_named(word: &str) -> Option<OptionName>
     match word {
         "--partitions" => Some(OptionName::Partitions),
         "--recovery" => Some(OptionName::Recovery),
+        "--seed" => Some(OptionName::Seed),
+        "--votes" => Some(OptionName::Votes),
+        "--clients" => Some(OptionName::Clients),
         _ => None,
     }
 }

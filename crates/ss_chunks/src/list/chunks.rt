@@ -41,9 +41,11 @@ fn chunk_of<T, A: Aim<T>>(chunks: &[Vec<T>], aim: &A) -> usize
     ensures within { result ≤ length chunks.now }
     ensures search { SearchStopsIn (A.before aim.now) chunks.now result }
 {
-    chunks
-        .partition_point(|chunk| starts_before(chunk, aim))
-        .saturating_sub(1)
+    match chunks.split_first() {
+        None => 0,
+        // The first chunk is the answer where no other one is, so its first item need not be looked at.
+        Some((_, others)) => others.partition_point(|chunk| starts_before(chunk, aim)),
+    }
 }
 
 /// The items that don't stand before an aim: those of one chunk, and the chunks behind it. None where there is

@@ -5,8 +5,8 @@ use Rattle.ss_engine.specs.Lanes.{IsLane}
 use Rattle.ss_engine.proofs.LanesAssured.{lane_failed}
 use Rattle.ss_engine.proofs.assuring.failed.Goals as goal
 
-pub invariant_of-lane : goal.invariant_of-lane
-invariant_of-lane g c =
+pub lane_of-requires : goal.lane_of-requires
+lane_of-requires g c =
     let seen = c.see-mark.ensures.seen in
     let more = c.see-mark.ensures.more in
     subst (λ (d : Due). IsLane g.I.Life.clients g.I.Life.first c.args.ticket d c.see-mark.result.0 c.args.note c.args.answers.items) (sym c.failed_at-due.ensures)

@@ -17,14 +17,14 @@ loop-p-preserved g c =
           record {
             taken = subst (λ v. IsGatheredBelow tag bays c.args.set (c.loop-p.p + 1) v.items) (sym w.list-is) (subst (IsGatheredBelow tag bays c.args.set (c.loop-p.p + 1)) (sym q.items) more);
             room = subst (λ v. vec_len v ≤ c.loop-p.p + 1) (sym w.list-is) (let a = q.len in let b = i.room in omega arith);
-            enough = subst (λ v. 8 ≤ vec_capacity v) (sym w.list-is) (let a = q.capacity in let b = i.enough in omega arith);
+            enough = subst (λ v. bays.slots ≤ vec_capacity v) (sym w.list-is) (let a = q.capacity in let b = i.enough in omega arith);
           })
       | else-has w ↦
           (let out : IsBitSet c.args.set c.loop-p.p → ⊥ = λ b. let yes = c.has.ensures.1 b in let no = w.if-has.false in absurd cc in
           record {
             taken = subst (λ v. IsGatheredBelow tag bays c.args.set (c.loop-p.p + 1) v.items) (sym w.list-is) (passed_over tag bays c.args.set c.loop-p.p c.loop-p.list.items i.taken out);
             room = subst (λ v. vec_len v ≤ c.loop-p.p + 1) (sym w.list-is) (let b = i.room in omega arith);
-            enough = subst (λ v. 8 ≤ vec_capacity v) (sym w.list-is) i.enough;
+            enough = subst (λ v. bays.slots ≤ vec_capacity v) (sym w.list-is) i.enough;
           })
     ]
 

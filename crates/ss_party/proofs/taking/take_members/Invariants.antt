@@ -6,5 +6,5 @@ abbrev pub invariant-loop-p : goal.invariant-loop-p
 invariant-loop-p g l = record {
   taken : IsGatheredBelow g.T.Tagged.tag l.table.shared.table_id l.set l.p l.list.items;
   room : vec_len l.list ≤ l.p;
-  enough : 8 ≤ vec_capacity l.list;
+  enough : l.table.shared.table_id.slots ≤ vec_capacity l.list;
 }

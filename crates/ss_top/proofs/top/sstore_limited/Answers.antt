@@ -1,8 +1,8 @@
 use Rattle.std.proofs.Common.{refl, subst, arith}
 use Rattle.ss_words.specs.declared.names.Command.{Command}
 use Rattle.ss_words.specs.Words.{AsksFor, words_of}
-use Rattle.ss_words.proofs.CallerLemmas.{partitions_are_few}
-use Rattle.ss_top.proofs.Ending.{ends_run, ends_recover}
+use Rattle.ss_words.proofs.CallerLemmas.{partitions_are_few, show_is_small}
+use Rattle.ss_top.proofs.Ending.{ends_run, ends_recover, ends_voter}
 use Rattle.ss_top.proofs.top.sstore_limited.Goals as goal
 
 pub run-requires-clause-partitions : goal.run-requires-clause-partitions
@@ -22,3 +22,19 @@ returns-in-Recover g c =
     let fault = c.a_disk_has_one_fault.ensures in
     ends_recover c.args.limit c.args.words.now _ _ _ c.in-Some.field-0.options (omega arith, c.recover_store.ensures.counts.0, c.recover_store.ensures.counts.1) fault.empty fault.store fault.catalog asks refl refl
     c.recover_store.result.0 c.recover_store.ensures.came
+
+pub voter-requires-clause-partitions : goal.voter-requires-clause-partitions
+voter-requires-clause-partitions g c = λ κs within. partitions_are_few (words_of c.args.words.now) c.in-Some.field-0 c.in-Some.ensures
+
+pub voter-requires-clause-few : goal.voter-requires-clause-few
+voter-requires-clause-few g c = λ κs within. (show_is_small (words_of c.args.words.now) c.in-Some.field-0 c.in-Voter.show c.in-Voter.is c.in-Some.ensures).2
+
+pub voter-requires-clause-clients : goal.voter-requires-clause-clients
+voter-requires-clause-clients g c = λ κs within. let small = show_is_small (words_of c.args.words.now) c.in-Some.field-0 c.in-Voter.show c.in-Voter.is c.in-Some.ensures in (small.3, small.4)
+
+pub returns-in-Voter : goal.returns-in-Voter
+returns-in-Voter g c =
+    let asks = subst (λ (command : Command). AsksFor (words_of c.args.words.now) (record { command = command; options = c.in-Some.field-0.options })) c.in-Voter.is c.in-Some.ensures in
+    let fault = c.a_disk_has_one_fault.ensures in
+    ends_voter c.args.limit c.args.words.now _ _ _ c.in-Some.field-0.options (omega arith, c.voter.ensures.counts.0, c.voter.ensures.counts.1) c.a_value_has_one_answer.ensures.catalog fault.empty fault.store fault.catalog c.in-Voter.show asks
+    refl refl c.voter.result.0 c.voter.ensures.came

@@ -35,4 +35,4 @@ loop-left-preserved c =
 pub returns : goal.returns
 returns c =
     let none : length c.loop-left.left.now ≡ 0 = search rules in
-    reading_ends (words_of c.args.words.now) c.loop-left.found (words_of c.loop-left.left.now) c.loop-left.invariant _ (words_none c.loop-left.left.now none) c.unwrap_or.ensures
+    reading_ends (words_of c.args.words.now) c.loop-left.found (words_of c.loop-left.left.now) c.loop-left.invariant (words_none c.loop-left.left.now none)

@@ -1,0 +1,36 @@
+-- What the command `voter` promises: it runs the script of a show on the benchmark's catalogue, and prints what sums up the list.
+use Rattle.std.specs.Prelude.{◌≡◌, ◌⊎◌, ℕ, List}
+use Rattle.ss_model.specs.declared.catalog.Catalog.{Catalog}
+use Rattle.ss_model.specs.declared.entry.Request.{Request}
+use Rattle.ss_model.specs.Accepted.{Accepted}
+use Rattle.ss_voter.specs.Script.{vote_requests}
+use Rattle.ss_voter.specs.VoterCatalog.{IsVoter}
+use Rattle.ss_words.specs.declared.names.Show.{Show}
+use Rattle.ss_headline.specs.Disks.{DiskChange}
+use Rattle.ss_top.specs.declared.session.Printing.TheVariants.{Summary}
+use Rattle.ss_top.specs.declared.status.Status.{Status}
+use Rattle.ss_top.specs.declared.status.Status.TheVariants.{NoMemory}
+use Rattle.ss_top.specs.Complete.{HasRoom, IsDoneOrShort}
+use Rattle.ss_top.specs.Sinks.{SinkChange}
+use Rattle.ss_top.specs.Statuses.{no_memory_text}
+use Rattle.ss_top.specs.Stores.{CameTo, EndsUntouched}
+
+-- the requests of a show
+abbrev pub show_requests : Show → List Request
+show_requests show = vote_requests show.seed show.votes show.clients
+
+-- running a show on the benchmark's catalogue has come to this
+pub record RanShow (limit : ℕ) (show : Show) (status : Status) (w : SinkChange) (disk : DiskChange) : Type 0 where
+  pub catalog : Catalog
+  pub voter : IsVoter catalog
+  pub accepted : Accepted catalog
+  pub came : CameTo limit (Summary show.votes) catalog (show_requests show) status w disk
+
+-- what the command voter has come to
+abbrev pub ShowEnds : ℕ → Show → Status → SinkChange → DiskChange → Type 0
+ShowEnds limit show NoMemory w disk = EndsUntouched no_memory_text w disk ⊎ RanShow limit show NoMemory w disk
+ShowEnds limit show status w disk = RanShow limit show status w disk
+
+-- where there is room for all that a show owes it is done, or there was no memory
+abbrev pub IsCompleteShow : ℕ → Show → DiskChange → Status → Type 0
+IsCompleteShow limit show disk ended = (catalog : Catalog) → IsVoter catalog → HasRoom limit catalog (show_requests show) disk → IsDoneOrShort ended

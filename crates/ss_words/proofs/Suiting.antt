@@ -1,0 +1,156 @@
+-- The options of a command are those that were found for it.
+use Rattle.std.specs.declared.alloc.Global.{Global}
+use Rattle.std.proofs.Common.{◌≡◌, ◌∙◌, ◌||◌, String, string_bytes, List, [], ◌∷◌, ℕ, Bool, true, false, Option, Some, None, is_some, unwrap_or, if◌then◌else◌, refl, sym, ap, subst}
+use Rattle.std.specs.List.{AllByRecursion, list_any}
+use Rattle.std.specs.Str.Parse.{digits_value}
+use Rattle.std.proofs.lemmas.Bool.{or_parts, or_from}
+use Rattle.ss_lemmas.proofs.EachOf.{all_with, all_such, all_three, none_passes}
+use Rattle.ss_words.specs.declared.names.OptionName.{OptionName}
+use Rattle.ss_words.specs.declared.names.OptionName.TheVariants.{Partitions, Recovery, Seed, Votes, Clients}
+use Rattle.ss_words.specs.declared.names.Command.{Command}
+use Rattle.ss_words.specs.declared.names.Command.TheVariants.{Run, Recover, Voter}
+use Rattle.ss_words.specs.declared.names.Show.{Show}
+use Rattle.ss_words.specs.declared.command.CommandLine.{CommandLine}
+use Rattle.ss_words.specs.declared.found.Found.{Found}
+use Rattle.ss_words.specs.Words.{Asked, asked, is_named, is_among, belongs, number_asked, command_word, IsMadeFrom, AreOptionsOf, IsCommand, AsksFor, words_of}
+use Rattle.ss_words.specs.Found.{HaveFound, HasWhatItNeeds, Suits, is_for_show}
+use Rattle.ss_words.proofs.Reading.{one_spelling}
+
+-- ---- a number is had just where an option of its name is
+
+asked_is : (name : OptionName) (options : List Asked) → is_some (number_asked name options) ≡ is_among options name
+asked_is name [] = refl
+asked_is name (option ∷ others) = by (is_named name option) (asked_is name others)
+  where
+    by : (b : Bool) → is_some (number_asked name others) ≡ is_among others name
+        → is_some (if b then Some (digits_value 10 option.value) else number_asked name others) ≡ b || is_among others name
+    by true e = refl
+    by false e = e
+
+the_number : (o : Option ℕ) → is_some o ≡ true → (n : ℕ) × (o ≡ Some n)
+the_number None e = absurd cc
+the_number (Some n) e = (n, refl)
+
+none_any : (test : Asked → Bool) (options : List Asked) → AllByRecursion (λ option. test option ≡ false) options → list_any test options ≡ false
+none_any test [] h = refl
+none_any test (option ∷ others) h = or_from _ _ h.0 (none_any test others h.1)
+
+-- ---- which options belong to a command. An option more is a line in each of these three
+
+abbrev NotOf : OptionName → Asked → Type 0
+NotOf name option = is_named name option ≡ false
+
+not_of_show : (name : OptionName) (value : List ℕ) → belongs Run (asked name value) ≡ true → NotOf Seed (asked name value) × NotOf Votes (asked name value) × NotOf Clients (asked name value)
+not_of_show Partitions value e = (refl, refl, refl)
+not_of_show Recovery value e = (refl, refl, refl)
+not_of_show Seed value e = absurd cc
+not_of_show Votes value e = absurd cc
+not_of_show Clients value e = absurd cc
+
+of_each : (name : OptionName) (value : List ℕ) → NotOf Seed (asked name value) → NotOf Votes (asked name value) → NotOf Clients (asked name value) → belongs Run (asked name value) ≡ true
+of_each Partitions value s v c = refl
+of_each Recovery value s v c = refl
+of_each Seed value s v c = absurd cc
+of_each Votes value s v c = absurd cc
+of_each Clients value s v c = absurd cc
+
+of_voter : (show : Show) (name : OptionName) (value : List ℕ) → belongs (Voter show) (asked name value) ≡ true
+of_voter show Partitions value = refl
+of_voter show Recovery value = refl
+of_voter show Seed value = refl
+of_voter show Votes value = refl
+of_voter show Clients value = refl
+
+module _ (words : List (List ℕ)) (found : Found) (h : HaveFound words found) where
+  abbrev Belong : Command → Type 0
+  Belong command = AllByRecursion (λ option. belongs command option ≡ true) h.options
+
+  -- what was found of each option of a show
+  seed_is : is_some found.seed ≡ is_among h.options Seed
+  seed_is = ap (λ o. is_some o) h.seed ∙ asked_is Seed h.options
+
+  votes_is : is_some found.votes ≡ is_among h.options Votes
+  votes_is = ap (λ o. is_some o) h.votes ∙ asked_is Votes h.options
+
+  clients_is : is_some found.clients ≡ is_among h.options Clients
+  clients_is = ap (λ o. is_some o) h.clients ∙ asked_is Clients h.options
+
+  -- nothing of a show was found just where each option belongs to run
+  all_belong : is_for_show found ≡ false → Belong Run
+  all_belong e =
+      let parts = or_parts (is_some found.seed || is_some found.votes) (is_some found.clients) e in
+      let first = or_parts (is_some found.seed) (is_some found.votes) parts.0 in
+      let seed = none_passes (is_named Seed) h.options (sym seed_is ∙ first.0) in
+      let votes = none_passes (is_named Votes) h.options (sym votes_is ∙ first.1) in
+      let clients = none_passes (is_named Clients) h.options (sym clients_is ∙ parts.1) in
+      all_three (NotOf Seed) (NotOf Votes) (NotOf Clients) (λ option. belongs Run option ≡ true) (λ option. of_each option.name option.value) h.options seed votes clients
+
+  none_named : (name : OptionName) → ((option : Asked) → belongs Run option ≡ true → NotOf name option) → Belong Run → is_among h.options name ≡ false
+  none_named name each b = none_any (is_named name) h.options (all_with (λ option. belongs Run option ≡ true) (NotOf name) each h.options b)
+
+  none_of_show : Belong Run → is_for_show found ≡ false
+  none_of_show b =
+      let seed : is_some found.seed ≡ false = seed_is ∙ none_named Seed (λ option e. (not_of_show option.name option.value e).0) b in
+      let votes : is_some found.votes ≡ false = votes_is ∙ none_named Votes (λ option e. (not_of_show option.name option.value e).1) b in
+      let clients : is_some found.clients ≡ false = clients_is ∙ none_named Clients (λ option e. (not_of_show option.name option.value e).2) b in
+      or_from (is_some found.seed || is_some found.votes) (is_some found.clients) (or_from (is_some found.seed) (is_some found.votes) seed votes) clients
+
+  are_of : (command : Command) → HasWhatItNeeds found command → AreOptionsOf command words h.options
+  are_of Run n = record { are = h.are; belong = all_belong n; complete = tt }
+  are_of Recover n = record { are = h.are; belong = all_belong n; complete = tt }
+  are_of (Voter show) n = record {
+    are = h.are;
+    belong = all_such _ (λ option. of_voter show option.name option.value) h.options;
+    complete = (sym seed_is ∙ ap (λ o. is_some o) n.seed, (sym votes_is ∙ ap (λ o. is_some o) n.votes, (sym clients_is ∙ ap (λ o. is_some o) n.clients, tt)));
+  }
+
+  is_made : (command : Command) → HasWhatItNeeds found command → IsMadeFrom command h.options
+  is_made Run n = tt
+  is_made Recover n = tt
+  is_made (Voter show) n = record { seed = sym h.seed ∙ n.seed; votes = sym h.votes ∙ n.votes; clients = sym h.clients ∙ n.clients }
+
+  -- a command of the same word has what it needs
+  has_needs : (command : Command) → AreOptionsOf command words h.options → (other : Command) × (command_word command ≡ command_word other) × HasWhatItNeeds found other
+  has_needs Run are = (Run, refl, none_of_show are.belong)
+  has_needs Recover are = (Recover, refl, none_of_show are.belong)
+  has_needs (Voter show) are =
+      let seed = the_number found.seed (seed_is ∙ are.complete.0) in
+      let votes = the_number found.votes (votes_is ∙ are.complete.1.0) in
+      let clients = the_number found.clients (clients_is ∙ are.complete.1.1.0) in
+      (Voter (record { seed = seed.0; votes = votes.0; clients = clients.0 }), refl, record { seed = seed.1; votes = votes.1; clients = clients.1 })
+
+-- ---- what the words of a command line ask for
+
+pub begins_with : (words behind : List (String Global)) (first : String Global) (word : List ℕ) → words ≡ first ∷ behind → word ≡ string_bytes first → words_of words ≡ word ∷ words_of behind
+begins_with words behind first word e is = ap words_of e ∙ ap (λ (w : List ℕ). w ∷ words_of behind) (sym is)
+
+module _ (all : List (List ℕ)) (word : List ℕ) (rest : List (List ℕ)) (e : all ≡ word ∷ rest) where
+  abbrev Behind : Type 0
+  Behind = (command : Command) × (options : List Asked) × (word ≡ command_word command) × AreOptionsOf command rest options
+
+  behind : IsCommand all → Behind
+  behind k =
+      let both : word ∷ rest ≡ command_word k.command ∷ k.rest = sym e ∙ k.begins in
+      let named : word ≡ command_word k.command = cc in
+      let same : k.rest ≡ rest = cc in
+      (k.command, k.options, named, subst (λ w. AreOptionsOf k.command w k.options) same k.are)
+
+  module _ (found : Found) (h : HaveFound rest found) where
+    pub suits_none : ((command : Command) → ¬ (Suits word found command)) → ¬ (IsCommand all)
+    suits_none none k =
+        let b = behind k in
+        let same = one_spelling rest b.1 h.options b.3.are.spelled h.are.spelled in
+        let has = has_needs rest found h b.0 (subst (AreOptionsOf b.0 rest) same b.3) in
+        none has.0 (record { named = b.2 ∙ has.1; needs = has.2 })
+
+    pub suits_asks : (line : CommandLine) → Suits word found line.command → line.options.partitions ≡ unwrap_or found.partitions 1 → AsksFor all line
+    suits_asks line s is = record {
+      rest = rest;
+      begins = e ∙ ap (λ (w : List ℕ). w ∷ rest) s.named;
+      asks = record {
+        options = h.options;
+        are = are_of rest found h line.command s.needs;
+        partitions = is ∙ ap (λ o. unwrap_or o 1) h.partitions;
+        show = is_made rest found h line.command s.needs;
+      };
+    }
