@@ -10,7 +10,7 @@
 //! - `machine`: the core, its events, and why one is refused; `opening`: a core before any event
 //! - `transition`: one event, told apart by its kind; of each kind `hands`, `commits`, `groups`, `generations` and `faults`
 //! - `run`: events in order
-//! - `replayed`: the database after a list; `outcomes`: equal outcomes
+//! - `replayed`: the database after a list; `outcomes`: equal outcomes; `copies`: exact copies of events
 //! - `laws`: which counts a crash leaves
 //!
 //! In `specs/`, each file on those before it: `Counts` (what is on the disk), `Commits` (when an entry may join the list),

@@ -8,6 +8,7 @@
 //! - `bays`: the calls
 //! - `rule`: the rule of the table that the bays stand on, which is what makes the calls safe on many threads
 //! - `taking`, `moving`: the loops of the calls
+//! - `sleepers`: how many threads sleep at some bays, so that who fills one calls the kernel only where one does
 //!
 //! There are eight bays at most, so each call takes constant time but for what it waits. Only `new` and `gather` take
 //! memory.

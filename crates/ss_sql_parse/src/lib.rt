@@ -4,7 +4,8 @@
 //! The lexer cuts a text into tokens. [`words`] gives each its content, borrowed from the text
 //! ([`lexeme`]). Then [`expr`], [`query`] and [`statement`] read the tree from the front by recursive
 //! descent, and look at one token to decide: [`reading`] reads one token, [`operators`] an operator,
-//! [`list`] a list. [`parse`] reads whole texts, and gives the offset of what is not expected.
+//! [`list`] a list. [`parse`] reads whole texts, and gives the offset of what is not expected;
+//! [`stop`] is why reading stops.
 //!
 //! # What is proved
 //!
