@@ -5,10 +5,12 @@
 
 Runs the program that `./sstore` built (build it first), or the one that SSTORE names, on a store in a new folder inside
 FOLDER. In each round eight clients push batches, each from a source of its own: the last ones of the round before again, and
-new ones behind them. After a random time the process gets SIGKILL, until that has been done so often. What its log then has is read here, byte by byte as
+new ones behind them. While it runs a second process asks for the folder and has to be refused. After a random time the
+process gets SIGKILL, until that has been done so often. What its log then has is read here, byte by byte as
 docs/FORMATS.md says, and `sstore FOLDER recover` has to agree with it: each source's pushes are counted and summed once
 each, none that was in the log is missing, and none that was not is there. A round that ends before it is killed has to have
-done all its pushes, those that were there before as duplicates. The last line has what was counted.
+done all its pushes, those that were there before as duplicates. Last, of two processes that begin at once on one folder,
+twenty times over, one has to be done and the other refused. What was counted is printed at the end.
 """
 
 import argparse
@@ -27,6 +29,7 @@ TOP = os.path.dirname(os.path.dirname(os.path.abspath(__file__)))
 PROGRAM = os.environ.get("SSTORE", os.path.join(TOP, "crates/ss_program/out/ss_program"))
 CLIENTS = 8
 AGAIN = 3  # pushes of the round before that are made again
+RACES = 20  # pairs of processes that begin at once
 
 CATALOGUE = {
     "tables": [{"name": "sums", "columns": [["source", "int"], ["n", "int"], ["total", "int"]], "key": ["source"], "part": 1}],
@@ -106,17 +109,58 @@ def check_tables(lines, numbers):
         assert total == sum(value(source, seq) for seq in range(n)), f"source {source}: another sum"
 
 
+def begun(folder, words):
+    """A run that has its folder and waits for its input."""
+    process = started(folder, words)
+    until = time.monotonic() + 10
+    while not has_lock(process.pid):
+        assert time.monotonic() < until and process.poll() is None, "the folder was not locked"
+        time.sleep(0.0005)
+    return process
+
+
+def started(folder, words):
+    pipes = {"stdin": subprocess.PIPE, "stdout": subprocess.PIPE, "stderr": subprocess.PIPE}
+    return subprocess.Popen([PROGRAM, folder, *words], text=True, **pipes)
+
+
+def has_lock(pid):
+    """Whether the system says that a process has locked a file."""
+    with open("/proc/locks", encoding="ascii") as locks:
+        return any(line.split()[1] == "FLOCK" and line.split()[4] == str(pid) for line in locks)
+
+
+def check_refused(status, printed, told, holder):
+    """A second process on a folder is refused, and says who has the folder."""
+    assert status == 5 and printed == '["disk_fault"]\n', f"a second process ended with {status}: {printed}"
+    assert f"process {holder} has the store" in told, f"it said: {told}"
+
+
 def killed(folder, words, text, seconds):
     """Runs so long, and tells the status and the report, where the run ended before it was killed."""
-    process = subprocess.Popen([PROGRAM, folder, *words], stdin=subprocess.PIPE, stdout=subprocess.PIPE, text=True)
-    until = time.monotonic() + seconds
+    process = begun(folder, words)
+    second = subprocess.run([PROGRAM, folder, *words], input=text, capture_output=True, text=True)
+    check_refused(second.returncode, second.stdout, second.stderr, process.pid)
     try:
-        printed, _ = process.communicate(text, timeout=max(0.0, until - time.monotonic()))
+        printed, _ = process.communicate(text, timeout=seconds)
         return process.returncode, [json.loads(line) for line in printed.splitlines()]
     except subprocess.TimeoutExpired:
         process.send_signal(signal.SIGKILL)
         process.communicate()
         return None
+
+
+def race(folder, words, text):
+    """Two processes begin on one folder at once: one is done, and the other refused."""
+    both = [started(folder, words), started(folder, words)]
+    until = time.monotonic() + 10
+    while all(process.poll() is None for process in both):
+        assert time.monotonic() < until, "both processes have the folder"
+        time.sleep(0.001)
+    first, second = sorted(both, key=lambda process: process.poll() is not None)
+    check_refused(second.returncode, second.stdout.read(), second.stderr.read(), first.pid)
+    first.communicate(text)
+    assert first.returncode == 0, f"the one that has the folder ended with {first.returncode}"
 
 
 def main():
@@ -160,8 +204,13 @@ def main():
             assert places == list(range(len(entries), len(entries) + len(places))), "steps at other places"
             check_tables(lines, there)
             numbers = there
+        for _ in range(RACES):
+            race(folder, run, pushes(numbers, 10))
+            numbers = [number + 10 for number in numbers]
         entries, groups = entries_of(folder)
+        assert accepted(entries) == numbers, "a push was lost between two processes"
     print(f"{rounds} rounds, {kills} killed, {in_midst} of them with entries of theirs in the log")
+    print(f"{rounds + RACES} second processes refused, {RACES} of them begun at once")
     print(f"{sum(numbers)} pushes once each, {len(entries)} entries in {groups} groups")
 
 

@@ -55,6 +55,10 @@ impl From<DiskError> for LogError {
 }
 
 /// The current generation of a store, behind which groups of entries are added. It takes the memory of its disk, and a few words.
+///
+/// What the store stands for is a variable of the clauses (the `Stood` of `IsOpen`), instead of a field or an
+/// invariant: it is no data of the log, and an invariant could only say that there is some, so that each owner would
+/// have to get back his own.
 #[derive(Drop)]
 pub struct CmdLog<D: Disk> {
     pub(crate) disk: D,

@@ -20,7 +20,8 @@ const MAGIC: u64 = 0x5353_544F_5245_310A;
 /// The greatest first place.
 const LAST_PLACE: u64 = 1 << 60;
 
-/// Why bytes aren't read as a generation.
+/// Why bytes aren't read as a generation. A fault is told by how many bytes are left, instead of by its place, so that
+/// no reader of a field carries a place: whoever has all of the bytes makes one of it.
 #[derive(Clone, Copy, Debug, PartialEq, Eq, Drop)]
 pub(crate) enum ReadError {
     /// Want of memory.

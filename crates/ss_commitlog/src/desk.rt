@@ -16,6 +16,9 @@ use ss_value::{NoMemory, Reserved, Seq};
 use std::marker::{Model, PhantomData};
 
 /// The list, the log's seat, which knows it, and streams and counts as the list leaves them.
+///
+/// The catalogue is lent to each call that needs it, instead of kept here, because whoever runs an entry has it at
+/// hand. Of it the desk keeps each procedure's home alone.
 #[derive(Drop)]
 pub struct Desk<I: Life> {
     pub(crate) list: Reserved<Listed>,

@@ -15,6 +15,48 @@
 //!
 //! In `specs/`: `Roles`, `Rule` (lists, roles and words), `Meaning`, `Tokens` (what tokens know), `Right` (when an entry may
 //! join), `Reading`, `Committing`.
+//!
+//! # What a mark knows
+//!
+//! What stands behind a lock is out of sight of every contract. So a token carries outside of it what is known: its
+//! role, a list that the log's list begins with, and the two posted numbers as it last saw them (`Known`). A token of a
+//! partition or a client is a *mark*, one of a reader or of the disk a *note*. A table of three words, which can be
+//! stepped on without the lock, has a rule that ties all tokens to the list inside (`IsKept`).
+//!
+//! ```text
+//!  the list          e0   e1   e2   e3   e4   e5   e6   e7      word 0: the place behind the list
+//!                                                               word 1: the receipted count that was last posted
+//!  the log's seat    ├───────────────────────────────────┤     word 2: the posted faults
+//!    (behind the lock) knows all of it
+//!  mark of part 0    ├─────────────────────────┤ ·    ·         no entry behind e5 touches part 0
+//!  mark of part 1    ├──────────────┤ ·    ·    ·    ·          none behind e3 touches part 1
+//!  mark of client 0  ├────┤ ·    ·    ·    ·    ·    ·          none behind e1 is client 0's
+//!  a reader's note   ├───────────────────┤ ?    ?    ?          behind e4 may be anything
+//!  the disk's note   ├───────────────────┤ ?    ?    ?          and words 1 and 2 are its own to change
+//! ```
+//!
+//! The rule knows lists and roles alone: each known list begins the list, and no item behind it was added under a role
+//! of its seat (`Begins`). That each entry was added under all roles that it concerns is kept beside the rule
+//! (`Recorded`). So no entry behind a mark's list concerns the mark (`Continues`).
+//!
+//! A call takes the lock, joins its tokens into the log's seat, does one step on word 0, and splits them off again. A
+//! step looks (`Looked`) or adds (`Added`); either tells that all that the joined tokens knew was right (`Shown`), and
+//! behind it they know the log's list. `post` and `see` are steps on words 1 and 2 and take no lock. `close` joins all
+//! tokens for good.
+//!
+//! # Promises
+//!
+//! - `commit` (`Commits`): the entry stands at the place that is answered, behind a list that goes on from what each
+//!   mark knew, or the list is as it was. It needs the marks of all that the entry concerns (`Covers`), and an outcome
+//!   and batches that are right on every database whose parts are as the marks' own lists leave them (`IsRight`). Since
+//!   nothing behind a mark's list touches its part, the database of the list behind the lock is one of these; so the
+//!   list always replays (`IsLegal`), whatever the interleaving. Marks that all know one list need the entry's value
+//!   behind that list, and no more (lemma `right_at_one_list`).
+//! - `look` (`ok`): the batch that a consumer finds; `ready_at` (`ready`): just the procedures of a partition that are
+//!   ready; `tail` (`ok`): the entries from a place on; each of the list that the token then knows (`Follows`).
+//! - `meet` (`one`), `meet_all`, `meet_tail`: these tokens then know one list.
+//! - `close`: a list that replays and has its orders (`legal`) and goes on from what each token knew (`list`), with the
+//!   streams after it (`streams`).
 #![tactic(auto)]
 
 mod blank;

@@ -117,7 +117,8 @@ impl<I: Life> CommitLog<I> {
         self.desk.lock(rt).meet(&self.table, mark, note)
     }
 
-    /// All these tokens then know one list. Takes the lock once.
+    /// All these tokens then know one list. Takes the lock once, instead of once for each token, so that what the parts
+    /// of several partitions are is about one list.
     pub fn meet_all<R: Wait>(&self, rt: &R, marks: Marks<I>) -> Marks<I>
         ensures { MeetAll I.catalog I.parts I.limit marks result }
     {

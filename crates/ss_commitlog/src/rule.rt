@@ -19,7 +19,8 @@ pub struct Opening {
     pub limit: u64,
     /// How many partitions there are.
     pub parts: u8,
-    /// How many clients there are.
+    /// How many clients there are. `commit` needs a client below it, instead of a check at the close, so that then each
+    /// entry that isn't a step is of a client who has a mark.
     pub clients: u8,
 }
 

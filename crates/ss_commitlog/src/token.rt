@@ -9,6 +9,9 @@ use std::marker::{Model, PhantomData};
 ///
 /// A token has no bytes: it is a right. Contracts see its role, that list and those numbers. The list replays from the
 /// opening's database, and nothing behind it in the log concerns the token's role.
+///
+/// A mark and a note are one type, whose role contracts see, instead of two: the role is all that tells them apart, and
+/// two types would double each proof and add no fact.
 #[derive(Drop)]
 pub struct Token<I: Life> {
     pub(crate) seat: LogSeat,

@@ -48,7 +48,7 @@ pub trait Disk {
     /// What a read gives of each file.
     ghost seen: { Self → Files };
 
-    /// A number that never falls, and rises with each call that may change what a crash leaves.
+    /// A number that never falls, and rises by one at most with each call that may change what a crash leaves.
     ghost moment: { Self → ℕ };
 
     /// What a crash at a moment may leave.

@@ -22,6 +22,10 @@ use std::thread;
 use std::thread::Threads;
 
 /// A client, whose lane is away only while it makes its requests.
+///
+/// The lane goes into the client's thread in here and comes back here, instead of being returned by the thread, because
+/// `for_each_mut` lends each thread one item of a list and gives nothing back. So what is known of each lane is known
+/// of the list by number (`EachHasLane`).
 #[derive(Drop)]
 pub(crate) struct Client<I: Life> {
     pub(crate) lane: Option<Lane<I>>,
@@ -40,7 +44,8 @@ fn count_requests(requests: &[Request], client: usize) -> usize
     count
 }
 
-/// A client for each lane, with room for the answers to all its requests. Looks at each request once for each client.
+/// A client for each lane, with room for the answers to all its requests, because an answer may not be lost once its
+/// entry is listed. Looks at each request once for each client.
 fn clients_of<I: Life>(
     alloc: Global,
     lanes: Vec<Lane<I>>,
@@ -125,6 +130,9 @@ fn serve_clients<
 
 /// Runs what waits in the inbox of a partition, until the clients are done and a pump then runs nothing. Before that it rests
 /// where a pump ran nothing, until more waits there.
+///
+/// Its note ends with its thread, instead of coming back for the close, because the marks in hand tell all that
+/// settling asks.
 fn execute_until<I: Life, N: Runner + Drop, G: Gate + Drop, R: Wait>(
     rt: &R,
     alloc: Global,

@@ -28,7 +28,8 @@ pub struct Closed {
     /// The database that they leave; None where there was no memory to have it in one shard, and then the end says so too.
     pub database: Option<Database>,
     pub catalog: Catalog,
-    /// The answers of each client, by number.
+    /// The answers of each client, by number, moved out of its lane: a copy of all outcomes would cost as much as the
+    /// report.
     pub answers: Seq<Seq<Answer>>,
     /// How the engine's own steps ended.
     pub end: Settling,

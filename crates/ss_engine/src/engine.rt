@@ -14,6 +14,9 @@ use std::marker::Model;
 /// Clients hand requests to the inboxes of partitions by their lanes (`submit`); whoever pumps an inbox runs what waits there
 /// (`pump`). While an execution runs, no lock is held; its partitions are in hand, and the log's lock is held for the commit
 /// alone.
+///
+/// It is one type, and `pump` one of its calls, instead of a trait of whoever runs the work of an inbox, because the
+/// checker doesn't cover a call through such a trait where partitions are the values of bays.
 #[derive(Drop)]
 pub struct Engine<I: Life, N: Runner + Drop, G: Gate + Drop> {
     pub(crate) hub: Hub<I>,

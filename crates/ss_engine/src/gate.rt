@@ -9,7 +9,9 @@ pub trait Gate {
     /// An entry is about to run, whose least partition is `part`: its partitions are in hand.
     fn before(&self, part: u8, entry: &Entry);
 
-    /// It has run and is listed, and its partitions are back in their bays. What is not listed is not told again.
+    /// It has run and is listed, and its partitions are back in their bays, but at the close, where there are none any
+    /// more. What is not listed is not told again: it is gone with the commit's answer, and a copy for those who watch
+    /// would be one for each execution.
     fn after(&self, part: u8, entry: &Entry);
 }
 

@@ -19,7 +19,8 @@ use std::sync::Wait;
 impl<I: Life, N: Runner + Drop, G: Gate + Drop> Engine<I, N, G> {
     /// Runs the next step of the procedure of a hint, where it is at home here and ready. None: it was not, and nothing ran.
     ///
-    /// Takes the log's lock once before it takes any partition, so a hint that came late holds nobody up.
+    /// It looks the hint up in the log before it takes any partition, instead of once they are in hand, so a hint that
+    /// came late holds nobody up. That takes the log's lock once.
     pub(crate) fn follow<R: Wait>(
         &self,
         rt: &R,
@@ -95,7 +96,9 @@ impl<I: Life, N: Runner + Drop, G: Gate + Drop> Engine<I, N, G> {
     }
 
     /// Puts the hints behind a step that ran: those of what it may have made ready, and its own, since it may be ready again.
-    /// One that didn't run gets none, so jobs come in turn.
+    /// One that didn't run gets none, and at a full list its procedure stays ready: a hint is taken before a job, so a
+    /// job behind a hint that comes again and again would never be answered. No clause holds this, since none counts
+    /// what is behind an inbox's lock.
     fn stepped<R: Wait>(&self, rt: &R, p: u8, procedure: u16, stepped: Stepped) -> Option<Pumped>
         requires home { StepsAt I.catalog I.parts p procedure }
         requires own { IsOfProcedure procedure stepped }

@@ -11,6 +11,13 @@ use ss_commitlog::Mark;
 use ss_model::{Entry, Life};
 
 /// The entry that a client asks for, with the client's mark and the request's ticket.
+///
+/// It carries its entry, instead of what was asked for, because the partitions that it touches are read off the entry
+/// before it is sent and again before it runs.
+///
+/// A job may be let go of, as a reply may, instead of having no `Drop`, because then inboxes could be given up only job
+/// by job where memory is short or a hub is closed. So no clause says that an answer ever comes: who loses a job, or
+/// puts it into another inbox, keeps each of them, and its client waits for ever.
 #[derive(Drop)]
 pub struct Job<I: Life> {
     pub(crate) ticket: Ticket,

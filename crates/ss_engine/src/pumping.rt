@@ -17,6 +17,9 @@ impl<I: Life, N: Runner + Drop, G: Gate + Drop> Engine<I, N, G> {
     /// Takes one item of this partition's inbox and runs it: first the hints, then the jobs, and where nothing waits the first
     /// procedure that is ready at home there. A hint whose procedure isn't ready is dropped, and the next item taken.
     ///
+    /// It answers for the list that the lent note then knows (`IsPumped`), instead of for what was in the inbox,
+    /// because that stands behind a lock.
+    ///
     /// Whoever waits for an answer may lend it a note.
     pub fn pump<R: Wait>(
         &self,

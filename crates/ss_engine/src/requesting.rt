@@ -18,7 +18,7 @@ use std::alloc::Global;
 use std::sync::Wait;
 
 /// Makes one request. Where as many listed answers wait for a receipt as may, it asks for one first; and where there is no memory
-/// for that, or the disk has failed, the request is answered so and is not run.
+/// for that, or the disk has failed, the request is answered so and is not run, so that no seventeenth answer waits.
 fn make_request<I: Life, N: Runner + Drop, G: Gate + Drop, R: Wait, D: Disk + Drop>(
     rt: &R,
     alloc: Global,

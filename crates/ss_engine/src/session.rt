@@ -39,8 +39,9 @@ pub struct Finished<D: Disk + Drop> {
     pub closed: Closed,
     /// The log, with its disk.
     pub log: CmdLog<D>,
-    /// All places below this count are on the disk: all of the list where the last flush went well, else those of the receipts
-    /// before it.
+    /// All places below this count are on the disk: all of the list where the last flush went well, else those of the
+    /// receipts before it. The log's own count isn't told then, because a flush that failed may have written groups
+    /// that nobody has a receipt of.
     pub receipted: u64,
     /// How the last flush ended, which follows settling.
     pub flushed: Result<Receipt, DurableError>,

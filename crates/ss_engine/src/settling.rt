@@ -36,7 +36,7 @@ pub enum Settling {
 }
 
 /// Of the procedures that are ready after lists that the mark knew meanwhile the one of least rank, then of least number; None
-/// where none is. Takes the log's lock once for each partition, and no memory.
+/// where none is. Which of the ready ones it is no clause says. Takes the log's lock once for each partition, and no memory.
 fn next_ready<I: Life, R: Wait>(
     rt: &R,
     log: &CommitLog<I>,
@@ -64,8 +64,8 @@ fn next_ready<I: Life, R: Wait>(
 /// The procedure that is ready behind what the marks then know, with all partitions in hand, of least rank, then of least number;
 /// None where none is.
 ///
-/// The marks know one list first, so the look of one of them is that of all. Takes the log's lock once more than `next_ready`
-/// does, and no memory.
+/// The marks know one list first, so the look of one of them is that of all, and no note has to meet each. Takes the log's
+/// lock once more than `next_ready` does, and no memory.
 fn ready_in_hand<I: Life, R: Wait>(
     rt: &R,
     log: &CommitLog<I>,
@@ -150,6 +150,9 @@ fn settling_of(stepped: Stepped) -> Result<(), Settling>
 ///
 /// Each entry touches some partition, so nobody else can add to the list meanwhile, and what is ready at a look is so when its
 /// step runs. Each step costs what `execute_step` costs, and takes the log's lock once for each partition and once for all.
+///
+/// It isn't told which list is whole, and says what holds of every list that may be (`MayBeWhole`), because only the
+/// log's close hands the whole list over, and that comes behind. So it doesn't say how many steps it ran either.
 pub(crate) fn settle<I: Life, N: Runner, G: Gate, R: Wait>(
     rt: &R,
     alloc: Global,

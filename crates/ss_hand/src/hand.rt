@@ -7,6 +7,11 @@ use ss_shard::Shard;
 /// The parts of some partitions in one hand: one shard that has them all, what is left of the shards that lent theirs to it, and
 /// the marks of all of them, in rising order of partitions.
 ///
+/// The marks need not know one list: it is enough that there is one database with which each mark's own list agrees
+/// (`AreOfOne`). So a mark may look for batches, or show a note what ran, while the others stay. The turns of the bays
+/// are beside the hand and not in it, because at the close of an engine all partitions are in hand and there is no bay
+/// any more.
+///
 /// Memory: the lists of shells and marks, each of eight at most.
 #[derive(Drop)]
 pub struct Hand<I: Life> {

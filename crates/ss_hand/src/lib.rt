@@ -17,6 +17,14 @@
 //!
 //! In `specs/`: `Partitions` (what a bay has), `Apart` (partitions beside one another), `Meetings` (tokens that go on),
 //! `Hands` (what is in hand).
+//!
+//! # Promises
+//!
+//! - `take_parts` (`ok`: `WereTaken`): just the partitions of a set, in one shard that has all their parts, and the
+//!   turns of their bays; out of memory has put back what it took. `put_parts` puts them back, and by its premise
+//!   (`in_hand`) only what is right for each bay.
+//! - `meet_note` (`ok`: `Met`): the marks in hand and the note know one list; it is in hand what was (`in_hand`).
+//! - `in_one_hand` (`ok`: `KnowsWith`): all partitions, once the bays are closed.
 #![tactic(auto)]
 
 mod apart;

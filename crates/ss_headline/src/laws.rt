@@ -18,7 +18,8 @@ pub fn few_stand_behind()
     ensures later { FewStayFew }
 {}
 
-/// A list that replays, of entries that are asked for, has with what is to follow no more executions than were owed.
+/// A list that replays, of entries that are asked for, none twice, has with what is to follow no more executions than
+/// were owed. It is said of any such list, instead of one that an engine made, because this much of it a report tells.
 pub fn owed_is_enough()
     ensures { OwedIsEnough }
 {}
@@ -32,7 +33,8 @@ pub fn full_lists_have_all()
     next_is_ready();
 }
 
-/// A store whose generation has a list behind the entries that it was opened with has a log that ends with the list.
+/// A store whose generation has a list behind the entries that it was opened with has a log that ends with the list. A
+/// whole run says that it does, because a report that the sink cut may be one of several lists, and the log is of one.
 pub fn logs_end_with_lists()
     ensures { LogsEndWithLists }
 {}

@@ -14,6 +14,26 @@
 //!   how many executions a run owes
 //! - `laws`: that these make up a run. Each is the contract of a function that does nothing, on any kind of disk;
 //!   `proofs/worked/Premises` meets their premises at a store that is made, run and closed
+//!
+//! # Promises
+//!
+//! - What the calls below owe (`Opened`, `Closed`, and `Settled` or `Receipted`), with the answers to the clients, is a
+//!   whole run or a stopped one (`whole_runs`, `stopped_runs`). By these two the top call promises what it does.
+//! - A session from one database is one from each of which the same is kept (`sessions_hold_from_each`), so a run is
+//!   one from every place and database that the disk stood for (`runs_hold_from_each`).
+//!
+//! # Choices
+//!
+//! - All that is said of crashes presumes that the disk was quiet before, and an opening tells that it is quiet again
+//!   (`Opened.settled`), instead of one premise that is carried from the entry of the call: an engine knows the disk
+//!   that it was given and no earlier one.
+//! - A stop is computed from the list and the disk (`stop_at`), instead of being any stop with the status: with a free
+//!   limit or free counts of faults each reply could say that the list is full or the log halted.
+//! - A receipt is said twice (`EveryReceiptStands`): that each image stands for the receipted executions, and that it
+//!   is a front of the list which ends there at least. The second tells the first; the first is what a client was
+//!   promised, without the list.
+//! - What the calls below owe are records of their own, instead of their clauses, because the crates of an engine and
+//!   of recovery stand above this one.
 #![tactic(auto)]
 
 mod laws;

@@ -18,7 +18,8 @@ use std::sync::{Mutex, Wait};
 
 /// One to eight bays, numbered from 0, each with the value of its number or empty.
 ///
-/// Contracts see which bays they are: a name that no other `Bays` has, with their count.
+/// Contracts see which bays they are: a name that no other `Bays` has, with their count. What is in them they don't see,
+/// because that may be another thing at the next step. A turn names its bays too, so that it can't be used at others.
 #[derive(Drop)]
 pub struct Bays<T: Tagged> {
     table: BayTable<T>,
@@ -27,7 +28,8 @@ pub struct Bays<T: Tagged> {
     room: Mutex<Room<T>>,
 }
 
-// An empty list with room for the value of each bay, which waits for `close`.
+// An empty list with room for the value of each bay, which waits for `close`: so `close` has no error, for which
+// whoever closes an engine has no use.
 #[derive(Drop)]
 struct Room<T> {
     list: Vec<T>,
@@ -124,6 +126,7 @@ impl<T: Tagged> Bays<T> {
         requires { (p : ℕ) → IsBitSet set p → p < bay_count self.now }
         ensures ok { IfOk result (λ taken. IsGathered T.tag self.now set taken) }
     {
+        // Instead of a push that may fail at each bay: so nobody has waited for a bay in vain.
         let list = Vec::with_capacity(alloc, self.table.slot_count())?;
         Ok(take_members(rt, &self.table, &self.sleepers, set, list))
     }

@@ -16,6 +16,16 @@
 //! Source: H-Store (Stonebraker et al., The End of an Architectural Era, VLDB 2007) cuts a database into partitions with one
 //! executor each, so that what runs on a partition runs alone, with no locks inside it. That an execution on several
 //! partitions takes them in rising order, so that no two of them wait for each other, is the classical order of resources.
+//!
+//! # Promises
+//!
+//! - `try_take` (`some`) and `take`: a value that belongs to this very bay, with the turn of this bay (`IsTaken`).
+//! - `gather` (`ok`): just the values of a set's bays, in rising order, each with its turn (`IsGathered`).
+//! - `close`: one value for each bay, in order (`TagsFrom`).
+//! - `new` (`err`): out of memory gives the items back.
+//!
+//! What a bay has at a moment is no part of any clause, since other threads may change it at once. So no clause says
+//! that a take finds a full bay full, that a sleeper is woken, or that a wait ends; `ss_party_tests` tries the first two.
 #![tactic(auto)]
 
 mod bays;

@@ -5,7 +5,8 @@
 //!
 //! - the table is made: `Bays::new`
 //! - a value is taken out, where there is one, and a seat for its slot is made in the same step, so that no other seat is
-//!   split: `take_if_full`, by `Takes`
+//!   split: `take_if_full`, by `Takes`. It swaps the word with 0, so of two who take at the same time one finds 0 and has
+//!   nothing
 //! - a value is put in, and the seat ends there, so that it is joined with none: `Bays::put`, by `Gives`
 //! - a thread sleeps while a word is 0, and is woken: `take_when_full`, and `Bays::put`
 //! - all is taken out, and the table ends: `Bays::close`
@@ -28,6 +29,9 @@ impl<T: Tagged> TableRule<Option<T>, (), ()> for BayRule<T> {
 }
 
 /// The value is taken out of a bay, which is empty from then on.
+///
+/// Whoever takes gets a new seat in the same step, instead of bringing one that is split and joined, because who has
+/// taken nothing has nothing to show. So a call needs nothing but the bays.
 pub struct Takes<T> {
     of: PhantomData<T>,
 }
@@ -48,4 +52,7 @@ impl<T> Play<Option<T>, ()> for Gives {
 }
 
 /// The words and the slots of the bays, side by side.
+///
+/// This, instead of a lock around each value, because `try_take` and `put` then wait for nobody, as their signatures
+/// show, and who has taken a value has it as its own and not behind a guard.
 pub type BayTable<T> = Table<Option<T>, (), (), BayRule<T>, Global>;

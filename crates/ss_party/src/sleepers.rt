@@ -7,10 +7,11 @@ use crate::tagged::Tagged;
 use std::sync::Wait;
 use std::sync::atomic::{AtomicU64, Ordering};
 
-/// How many threads sleep at some bays, so that who fills a bay calls the kernel only where one does.
+/// How many threads sleep at some bays, so that who fills a bay calls the kernel only where one does: under load nobody
+/// sleeps, and a call of the kernel costs as much as a short execution.
 ///
 /// A sleeper is counted before the kernel looks whether its bay is empty, and who has filled a bay reads the count afterwards:
-/// so either the sleeper is seen, or it sees the full bay and doesn't sleep.
+/// so either the sleeper is seen, or it sees the full bay and doesn't sleep, since all these steps have one order.
 #[derive(Drop)]
 pub(crate) struct Sleepers {
     count: AtomicU64,

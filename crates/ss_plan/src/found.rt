@@ -6,6 +6,9 @@ use ss_value::{Row, Seq, Slot};
 
 /// Rows that a search found, with their slots, as the source of a query of one table.
 ///
+/// They are a source of their own, instead of a second way to run a query. A row that the execution doesn't see is not
+/// among them. Costs that a JOIN walks both of its sources: what the WHERE of each would be is said nowhere.
+///
 /// A row's position is its number among them, from 0. A look-up and a step are constant, so hints say nothing here.
 #[derive(Drop)]
 pub struct FoundRows<'a> {

@@ -22,6 +22,17 @@
 //!
 //! Every call whose error is or has `NoMemory` may answer that in place of any other answer, and a call costs time linear in
 //! what it is given, unless its page says otherwise. Where a call's page says how it aborts, it aborts nowhere else.
+//!
+//! # Promises
+//!
+//! - `query_shard` and `run_statement` are exactly the model's queries and statements (`ok`), abort for abort
+//!   (`stops`), over tables, windows, batches and the rows of an emit. Both need the tables and windows of the
+//!   catalogue (`HasTables`, `HasWindows`), and that each table which is split is split by a column of its key
+//!   (`SplitByKeys`): the model tells by its key whether an execution sees a row, and this crate by the row.
+//! - `plan_of` is exactly the plan that its page says. `slots_of` gives the slots of what a plan finds, and none is
+//!   missing of a row that may pass (`ok`).
+//! - A row that fails the front of WHERE fails WHERE, which doesn't abort on it (`the_front_decides`); so what a plan
+//!   finds is enough (`found_rows_are_enough`).
 #![tactic(auto)]
 
 mod batches;

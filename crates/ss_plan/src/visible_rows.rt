@@ -37,6 +37,9 @@ pub enum RowsAt<'a> {
 
 /// The rows that an execution sees on a shard, where they stand.
 ///
+/// They are a source of their own, which passes over the rows that aren't seen, instead of a conjunct that is added to
+/// WHERE: so queries, UPDATE and DELETE share one rule, and a row that isn't seen is never tested.
+///
 /// A table gives its rows by key, at their slots; a split table gives an execution that is limited to a value only the rows
 /// that have it. A window gives the rows of its visible units, an input its batch, and `inserted` the rows of the emit at
 /// hand, each row at its number. A look-up is constant, and in a window a search. A step is constant in a list, a look-up in

@@ -69,6 +69,9 @@ fn run_steps(
 /// before and empty batches. Out of memory leaves the shard as it was. Costs what the steps and their triggers cost, and for
 /// an abort at most as much again.
 ///
+/// It rolls its own abort back, as it does at out of memory, instead of leaving that to its caller: so behind it the
+/// tables are those that the entry leaves, whatever the outcome.
+///
 /// Source: transaction executions of S-Store (Meehan et al., PVLDB 8, 2015, section 2).
 pub fn run_body(
     alloc: Global,

@@ -2,7 +2,8 @@
 //!
 //! What a trigger stages may move another window, so these functions call one another. `depth` is how deep the triggers
 //! of windows may still nest: it falls by one where the triggers of a window run, and at 0 none run. In an accepted catalogue
-//! the number of windows is depth enough, since no chain of triggers meets a window twice. So no rank of windows is needed.
+//! the number of windows is depth enough (law `depth_is_enough` of `ss_model_laws`), since no chain of triggers meets a
+//! window twice. So no rank of windows is needed.
 
 ghost use Rattle.std.specs.Prelude.{◌≡◌, ◌<◌, [], ◌∷◌, length, IfOk, IfErr, OnOk};
 ghost use Rattle.std.specs.List.{AllByRecursion};

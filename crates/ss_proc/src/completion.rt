@@ -71,6 +71,9 @@ fn raise_number_of_entry(shard: &mut Shard, entry: &Entry, outcome: &Outcome)
 ///
 /// Linear in the changes, each of which costs at most a call of its table or window; for a push logarithmic in its stream's
 /// sources. Takes no memory.
+///
+/// It takes the entry and its outcome, and `rollback` the shard alone, instead of both the catalogue too: neither reads
+/// it, and a parameter that nothing reads would have no clause.
 pub fn commit(shard: &mut Shard, entry: &Entry, outcome: &Outcome)
     requires back { (before : ShardValue) × CanRollBack before shard.old }
     requires countable { IsCountable entry.now }

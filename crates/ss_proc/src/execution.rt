@@ -1,4 +1,5 @@
-//! Executions: an entry runs on the batches that the streams lend it.
+//! Executions: an entry runs on the batches that the streams lend it, by any runner, because the run on one thread and
+//! recovery both stand on it.
 
 ghost use Rattle.std.specs.Prelude.{◌≡◌, true, map, IfOk, OnErr};
 ghost use Rattle.std.specs.List.{AllByRecursion};

@@ -42,6 +42,10 @@ pub trait Runner {
     /// the tables and windows that the entry leaves: after an abort those from before, with empty batches. Counts and next
     /// numbers stay until the commit. After out of memory the shard stands for what it stood for, and nothing is left to roll
     /// back.
+    ///
+    /// That the batches are those of the database is a premise of what is promised (`RanOnEach`), instead of one of the
+    /// call: whoever runs a step got its batches from the list that it knows, and the clause serves each database of
+    /// which that is true.
     fn execute(
         &self,
         alloc: Global,

@@ -37,6 +37,9 @@ pub fn take_unit(alloc: Global, window: u16, open_units: &mut Seq<Rows>) -> Rows
 }
 
 /// Closes the unit that the execution has open in a window, with the window's triggers if this moves the end of what it shows.
+///
+/// The unit is moved into the window and none of its rows stays open, in the model too, which changes no outcome, since
+/// a window closes once, at the end.
 fn close_window(
     alloc: Global,
     given: &Given,

@@ -25,6 +25,9 @@ pub struct Given<'a, 'b: 'a> {
 
 /// How far an execution is, beside its shard: the unit that it has open in each window, its batch for each stream, and its
 /// reply.
+///
+/// After an error batches and reply may hold some of its rows, instead of being cut back, which nobody needs:
+/// `run_body` drops them then.
 #[derive(Drop)]
 pub struct Work {
     /// The open units, by window.

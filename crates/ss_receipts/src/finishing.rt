@@ -21,6 +21,9 @@ use std::alloc::Global;
 /// `NoMemory`, `DiskFault` and `Halted` as of [`crate::Receipts::ensure_durable`]. Linear in the bytes that are written; it
 /// takes memory for a copy of their entries, and what the flush takes. Where the log holds all of the list there is no call
 /// of the disk.
+///
+/// It follows settling, instead of going before the close, because the steps of settling are in the list that the
+/// report prints: so the disk stands for all of it where all is done. No client waits for it, so it takes no lock.
 pub fn finish<I: Life, D: Disk + Drop>(
     alloc: Global,
     log: &mut CmdLog<D>,

@@ -14,6 +14,24 @@
 //!
 //! In `specs/`: `Past` (what a disk was up to the opening), `Holding` (what a log and its disk hold of a list), `Durable` (what
 //! is answered), `Laws`.
+//!
+//! # What a log holds
+//!
+//! Of a list that began at the opening a log *holds* all entries below a count (`Holds`). On an honest disk each image
+//! that a crash since the opening may leave is a front of the list, and each present one stands for so many executions
+//! at least; moments before the opening keep their images. A log that wasn't halted is open on a generation that, as
+//! far as the disk tells, stands for what is kept behind these entries, and ends with them. What stands behind the lock
+//! holds, by its type, the list that the disk's note knows, up to the count that the note has posted.
+//!
+//! # Promises
+//!
+//! - `ensure_durable` (`answer`, `IsDurable`): a receipt of all places below the wanted one, or that there was no
+//!   memory, or that the disk has failed; whatever it is, the mark has then seen the receipted count and the faults
+//!   (`mark`).
+//! - `finish` (`Finishes`): the same of a list that is whole, for all of it.
+//! - Laws: what a log holds of a list it holds of each that goes on from it (`holds_go_on`); each present image is a
+//!   front that ends at the count at least (`held_fronts_stand`), and all of the list where the count is at its end
+//!   (`all_stands`); the entries of a list that replays have records (`replayed_are_recordable`).
 #![tactic(auto)]
 
 mod durable;

@@ -15,6 +15,21 @@
 //! `specs/Reading` and `specs/Records`, how they are read.
 //!
 //! Calls that take `alloc` may answer `NoMemory` in place of their answer, and so may those that only append.
+//!
+//! # Promises
+//!
+//! - `write_record` and `encode_row` append exactly the spelling (`ok`), and tell that what has one is typed (`typed`);
+//!   out of memory leaves the bytes as they were (`err`).
+//! - `read_record` and `decode_row` give exactly what stands in front of the bytes, with its length, or the first fault
+//!   from the left (`exact`). What is spelled there is found (`only`), and what is found is spelled so (`found`).
+//! - Writing and reading are joined by the laws `records_are_read_again` and `what_is_read_is_spelled_so`.
+//!
+//! # Choices
+//!
+//! - How an entry is spelled is one function (`record_bytes`), and how bytes are read another (`record_at`), instead of
+//!   one relation for both: so writing is exactly the one, and reading exactly the other, to its first fault.
+//! - Rows are spelled here, beside the records that hold them, instead of with the rows in `ss_value`: nothing between
+//!   the two crates has to spell a row, and a change of `ss_value` proves everything again.
 #![tactic(auto)]
 
 mod laws;

@@ -135,8 +135,10 @@ pub fn encode_row(alloc: Global, row: &Row, out: &mut Vec<u8>) -> Result<(), NoM
 
 /// The record of an entry. Linear in its bytes.
 ///
-/// Each text is checked again to be UTF-8, at the price of one more pass over its 255 bytes at most: so it is told here
-/// that what has a record is `IsTyped`, and that the record is read again as this very entry.
+/// It tells that what has a record is `IsTyped`, and so that the record is read again as this very entry, instead of
+/// asking for it: to contracts an index is any number and a text any list of bytes, and an index of 2^64 would be
+/// spelled as 0, so that two entries had one record. The types keep it, and no caller has to carry it. For that each
+/// text is checked again to be UTF-8, at the price of one more pass over its 255 bytes at most.
 #[tactic(auto, using(crate::proofs::Records::some_bytes))]
 pub fn record_of(alloc: Global, entry: &Entry) -> Result<Vec<u8>, NoMemory>
     requires { IsRecordable entry.now }

@@ -26,6 +26,9 @@ pub struct Replayed {
 }
 
 /// Why entries don't replay.
+///
+/// Out of memory leaves no database, instead of the one before the entry, because half a log is no store. An entry that
+/// doesn't replay hands back the list before it, by which its record is found.
 #[derive(Drop)]
 pub enum ReplayError {
     /// Out of memory, which says nothing of the entries.
@@ -64,6 +67,7 @@ pub fn replay<N: Runner>(
 {
     let mut database = database;
     let mut list = Reserved::new(alloc);
+    // Their number is known. So an entry is committed where it stands, and moves into the list behind that.
     let Ok(()) = list.reserve(entries.len()) else {
         return Err(ReplayError::NoMemory);
     };

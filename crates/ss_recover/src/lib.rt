@@ -19,6 +19,27 @@
 //! The definitions are `specs/Recovering`: what recovery gives, and what it leaves of the disk; `specs/Faults`: the first fault
 //! of a disk that holds no store; and `specs/Replaying`: what a replay begins on, and where one stops. `proofs/Premises` meets
 //! the premises.
+//!
+//! # Promises
+//!
+//! - `recover` (`recovered`: `IsRecovered`): the entries, each with its outcome, replay from the image's database to
+//!   the one that is given, which is whole; the log is open on a generation that stands for the same; on an honest disk
+//!   a crash since the call began leaves what it could leave before, or what stands for this (`moments`). A refusal
+//!   carries what it says of the disk and what it leaves of it (`refused`: `RefusesAsSaid`).
+//! - `replay`: the given entries, each with its outcome (`entries`), which replay on every database that the given one
+//!   stands for (`replayed`); or those before the first entry that doesn't replay (`foreign`).
+//! - Law `a_disk_has_one_fault`: a disk is empty, or a store of one catalogue, or has one first fault.
+//!
+//! # Choices
+//!
+//! - What is said of a replay is said of every database that the given one stands for (`IsOnAt`), instead of one that
+//!   is named, because a program's database has no list of all batches and all units.
+//! - What a crash may leave is what it could leave before, or what stands for what is recovered (`moments`), instead of
+//!   the second alone for a disk with nothing unsynced, because it needs no premise. The second follows (`quiet`).
+//! - A refusal leaves the disk as it was, but where a store was being made. A disk that holds something else isn't
+//!   mended or cut, because the first byte that can't be is all that is known of it.
+//! - The database is dealt to the partitions as it is made, instead of later, because a table's rows are dealt as they
+//!   come.
 #![tactic(auto)]
 
 mod entries;

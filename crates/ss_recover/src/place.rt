@@ -1,4 +1,8 @@
 //! Where the record of an entry stands in its file.
+//!
+//! It is found by the entries before it and by how many each group has (`Loaded.sizes`), instead of kept for each
+//! entry, because it is needed of one entry at most, and only where a store is refused. Then each record before it is
+//! spelled once.
 
 ghost use Rattle.std.specs.Prelude.{◌≡◌, ◌+◌, length, IfOk, All};
 ghost use Rattle.ss_record.specs.Bounds.{IsRecordable};

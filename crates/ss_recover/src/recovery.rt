@@ -18,6 +18,9 @@ use ss_value::Failed;
 use std::alloc::Global;
 
 /// Whether nothing was formatted yet, told behind a sync.
+///
+/// `CmdLog::open` begins with a sync again, instead of going without, because each of the two promises what a crash
+/// leaves by itself. The second one finds nothing to do.
 fn is_empty<D: Disk>(disk: &mut D) -> Result<bool, Failed>
     ensures empty { D.tells → result ≡ Ok true → IsEmpty (D.seen disk.old) }
     ensures stored { D.tells → result ≡ Ok false → (D.seen disk.old).selector ≢ [] }
@@ -37,7 +40,7 @@ fn is_empty<D: Disk>(disk: &mut D) -> Result<bool, Failed>
 /// lists come to what they came to, and no others run. An empty disk is made a store of the given catalogue. The database is
 /// dealt to so many partitions, 1 to 8.
 ///
-/// Refuses `Nothing` exactly where the disk is empty and no catalogue is given, and `OtherCatalog` where the store is of
+/// Refuses `Nothing` where the disk is empty and no catalogue is given, unless a call fails, and `OtherCatalog` where the store is of
 /// another one than is given, by their texts. `Foreign` tells the first byte that can't be in a disk that is neither empty nor a
 /// store: of the generation, else of its image, else the record of the first entry that doesn't replay. `DiskFault` comes only
 /// where the disk counted a fault.

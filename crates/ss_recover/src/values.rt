@@ -47,6 +47,9 @@ pub fn has_value(catalog: &Catalog, database: &Database, entry: &Entry) -> bool
 }
 
 /// Whether an entry replays at a place: it has one, and a value on the database.
+///
+/// The place is tested here, instead of by whoever opens the store, because place 2^60 is then one refusal among the
+/// others, with its record.
 pub(crate) fn replays(catalog: &Catalog, database: &Database, place: u64, entry: &Entry) -> bool
     requires accepted { Accepted catalog.now }
     requires on { (d : Model) × IsOn catalog.now database.now d }

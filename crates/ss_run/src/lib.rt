@@ -14,6 +14,18 @@
 //!
 //! Every call that takes `alloc` may answer that it is out of memory, by `NoMemory` or by None. The entry that it was
 //! running is then rolled back and not in the list. A call costs what its executions cost, and what its page adds.
+//!
+//! # Promises
+//!
+//! `run_requests`: its list replays (`ok`) and has the orders (`orders`); it has what clients asked for in the order of
+//! the input (`in_order`), and of each client just what its answers name (`answered`); at the end nothing is left to
+//! run (`drained`), and the database is whole (`whole`) and the one after the list (`stands`).
+//!
+//! # Choices
+//!
+//! The program doesn't run this crate: `ss_engine` runs at any number of partitions. It stays because it is the
+//! plainest thing with such a promise. Its list has the requests of all clients in the order of the input, which
+//! threads don't keep.
 #![tactic(auto)]
 
 mod entry;

@@ -23,7 +23,8 @@ pub enum Work<J> {
 /// What waits for a partition: hints that procedures may be ready, and jobs of clients.
 ///
 /// Each lane is first in, first out, and hints go ahead of jobs. The hint of a procedure waits once at most, so there is
-/// always room for it; `new` says how many jobs there is room for. All calls but `new` take constant time.
+/// always room for it; `new` says how many jobs there is room for. All calls but `new` take constant time and no memory, so
+/// no hint is lost where memory is short.
 ///
 /// Source: the fast track of S-Store's scheduler, in which triggered work goes ahead of client work (Meehan et al.,
 /// PVLDB 8, 2015, section 3.2).

@@ -125,6 +125,7 @@ impl Ranks {
     {
         let emitters = emitters(catalog);
         let mut by_number = zeros();
+        // Each round is the definition's own recursion, instead of a walk in topological order.
         // No path has more procedures than the catalogue, so as many rounds are enough, in whatever order they are listed.
         for round in 0..catalog.procedures.len() {
             by_number = next_ranks(catalog, &emitters, &by_number);

@@ -215,6 +215,11 @@ fn blanks(alloc: Global, catalog: &Catalog, parts: u8) -> Result<Seq<Shard>, NoM
 
 /// The database of a catalogue before the first execution. `parts` is how many partitions run.
 ///
+/// A table has a fragment for each of them from here on, instead of being dealt when the database is split: a row goes
+/// to the fragment of its partition when it is inserted, so a split and a join move fragments, and cost the same at any
+/// number of rows. That the database is whole is said where the catalogue's empty database is (`whole`), since that is
+/// a law of the model on which this crate doesn't stand.
+///
 /// For each partition linear in the catalogue's tables, their keys and indexes, its windows and its procedures, and once linear in
 /// its procedures' inputs for each stream.
 pub fn opening(alloc: Global, catalog: &Catalog, parts: u8) -> Result<Database, NoMemory>

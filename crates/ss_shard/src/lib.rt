@@ -19,6 +19,49 @@
 //!
 //! Every call whose error is or has `NoMemory` may answer that in place of any other answer, and a call costs time linear in
 //! what it is given, unless its page says otherwise.
+//!
+//! # Promises
+//!
+//! - `insert_row`, `delete_row`, `replace_row` and `stage_unit` change just that, and note it (`ok`); an error changes
+//!   no row and no window (`err`). In tables and windows of a catalogue an insert and a unit come to exactly what the
+//!   model's do, or stop as they do (`ok`, `stops`). Each of them leaves the rest of a shard, and where a rollback ends
+//!   (`Changed`).
+//! - `rollback` ends where nothing was noted (`back`, `holds`). `commit` keeps the live rows, and of each window the
+//!   number of units and those that may still be seen (`tables`, `windows`). Behind both there is nothing to take back
+//!   (`committed`), and neither takes memory.
+//! - In each of the `indexes` of a table every live row has its pair (`rows`). `next_number` is exactly the next
+//!   number.
+//! - `absorb`, `unite` and `join` bring the parts of several shards into one, and `release`, `part` and `split` give
+//!   them back: whatever database each held its parts of, each holds just the parts that it then has (`HasAbsorbed`,
+//!   `WereUnited`, `WereJoined`; `HasReleased`, `WereParted`, `WasSplit`). Out of memory leaves each shard what it
+//!   held. `release` and `part` take none.
+//! - `blank` is the shard of one partition before the first entry (`is_shard`, `holds`), and `opening` the whole
+//!   database with its streams (`is_whole`, `stands`, `whole`).
+//!
+//! # How a shard stands for a database
+//!
+//! - To the model a shard is what `contents_of` says: of each table its live rows by key, and of each window all its
+//!   units, with blank ones in place of those dropped. Slots, dead rows and noted changes are no part of it. So what an
+//!   insert or a unit comes to is an equation of contents.
+//! - It stands for every database with the same rows, counts and next numbers, and with windows of as many units of
+//!   which the same may still be seen (`HoldsDatabase`), instead of for one that it remembers: for its own contents
+//!   (`holds_itself`), and what an entry comes to there it comes to on each of the others (`carried_to_each`).
+//! - A shard of some partitions stands for a database with blanks for what is of the others (`HoldsParts`). So nothing
+//!   that runs on a shard knows how many parts it has: on one that has what an entry touches, an execution is the one
+//!   on the whole database (`runs_on_parts` of `ss_proc`).
+//! - A `Database` stands for one of the model (`StandsFor`) with its shard and its streams, and is whole where there is
+//!   nothing to take back, and some whole database of the model is one that it stands for (`IsWhole`).
+//!
+//! # Choices
+//!
+//! - That rows stand in the parts that a shard has is a fact of what it stands for, instead of an invariant: a
+//!   statement may name any key, and only the locality of accepted catalogues says that it doesn't (`uses_are_touched`
+//!   of `ss_model_laws`). A shard that takes in another has to hold, with it, parts of some one database; nothing else
+//!   asks for it.
+//! - That tables have a catalogue's keys and limits is a clause (`HasTables`), instead of part of the type, because a
+//!   type's invariant can name no catalogue but one that the value holds, and a shard that held its catalogue would
+//!   copy it, or borrow it for as long as it lives. `opening` makes such tables and no others, each change leaves them
+//!   so (`Changed`), and so do `commit` and `rollback` (`committed`): no run tests it.
 #![tactic(auto)]
 
 mod database;

@@ -53,6 +53,7 @@ pub fn insert_indexed(
         unreachable!()
     };
     // The row first, since its pairs have its slot; where they find no memory it is taken out again, which needs none.
+    // So an index without memory keeps the row out, instead of lagging behind.
     if add_pairs(indexes, table, row, slot).is_err() {
         let _ = rows.remove_fresh(slot);
         return Err(TableError::NoMemory);

@@ -40,8 +40,9 @@ pub const WINDOW_UNITS: u64 = 4_611_686_018_427_387_904;
 /// long as the table or a note has the row.
 ///
 /// Contracts see the number, the tables, the changes since the last commit or rollback, the columns of the indexes, the
-/// windows, the counts and the next numbers. What an index holds follows from the tables and the changes, so no contract
-/// speaks of it.
+/// windows, the counts and the next numbers. What an index holds follows from the tables and the changes, so no
+/// contract speaks of it: it is the type's invariant, instead of a clause of each call. The fields are private, since
+/// whoever writes one owes this.
 ///
 /// - `insert_row`: the table's `insert`, and a search and a move of one chunk for each index.
 /// - `delete_row`: nothing for indexes; each drops the row's pair at the commit.

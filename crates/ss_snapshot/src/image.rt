@@ -49,6 +49,9 @@ fn common_bytes(bytes: &[u8], image: &[u8]) -> usize
 }
 
 /// The catalogue of an image, without the law that there is no other.
+///
+/// The catalogue's image is written and compared, instead of being read number by number: what counts is the first byte
+/// that differs, and this is then how many first bytes two lists have in common. Costs a copy of the text.
 fn catalog_in(alloc: Global, bytes: &[u8]) -> Result<Catalog, ImageError>
     ensures ok { IfOk result (IsEmptyImage bytes.now) }
     ensures accepted { IfOk result Accepted }

@@ -12,6 +12,13 @@
 //! that can't be. How an image spells what is kept of any database is `ss_standing`'s `specs/Image`.
 //!
 //! Calls that take `alloc` may answer `NoMemory` in place of their answer.
+//!
+//! # Promises
+//!
+//! - `empty_image` is exactly the bytes that spell what is kept of a catalogue's empty database (`ok`).
+//! - `read_empty_image` gives the catalogue of which the bytes are that image (`ok`), which is accepted (`accepted`),
+//!   or the first byte that can't be (`refused`). Of bytes that are the image of a catalogue it gives just this one
+//!   (`again`).
 #![tactic(auto)]
 
 mod error;

@@ -20,8 +20,9 @@ use std::alloc::Global;
 /// The offset of the text's first byte, behind the four of its length.
 const TEXT_AT: u64 = 4;
 
-/// Adds a text behind its length, which takes four bytes. A longer text than these can tell, which no line has room for,
-/// is reported as out of memory.
+/// Adds a text behind its length, which takes four bytes. A longer text than these can tell, which no line has room
+/// for, is reported as out of memory, instead of being ruled out by a premise: no clause bounds a catalogue's text.
+/// That the compact text of a value is no longer than the text that the value was read from is no law.
 pub(crate) fn push_text(out: &mut Vec<u8>, text: &[u8]) -> Result<(), NoMemory>
     ensures spelled { OnOk result (out.new.items ≡ out.old.items ++ text_bytes text.now) }
     ensures short { OnOk result (length text.now < 2 ^ 32) }
@@ -97,6 +98,9 @@ fn refusal(refused: &CatalogError) -> ImageError
 }
 
 /// The catalogue that is read from a text, as one is read from the first line of an input; the text has to be its own.
+///
+/// That it is UTF-8 is a part of that beside what `Reads` says (`IsReadFromItsText`), since what JSON a text is doesn't
+/// depend on it, and bytes that aren't UTF-8 are refused before they are read.
 pub(crate) fn catalog_of(alloc: Global, text: &[u8]) -> Result<Catalog, ImageError>
     ensures own { IfOk result IsReadFromItsText }
     ensures text { IfOk result (λ catalog. catalog.text ≡ text.now) }

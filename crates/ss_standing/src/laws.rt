@@ -30,7 +30,9 @@ pub fn stands_for_one()
     kept_carries();
 }
 
-/// Two catalogues of which an image that isn't empty stands for something have one text.
+/// Two catalogues of which an image that isn't empty stands for something have one text, where these fit their lengths.
+/// They are compared by their texts, since an image holds a text; what catalogue a text is read as is told in
+/// `ss_snapshot`.
 pub fn stands_for_one_text()
     ensures { StandsForOneText }
 {
@@ -67,7 +69,9 @@ pub fn forming_stands()
     whole_databases_stay();
 }
 
-/// Where an image stands for a prefix of a list, and for so many executions at least, it stands for these entries.
+/// Where an image stands for a prefix of a list, and for so many executions at least, it stands for these entries. A
+/// front of a list says where it ends at least; a prefix, and what a receipt leaves, are cases of it, instead of
+/// definitions of their own, since what a crash leaves and what a receipt promises are said of one image.
 pub fn receipts_bound_fronts()
     ensures { ReceiptsBoundFronts }
 {

@@ -14,6 +14,32 @@
 //! The definitions are `specs/Image`, how an image spells what is kept of a database; `specs/FitsImage`, what an image has
 //! room for; `specs/Standing`, what files stand for; `specs/Behind`, entries behind those that a generation has; and
 //! `specs/Keeping`, what stands of a list while it grows.
+//!
+//! # Promises
+//!
+//! - What is kept of a whole database is told by its image (`an_image_tells_what_is_kept`), and a list on a database by
+//!   its entries (`entries_tell_a_list`). So an image of a disk stands for one count and for one kept
+//!   (`stands_for_one`), and for something of catalogues with one text alone (`stands_for_one_text`). The count is that
+//!   of the log, and its receipts are for executions (`counts_are_executions`, `log_receipts_tell`).
+//! - Entries that replay, behind a generation, stand for the place after them (`generations_go_on`, `behind_goes_on`),
+//!   and the first entries of a list for that front of it (`fronts_stand`).
+//! - What a crash leaves in a format stands for the empty database (`forming_stands`), and in a flush for a front of
+//!   what is flushed (`flushes_leave_fronts`, `prefixes_go_on`), which ends behind what is receipted
+//!   (`receipts_bound_fronts`). A flush that is done leaves what stands for all of the list (`flushes_keep`).
+//!
+//! # Choices
+//!
+//! - The database of an image is whole, has had at most as many batches in each stream as there were executions, and
+//!   fits the image (`IsImageAt`), instead of being any of which the bytes spell what is kept. Without that bytes stand
+//!   for several things: 2^64 and 0 have one spelling, two tables with the same rows at other keys have one, and next
+//!   numbers of a stream that is no border stream have none. Of the databases that a list reaches the first two are
+//!   laws (`whole_databases_stay`, `batches_are_bounded` of `ss_model_laws`); the third is what the program's types
+//!   hold.
+//! - What fits an image is said of what is kept (`FitsImage`), instead of the database, because batches and units that
+//!   were dropped are in no image, and a recovered database needn't have them. How many units of a window are kept
+//!   isn't bounded, though an image gives their number in four bytes, because it follows from how many there have been.
+//! - Entries behind a generation aren't asked to be typed (`IsBehind`): a group has typed entries alone, so a
+//!   generation which files stand for has no others.
 #![tactic(auto)]
 
 mod laws;

@@ -15,6 +15,23 @@
 //!
 //! Every call whose error is or has `NoMemory` may answer that in place of any other answer, and a call costs time linear in
 //! what it is given, unless its page says otherwise.
+//!
+//! # Promises
+//!
+//! - `Streams::emit` puts exactly one batch behind the others of a stream (`joined`), and can't fail where there is
+//!   room (`free`), which `reserve` makes (`ok`). `pass` moves a consumer exactly one batch further (`passed`), and
+//!   leaves no less room (`room`). `batch` is exactly the batch of a number.
+//! - Of the calls of `Streams` only `new`, `resume`, `reserve` and an `emit` without room take memory. Where there is
+//!   none, `resume` and `emit` give back what they were given (`refused`).
+//! - `empty_streams` gives the streams of the empty database.
+//!
+//! # How streams stand for those of a database
+//!
+//! In the model a stream has all its batches for ever. What is kept of them is said once (`pending_from`): of batches
+//! from a number on, those that some cursor has still to pass. A stream with one batch more, and one of which a
+//! consumer has passed one more, are made by it (`with_batch`, `passed_by`). The streams of a database (`AreStreamsOf`)
+//! are what it keeps of all batches of each, with each consumer at the count of its procedure. So they are a function
+//! of the database, and need no invariant beside it.
 #![tactic(auto)]
 
 mod cursor;

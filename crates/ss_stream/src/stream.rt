@@ -149,7 +149,7 @@ impl Stream {
     {
         let number = self.first + self.batches.len() as u64;
         if self.cursors.is_empty() {
-            // Nobody will take it, so it is counted and dropped.
+            // Nobody will take it, so it is counted and dropped. No accepted catalogue has such a stream.
             self.first = number + 1;
             return Ok(number);
         }

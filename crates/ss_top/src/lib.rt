@@ -14,6 +14,28 @@
 //! - `laws`: an input has one answer
 //!
 //! Every call that takes `alloc` may find itself out of memory, which is then its error or its status.
+//!
+//! # Promises
+//!
+//! - `sstore`: `Ends`, which docs/CLAIM.md goes through field by field.
+//! - Inside it `run_on_store` and `recover_store` (`came`) say what running requests on a store has come to, by status
+//!   (`ComesTo`, `RecoversTo`), and `run_and_report` (`reported`) that the status and the text of a session are those
+//!   of a whole run or a stopped one (`Reports`).
+//! - Law `an_input_has_one_answer`: an input starts with one catalogue and one list of requests, or has one refusal.
+//!
+//! # What a run is put together from
+//!
+//! What the calls below owe is said of the disk, from one value of it to the next:
+//!
+//! - `recover`, `IsRecovered`: in the words of `ss_headline` this is `Opened`, and that the disk was empty or a store
+//!   of this catalogue (`WasOf`), together `IsOpenedFor`. Where it refuses, `RefusesAsSaid`, it is `AsBefore`, or
+//!   `NothingRan` by the law `nothing_ran`.
+//! - `run_session`, `EndsOnDisk`: this is `Closed`, and with a last flush that went well behind a settling that ended
+//!   well `Settled`, else `Receipted`.
+//! - The laws `whole_runs` and `stopped_runs` take `Opened` of the disk up to the session, `Closed` with `Settled` or
+//!   `Receipted` of the disk from there on, and the answers to the clients. So a run (`RanAs`) speaks of the disk that
+//!   the program was given and of the one that it leaves.
+//! - `TellsReport` and `TellsRefusal` say which of the text was written, and with which status the program ends.
 #![tactic(auto)]
 
 mod command_line;

@@ -33,6 +33,10 @@ use std::thread::Threads;
 const PLACES: u64 = 1 << 60;
 
 /// How a run that did all is printed.
+///
+/// The benchmark's show is run by the same inner call as an input's requests, which prints what its caller says,
+/// instead of by a run of its own. So `CameTo` is the one clause of both commands, and the two differ only in what is
+/// printed where all was done. A show that stops has the stopped report.
 #[derive(Clone, Copy, Drop)]
 pub(crate) enum Printing {
     /// By its report.
@@ -65,7 +69,8 @@ fn client_count(requests: &[Request]) -> u8
     count
 }
 
-/// How many entries a session may have that begins at a place.
+/// How many entries a session may have that begins at a place: the limit, but never past place 2^60, because places
+/// have a bound in a generation and in the log. A store that comes near it stops as at a list that is full.
 fn room_from(limit: u64, first: u64) -> u64
     requires { first ≤ 2 ^ 60 }
     ensures { result ≡ room_from limit first }
@@ -149,7 +154,7 @@ fn end_for(
 /// The report of a finished session.
 ///
 /// Linear in the bytes of the report. Where there is no memory for it the session has stopped for want of memory, whatever it
-/// ended with.
+/// ended with. It is a stopped run all the same (`Reports`): the list and the receipts are what they would be with a report.
 fn report_session<D: Disk + Drop>(
     alloc: Global,
     finished: Finished<D>,

@@ -39,7 +39,8 @@ fn write_report<K: Sink>(sink: &mut K, status: Status, text: &Option<Seq<u8>>) -
     if let Status::Done = status {
         return write_whole(sink, text.as_slice());
     }
-    // Where the sink fails this status stays: status 4 comes only in place of 0.
+    // Where the sink fails this status stays: status 4 comes only in place of 0, because another status has more to
+    // tell than a sink.
     let _ = write_all(sink, text.as_slice());
     status
 }

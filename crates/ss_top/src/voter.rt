@@ -16,6 +16,9 @@ use ss_words::Show;
 use std::alloc::Global;
 
 /// The benchmark's catalogue. Linear in its text.
+///
+/// It is read from its text in each call, instead of being written down as a value, because which numbers its names
+/// have is a law of reading (`voter_has_numbers`), and a second spelling could differ.
 fn read_voter(alloc: Global) -> Result<Catalog, NoMemory>
     ensures voter { IfOk result IsVoter }
     ensures own { IfOk result IsOwnCatalog }

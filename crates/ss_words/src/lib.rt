@@ -28,6 +28,12 @@
 //! - `found`: the options that were found so far, and the command that they suit
 //! - `command`: `command_line`, what the words ask for
 //! - `laws`: words spell one list of options at most
+//!
+//! # Promises
+//!
+//! - `command_line`: None exactly where the words are no command (`IsCommand`), and else the command with just what its
+//!   options ask for (`AsksFor`).
+//! - Law `words_have_one_spelling`: words spell one list of options at most.
 #![tactic(auto)]
 
 mod command;

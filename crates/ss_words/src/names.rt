@@ -4,6 +4,9 @@ ghost use Rattle.std.specs.Prelude.{◌≡◌, ◌≢◌, MatchOption};
 ghost use Rattle.ss_words.specs.Words.{dashed};
 
 /// What a show of the benchmark is made from.
+///
+/// Each of the three has to be asked for, instead of having a default, because a figure is only worth what was asked
+/// for.
 #[derive(Clone, Copy, Debug, PartialEq, Eq, Drop)]
 pub struct Show {
     /// What the calls are drawn from: 0 to 9999999.

@@ -1,4 +1,5 @@
-//! The same of lists, whose items are moved out for it and back.
+//! The same of lists, whose items are moved out for it and back, since a `Seq` lends no slice that can be changed. That
+//! costs a few words, whatever the lists are.
 
 ghost use Rattle.std.specs.Prelude.{◌≡◌, [], length, OnOk, OnErr};
 ghost use Rattle.ss_undo.specs.Indexed.{AreIndexed, columns_of};

@@ -1,4 +1,8 @@
 //! Shards that take in the parts of others, and give them back.
+//!
+//! What lends its part leaves a *shell*: its lists of tables, indexes, windows, counts and sources, with blanks in
+//! them, into which all of it is put back. So giving back takes no memory and can't fail, as it must not once an
+//! execution is listed.
 
 ghost use Rattle.std.specs.Prelude.{◌≡◌, ◌≤◌, length, List, ℕ, OnOk, OnErr};
 ghost use Rattle.ss_model.specs.Accepted.{Accepted};
@@ -80,6 +84,8 @@ impl Shard {
         ensures ok { OnOk result (Absorbs catalog.now parts self.old other.old self.new other.new) }
         ensures err { OnErr result ((self.new ≡ self.old) × (other.new ≡ other.old)) }
     {
+        // Tables and indexes first, one by one, which are given back where the next finds no memory; what changes
+        // places takes none. So an error has changed nothing.
         absorb_lists(
             alloc,
             &mut self.tables,

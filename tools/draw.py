@@ -1,0 +1,244 @@
+#!/usr/bin/env python3
+"""Draws the workflows of a catalogue, in text for a terminal or as SVG for a browser.
+
+    python3 tools/draw.py examples/telemetry.jsonl
+    python3 tools/draw.py --svg examples/telemetry.jsonl > telemetry.svg
+
+CATALOGUE is an input, or a file with the catalogue alone. Streams are arrows from who feeds them to who takes them; of each
+procedure it says what it touches, reads and writes, with its windows and triggers. What SQL names is found by its words alone,
+so it may be drawn of a catalogue that is still refused. Status 0: done; 1: the file is wrong; 2: the options are.
+"""
+import html
+import re
+
+from shared import Wrong, catalogue_of, end, options
+
+CLIENTS, NOBODY = "clients", "nobody"
+LETTER, LINE, PAD, GAP = 7.3, 17, 9, 26  # the width of a letter, the height of a line, the space in a box and between boxes
+STYLE = "text{font:12px monospace;fill:#222}.name{font-weight:bold}rect{fill:#f4f6fa;stroke:#567}path{fill:none;stroke:#567}"
+
+
+def texts_of(step):
+    """The SQL of a step and of its inner steps; of the two short forms what they come to."""
+    yield from ("INSERT INTO " + step[key] for key in ("insert",) if key in step)
+    yield from ("SELECT FROM " + step[key] for key in ("return_all",) if key in step)
+    yield from (step[key] for key in ("sql", "abort_if", "return") if key in step)
+    for inner in step.get("body", []):
+        yield from texts_of(inner)
+
+
+def uses_of(texts, tables):
+    """What SQL texts read and write among these tables, a line each."""
+    text = re.sub("'[^']*'", "''", " ; ".join(texts))
+    written = set(re.findall(r"\b(?:INSERT\s+INTO|UPDATE|DELETE\s+FROM)\s+([a-z]\w*)", text)) & tables
+    read = set(re.findall(r"\b(?:FROM|JOIN)\s+([a-z]\w*)", re.sub(r"\bDELETE\s+FROM\b", "", text))) & tables
+    return [word + ", ".join(sorted(names)) for word, names in (("reads ", read), ("writes ", written)) if names]
+
+
+def touched(touch):
+    """A touch set in words."""
+    if isinstance(touch, dict) and "multi" in touch:
+        return "parts " + ", ".join(map(str, touch["multi"] if isinstance(touch["multi"], list) else []))
+    if isinstance(touch, dict) and "arg" in touch:
+        return f"partition of {touch['arg']}"
+    return f"part {touch.get('part')}" if isinstance(touch, dict) else "all parts"
+
+
+def lines_of(procedure, catalogue, feeds):
+    """What a drawing says of a procedure, in lines: what it touches and uses, its windows, and the triggers that run in it."""
+    tables = {table["name"] for table in catalogue["tables"]}
+    lines = [f"{procedure['kind']}, {touched(procedure['touch'])}"]
+    lines += uses_of([text for step in procedure["body"] for text in texts_of(step)], tables)
+    mine = [name for name, emitters in feeds.items() if procedure["name"] in emitters]
+    for window in catalogue["windows"]:
+        if window["owner"] == procedure["name"]:
+            mine.append(window["name"])
+            lines.append(f"window {window['name']}: {window['size']} {window['unit']}, slides by {window['slide']}")
+    for trigger in catalogue["triggers"]:
+        if trigger["on"] in mine:
+            lines += [f"trigger {trigger['name']} on {trigger['on']}"] + ["  " + use for use in uses_of(trigger["sql"], tables)]
+    return lines
+
+
+def feeds_of(catalogue):
+    """Of each stream who emits to it."""
+    feeds = {stream["name"]: [] for stream in catalogue["streams"]}
+    for procedure in catalogue["procedures"]:
+        for name in dict.fromkeys(step["emit"] for step in procedure["body"] if "emit" in step):
+            feeds.setdefault(name, []).append(procedure["name"])
+    return feeds
+
+
+def links_of(catalogue, feeds):
+    """The arrows: who feeds, the stream, who takes."""
+    takers = {name: [p["name"] for p in catalogue["procedures"] if name in p.get("inputs", [])] for name in feeds}
+    return [(f, name, t) for name in feeds for f in feeds[name] or [CLIENTS] for t in takers[name] or [NOBODY]]
+
+
+def tree(node, links, seen, front=""):
+    """The arrows from a node on, in lines that are indented by what leads there."""
+    mine = [link for link in links if link[0] == node]
+    for number, (_, stream, taker) in enumerate(mine, 1):
+        is_last, again = number == len(mine), taker in seen
+        yield front + ("└─ " if is_last else "├─ ") + f"{stream} ─> {taker}" + (" (as above)" if again else "")
+        seen.add(taker)
+        if not again:
+            yield from tree(taker, links, seen, front + ("   " if is_last else "│  "))
+
+
+def tables_of(catalogue):
+    """A line for each table: its name and where it is."""
+    return [f"table {t['name']}, " + (f"split by {t['by']}" if "by" in t else f"part {t.get('part')}") for t in catalogue["tables"]]
+
+
+def in_text(boxes, links, tables):
+    """The drawing for a terminal."""
+    seen = set()
+    for root in sorted({link[0]: 0 for link in links}, key=lambda feeder: feeder != CLIENTS):
+        if root not in seen:  # what no client reaches is fed by itself
+            seen.add(root)
+            yield from [root, *tree(root, links, seen), ""]
+    for name, lines in boxes.items():
+        yield from [name, *("    " + line for line in lines)]
+    yield from ["", *tables] if tables else []
+
+
+def back_links(links):
+    """The arrows that lead back to where they come from, which an accepted catalogue has none of."""
+    back, done = set(), set()
+
+    def walk(node, path):
+        for link in links:
+            if link[0] == node and link[2] in path:
+                back.add(link)
+            elif link[0] == node and link[2] not in done:
+                walk(link[2], path | {link[2]})
+        done.add(node)
+    for feeder, _, _ in links:
+        if feeder not in done:
+            walk(feeder, {feeder})
+    return back
+
+
+def columns_of(boxes, links):
+    """The boxes of the workflows in columns, each behind those that feed it; an arrow that passes a column has a point there."""
+    depth, back = {CLIENTS: 0}, back_links(links)
+    depth.update({node: 1 for link in links for node in link[::2] if node != CLIENTS})
+    for _ in boxes:  # no path is longer
+        for feeder, _, taker in (link for link in links if link not in back):
+            depth[taker] = max(depth[taker], depth[feeder] + 1)
+    columns, arrows = [[node for node in depth if depth[node] == at] for at in range(max(depth.values()) + 1)], []
+    for feeder, stream, taker in links:
+        points = [(feeder, stream, taker, at) for at in range(depth[feeder] + 1, depth[taker])]
+        for point in points:
+            columns[point[3]].append(point)
+        arrows.append((stream, [feeder, *points, taker]))
+    return columns, arrows
+
+
+def size_of(name, lines):
+    """The width and height of a box."""
+    return max(map(len, [name, *lines])) * LETTER + 2 * PAD, (len(lines) + 1) * LINE + 2 * PAD
+
+
+def placed(columns, boxes, widest):
+    """Of each box and point its left, top, width and height, and the height of all."""
+    at, left, sizes = {}, PAD, {n: size_of(n, boxes.get(n, [])) if isinstance(n, str) else (0, LINE) for c in columns for n in c}
+    height = max(sum(sizes[n][1] + GAP for n in column) for column in columns)
+    for column in columns:
+        width, top = max((sizes[n][0] for n in column), default=0), PAD + (height - sum(sizes[n][1] + GAP for n in column)) / 2
+        for node in column:
+            at[node] = (left, top, sizes[node][0] or width, sizes[node][1])
+            top += sizes[node][1] + GAP
+        left += width + widest * LETTER + 2 * GAP
+    return at, height
+
+
+def in_rows(names, boxes, top, most):
+    """Of each call its left, top, width and height, in rows, and where the last row ends."""
+    at, left, high = {}, PAD, 0
+    for name in names:
+        width, height = size_of(name, boxes[name])
+        if left > PAD and left + width > most:
+            left, top, high = PAD, top + high + GAP, 0
+        at[name] = (left, top, width, height)
+        left, high = left + width + GAP, max(high, height)
+    return at, top + high + GAP
+
+
+def box_in_svg(name, lines, place):
+    """A box with its lines."""
+    left, top, width, height = place
+    yield f'<rect x="{left:.0f}" y="{top:.0f}" width="{width:.0f}" height="{height:.0f}" rx="5"/>'
+    for number, line in enumerate([name, *lines]):
+        kind = "" if number else ' class="name"'
+        indent = (len(line) - len(line.lstrip())) * LETTER
+        yield f'<text{kind} x="{left + PAD + indent:.0f}" y="{top + PAD + LINE * (number + 0.7):.0f}">{html.escape(line.strip())}</text>'
+
+
+def arrow_in_svg(stream, stops, at, ports):
+    """An arrow through its stops, with its stream's name at the beginning. Arrows at one box part by their ports."""
+    for number, (here, there) in enumerate(zip(stops, stops[1:])):
+        (left, top, width, height), (to, its_top, _, its_height) = at[here], at[there]
+        x, y = left + width, top + height * ports[here, "out", stream, stops[-1]]
+        end_y = its_top + its_height * ports[there, "in", stream, stops[0]]
+        bend, tip = (to - x) / 2, ' marker-end="url(#tip)"' if there == stops[-1] else ""
+        bend, low = (bend, 0) if bend > 0 else (3 * GAP, height + its_height)  # one that leads back goes below the boxes
+        yield f'<path d="M{x:.0f} {y:.0f} C{x + bend:.0f} {y + low:.0f} {to - bend:.0f} {end_y + low:.0f} {to:.0f} {end_y:.0f}"{tip}/>'
+        if here != stops[-1] and not isinstance(here, str):
+            yield f'<path d="M{left:.0f} {y:.0f} H{x:.0f}"/>'
+        if number == 0:
+            yield f'<text x="{x + PAD:.0f}" y="{y - 5:.0f}">{html.escape(stream)}</text>'
+
+
+def ports_of(arrows, at):
+    """Of each end of an arrow how far down its box it is, from 0 to 1: in the order in which the boxes at the other ends stand."""
+    ends = {}
+    for stream, stops in arrows:
+        for here, there in zip(stops, stops[1:]):
+            ends.setdefault((here, "out"), []).append((at[there][1], stream, stops[-1]))
+            ends.setdefault((there, "in"), []).append((at[here][1], stream, stops[0]))
+    return {(*node, *end[1:]): (number + 1) / (len(all_of) + 1) for node, all_of in ends.items() for number, end in enumerate(sorted(all_of))}
+
+
+def in_svg(boxes, links, tables):
+    """The drawing for a browser: workflows from left to right, the calls in rows below, and the tables."""
+    columns, arrows = columns_of(boxes, links) if links else ([[]], [])
+    at, top = placed(columns, boxes, max((len(link[1]) for link in links), default=0))
+    most = max([900.0] + [left + width for left, _, width, _ in at.values()])
+    below, top = in_rows([name for name in boxes if name not in at], boxes, PAD + top, most)
+    at.update(below)
+    width = max([200 * bool(tables)] + [left + width for left, _, width, _ in at.values()]) + PAD
+    height = top + LINE * (len(tables) + 1)
+    yield f'<svg xmlns="http://www.w3.org/2000/svg" width="{width:.0f}" height="{height:.0f}"><style>{STYLE}</style>'
+    yield '<defs><marker id="tip" markerWidth="9" markerHeight="8" refX="8" refY="4" orient="auto">'
+    yield '<path d="M0 0 L8 4 L0 8 z" style="fill:#567"/></marker></defs>'
+    yield f'<rect width="{width:.0f}" height="{height:.0f}" style="fill:#fff;stroke:none"/>'
+    for stream, stops in arrows:
+        yield from arrow_in_svg(stream, stops, at, ports_of(arrows, at))
+    for name in (node for node in at if isinstance(node, str)):
+        yield from box_in_svg(name, boxes.get(name, []), at[name])
+    for number, line in enumerate(tables):
+        yield f'<text x="{PAD}" y="{top + LINE * (number + 0.7):.0f}">{html.escape(line)}</text>'
+    yield "</svg>"
+
+
+def main():
+    parser = options(__doc__)
+    parser.add_argument("catalogue", metavar="CATALOGUE", help="an input, or a file with the catalogue alone")
+    parser.add_argument("--svg", action="store_true", help="make SVG, which a browser shows")
+    parser.add_argument("--streams", action="store_true", help="leave out calls and tables")
+    asked = parser.parse_args()
+    catalogue = catalogue_of(asked.catalogue)
+    feeds = feeds_of(catalogue)
+    kept = [p for p in catalogue["procedures"] if p["kind"] != "call" or not asked.streams]
+    boxes = {p["name"]: lines_of(p, catalogue, feeds) for p in kept}
+    if not boxes:
+        raise Wrong(f"{asked.catalogue}: the catalogue has no procedure to draw")
+    tables = [] if asked.streams else tables_of(catalogue)
+    for line in (in_svg if asked.svg else in_text)(boxes, links_of(catalogue, feeds), tables):
+        print(line)
+
+
+if __name__ == "__main__":
+    end(main)
