@@ -8,19 +8,12 @@
 //! ```
 //!
 //! Clients run at the same time, so that requests of several clients have one report only where the order of their entries
-//! says nothing. Where they leave one database whatever the order is, `tables` compares that.
+//! says nothing. Where they leave one database whatever the order is, `tables` compares that, on several numbers of
+//! partitions.
 
-ghost use Rattle.std.specs.Prelude.{IfOk};
-ghost use Rattle.ss_model.specs.Accepted.{Accepted};
-
-use crate::block::column;
-use crate::marks::{bytes_of, text_of};
-use crate::run::{check_report, check_run, check_words, report_of, run_on};
-use crate::wrong::Wrong;
-use serde_json::Value as Json;
-use ss_catalog::read_catalog;
-use ss_model::Catalog;
-use std::alloc::Global;
+use crate::run::{check_run, check_words, report_of, run_with};
+use ss_case_files::{Wrong, bytes_of, column};
+use ss_case_texts::check_report;
 use std::sync::Wait;
 use std::thread::Threads;
 
@@ -29,6 +22,9 @@ const ARROW: &str = "->";
 
 /// How the line of a table begins.
 const TABLE: &str = "[\"table\",";
+
+/// The command lines on which a block of tables runs: with one partition, two and eight.
+const ON_PARTITIONS: [&str; 3] = ["run", "run --partitions 2", "run --partitions 8"];
 
 /// A row of `requests`.
 pub fn check_requests<R: AllocGlobal + Threads + Wait + Sync>(
@@ -62,9 +58,10 @@ struct Compared {
     wanted: Vec<u8>,
 }
 
-/// Runs the requests of a block.
+/// Runs the requests of a block by a command line.
 fn run_block<R: AllocGlobal + Threads + Wait + Sync>(
     rt: &R,
+    command: &str,
     base: &str,
     lines: &[String],
 ) -> Result<Compared, Wrong> {
@@ -78,7 +75,7 @@ fn run_block<R: AllocGlobal + Threads + Wait + Sync>(
     };
     let requests = requests.join(alloc, "␤")?;
     let input = format!(in alloc; "{base}␤{requests}␤")?;
-    let ended = run_on(rt, bytes_of(alloc, input.as_str())?)?;
+    let ended = run_with(rt, command, bytes_of(alloc, input.as_str())?)?;
     let written = String::from_str(alloc, report_of(alloc, &ended)?)?;
     let report = report.join(alloc, "␤")?;
     let report = format!(in alloc; "{report}␤")?;
@@ -92,7 +89,7 @@ pub fn check_block<R: AllocGlobal + Threads + Wait + Sync>(
     base: &str,
     lines: &[String],
 ) -> Result<(), Wrong> {
-    let compared = run_block(rt, base, lines)?;
+    let compared = run_block(rt, "run", base, lines)?;
     check_report(
         rt.alloc(),
         compared.written.as_str(),
@@ -100,30 +97,29 @@ pub fn check_block<R: AllocGlobal + Threads + Wait + Sync>(
     )
 }
 
-/// A block `tables`.
+/// A block `tables`, whose tables have to be the same on every number of partitions.
 pub fn check_tables<R: AllocGlobal + Threads + Wait + Sync>(
     rt: &R,
     base: &str,
     lines: &[String],
 ) -> Result<(), Wrong> {
-    let compared = run_block(rt, base, lines)?;
+    for command in ON_PARTITIONS {
+        check_tables_by(rt, command, base, lines)?;
+    }
+    Ok(())
+}
+
+/// The same by one command line.
+fn check_tables_by<R: AllocGlobal + Threads + Wait + Sync>(
+    rt: &R,
+    command: &str,
+    base: &str,
+    lines: &[String],
+) -> Result<(), Wrong> {
+    let compared = run_block(rt, command, base, lines)?;
     let Some((_, behind)) = compared.written.split_once(TABLE) else {
         return Err(Wrong::text(rt.alloc(), "a report without a table"));
     };
     let tables = format!(in rt.alloc(); "{TABLE}{behind}")?;
     check_report(rt.alloc(), tables.as_str(), compared.wanted.as_slice())
-}
-
-/// The catalogue of a base, whose marks are taken for what they mean.
-pub fn catalog_of(alloc: Global, base: &str) -> Result<Catalog, Wrong>
-    ensures { IfOk result Accepted }
-{
-    let text = text_of(alloc, base)?;
-    let Ok(value) = Json::from_str(alloc, text.as_str()) else {
-        return Err(Wrong::text(alloc, "the base is no JSON"));
-    };
-    match read_catalog(alloc, &value) {
-        Ok(catalog) => Ok(catalog),
-        Err(_) => Err(Wrong::text(alloc, "the base is refused")),
-    }
 }

@@ -12,7 +12,7 @@
 //! - `bodies`: what a procedure's body does; `entries`: databases, and what an entry does to one
 //! - `lists`: lists, read and changed at an index
 //!
-//! The program `ss_cases` runs all of this on lists of entries.
+//! The program `ss_model_cases` runs all of this on lists of entries.
 //!
 //! Every call that takes `alloc` may answer that it is out of memory in place of its answer. Each call copies what it
 //! needs, so it costs time linear in the values that it reads, unless its page says otherwise. A number that would leave

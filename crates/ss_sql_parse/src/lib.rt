@@ -32,7 +32,7 @@
 //! that the system gives, and limit it nowhere. That 512 KB are enough for these, in programs of LLVM
 //! and of Rattle's own compiler, was measured by hand only.
 //!
-//! The tests are cases of `ss_cases`: texts with the tree that a person reads in them.
+//! The tests are cases of `ss_sql_cases`: texts with the tree that a person reads in them.
 #![tactic(auto)]
 
 mod expr;

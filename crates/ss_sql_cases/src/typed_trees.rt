@@ -1,0 +1,215 @@
+//! Typed trees, printed in one line, as the rows of `type` have them.
+//!
+//! A column is its source's number, a dot and its position; a parameter is `:` and its position; `signs` has the
+//! operators. Behind the items of a query stand its source, and behind `J` the joined source and the columns of ON,
+//! behind `W` the condition, `G` the groups, `O` the order (`d` is DESC) and `L` the limit. A source is `T0` for a
+//! table, `W0` for a window, `B0` for a batch, and `I` for the rows that a trigger is given.
+//!
+//! ```text
+//! +T0 (E,..)                INSERT with values, and with a query in place of the brackets
+//! T0 {1:=E,..} W C          UPDATE
+//! -T0 W C                   DELETE
+//! (Q)=E                     a condition
+//! ```
+
+use crate::shown::{Show, Shown, ShownIfAny, ShownList};
+use crate::signs::{binary_sign, cmp_sign, unary_sign};
+use ss_sql_lex::{
+    ColAt, Condition, Expr, Item, Joined, OrderBy, Query, SetTo, SourceId, Statement, Target,
+};
+use ss_sql_type::TypeError;
+use ss_value::Value;
+use std::fmt;
+
+// ---- expressions
+
+impl Show for Value {
+    fn show<W: fmt::Write>(&self, f: &mut fmt::Formatter<W>) -> fmt::Result {
+        match self {
+            Value::Int(number) => write!(f, "{number}"),
+            Value::Text(text) => write!(f, "'{}'", text.as_str()),
+        }
+    }
+}
+
+impl Show for Expr {
+    fn show<W: fmt::Write>(&self, f: &mut fmt::Formatter<W>) -> fmt::Result {
+        match self {
+            Expr::Lit(value) => value.show(f),
+            Expr::Param(number) => write!(f, ":{number}"),
+            Expr::Col { source, column } => write!(f, "{source}.{column}"),
+            Expr::Unary { op, side } => {
+                f.write_str(unary_sign(*op))?;
+                side.get().show(f)
+            }
+            Expr::Binary { op, left, right } => {
+                f.write_str("(")?;
+                left.get().show(f)?;
+                f.write_str(binary_sign(*op))?;
+                right.get().show(f)?;
+                f.write_str(")")
+            }
+        }
+    }
+}
+
+// ---- queries
+
+impl Show for Item {
+    fn show<W: fmt::Write>(&self, f: &mut fmt::Formatter<W>) -> fmt::Result {
+        match self {
+            Item::Count => f.write_str("COUNT"),
+            Item::Sum(side) => write!(f, "SUM {}", Shown(side)),
+            Item::Min(side) => write!(f, "MIN {}", Shown(side)),
+            Item::Max(side) => write!(f, "MAX {}", Shown(side)),
+            Item::Plain(side) => side.show(f),
+        }
+    }
+}
+
+impl Show for SourceId {
+    fn show<W: fmt::Write>(&self, f: &mut fmt::Formatter<W>) -> fmt::Result {
+        match self {
+            SourceId::Table(n) => write!(f, "T{n}"),
+            SourceId::Window(n) => write!(f, "W{n}"),
+            SourceId::Batch(n) => write!(f, "B{n}"),
+            SourceId::Inserted => f.write_str("I"),
+        }
+    }
+}
+
+impl Show for ColAt {
+    fn show<W: fmt::Write>(&self, f: &mut fmt::Formatter<W>) -> fmt::Result {
+        write!(f, "{}.{}", self.source, self.column)
+    }
+}
+
+impl Show for Joined {
+    fn show<W: fmt::Write>(&self, f: &mut fmt::Formatter<W>) -> fmt::Result {
+        let source = Shown(&self.source);
+        write!(f, "{source} {}={}", Shown(&self.left), Shown(&self.right))
+    }
+}
+
+impl Show for OrderBy {
+    fn show<W: fmt::Write>(&self, f: &mut fmt::Formatter<W>) -> fmt::Result {
+        let down = if self.descending { "d" } else { "" };
+        write!(f, "{}{down}", self.item)
+    }
+}
+
+/// A limit.
+impl Show for u64 {
+    fn show<W: fmt::Write>(&self, f: &mut fmt::Formatter<W>) -> fmt::Result {
+        write!(f, "{self}")
+    }
+}
+
+impl Show for Query {
+    fn show<W: fmt::Write>(&self, f: &mut fmt::Formatter<W>) -> fmt::Result {
+        let items = ShownList("", self.items.as_slice());
+        let from = Shown(&self.from);
+        let joined = ShownIfAny(" J ", &self.joined);
+        let test = ShownIfAny(" W ", &self.test);
+        let groups = ShownList(" G ", self.groups.as_slice());
+        let order = ShownList(" O ", self.order.as_slice());
+        let limit = ShownIfAny(" L ", &self.limit);
+        write!(f, "[{items}] {from}{joined}{test}{groups}{order}{limit}")
+    }
+}
+
+// ---- statements and conditions
+
+impl Show for SetTo {
+    fn show<W: fmt::Write>(&self, f: &mut fmt::Formatter<W>) -> fmt::Result {
+        write!(f, "{}:={}", self.column, Shown(&self.value))
+    }
+}
+
+impl Show for Target {
+    fn show<W: fmt::Write>(&self, f: &mut fmt::Formatter<W>) -> fmt::Result {
+        match self {
+            Target::Table(n) => write!(f, "T{n}"),
+            Target::Window(n) => write!(f, "W{n}"),
+        }
+    }
+}
+
+impl Show for Statement {
+    fn show<W: fmt::Write>(&self, f: &mut fmt::Formatter<W>) -> fmt::Result {
+        match self {
+            Statement::InsertValues { target, values } => {
+                let values = ShownList("", values.as_slice());
+                write!(f, "+{} ({values})", Shown(target))
+            }
+            Statement::InsertQuery { target, query } => {
+                write!(f, "+{} {}", Shown(target), Shown(query))
+            }
+            Statement::Update { table, sets, test } => {
+                let sets = ShownList("", sets.as_slice());
+                write!(f, "T{table} {{{sets}}}{}", ShownIfAny(" W ", test))
+            }
+            Statement::Delete { table, test } => {
+                write!(f, "-T{table}{}", ShownIfAny(" W ", test))
+            }
+        }
+    }
+}
+
+impl Show for Condition {
+    fn show<W: fmt::Write>(&self, f: &mut fmt::Formatter<W>) -> fmt::Result {
+        let query = Shown(&self.query);
+        let sign = cmp_sign(self.cmp);
+        write!(f, "({query}){sign}{}", Shown(&self.right))
+    }
+}
+
+// ---- trees of any form
+
+/// The typed tree of a text.
+pub enum TypedTree {
+    /// A statement.
+    Statement(Statement),
+    /// A query.
+    Query(Query),
+    /// A condition.
+    Condition(Condition),
+}
+
+// By hand, so that letting it go is one call and not one for each part of a tree.
+impl Drop for TypedTree {
+    fn drop(self) {
+        match self {
+            TypedTree::Statement(_) => {}
+            TypedTree::Query(_) => {}
+            TypedTree::Condition(_) => {}
+        }
+    }
+}
+
+impl Show for TypedTree {
+    fn show<W: fmt::Write>(&self, f: &mut fmt::Formatter<W>) -> fmt::Result {
+        match self {
+            TypedTree::Statement(tree) => tree.show(f),
+            TypedTree::Query(tree) => tree.show(f),
+            TypedTree::Condition(tree) => tree.show(f),
+        }
+    }
+}
+
+// ---- refusals
+
+/// Why a tree has no type: the number of the refusal, and its offset in the text.
+impl Show for TypeError {
+    fn show<W: fmt::Write>(&self, f: &mut fmt::Formatter<W>) -> fmt::Result {
+        match self {
+            // What makes a text of it then reports want of memory, as it does of its own.
+            TypeError::NoMemory => Err(fmt::Error),
+            TypeError::UnknownName(at) => write!(f, "S5@{at}"),
+            TypeError::WrongType(at) => write!(f, "S6@{at}"),
+            TypeError::KeyIsSet(at) => write!(f, "S7@{at}"),
+            TypeError::WrongCount(at) => write!(f, "S8@{at}"),
+            TypeError::NotAggregated(at) => write!(f, "S9@{at}"),
+        }
+    }
+}
