@@ -1,10 +1,12 @@
 //! The catalogue of a JSON value.
 
-ghost use Rattle.std.specs.Prelude.{◌≤◌, IfOk, IfErr, IsUtf8};
-ghost use Rattle.serde_json.specs.Data.{depth};
+ghost use Rattle.std.specs.Prelude.{◌≤◌, IfOk, OnOk, IfErr, IsUtf8};
+ghost use Rattle.serde_json.specs.Data.{Data, depth};
 ghost use Rattle.serde_json.specs.Read.{max_depth};
 ghost use Rattle.serde_json.specs.View.{view};
 ghost use Rattle.ss_model.specs.Accepted.{Accepted};
+ghost use Rattle.ss_catalog_outline.specs.declared.types.Outline.{Outline};
+ghost use Rattle.ss_catalog.specs.Checks.{IsNumbered, IsResolved, HasRightOwners};
 ghost use Rattle.ss_catalog.specs.Reads.{Reads, Refuses};
 ghost use Rattle.ss_catalog.specs.Accepts.{Accepts};
 
@@ -22,6 +24,7 @@ use ss_catalog_checks::{
     unrefused_windows_are_owned, unreturning_batches_go_forward, unreturning_triggers_have_ranks,
 };
 use ss_catalog_laws::{resolved_has_form, resolved_is_typed};
+use ss_catalog_outline::Outline;
 use ss_model::Catalog;
 use std::alloc::Global;
 
@@ -37,6 +40,31 @@ fn what_reads_is_accepted()
     unrefused_sql_is_local();
     unrefused_streams_end_well();
     unrefused_windows_are_owned();
+}
+
+/// The outline of a value that passes the checks before any SQL is read, in the order of `read_catalog`.
+fn read_numbered(alloc: Global, value: &Json) -> Result<Outline, CatalogError>
+    ensures ok { IfOk result (IsNumbered (view value.now)) }
+    ensures refused { IfErr result (Refuses (view value.now)) }
+{
+    let outline = read_shape(alloc, value)?;
+    check_names_once(alloc, &outline)?;
+    check_names_known(alloc, &outline)?;
+    // Before any SQL is read: the numbers in typed trees have 16 bits, and those of columns 8.
+    check_numbering(&outline)?;
+    Ok(outline)
+}
+
+/// The checks of the catalogue that an outline resolved to, in the order of `read_catalog`.
+fn check_catalog(alloc: Global, catalog: &Catalog) -> Result<(), CatalogError>
+    ensures ok { (d : Data) (o : Outline) → IsResolved d o catalog.now → OnOk result (HasRightOwners d o catalog.now) }
+    ensures refused { (d : Data) (o : Outline) → IsResolved d o catalog.now → IfErr result (Refuses d) }
+{
+    check_workflows(alloc, catalog)?;
+    check_cascades(alloc, catalog)?;
+    check_locality(alloc, catalog)?;
+    check_stream_ends(alloc, catalog)?;
+    check_window_owners(alloc, catalog)
 }
 
 /// The catalogue of a value, or the first thing that is wrong with it.
@@ -56,18 +84,10 @@ pub fn read_catalog(alloc: Global, value: &Json) -> Result<Catalog, CatalogError
     ensures utf8 { IfOk result (λ catalog. IsUtf8 catalog.text) }
     ensures refused { IfErr result (Refuses (view value.now)) }
 {
-    let outline = read_shape(alloc, value)?;
-    check_names_once(alloc, &outline)?;
-    check_names_known(alloc, &outline)?;
-    // Before any SQL is read: the numbers in typed trees have 16 bits, and those of columns 8.
-    check_numbering(&outline)?;
+    let outline = read_numbered(alloc, value)?;
     let text = text_of(alloc, value)?;
     let catalog = resolve_sql(alloc, &outline, text)?;
-    check_workflows(alloc, &catalog)?;
-    check_cascades(alloc, &catalog)?;
-    check_locality(alloc, &catalog)?;
-    check_stream_ends(alloc, &catalog)?;
-    check_window_owners(alloc, &catalog)?;
+    check_catalog(alloc, &catalog)?;
     // Last in the order of refusals; counts that can't be numbered were refused above.
     check_counts(&outline)?;
     what_reads_is_accepted();

@@ -16,10 +16,19 @@ use std::marker::Model;
 /// A list of names, in which each is sought by its hash.
 ///
 /// It borrows the names' bytes. It takes a reference for each name, and an entry of a hash table for each distinct one.
-#[derive(Drop)]
 pub struct NameIndex<'a> {
     names: Vec<&'a [u8]>,
     positions: IndexMap<&'a [u8], usize>,
+}
+
+// By hand, so that letting an index go is one call and not one for each of its parts.
+impl Drop for NameIndex<'_> {
+    fn drop(self) {
+        let NameIndex {
+            names: _,
+            positions: _,
+        } = self;
+    }
 }
 
 impl<'a> Model for NameIndex<'a> {

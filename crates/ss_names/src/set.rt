@@ -12,9 +12,15 @@ use std::marker::Model;
 /// Names without repeats, in the order in which they were added. Each is sought by its hash.
 ///
 /// It borrows the names' bytes, and takes a reference and a hash for each.
-#[derive(Drop)]
 pub struct NameSet<'a> {
     names: IndexSet<&'a [u8]>,
+}
+
+// By hand, so that letting a set go is one call and not one for each of its parts.
+impl Drop for NameSet<'_> {
+    fn drop(self) {
+        let NameSet { names: _ } = self;
+    }
 }
 
 impl<'a> Model for NameSet<'a> {

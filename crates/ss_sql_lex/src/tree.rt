@@ -177,7 +177,6 @@ pub enum ItemTree {
 }
 
 /// `JOIN name ON left = right`
-#[derive(Drop)]
 pub struct JoinTree {
     /// The joined source.
     pub name: NameTree,
@@ -185,6 +184,17 @@ pub struct JoinTree {
     pub left: ColumnTree,
     /// The column behind `=`.
     pub right: ColumnTree,
+}
+
+// By hand, so that letting it go is one call and not one for each of its parts.
+impl Drop for JoinTree {
+    fn drop(self) {
+        let JoinTree {
+            name: _,
+            left: _,
+            right: _,
+        } = self;
+    }
 }
 
 /// `number`, `number ASC` or `number DESC` behind ORDER BY.
@@ -206,7 +216,6 @@ pub struct SetTree {
 }
 
 /// A query.
-#[derive(Drop)]
 pub struct QueryTree {
     /// The offset of SELECT.
     pub at: usize,
@@ -224,6 +233,22 @@ pub struct QueryTree {
     pub order: Seq<OrderTree>,
     /// The number behind LIMIT.
     pub limit: Option<NumberTree>,
+}
+
+// By hand, so that letting it go is one call and not one for each of its parts.
+impl Drop for QueryTree {
+    fn drop(self) {
+        let QueryTree {
+            at: _,
+            items: _,
+            from: _,
+            joined: _,
+            test: _,
+            groups: _,
+            order: _,
+            limit: _,
+        } = self;
+    }
 }
 
 /// A statement. Each variant has the offset of its first keyword.
@@ -270,7 +295,6 @@ pub enum StatementTree {
 }
 
 /// `(query) cmp right`
-#[derive(Drop)]
 pub struct ConditionTree {
     /// The offset of its opening bracket.
     pub at: usize,
@@ -280,4 +304,16 @@ pub struct ConditionTree {
     pub cmp: Cmp,
     /// The right side.
     pub right: ExprTree,
+}
+
+// By hand, so that letting it go is one call and not one for each of its parts.
+impl Drop for ConditionTree {
+    fn drop(self) {
+        let ConditionTree {
+            at: _,
+            query: _,
+            cmp: _,
+            right: _,
+        } = self;
+    }
 }

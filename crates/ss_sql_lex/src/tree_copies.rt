@@ -208,13 +208,14 @@ fn copy_limit(alloc: Global, limit: &Option<NumberTree>) -> Result<Option<Number
 
 impl Copies for QueryTree {
     fn duplicate(&self, alloc: Global) -> Result<QueryTree, NoMemory> {
+        // JOIN and WHERE last: what takes many calls to let go would be let go at each copy behind it that fails.
         let items = self.items.duplicate(alloc)?;
-        let from = self.from.duplicate(alloc)?;
-        let joined = copy_join(alloc, &self.joined)?;
-        let test = copy_where(alloc, &self.test)?;
         let groups = self.groups.duplicate(alloc)?;
         let order = self.order.duplicate(alloc)?;
         let limit = copy_limit(alloc, &self.limit)?;
+        let from = self.from.duplicate(alloc)?;
+        let joined = copy_join(alloc, &self.joined)?;
+        let test = copy_where(alloc, &self.test)?;
         Ok(QueryTree {
             at: self.at,
             items,
@@ -291,8 +292,8 @@ impl Copies for StatementTree {
 
 impl Copies for ConditionTree {
     fn duplicate(&self, alloc: Global) -> Result<ConditionTree, NoMemory> {
-        let query = self.query.duplicate(alloc)?;
         let right = copy_expr_tree(alloc, &self.right)?;
+        let query = self.query.duplicate(alloc)?;
         Ok(ConditionTree {
             at: self.at,
             query,

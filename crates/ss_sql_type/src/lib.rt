@@ -23,7 +23,7 @@
 //! at most twice for each tree, the targets once, and at each SET the key of its table. Every call that
 //! allocates may answer `NoMemory` instead.
 //!
-//! The tests are cases of `ss_cases`: texts with the types or faults that a person reads off the rules.
+//! The tests are cases of `ss_sql_cases`: texts with the types or faults that a person reads off the rules.
 #![tactic(auto)]
 
 mod column_limit;

@@ -14,7 +14,6 @@ use std::alloc::Global;
 use std::marker::Model;
 
 /// What the names in an expression may refer to, with each list of columns hashed.
-#[derive(Drop)]
 pub struct Names<'a> {
     /// Source 0: FROM, or the table that a statement changes; None where it is not known, or there is none.
     first: Option<&'a Named>,
@@ -26,6 +25,19 @@ pub struct Names<'a> {
     second_columns: Columns<'a>,
     /// The parameters.
     params: Columns<'a>,
+}
+
+// By hand, so that letting the names go is one call and not one for each part of each index.
+impl Drop for Names<'_> {
+    fn drop(self) {
+        let Names {
+            first: _,
+            second: _,
+            first_columns: _,
+            second_columns: _,
+            params: _,
+        } = self;
+    }
 }
 
 impl<'a> Model for Names<'a> {
