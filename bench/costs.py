@@ -1,28 +1,26 @@
 #!/usr/bin/env python3
 """What an operation costs at a growing size, beside SQLite in memory on the same data.
 
-    python3 bench/costs.py [--sizes 1000,20000] [--svg FILE]
+    python3 bench/costs.py [--sizes 1000,20000] [--runs 5] [--svg FILE]
 
-Runs the program that `./sstore` built (build it first), and the sqlite3 module of this Python. For each size a table of
-that many rows is filled, and each operation is run many times behind it. What is printed is microseconds an operation:
-the time of the run with the operations less that of the run without them, over their number, the median of three. So
-start, reading the catalogue, filling and the report of the table don't count; reading the operations' own lines and
-writing their replies do. An SVG of cost against size is written beside this file, or where --svg says.
+Runs the program that `./sstore` built (build it first), or the one that SSTORE names, and the sqlite3 module of this Python.
+For each size a table of that many rows is filled, and each operation is called many times behind it. Printed are microseconds
+an operation, as wall time / processor time of user and system: of the program what its run with the operations took less
+that of the run without them, over their number, and of SQLite what the operations alone took. Each time is the least of so
+many runs, in each of which all three have their turn. So start, reading the catalogue, filling and the report of the table
+don't count; reading the operations' own lines and writing their replies do. The rows `calls` say how often the operations
+behind them were called. An SVG of wall time against size is written beside this file, or where --svg says.
 """
 
-import argparse
 import json
 import os
 import random
 import sqlite3
-import statistics
-import subprocess
 import sys
-import tempfile
-import time
 
-TOP = os.path.dirname(os.path.dirname(os.path.abspath(__file__)))
-PROGRAM = os.environ.get("SSTORE", os.path.join(TOP, "crates/ss_program/out/ss_program"))
+import measure
+
+PROGRAM = measure.PROGRAM
 SIZES = [1_000, 20_000, 200_000, 1_000_000]
 GROUPS = 40  # rows that share a value of the indexed column
 
@@ -109,27 +107,16 @@ def filling(size):
     return text
 
 
-def run(text):
-    """The seconds of a run of the program on an input. Its report goes to a file, and has to end with `done`."""
-    with tempfile.TemporaryFile() as given, tempfile.TemporaryFile() as report:
-        given.write(text.encode())
-        given.seek(0)
-        begun = time.perf_counter()
-        subprocess.run([PROGRAM, "-", "run"], stdin=given, stdout=report, check=True)
-        took = time.perf_counter() - begun
-        report.seek(-64, os.SEEK_END)
-        assert b'["done",' in report.read(), "the report has no end"
-        return took
+def run(given):
+    """What a run of the program on an input took. Its report has to end with `done`."""
+    took, report = measure.run([PROGRAM, "-", "run"], given)
+    report.seek(-64, os.SEEK_END)
+    assert b'["done",' in report.read(), "the report has no end"
+    return took
 
 
-def of_program(operation, size, many):
-    catalogue = INDEXED if operation in BY_INDEX else CATALOGUE
-    head = json.dumps(catalogue, separators=(",", ":")) + "\n" + filling(size)
-    with_them = head + lines(operation, calls(operation, size, many))
-    return statistics.median(run(with_them) - run(head) for _ in range(3)) / many
-
-
-def of_sqlite(operation, size, many):
+def opened(operation, size):
+    """A base of SQLite with the same rows."""
     base = sqlite3.connect(":memory:", isolation_level=None)
     base.execute("CREATE TABLE t (k INTEGER PRIMARY KEY, g INTEGER, v INTEGER)")
     base.execute("CREATE TABLE u (k INTEGER PRIMARY KEY, v INTEGER)")
@@ -137,14 +124,31 @@ def of_sqlite(operation, size, many):
         base.execute("CREATE INDEX by_g ON t (g)")
     groups = max(1, size // GROUPS)
     base.executemany("INSERT INTO t VALUES (?, ?, ?)", ((k, k % groups, k) for k in range(size)))
-    took = []
-    for _ in range(3):
-        base.execute("DELETE FROM u")
-        begun = time.perf_counter()
-        for arguments in calls(operation, size, many):
+    return base
+
+
+def in_sqlite(base, operation, asked):
+    base.execute("DELETE FROM u")
+
+    def work():
+        for arguments in asked:
             base.execute(SQLITE[operation], arguments).fetchall()
-        took.append((time.perf_counter() - begun) / many)
-    return statistics.median(took)
+
+    return measure.here(work)
+
+
+def of_both(operation, size, many, runs):
+    """What so many operations took of the program and of SQLite."""
+    asked = calls(operation, size, many)
+    head = json.dumps(INDEXED if operation in BY_INDEX else CATALOGUE, separators=(",", ":")) + "\n" + filling(size)
+    texts = {"without": head, "with": head + lines(operation, asked)}
+    given = {name: measure.input_of([text.encode()]) for name, text in texts.items()}
+    base = opened(operation, size)
+    variants = {name: lambda file=file: run(file) for name, file in given.items()}
+    variants["SQLite"] = lambda: in_sqlite(base, operation, asked)
+    found = measure.least_of_each(variants, runs, f"{WORDS[operation]}, {size:,} rows")
+    ours = [with_them - without for with_them, without in zip(found["with"], found["without"])]
+    return measure.Took(*ours), found["SQLite"]
 
 
 def times(operation, size):
@@ -155,17 +159,23 @@ def times(operation, size):
     return max(20_000, size // 4)
 
 
-def measured(sizes):
-    found = {}
+def measured(sizes, runs):
+    """Microseconds of wall time of an operation, of both, by operation and size."""
+    measure.head(runs, f"; SQLite {sqlite3.sqlite_version}, Python {sys.version.split()[0]}")
+    measure.top_row(["microseconds, wall / processor", "", *(f"{size:,} rows" for size in sizes)])
+    found, told = {}, None
     for operation in WORDS:
-        for size in sizes:
-            many = times(operation, size)
-            part = size if operation == "walk" else 1
-            found[operation, size] = [
-                1e6 * engine(operation, size, many) / part for engine in (of_program, of_sqlite)
-            ]
-            ours, theirs = found[operation, size]
-            print(f"{WORDS[operation]:34}{size:>10,}{ours:>14.3f}{theirs:>14.3f}", flush=True)
+        many = [times(operation, size) for size in sizes]
+        if many != told:
+            measure.row(["", "calls", *(f"{number:,}" for number in many)])
+            told = many
+        tooks = [of_both(operation, size, number, runs) for size, number in zip(sizes, many)]
+        parts = [number * (size if operation == "walk" else 1) for size, number in zip(sizes, many)]
+        for place, engine in enumerate(("sstore", "SQLite")):
+            costs = [measure.both(took[place], part, 3 if operation == "walk" else 1) for took, part in zip(tooks, parts)]
+            measure.row([WORDS[operation] if place == 0 else "", engine, *costs])
+        for size, took, part in zip(sizes, tooks, parts):
+            found[operation, size] = [1e6 * one.wall / part for one in took]
     return found
 
 
@@ -201,17 +211,14 @@ def drawing(found, sizes):
 
 
 def main():
-    parser = argparse.ArgumentParser(description=__doc__, formatter_class=argparse.RawDescriptionHelpFormatter)
-    parser.add_argument("--sizes", default=",".join(map(str, SIZES)))
-    parser.add_argument("--svg", default=os.path.join(TOP, "bench/costs.svg"))
+    parser = measure.parser_of(__doc__)
+    parser.add_argument("--sizes", type=measure.numbers, default=SIZES)
+    parser.add_argument("--svg", default=os.path.join(measure.BENCH, "costs.svg"))
     given = parser.parse_args()
-    if not os.access(PROGRAM, os.X_OK):
-        sys.exit("the program isn't built: run ./sstore - run < examples/stored_run.jsonl first")
-    sizes = [int(s) for s in given.sizes.split(",")]
-    print(f"{'microseconds':34}{'rows':>10}{'sstore':>14}{'SQLite':>14}")
-    found = measured(sizes)
+    measure.want_program()
+    found = measured(given.sizes, given.runs)
     with open(given.svg, "w", encoding="utf-8") as file:
-        file.write(drawing(found, sizes))
+        file.write(drawing(found, given.sizes))
     print(f"written: {given.svg}")
 
 

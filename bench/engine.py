@@ -1,27 +1,31 @@
 #!/usr/bin/env python3
-"""Calls per second of clients in threads, on partitions in threads.
+"""What a call costs, of clients in threads, on partitions in threads.
 
-    python3 bench/engine.py [--calls 40000] [--plain PROGRAM]
+    python3 bench/engine.py [--calls 40000] [--runs 5] [--plain PROGRAM]
 
-Runs the program that `./sstore` built (build it first), or the one that SSTORE names. Each line is a load and a number of
-clients, and has the calls per second on 1, 2 and 4 partitions, from the start of the program to the end of its report. A
-split load has its rows on all partitions, by their keys; one that isn't has all of them on one, so more partitions can't
+Runs the program that `./sstore` built (build it first), or the one that SSTORE names. Each line is a load, a number of clients
+and how many calls they make together, and has microseconds a call on 1, 2 and 4 partitions, from the start of the program to
+the end of its report, as wall time / processor time of user and system: the least of each of so many runs, in each of which
+all programs and numbers of partitions have their turn. The last column says how many times as fast, by wall time, two
+partitions are as one.
+
+A split load has its rows on all partitions, by their keys; one that isn't has all of them on one, so more partitions can't
 help it. A short call changes one row by its key, and a long one does so thirty times, so its execution costs more than the way
-to it and back. Reading the requests and writing the report are in the time, and are done by one thread.
+to it and back; of long calls there are a tenth as many. Reading the requests and writing the report are in the time, and are
+done by one thread.
 
-With --plain a program that runs on one thread is measured beside it on one partition, such as one built from a commit
-before there was an engine.
+A program that runs the same input on one thread, with no engine, is measured beside them: that of crates/ss_run_bench where
+it is built, and with --plain another one, such as one built from a commit before there was an engine. It is started with
+the word `run`. Of one client its report has to be that of one partition, byte for byte.
 """
 
-import argparse
 import json
 import os
-import subprocess
-import sys
-import time
 
-TOP = os.path.dirname(os.path.dirname(os.path.abspath(__file__)))
-PROGRAM = os.environ.get("SSTORE", os.path.join(TOP, "crates/ss_program/out/ss_program"))
+import measure
+
+PROGRAM = measure.PROGRAM
+PLAIN = os.path.join(measure.TOP, "crates/ss_run_bench/out/ss_run_bench")
 PARTITIONS = [1, 2, 4]
 ROWS = 512
 STEPS = 30  # statements of a long call
@@ -56,38 +60,56 @@ def requests(name, calls, clients):
         yield {"client": client, "call": name, "args": [row, made % 7]}
 
 
-def run(words, text, entries):
-    begun = time.perf_counter()
-    done = subprocess.run(words, input=text, capture_output=True)
-    took = time.perf_counter() - begun
-    assert done.returncode == 0, f"status {done.returncode}"
-    assert done.stdout.endswith(b'["done",%d]\n' % entries), "the list has another length"
-    return took
-
-
 def text_of(split, name, calls, clients):
     lines = [catalogue(split), *requests(name, calls, clients)]
     return "".join(json.dumps(line, separators=(",", ":")) + "\n" for line in lines).encode()
 
 
+def timed(words, given, entries):
+    """What a run took, whose list has to have so many entries."""
+    took, report = measure.run(words, given)
+    measure.check_end(report, entries)
+    return took
+
+
+def on_partitions(partitions):
+    return [PROGRAM, "-", "run", "--partitions", str(partitions)]
+
+
+def same_reports(plain, given):
+    reports = [measure.run(words, given)[1].read() for words in (plain, on_partitions(1))]
+    assert reports[0] == reports[1], "the report of the program without an engine is another one"
+
+
+def of_load(columns, split, name, clients, calls, runs):
+    """A line of the table: what a call costs on this load, of each of these programs."""
+    words = f"{name} calls, {'split' if split else 'one part'}, {clients} client{'s'[:clients > 1]}"
+    given = measure.input_of([text_of(split, name, calls, clients)])
+    if "plain" in columns and clients == 1:
+        same_reports(columns["plain"], given)
+    variants = {column: lambda asked=asked: timed(asked, given, calls + ROWS) for column, asked in columns.items()}
+    found = measure.least_of_each(variants, runs, words)
+    times = f"{found[1].wall / found[2].wall:.2f}"
+    measure.row([words, f"{calls:,}", *(measure.both(took, calls) for took in found.values()), times])
+
+
 def main():
-    parser = argparse.ArgumentParser(description=__doc__, formatter_class=argparse.RawDescriptionHelpFormatter)
-    parser.add_argument("--calls", type=int, default=40_000)
-    parser.add_argument("--plain", metavar="PROGRAM")
+    parser = measure.parser_of(__doc__)
+    parser.add_argument("--calls", type=measure.positive, default=40_000)
+    parser.add_argument("--plain", metavar="PROGRAM", default=PLAIN if os.access(PLAIN, os.X_OK) else None)
     given = parser.parse_args()
-    if not os.access(PROGRAM, os.X_OK):
-        sys.exit("the program isn't built: run ./sstore - run < examples/stored_run.jsonl first")
-    plain = f"{'plain':>10}" if given.plain else ""
-    print(f"{'calls per second':36}{plain}" + "".join(f"{p:>10}" for p in PARTITIONS) + f"{'2 to 1':>10}", flush=True)
+    measure.want_program()
+    columns = {"plain": [given.plain, "run"]} if given.plain else {}
+    columns |= {partitions: on_partitions(partitions) for partitions in PARTITIONS}
+    titles = ["one thread, no engine"] * bool(given.plain) + [f"{p} partition{'s'[:p > 1]}" for p in PARTITIONS]
+    if not given.plain:
+        print("crates/ss_run_bench isn't built, so the column `one thread, no engine` is left out")
+    measure.head(given.runs)
+    measure.top_row(["microseconds a call, wall / processor", "calls", *titles, "2 partitions to 1"])
     for split in (False, True):
         for name, share in (("short", 1), ("long", 10)):
             for clients in (1, 8):
-                calls = given.calls // share
-                text = text_of(split, name, calls, clients)
-                words = f"{name} calls, {'split' if split else 'one part'}, {clients} client{'s'[:clients > 1]}"
-                rates = [calls / run([PROGRAM, "-", "run", "--partitions", str(p)], text, calls + ROWS) for p in PARTITIONS]
-                before = f"{calls / run([given.plain, 'run'], text, calls + ROWS):>10,.0f}" if given.plain else ""
-                print(f"{words:36}{before}" + "".join(f"{rate:>10,.0f}" for rate in rates) + f"{rates[1] / rates[0]:>10.2f}", flush=True)
+                of_load(columns, split, name, clients, max(1, given.calls // share), given.runs)
 
 
 if __name__ == "__main__":

@@ -2,6 +2,7 @@
 """Many clients on many partitions, and whether the list that the program prints is what happened.
 
     python3 bench/soak.py [--requests 20000] [--clients 8] [--partitions 8] [--runs 1] [--seed 1]
+    python3 bench/soak.py --runs 10 --partitions 1,2,4,8   ten times over on each of these numbers of partitions
     python3 bench/soak.py --write FILE          only writes the input, for a run elsewhere
     python3 bench/soak.py --check INPUT REPORT  only checks a report
 
@@ -10,6 +11,7 @@ and on pushes through a workflow that parts over two partitions and meets again 
 entry by entry, in its order, and does each one on tables of SQLite, in one thread: each outcome, each reply and each row of
 the printed tables has to be what comes of that. It checks too that the list has of each client just its requests, in
 their order, that each procedure takes its batches in order and each after those who make them, and that none is left.
+Each of so many runs has requests of its own, by a seed one higher each time, and runs them on each number of partitions.
 What is checked is what the contract of the top call says; that it says it of this very program, built and run, and that
 runs end at all, is what a run of this shows.
 """
@@ -241,10 +243,23 @@ def input_of(asked):
     return "".join(json.dumps(line, separators=(",", ":")) + "\n" for line in [CATALOGUE, *asked])
 
 
+def soak(asked, seed, partitions):
+    """Runs the requests on so many partitions, checks the report, and prints what was counted."""
+    begun = time.perf_counter()
+    words = [PROGRAM, "-", "run", "--partitions", str(partitions)]
+    done = subprocess.run(words, input=input_of(asked).encode(), capture_output=True)
+    took = time.perf_counter() - begun
+    assert done.returncode == 0, f"status {done.returncode}"
+    entries, steps = check(asked, done.stdout.decode())
+    where = f"seed {seed}, {partitions} partition{'s' * (partitions > 1)}"
+    print(f"{where}: {entries:,} entries, {steps:,} of them steps, in {took:.2f} s: all as SQLite has them", flush=True)
+
+
 def main():
     parser = argparse.ArgumentParser(description=__doc__, formatter_class=argparse.RawDescriptionHelpFormatter)
-    for name, value in [("requests", 20_000), ("clients", 8), ("partitions", 8), ("runs", 1), ("seed", 1)]:
+    for name, value in [("requests", 20_000), ("clients", 8), ("runs", 1), ("seed", 1)]:
         parser.add_argument(f"--{name}", type=int, default=value)
+    parser.add_argument("--partitions", type=lambda word: [int(part) for part in word.split(",")], default=[8])
     parser.add_argument("--write", metavar="FILE")
     parser.add_argument("--check", nargs=2, metavar=("INPUT", "REPORT"))
     given = parser.parse_args()
@@ -257,15 +272,10 @@ def main():
         return
     if not os.access(PROGRAM, os.X_OK):
         sys.exit("the program isn't built: run ./sstore - run < examples/stored_run.jsonl first")
-    for run in range(given.runs):
-        asked = list(requests_of(given.requests, given.clients, given.seed + run))
-        begun = time.perf_counter()
-        words = [PROGRAM, "-", "run", "--partitions", str(given.partitions)]
-        done = subprocess.run(words, input=input_of(asked).encode(), capture_output=True)
-        took = time.perf_counter() - begun
-        assert done.returncode == 0, f"status {done.returncode}"
-        entries, steps = check(asked, done.stdout.decode())
-        print(f"seed {given.seed + run}: {entries:,} entries, {steps:,} of them steps, in {took:.2f} s: all as SQLite has them", flush=True)
+    for seed in range(given.seed, given.seed + given.runs):
+        asked = list(requests_of(given.requests, given.clients, seed))
+        for partitions in given.partitions:
+            soak(asked, seed, partitions)
 
 
 if __name__ == "__main__":

@@ -1,12 +1,17 @@
 #!/usr/bin/env python3
 """The benchmark Voter with Leaderboard: what a vote costs, beside the same statements in SQLite.
 
-    python3 bench/voter.py [--votes 2000,20000] [--folder FOLDER] [--svg FILE] [--profile]
+    python3 bench/voter.py [--votes 2000,20000] [--runs 5] [--folder FOLDER] [--svg FILE] [--profile]
 
-Runs the command `voter` of the program that `./sstore` built (build it first), or of the one that SSTORE names, from the
-start of the process to its end, in memory and in a new folder inside FOLDER, or inside the one for temporary files where none
-is given; and then, on the same votes, the statements of the same procedures in SQLite by the sqlite3 module of this Python,
-from the first transaction to the last commit. Each figure is the median of three runs.
+Runs the command `voter` of the program that `./sstore` built (build it first), or of the one that SSTORE names, in memory and
+in a new folder inside FOLDER, or inside the one for temporary files where none is given; and on the same votes the statements
+of the same procedures in SQLite: by the program of bench/sqlite_voter.c, which has each of them prepared once, and by the
+sqlite3 module of this Python. That program is built here by `cc -O2`, and left out where it can't be: it needs a C compiler
+and SQLite's header (Debian: the packages gcc, libc6-dev and libsqlite3-dev).
+
+Printed are microseconds a vote, by number of votes, as wall time / processor time of user and system: the least of each of
+so many runs, in each of which all rows have their turn. Both programs are measured from the start of the process to its end,
+SQLite through Python from the first transaction to the last commit.
 
 In SQLite each execution is a transaction, which is taken back where the procedure aborts; the rows of streams are arguments
 of statements, and the window is a table of its last four rows. What a push is asked besides, that its number is its source's
@@ -14,27 +19,26 @@ next one, it isn't asked there. A file of SQLite has a write-ahead log and `sync
 transaction, or has those of 16 votes in one, as a client of the program waits for a receipt once in 16 answers.
 
 Before anything is measured, the tables that a run of the program prints of the first number of votes are compared with those
-of SQLite, and the statements of a vote are counted, and as many that do nothing timed. With --profile the instructions of a vote are counted by callgrind, and printed by function.
+of SQLite by both ways, and the statements of a vote are counted, and as many that do nothing timed. With --profile the
+instructions of a vote are counted by callgrind, and printed by function.
 """
 
-import argparse
 import json
 import os
+import re
 import sqlite3
-import statistics
 import subprocess
 import sys
 import tempfile
-import time
 
+import measure
 import votes as script
 
-TOP = os.path.dirname(os.path.dirname(os.path.abspath(__file__)))
-PROGRAM = os.environ.get("SSTORE", os.path.join(TOP, "crates/ss_program/out/ss_program"))
+PROGRAM = measure.PROGRAM
 SEED = 1
 VOTES = [2_000, 4_000, 20_000, 100_000, 200_000]
-RUNS = 3
 IN_ONE = 16  # votes of one transaction, where several share a sync
+IN_C = "sqlite_voter.c"
 
 SCHEMA = """
 CREATE TABLE contestants (id INTEGER PRIMARY KEY, show INTEGER, name TEXT, n INTEGER);
@@ -162,12 +166,10 @@ def show_shared(base, rows):
 
 
 def of_sqlite(path, way, votes):
-    """The seconds of a show in SQLite."""
+    """What a show in SQLite took."""
     rows = list(rows_of(votes))
     base = opened(path)
-    begun = time.perf_counter()
-    way(base, rows)
-    took = time.perf_counter() - begun
+    took = measure.here(lambda: way(base, rows))
     base.close()
     return took
 
@@ -186,11 +188,10 @@ def words(store, votes, clients, partitions):
 
 
 def timed(store, votes, clients, partitions):
-    """The seconds of a show of the program, which has to push each vote and to run three steps of each."""
-    begun = time.perf_counter()
-    done = subprocess.run(words(store, votes, clients, partitions), capture_output=True, check=True)
-    took = time.perf_counter() - begun
-    assert json.loads(done.stdout) == ["voter", votes, votes, 3 * votes, 4 * votes + 7], done.stdout
+    """What a show of the program took, which has to push each vote and to run three steps of each."""
+    took, report = measure.run(words(store, votes, clients, partitions))
+    printed = json.load(report)
+    assert printed == ["voter", votes, votes, 3 * votes, 4 * votes + 7], printed
     return took
 
 
@@ -206,17 +207,25 @@ def in_folder(folder, clients, partitions):
     return run
 
 
-def tables_of_program(votes):
-    """The rows of each table, as a run of one client prints them."""
-    text = script.catalogue() + "".join(json.dumps(r) + "\n" for r in script.requests(SEED, votes, 1))
-    done = subprocess.run([PROGRAM, "-", "run"], input=text.encode(), capture_output=True, check=True)
+# ---- what is compared and counted first
+
+
+def tables_in(report):
+    """The rows of each table of a report."""
     tables = {}
-    for line in map(json.loads, done.stdout.splitlines()):
+    for line in map(json.loads, report):
         if line[0] == "table":
             tables[line[1]] = []
         if line[0] == "row":
             tables[line[1]].append(line[2])
     return tables
+
+
+def tables_of_program(votes):
+    """The tables that a run of one client prints."""
+    lines = [script.catalogue(), *(json.dumps(r) + "\n" for r in script.requests(SEED, votes, 1))]
+    given = measure.input_of(line.encode() for line in lines)
+    return tables_in(measure.run([PROGRAM, "-", "run"], given)[1])
 
 
 def tables_of_sqlite(votes, tables):
@@ -226,38 +235,57 @@ def tables_of_sqlite(votes, tables):
     return {t: [list(row) for row in base.execute(f"SELECT * FROM {t} ORDER BY {keys.get(t, 'id')}")] for t in tables}
 
 
-def compared(votes):
+def compared(votes, in_c):
     ours = tables_of_program(votes)
-    theirs = tables_of_sqlite(votes, ours)
-    assert ours == theirs, "the tables differ"
-    print(f"{votes:,} votes: the tables of both are equal ({sum(map(len, ours.values())):,} rows)")
+    assert tables_of_sqlite(votes, ours) == ours, "the tables of SQLite through Python differ"
+    if in_c:
+        theirs = tables_in(measure.run([in_c, str(SEED), str(votes), "tables"])[1])
+        assert theirs == ours, "the tables of SQLite through C differ"
+    ways = "sstore, SQLite through Python" + ", SQLite through C" * bool(in_c)
+    print(f"{votes:,} votes: the tables are equal ({ways}; {sum(map(len, ours.values())):,} rows)")
 
 
 class Counted:
-    """A base that counts the statements that it is asked for."""
+    """A base that counts the statements that it is asked for, and keeps the text of each."""
 
     def __init__(self, base):
-        self.base, self.count = base, 0
+        self.base, self.count, self.texts = base, 0, set()
 
-    def execute(self, *words):
+    def execute(self, text, *arguments):
         self.count += 1
-        return self.base.execute(*words)
+        self.texts.add(text)
+        return self.base.execute(text, *arguments)
 
 
-def empty_statements(votes):
+def check_statements(texts):
+    """The program in C has the same tables, and each of these statements."""
+    with open(os.path.join(measure.BENCH, IN_C), encoding="utf-8") as file:
+        source = re.sub(r'"\s*"', "", file.read())
+    for text in [*(f'"{text}"' for text in texts), *SCHEMA.split("\n")]:
+        assert text in source, f"{IN_C} hasn't {text}"
+
+
+def empty_statements(votes, runs):
     """What the way through Python alone costs: as many statements as a show has, none of which does anything."""
     counted = Counted(opened(":memory:"))
     show_each(counted, list(rows_of(votes)))
+    check_statements(counted.texts)
     base = opened(":memory:")
-    begun = time.perf_counter()
-    for _ in range(counted.count):
-        base.execute("SELECT 1")
-    took = 1e6 * (time.perf_counter() - begun) / votes
-    print(f"{counted.count / votes:.1f} statements a vote; as many of SQLite that do nothing cost {took:.1f} microseconds")
+
+    def work():
+        for _ in range(counted.count):
+            base.execute("SELECT 1")
+
+    took = measure.least([measure.here(work) for _ in range(runs)])
+    each = f"{counted.count / votes:.1f} statements a vote"
+    print(f"{votes:,} votes: {each}; as many through Python that do nothing cost {measure.both(took, votes)} microseconds")
 
 
-def engines(folder):
-    """What is measured: a name and how many seconds so many votes take."""
+# ---- what is measured
+
+
+def engines(folder, in_c):
+    """What is measured: a name, and what so many votes took."""
     found = {}
     for partitions in (1, 2):
         for clients in (1, 4):
@@ -265,24 +293,28 @@ def engines(folder):
             found[f"sstore in memory, {where}"] = in_memory(clients, partitions)
     for clients in (1, 4):
         found[f"sstore in a folder, {clients} client{'s' * (clients > 1)}"] = in_folder(folder, clients, 1)
-    found["SQLite in memory"] = lambda votes: of_sqlite(":memory:", show_each, votes)
-    found["SQLite in a file, each transaction synced"] = in_sqlite_file(folder, show_each)
-    found[f"SQLite in a file, {IN_ONE} votes a sync"] = in_sqlite_file(folder, show_shared)
+    if in_c:
+        found["SQLite through C, prepared, in memory"] = lambda votes: measure.run([in_c, str(SEED), str(votes)])[0]
+    found["SQLite through Python, in memory"] = lambda votes: of_sqlite(":memory:", show_each, votes)
+    found["SQLite through Python, in a file, each transaction synced"] = in_sqlite_file(folder, show_each)
+    found[f"SQLite through Python, in a file, {IN_ONE} votes a sync"] = in_sqlite_file(folder, show_shared)
     return found
 
 
-def measured(sizes, folder):
-    """Microseconds a vote, of each engine at each number of votes."""
-    print(f"{'microseconds a vote':44}" + "".join(f"{votes:>10,}" for votes in sizes))
+def measured(sizes, runs, engines):
+    """What the votes took of each engine at each number of them; the wall times, in microseconds a vote."""
+    measure.head(runs, f"; SQLite {sqlite3.sqlite_version}, Python {sys.version.split()[0]}")
     found = {}
-    for name, run in engines(folder).items():
-        for votes in sizes:
-            found[name, votes] = 1e6 * statistics.median(run(votes) for _ in range(RUNS)) / votes
-        print(f"{name:44}" + "".join(f"{found[name, votes]:>10.1f}" for votes in sizes), flush=True)
-    return found
+    for votes in sizes:
+        variants = {(name, votes): lambda run=run, votes=votes: run(votes) for name, run in engines.items()}
+        found |= measure.least_of_each(variants, runs, f"{votes:,} votes")
+    measure.top_row(["microseconds a vote, wall / processor", *(f"{votes:,} votes" for votes in sizes)])
+    for name in engines:
+        measure.row([name, *(measure.both(found[name, votes], votes) for votes in sizes)])
+    return {(name, votes): 1e6 * took.wall / votes for (name, votes), took in found.items()}
 
 
-COLOURS = ["#1f6f8b", "#4b7f52", "#2e4a7d", "#5f5f2e", "#7d4b8f", "#b565a7", "#b5651d", "#8b1f3f", "#d08f2e"]
+COLOURS = ["#1f6f8b", "#4b7f52", "#2e4a7d", "#5f5f2e", "#7d4b8f", "#b565a7", "#c0392b", "#b5651d", "#8b1f3f", "#d08f2e"]
 
 
 def drawing(found, sizes):
@@ -295,8 +327,8 @@ def drawing(found, sizes):
     x = lambda votes: 70 + 470 * (log10(votes) - left) / (right - left)
     y = lambda cost: 380 - 340 * (log10(cost) - low) / (high - low)
     out = [
-        '<svg xmlns="http://www.w3.org/2000/svg" viewBox="0 0 860 430" font-family="sans-serif" font-size="12">',
-        '<rect width="860" height="430" fill="white"/>',
+        '<svg xmlns="http://www.w3.org/2000/svg" viewBox="0 0 940 430" font-family="sans-serif" font-size="12">',
+        '<rect width="940" height="430" fill="white"/>',
         '<text x="70" y="20">microseconds a vote, by number of votes (full: sstore, broken: SQLite)</text>',
     ]
     for power in range(low, high + 1):
@@ -317,16 +349,17 @@ def bars(found, votes):
     """Votes a second of each engine, at one number of votes."""
     names = list(dict.fromkeys(name for name, _ in found))
     most = max(1e6 / found[name, votes] for name in names)
+    height = 60 + 26 * len(names)
     out = [
-        f'<svg xmlns="http://www.w3.org/2000/svg" viewBox="0 0 860 {60 + 26 * len(names)}" font-family="sans-serif" font-size="12">',
-        f'<rect width="860" height="{60 + 26 * len(names)}" fill="white"/>',
+        f'<svg xmlns="http://www.w3.org/2000/svg" viewBox="0 0 860 {height}" font-family="sans-serif" font-size="12">',
+        f'<rect width="860" height="{height}" fill="white"/>',
         f'<text x="20" y="24">votes a second, at {votes:,} votes</text>',
     ]
     for at, name in enumerate(names):
         rate, top = 1e6 / found[name, votes], 44 + 26 * at
         out.append(f'<text x="20" y="{top + 14}">{name}</text>')
-        out.append(f'<rect x="290" y="{top}" width="{460 * rate / most:.1f}" height="18" fill="{COLOURS[at]}"/>')
-        out.append(f'<text x="{296 + 460 * rate / most:.1f}" y="{top + 14}">{rate:,.0f}</text>')
+        out.append(f'<rect x="380" y="{top}" width="{400 * rate / most:.1f}" height="18" fill="{COLOURS[at]}"/>')
+        out.append(f'<text x="{386 + 400 * rate / most:.1f}" y="{top + 14}">{rate:,.0f}</text>')
     return "\n".join(out + ["</svg>", ""])
 
 
@@ -345,22 +378,25 @@ def profile(votes=4_000):
 
 
 def main():
-    parser = argparse.ArgumentParser(description=__doc__, formatter_class=argparse.RawDescriptionHelpFormatter)
-    parser.add_argument("--votes", default=",".join(map(str, VOTES)))
+    parser = measure.parser_of(__doc__)
+    parser.add_argument("--votes", type=measure.numbers, default=VOTES)
     parser.add_argument("--folder")
-    parser.add_argument("--svg", default=os.path.join(TOP, "bench/voter.svg"))
+    parser.add_argument("--svg", default=os.path.join(measure.BENCH, "voter.svg"))
     parser.add_argument("--profile", action="store_true")
     given = parser.parse_args()
-    if not os.access(PROGRAM, os.X_OK):
-        sys.exit("the program isn't built: run ./sstore - run < examples/stored_run.jsonl first")
+    measure.want_program()
     if given.profile:
         return profile()
-    sizes = [int(v) for v in given.votes.split(",")]
-    compared(sizes[0])
-    empty_statements(sizes[0])
-    found = measured(sizes, given.folder)
+    with tempfile.TemporaryDirectory() as inside:
+        in_c = os.path.join(inside, "sqlite_voter")
+        if not measure.built(["-lsqlite3"], IN_C, in_c):
+            print("so the row of SQLite through C is left out")
+            in_c = None
+        compared(given.votes[0], in_c)
+        empty_statements(given.votes[0], given.runs)
+        found = measured(given.votes, given.runs, engines(given.folder, in_c))
     rates = given.svg.removesuffix(".svg") + "_rates.svg"
-    for file_name, text in ((given.svg, drawing(found, sizes)), (rates, bars(found, sizes[-1]))):
+    for file_name, text in ((given.svg, drawing(found, given.votes)), (rates, bars(found, given.votes[-1]))):
         with open(file_name, "w", encoding="utf-8") as file:
             file.write(text)
         print(f"written: {file_name}")

@@ -1,25 +1,22 @@
 #!/usr/bin/env python3
 """What a push through a workflow costs, at a growing number of pushes, of sources and of rows.
 
-    python3 bench/workflows.py [--sizes 1000,10000,100000]
+    python3 bench/workflows.py [--sizes 1000,10000,100000] [--runs 5]
 
-Runs the program that `./sstore` built (build it first), or the one that SSTORE names. Each line is one run, from its
-start to the end of its report: how many pushes, seconds, microseconds a push and a step (a row and a step where
-batches are long), and the most memory that the program held. Time is linear where microseconds stay the same while
-the number grows tenfold, and memory where it grows as the list does, which holds each push and each step. What is told
-of memory is never less than what this script itself has, some 15 MB.
+Runs the program that `./sstore` built (build it first), or the one that SSTORE names. Each line is a load with a number of
+pushes, and has microseconds a push and a step, from the start of a run to the end of its report, as wall time / processor
+time of user and system: the least of each of so many runs, in each of which all lines have their turn. Where batches are long
+it's a row and a step in place of a step. The last column is the most memory that the program held, in the run that held
+least. Time is linear where microseconds stay the same while the number grows tenfold, and memory where it grows as the
+list does, which holds each push and each step. What is told of memory is never less than what this script itself has, some
+15 MB.
 """
 
-import argparse
 import json
-import os
-import subprocess
-import sys
-import tempfile
-import time
 
-TOP = os.path.dirname(os.path.dirname(os.path.abspath(__file__)))
-PROGRAM = os.environ.get("SSTORE", os.path.join(TOP, "crates/ss_program/out/ss_program"))
+import measure
+
+PROGRAM = measure.PROGRAM
 SIZES = [1_000, 10_000, 100_000]
 ROWS = 1_024  # the most that a batch may have
 CHAIN = 8  # procedures that a long batch goes through
@@ -118,53 +115,50 @@ def by_long_batches(number):
     return chain(CHAIN), CHAIN, (push("a", i, [[i * ROWS + k] for k in range(ROWS)]) for i in range(number))
 
 
-def run(catalogue, steps, requests, number):
-    """The seconds of a run and the most bytes that it held. Its report has to have each push and each step."""
-    with tempfile.TemporaryFile() as given, tempfile.TemporaryFile() as report:
-        given.write((json.dumps(catalogue, separators=(",", ":")) + "\n").encode())
-        given.writelines(line.encode() for line in requests)
-        given.seek(0)
-        begun = time.perf_counter()
-        child = subprocess.Popen([PROGRAM, "-", "run"], stdin=given, stdout=report)
-        _, status, used = os.wait4(child.pid, 0)
-        took = time.perf_counter() - begun
-        child.returncode = os.waitstatus_to_exitcode(status)
-        assert child.returncode == 0, f"status {child.returncode}"
-        report.seek(0)
-        line = b""
-        for line in report:
-            assert b'"aborted"' not in line, "a step has aborted"
-        assert line == b'["done",%d]\n' % (number * (steps + 1)), "the list has another length"
-        return took, used.ru_maxrss * 1024
+def input_of(catalogue, requests):
+    yield (json.dumps(catalogue, separators=(",", ":")) + "\n").encode()
+    for line in requests:
+        yield line.encode()
+
+
+def run(given, entries):
+    """What a run took. Its report has to have each push and each step, and none that has aborted."""
+    took, report = measure.run([PROGRAM, "-", "run"], given)
+    for line in report:
+        assert b'"aborted"' not in line, "a step has aborted"
+    measure.check_end(report, entries)
+    return took
 
 
 KINDS = [
     ("pushes through a diamond", by_diamond, 1),
-    ("the same, of eight clients", by_clients, 1),
+    ("pushes through a diamond, of eight clients", by_clients, 1),
     ("pushes of one source", by_one_source, 1),
     ("pushes of a source each", by_many_sources, 1),
-    (f"batches of {ROWS:,} rows through {CHAIN} steps", by_long_batches, ROWS),
+    (f"batches of {ROWS:,} rows through {CHAIN} steps; a row and step", by_long_batches, ROWS),
 ]
 
 
 def main():
-    parser = argparse.ArgumentParser(description=__doc__, formatter_class=argparse.RawDescriptionHelpFormatter)
-    parser.add_argument("--sizes", default=",".join(map(str, SIZES)))
+    parser = measure.parser_of(__doc__)
+    parser.add_argument("--sizes", type=measure.numbers, default=SIZES)
     given = parser.parse_args()
-    if not os.access(PROGRAM, os.X_OK):
-        sys.exit("the program isn't built: run ./sstore - run < examples/stored_run.jsonl first")
-    sizes = [int(size) for size in given.sizes.split(",")]
-    print(f"{'':42}{'pushes':>10}{'seconds':>10}{'us a push':>12}{'us a step':>12}{'MB':>8}")
+    measure.want_program()
+    variants, parts = {}, {}
     for words, kind, rows in KINDS:
-        for size in sizes:
+        for size in given.sizes:
             number = max(1, size // 100) if rows > 1 else size
             catalogue, steps, requests = kind(number)
-            took, held = run(catalogue, steps, requests, number)
-            each = 1e6 * took / number
-            print(
-                f"{words:42}{number:>10,}{took:>10.2f}{each:>12.1f}{each / steps / rows:>12.3f}{held / 1e6:>8.0f}",
-                flush=True,
-            )
+            file = measure.input_of(input_of(catalogue, requests))
+            entries = number * (steps + 1)
+            variants[words, number] = lambda file=file, entries=entries: run(file, entries)
+            parts[words, number] = number * steps * rows
+    measure.head(given.runs)
+    found = measure.least_of_each(variants, given.runs, "all loads")
+    measure.top_row(["microseconds, wall / processor", "pushes", "a push", "a step", "MB held"])
+    for (words, number), took in found.items():
+        step = measure.both(took, parts[words, number], 3)
+        measure.row([words, f"{number:,}", measure.both(took, number), step, f"{took.held / 1e6:.0f}"])
 
 
 if __name__ == "__main__":

@@ -57,7 +57,7 @@ module _ (I : RattleType) (life : Ghosts I.Denot) where
       let l = log_sync I life s y in
       let b = slot_sync s y in
       let i = inbox_sync s y in
-      declared_sync (hub.the_type I life) (search (crosses, sendable) depth 40, (search (crosses, sendable) depth 40, (search (crosses, sendable) depth 40, tt)))
+      declared_sync (hub.the_type I life) (search (crosses, sendable) depth 40, (search (crosses, sendable) depth 40, (search (crosses, sendable) depth 40, (search (crosses, sendable) depth 40, tt))))
 
   parts_send : IsSend I → IsSend (option.the_row (partition.the_row I life))
   parts_send s = let b = partition_send I life s in variants_send (option.enum (partition.the_row I life)) (tt, ((search (sendable, crosses) depth 20, tt), tt))

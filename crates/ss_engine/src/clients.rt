@@ -128,8 +128,8 @@ fn serve_clients<
     clients
 }
 
-/// Runs what waits in the inbox of a partition, until the clients are done and a pump then runs nothing. Before that it rests
-/// where a pump ran nothing, until more waits there.
+/// Runs what waits in the inbox of a partition, until the clients are done and a pump then runs nothing. Before each pump it
+/// looks for work as long as that pays, and it sleeps where a pump ran nothing, until more waits there.
 ///
 /// Its note ends with its thread, instead of coming back for the close, because the marks in hand tell all that
 /// settling asks.
@@ -145,6 +145,7 @@ fn execute_until<I: Life, N: Runner + Drop, G: Gate + Drop, R: Wait>(
 {
     for _ in rt.forever() {
         let finished = done.load(Ordering::SeqCst);
+        engine.hub.look(p);
         let (known, did) = engine.pump(rt, alloc, note, p);
         note = known;
         if did.is_idle() {
@@ -178,6 +179,8 @@ fn serve_beside_executors<
     requires begin { EachHasLane (length clients.items) (MayBegin I.first requests.now) clients.items }
     ensures { EachHasLane (length clients.items) (HasMade I.first I.limit requests.now) result.items }
 {
+    let processors = thread::available_parallelism(rt).map_or(1, |many| many.get());
+    engine.hub.look_with(processors);
     let done = AtomicBool::new(false);
     let flag = &done;
     thread::scope(

@@ -106,8 +106,8 @@ impl<I: Life, N: Runner + Drop, G: Gate + Drop> Engine<I, N, G> {
     {
         match stepped {
             Stepped::Ran { place, listed } => {
-                self.wake(rt, &listed.entry);
-                self.hub.put_hint(rt, p, procedure);
+                self.wake(rt, p, &listed.entry);
+                self.hub.put_hint(rt, p, p, procedure);
                 self.gate.after(p, &listed.entry);
                 Some(Pumped::Ran(place))
             }

@@ -16,6 +16,7 @@ use crate::gate::Gate;
 use crate::inbox::SharedInbox;
 use crate::job::Job;
 use crate::lane::{Lane, answered, unsent};
+use crate::lookers::Lookers;
 use crate::pump::Pumped;
 use crate::reply::{Reply, Said, reply_of};
 use crate::slot::Slot;
@@ -34,6 +35,7 @@ pub struct Hub<I: Life> {
     pub(crate) log: CommitLog<I>,
     pub(crate) inboxes: Vec<SharedInbox<I>>,
     pub(crate) slots: Vec<Slot<I>>,
+    pub(crate) lookers: Lookers,
     pub(crate) ghost inboxes_are: { length inboxes.items ≡ I.parts },
     pub(crate) ghost slots_are: { length slots.items ≡ I.clients },
 }
@@ -54,6 +56,7 @@ impl<I: Life> Hub<I> {
             log,
             inboxes,
             slots,
+            lookers: Lookers::new(),
         })
     }
 
@@ -158,6 +161,10 @@ impl<I: Life> Hub<I> {
                     slot.rest(rt);
                 }
             } else {
+                // Who is behind others leaves its processor to them.
+                if inbox.is_short() {
+                    slot.look(&self.lookers);
+                }
                 slot.rest(rt);
             }
         }
@@ -171,12 +178,18 @@ impl<I: Life> Hub<I> {
         self.inboxes[p as usize].take(rt)
     }
 
-    /// Puts the hint of a procedure into a partition's inbox. Takes no memory.
-    pub(crate) fn put_hint<R: Wait>(&self, rt: &R, p: u8, procedure: u16)
+    /// Puts the hint of a procedure into a partition's inbox, and wakes its executor where that sleeps. A hint from whoever runs
+    /// that partition's work is found there next, and wakes nobody. Takes no memory.
+    pub(crate) fn put_hint<R: Wait>(&self, rt: &R, from: u8, p: u8, procedure: u16)
         requires part { p < I.parts }
         requires hint { procedure < 64 }
     {
-        self.inboxes[p as usize].put_hint(rt, procedure);
+        let inbox = &self.inboxes[p as usize];
+        if from == p {
+            inbox.keep_hint(rt, procedure);
+        } else {
+            inbox.put_hint(rt, procedure);
+        }
     }
 
     /// Puts the reply to what went out with a ticket into its client's slot, and wakes the client. Takes no memory.
@@ -195,7 +208,20 @@ impl<I: Life> Hub<I> {
         self.reply(rt, ticket, mark, Said::NoMemory);
     }
 
-    /// Waits while the inbox of a partition is empty and `stop` wasn't called. Takes no memory.
+    /// How many processors there are: fewer threads than that look for work or answers instead of sleeping.
+    pub(crate) fn look_with(&self, processors: usize) {
+        let most = processors.saturating_sub(1).min(64);
+        self.lookers.allow(most as u32);
+    }
+
+    /// Looks for work in the inbox of a partition as long as it pays, and doesn't sleep.
+    pub(crate) fn look(&self, p: u8)
+        requires { p < I.parts }
+    {
+        self.inboxes[p as usize].look(&self.lookers);
+    }
+
+    /// Sleeps while the inbox of a partition is empty and `stop` wasn't called. Takes no memory.
     pub fn rest<R: Wait>(&self, rt: &R, p: u8)
         requires { p < I.parts }
     {

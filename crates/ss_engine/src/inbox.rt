@@ -3,12 +3,13 @@
 ghost use Rattle.std.specs.Prelude.{◌≡◌, ◌<◌, ◌∷◌, [], ◌++◌, length, IfErr, OnOk};
 
 use crate::job::Job;
+use crate::lookers::Lookers;
 use crate::signal::Signal;
 use ss_model::Life;
 use ss_sched::{Inbox, Work};
 use ss_value::NoMemory;
 use std::alloc::Global;
-use std::sync::atomic::{AtomicBool, Ordering};
+use std::sync::atomic::{AtomicBool, AtomicU32, Ordering};
 use std::sync::{Condvar, Mutex, Wait};
 
 /// What stands behind the lock: hints and jobs, and whether nobody is to wait for them any more.
@@ -32,13 +33,15 @@ fn put_into<I: Life>(work: &mut Inbox<Job<I>>, job: Job<I>) -> Result<(), Job<I>
 
 /// The hints and jobs of a partition, which many threads put in and one or more take out.
 ///
-/// No clause can tell how many jobs wait behind the lock, so the room is tested there. Each call takes the lock once, but for
-/// `leave_unserved` and `is_unserved`, which take none. Only `new` takes memory.
+/// No clause can tell how many jobs wait behind the lock, so the room is tested there. Each call takes the lock once at most;
+/// `is_short`, `look`, `leave_unserved` and `is_unserved` take none. Only `new` takes memory.
 #[derive(Drop)]
 pub(crate) struct SharedInbox<I: Life> {
     waiting: Mutex<Waiting<I>>,
     moved: Condvar,
     there: Signal,
+    // How many jobs wait, told without the lock.
+    jobs: AtomicU32,
     unserved: AtomicBool,
 }
 
@@ -53,11 +56,12 @@ impl<I: Life> SharedInbox<I> {
             }),
             moved: Condvar::new(),
             there: Signal::new(),
+            jobs: AtomicU32::new(0),
             unserved: AtomicBool::new(false),
         })
     }
 
-    /// Puts a job behind the others, and wakes one of those who rest here. It comes back where there is no room for it.
+    /// Puts a job behind the others, and wakes one of those who sleep here. It comes back where there is no room for it.
     pub fn put_job<R: Wait>(&self, rt: &R, job: Job<I>) -> Result<(), Job<I>>
         ensures { IfErr result (λ j. j ≡ job) }
     {
@@ -65,34 +69,60 @@ impl<I: Life> SharedInbox<I> {
         if let Err(job) = put_into(&mut waiting.work, job) {
             return Err(job);
         }
+        self.jobs.fetch_add(1, Ordering::Relaxed);
+        // The lock is free before anybody can know, so that nobody waits there.
+        drop(waiting);
         self.there.raise();
         self.moved.notify_one();
         Ok(())
     }
 
-    /// Puts the hint of a procedure behind the others, where it doesn't wait already, and wakes one of those who rest here.
+    /// Puts the hint of a procedure behind the others, where it doesn't wait already, and wakes one of those who sleep here.
     pub fn put_hint<R: Wait>(&self, rt: &R, procedure: u16)
+        requires { procedure < 64 }
+    {
+        self.keep_hint(rt, procedure);
+        self.moved.notify_one();
+    }
+
+    /// The same for whoever runs the work that waits here, and finds the hint there next: it wakes nobody.
+    pub fn keep_hint<R: Wait>(&self, rt: &R, procedure: u16)
         requires { procedure < 64 }
     {
         let mut waiting = self.waiting.lock(rt);
         waiting.work.put_hint(procedure);
+        drop(waiting);
         self.there.raise();
-        self.moved.notify_one();
     }
 
-    /// Takes the next item: the first hint where one waits, else the first job.
+    /// Takes the next item: the first hint where one waits, else the first job. Where nothing is told of it takes no lock.
     pub fn take<R: Wait>(&self, rt: &R) -> Option<Work<Job<I>>> {
+        if !self.there.is_raised() {
+            return None;
+        }
         let mut waiting = self.waiting.lock(rt);
         let item = waiting.work.take();
+        if let Some(Work::Job(_)) = &item {
+            self.jobs.fetch_sub(1, Ordering::Relaxed);
+        }
         if waiting.work.is_empty() && !waiting.stopped {
             self.there.lower();
         }
         item
     }
 
-    /// Waits while nothing is there and `stop` wasn't called: awake for a short time, then asleep.
+    /// Whether no more than one job waits, so that whoever put one there is next in turn.
+    pub fn is_short(&self) -> bool {
+        self.jobs.load(Ordering::Relaxed) <= 1
+    }
+
+    /// Looks for work as long as that pays, and doesn't sleep.
+    pub fn look(&self, lookers: &Lookers) {
+        self.there.look(lookers);
+    }
+
+    /// Sleeps while nothing is there and `stop` wasn't called.
     pub fn rest<R: Wait>(&self, rt: &R) {
-        self.there.spin();
         let _waiting = self.moved.wait_while(rt, self.waiting.lock(rt), |w| {
             w.work.is_empty() && !w.stopped
         });

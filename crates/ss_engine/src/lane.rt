@@ -101,6 +101,21 @@ impl<I: Life> Lane<I> {
     }
 }
 
+impl<I: Life> Lane<I> {
+    ghost use Rattle.std.specs.Prelude.{length};
+    ghost use Rattle.ss_model.specs.Replays.{Replays};
+    ghost use Rattle.ss_commitlog.specs.Meaning.{listed_of};
+
+    /// The list that a lane knows replays, and has no more entries than its log may. So an answer means something before the
+    /// engine is closed. A fact of the type, told to callers; the call does nothing.
+    pub fn knows_what_replays(&self)
+        ensures replays { Replays I.catalog I.opening (listed_of self.now.list) }
+        ensures within { length self.now.list ≤ I.limit }
+    {
+        self.note.knows_what_replays();
+    }
+}
+
 /// The lane with one answer more, once its mark has come back and met its note. Takes no memory.
 pub(crate) fn answered<I: Life>(
     ticket: Ticket,

@@ -13,6 +13,7 @@
 //! - `lane`: a client's side, with its law in `laws`; `hub`: the calls of clients, and of those who run their requests
 //! - `due`: what of a client's answers waits for a receipt
 //! - `ticket`, `job`, `reply`: what travels; `inbox`, `slot`: where it waits; `signal`: that it does
+//! - `patience`: how long it pays to look for a signal before a sleep; `lookers`: how many threads look at the same time
 //! - `own`: whether a reply is the one that is waited for
 //! - `pump`: what the work of an inbox came to; `asking`: the commit of what a client asked for
 //! - `engine`: what threads share; `opening`: one with an empty list, and a lane for each client; `closing`: what it leaves, in the `room` for it
@@ -91,8 +92,10 @@ mod job;
 mod lane;
 mod laws;
 mod least;
+mod lookers;
 mod opening;
 mod own;
+mod patience;
 mod pump;
 mod pumping;
 mod ranking;

@@ -84,7 +84,7 @@ impl<I: Life, N: Runner + Drop, G: Gate + Drop> Engine<I, N, G> {
         );
         self.put_back(alloc, hand, turns);
         if let Said::Listed { listed, .. } = &said {
-            self.wake(rt, &listed.entry);
+            self.wake(rt, p, &listed.entry);
             self.gate.after(p, &listed.entry);
         }
         // So the note knows the entry.

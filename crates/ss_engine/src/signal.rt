@@ -1,18 +1,18 @@
 //! Whether something waits behind a lock, told without the lock.
 
+use crate::lookers::Lookers;
+use crate::patience::Patience;
 use std::hint::spin_loop;
 use std::sync::atomic::{AtomicBool, Ordering};
 
-/// How often a thread looks before it goes to sleep: for about as long as it takes to wake one that sleeps.
-const LOOKS: u32 = 256;
-
-/// Whether something waits behind a lock, as far as a look can tell that doesn't take it. Each call but `spin` takes constant time.
+/// Whether something waits behind a lock, as far as a look can tell that doesn't take it. Each call but `look` takes constant time.
 ///
-/// Who goes to sleep looks here for a while first, since under load what it waits for comes sooner than the kernel wakes a
-/// thread. Only what stands behind the lock counts: a signal that is late costs time and nothing else.
+/// Who goes to sleep looks here first, since what it waits for often comes sooner than the kernel wakes a thread. Only what
+/// stands behind the lock counts: a signal that is late costs time and nothing else.
 #[derive(Drop)]
 pub(crate) struct Signal {
     raised: AtomicBool,
+    patience: Patience,
 }
 
 impl Signal {
@@ -20,6 +20,7 @@ impl Signal {
     pub fn new() -> Signal {
         Signal {
             raised: AtomicBool::new(false),
+            patience: Patience::new(),
         }
     }
 
@@ -33,13 +34,34 @@ impl Signal {
         self.raised.store(false, Ordering::Release);
     }
 
-    /// Looks until something waits, but no more than `LOOKS` times.
-    pub fn spin(&self) {
-        for _ in 0..LOOKS {
-            if self.raised.load(Ordering::Acquire) {
-                return;
+    /// Whether something waits.
+    pub fn is_raised(&self) -> bool {
+        self.raised.load(Ordering::Acquire)
+    }
+
+    /// Looks until something waits, as long as it lately took and as a processor is there for it. Whether something does.
+    pub fn look(&self, lookers: &Lookers) -> bool {
+        if self.is_raised() {
+            return true;
+        }
+        let most = self.patience.looks();
+        if most == 0 || !lookers.enter() {
+            return false;
+        }
+        let looks = self.looks_until_raised(most);
+        lookers.leave();
+        self.patience.learn(most, looks);
+        looks < most
+    }
+
+    /// How many looks it takes until something waits, `most` where that many find nothing.
+    fn looks_until_raised(&self, most: u32) -> u32 {
+        for looks in 0..most {
+            if self.is_raised() {
+                return looks;
             }
             spin_loop();
         }
+        most
     }
 }

@@ -3,6 +3,7 @@
 ghost use Rattle.std.specs.Prelude.{◌≡◌, IfSome, IfNone, Some, None};
 ghost use Rattle.ss_engine.specs.Owning.{IsOwn};
 
+use crate::lookers::Lookers;
 use crate::own::is_own;
 use crate::reply::Reply;
 use crate::signal::Signal;
@@ -12,7 +13,7 @@ use std::sync::{Condvar, Mutex, Wait};
 
 /// The slot of one client. It has room for one reply, since a client waits for one request at a time.
 ///
-/// Each call takes the lock once and no memory.
+/// Each call takes the lock once at most, but `look` none, and no memory.
 #[derive(Drop)]
 pub(crate) struct Slot<I: Life> {
     reply: Mutex<Option<Reply<I>>>,
@@ -30,26 +31,39 @@ impl<I: Life> Slot<I> {
         }
     }
 
-    /// Puts a reply in, and wakes the client.
+    /// Puts a reply in, and wakes the client where it sleeps.
     pub fn put<R: Wait>(&self, rt: &R, reply: Reply<I>) {
         let mut found = self.reply.lock(rt);
         *found = Some(reply);
+        // The lock is free before the client can know, so that it doesn't wait there.
+        drop(found);
         self.there.raise();
         self.moved.notify_all();
     }
 
-    /// Takes the reply that is there where it answers what was asked for with this ticket, and else leaves it.
+    /// Takes the reply that is there where it answers what was asked for with this ticket, and else leaves it. Where no reply
+    /// is told of it takes no lock.
     pub fn take<R: Wait>(&self, rt: &R, ticket: &Ticket, what: &Asked) -> Option<Reply<I>>
         ensures { IfSome result (IsOwn ticket.now what.now) }
     {
+        if !self.there.is_raised() {
+            return None;
+        }
         let mut found = self.reply.lock(rt);
         self.there.lower();
         taken(&mut *found, ticket, what)
     }
 
-    /// Waits while no reply is there: awake for a short time, then asleep.
+    /// Looks for a reply as long as that pays, and doesn't sleep.
+    pub fn look(&self, lookers: &Lookers) {
+        self.there.look(lookers);
+    }
+
+    /// Sleeps while no reply is there.
     pub fn rest<R: Wait>(&self, rt: &R) {
-        self.there.spin();
+        if self.there.is_raised() {
+            return;
+        }
         let _found = self
             .moved
             .wait_while(rt, self.reply.lock(rt), |r| r.is_none());

@@ -11,15 +11,16 @@ use ss_sched::wake_list;
 use std::sync::Wait;
 
 impl<I: Life, N: Runner + Drop, G: Gate + Drop> Engine<I, N, G> {
-    /// Puts the hint of each procedure that an entry may have made ready into the inbox of its home, whose lock it takes.
-    /// Takes no memory; a look at each procedure beside what `wake_list` takes.
-    pub(crate) fn wake<R: Wait>(&self, rt: &R, entry: &Entry)
+    /// Puts the hint of each procedure that an entry may have made ready into the inbox of its home, whose lock it takes. Only
+    /// at other homes than where the entry ran somebody is woken. Takes no memory; a look at each procedure beside what
+    /// `wake_list` takes.
+    pub(crate) fn wake<R: Wait>(&self, rt: &R, p: u8, entry: &Entry)
         requires { fits_entry I.catalog entry.now ≡ true }
     {
         let woken = wake_list(&self.catalog, entry);
         for (procedure, home) in self.homes.as_slice().iter().enumerate() {
             if woken.has(procedure as u8) {
-                self.hub.put_hint(rt, *home, procedure as u16);
+                self.hub.put_hint(rt, p, *home, procedure as u16);
             }
         }
     }
