@@ -10,11 +10,11 @@ use Rattle.ss_model.specs.ReportLines.{database_lines, done_line, list_lines, li
 use Rattle.ss_model.specs.Settling.{Kept, kept, Drained, border_stream, KeptCarries}
 use Rattle.ss_model_kept.proofs.CallerLemmas.{from_kept}
 use Rattle.ss_disk.specs.Files.{Files}
-use Rattle.ss_disk.proofs.CallerLemmas.{leaves_less}
 use Rattle.ss_standing.specs.Standing.{Stands, StandsForFront, Prefix}
 use Rattle.ss_headline.specs.Disks.{DiskChange, disk_of}
 use Rattle.ss_headline.specs.Sentences.{RepliesAndTables, WholeSession, StoppedSession, stop_at}
 use Rattle.ss_headline.specs.Laws.{HoldsFromOther, SessionsHoldFromEach}
+use Rattle.ss_headline.proofs.Disks.{less_at_each}
 
 module _ (carries : KeptCarries) (catalog : Catalog) (x y : Database) (same : kept catalog x ≡ kept catalog y) where
   same_tables : (list : List Listed) → database_lines catalog (after catalog x list) ≡ database_lines catalog (after catalog y list)
@@ -39,7 +39,7 @@ module _ (carries : KeptCarries) (catalog : Catalog) (x y : Database) (same : ke
     };
   }
 
-  front_carried : (first : ℕ) (list : List Listed) (least : ℕ) (image : Files) → StandsForFront catalog x first list least image → StandsForFront catalog y first list least image
+  pub front_carried : (first : ℕ) (list : List Listed) (least : ℕ) (image : Files) → StandsForFront catalog x first list least image → StandsForFront catalog y first list least image
   front_carried first list least image f = record {
     some = f.some;
     within = f.within;
@@ -47,7 +47,7 @@ module _ (carries : KeptCarries) (catalog : Catalog) (x y : Database) (same : ke
     stands = subst (λ (k : Kept). Stands catalog image (first + f.some) k) (carries catalog x y same (take f.some list)).after f.stands;
   }
 
-  drained_carried : (list : List Listed) → Drained catalog (after catalog x list) → Drained catalog (after catalog y list)
+  pub drained_carried : (list : List Listed) → Drained catalog (after catalog x list) → Drained catalog (after catalog y list)
   drained_carried list d = λ q streams.
       let alike = from_kept catalog (after catalog x list) (after catalog y list) (carries catalog x y same list).after in
       sym (ap (λ cs. get_or cs q 0) alike.counts) ∙ d q streams ∙ alike.lengths (border_stream catalog q)
@@ -61,8 +61,8 @@ module _ (carries : KeptCarries) (catalog : Catalog) (x y : Database) (same : ke
     whole_carried requests first list text old new s = record {
       replies_and_tables = replies_carried requests first list Whole text s.replies_and_tables;
       in_order = (carries catalog x y same list).orders s.in_order;
-      wherever_a_crash_falls = λ quiet. leaves_less moment images old new (Prefix catalog x first list) (Prefix catalog y first list) (s.wherever_a_crash_falls quiet) (front_carried first list first);
-      all_stands = λ quiet image left. subst (λ (k : Kept). Stands catalog image (first + length list) k) (carries catalog x y same list).after (s.all_stands quiet image left);
+      wherever_a_crash_falls = less_at_each tells honest seen moment images faults (Prefix catalog x first list) (Prefix catalog y first list) old new (front_carried first list first) s.wherever_a_crash_falls;
+      all_stands = λ true' image left. subst (λ (k : Kept). Stands catalog image (first + length list) k) (carries catalog x y same list).after (s.all_stands true' image left);
       at_the_end = drained_carried list s.at_the_end;
     }
 
@@ -71,11 +71,12 @@ module _ (carries : KeptCarries) (catalog : Catalog) (x y : Database) (same : ke
     stopped_carried requests limit first list status count text old new s = record {
       replies = replies_carried requests first list (stop_at status count limit first list (faults old) (faults new)) text s.replies;
       in_order = (carries catalog x y same list).orders s.in_order;
-      wherever_a_crash_falls = λ quiet. leaves_less moment images old new (Prefix catalog x first list) (Prefix catalog y first list) (s.wherever_a_crash_falls quiet) (front_carried first list first);
+      wherever_a_crash_falls = less_at_each tells honest seen moment images faults (Prefix catalog x first list) (Prefix catalog y first list) old new (front_carried first list first) s.wherever_a_crash_falls;
       every_receipt_stands = record {
         from_first = s.every_receipt_stands.from_first;
+        within = s.every_receipt_stands.within;
         receipt = s.every_receipt_stands.receipt;
-        fronts = λ quiet image left. front_carried first list count image (s.every_receipt_stands.fronts quiet image left);
+        fronts = λ true' image left. front_carried first list count image (s.every_receipt_stands.fronts true' image left);
         few_behind = s.every_receipt_stands.few_behind;
       };
     }

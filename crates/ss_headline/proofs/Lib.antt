@@ -1,7 +1,9 @@
+pub mod Disks
 pub mod Few
 pub mod Untouched
 pub mod Sessions
 pub mod EachDatabase
 pub mod Runs
+pub mod Between
 pub mod worked
 pub mod Owed

@@ -11,7 +11,7 @@ use Rattle.ss_standing.specs.Laws.{ReceiptsBoundFronts}
 use Rattle.ss_headline.specs.Disks.{DiskChange, disk_of, AtTheExit}
 use Rattle.ss_headline.specs.Laws.{FewStandBehind, WholeSessions, StoppedSessions}
 use Rattle.ss_headline.specs.Layers.{Closed}
-use Rattle.ss_headline.proofs.Untouched.{quiet_again, crashes_join}
+use Rattle.ss_headline.proofs.Untouched.{crashes_join}
 
 -- a front that ends at the end is all
 front_is_all : (catalog : Catalog) (db : Database) (first : ℕ) (list : List Listed) (image : Files) → StandsForFront catalog db first list (first + length list) image → StandsForAll catalog db first list image
@@ -28,18 +28,16 @@ module _ {D : Type 0} (tells honest : Type 0) (seen : D → Files) (moment : D �
   -- at the exit each image is a front that ends at the receipt at least
   fronts_at_exit : (catalog : Catalog) (db : Database) (first : ℕ) (list : List Listed) (n : ℕ) (old new : D) → Closed catalog db first list (change old new)
       → AtTheExit (change old new) (StandsForAtLeast catalog n) → AtTheExit (change old new) (StandsForFront catalog db first list n)
-  fronts_at_exit catalog db first list n old new closed receipt quiet image left =
-      let run = closed.crashes quiet in
-      bounds catalog db first list n image (run.each (moment new) image run.later (omega arith) left) (receipt quiet image left)
+  fronts_at_exit catalog db first list n old new closed receipt true' image left =
+      let run = closed.crashes true' in
+      bounds catalog db first list n image (run.each (moment new) image run.later (omega arith) left) (receipt true' image left)
 
   pub whole_sessions : WholeSessions change
   whole_sessions = λ catalog requests db first list text old mid new opened closed settled report. record {
     replies_and_tables = record { one_by_one = closed.replays; report = report };
     in_order = closed.orders;
     wherever_a_crash_falls = crashes_join tells honest seen moment images faults catalog db first list old mid new opened closed;
-    all_stands = λ quiet image left.
-        front_is_all catalog db first list image
-        (fronts_at_exit catalog db first list (first + length list) mid new closed settled.receipt (quiet_again tells honest seen moment images faults catalog db first old mid new opened quiet) image left);
+    all_stands = λ true' image left. front_is_all catalog db first list image (fronts_at_exit catalog db first list (first + length list) mid new closed settled.receipt true' image left);
     at_the_end = settled.drained;
   }
 
@@ -50,8 +48,9 @@ module _ {D : Type 0} (tells honest : Type 0) (seen : D → Files) (moment : D �
     wherever_a_crash_falls = crashes_join tells honest seen moment images faults catalog db first list old mid new opened closed;
     every_receipt_stands = record {
       from_first = receipted.from_first;
-      receipt = λ quiet. receipted.receipt (quiet_again tells honest seen moment images faults catalog db first old mid new opened quiet);
-      fronts = λ quiet. fronts_at_exit catalog db first list count mid new closed receipted.receipt (quiet_again tells honest seen moment images faults catalog db first old mid new opened quiet);
+      within = receipted.within;
+      receipt = receipted.receipt;
+      fronts = fronts_at_exit catalog db first list count mid new closed receipted.receipt;
       few_behind = λ client. few client first list count receipted.from_first (receipted.few client);
     };
   }

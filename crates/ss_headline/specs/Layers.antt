@@ -10,10 +10,11 @@ use Rattle.ss_model.specs.Settling.{Drained, kept}
 use Rattle.ss_model.specs.WholeDatabase.{WholeDatabase}
 use Rattle.ss_report_laws.specs.Replies.{mine}
 use Rattle.ss_standing.specs.Standing.{Stands, Prefix, StandsForAtLeast}
-use Rattle.ss_headline.specs.Disks.{DiskChange, AtEachMoment, AtTheExit}
+use Rattle.ss_headline.specs.Disks.{DiskChange, AlwaysLeaves, AtEachMoment, AtTheExit}
 use Rattle.ss_headline.specs.Runs.{LogEndsWith}
 
--- a store was recovered, or made on an empty disk: the files stood for this, as does what a crash leaves at each moment, and the disk is quiet again
+-- a store was recovered, or made on an empty disk: the files stood for this, as does what a crash leaves anew at each moment, and nothing
+-- is pending on the disk
 pub record Opened (catalog : Catalog) (db : Database) (first : ℕ) (disk : DiskChange) : Type 0 where
   pub whole : WholeDatabase catalog db
   pub stood : disk.tells → Stands catalog disk.seen_before first (kept catalog db)
@@ -25,7 +26,7 @@ pub record Opened (catalog : Catalog) (db : Database) (first : ℕ) (disk : Disk
 pub record Closed (catalog : Catalog) (db : Database) (first : ℕ) (list : List Listed) (disk : DiskChange) : Type 0 where
   pub replays : Replays catalog db list
   pub orders : Orders catalog db list
-  pub crashes : AtEachMoment disk (Prefix catalog db first list)
+  pub crashes : AlwaysLeaves disk (Prefix catalog db first list)
 
 -- the engine had settled, and all was flushed: no batch is pending, all of the list is receipted, and the log ends with it
 pub record Settled (catalog : Catalog) (db : Database) (first : ℕ) (list : List Listed) (disk : DiskChange) : Type 0 where
@@ -44,5 +45,6 @@ pub record FewUnreceipted (client first : ℕ) (list : List Listed) (count : ℕ
 -- the receipts that clients were given: the greatest of them, or the place of the opening, and how few entries are not below it
 pub record Receipted (catalog : Catalog) (first : ℕ) (list : List Listed) (count : ℕ) (disk : DiskChange) : Type 0 where
   pub from_first : first ≤ count
+  pub within : count ≤ first + length list
   pub receipt : AtTheExit disk (StandsForAtLeast catalog count)
   pub few : (client : ℕ) → FewUnreceipted client first list count

@@ -5,3 +5,4 @@ pub mod Layers
 pub mod Untouched
 pub mod Laws
 pub mod Owed
+pub mod Between

@@ -1,5 +1,5 @@
 -- The headline, a record or a name for each of its sentences.
-use Rattle.std.specs.Prelude.{◌==◌, ℕ, ◌-◌, ◌^◌, ◌≤◌, min, List, length, drop}
+use Rattle.std.specs.Prelude.{◌==◌, ℕ, ◌+◌, ◌-◌, ◌^◌, ◌≤◌, min, List, length, drop}
 use Rattle.ss_model.specs.declared.catalog.Catalog.{Catalog}
 use Rattle.ss_model.specs.declared.entry.Listed.{Listed}
 use Rattle.ss_model.specs.declared.entry.Request.{Request}
@@ -30,7 +30,7 @@ AtTheEnd catalog db list = Drained catalog (after catalog db list)
 
 -- ---- crashes
 
--- wherever a crash falls, from the beginning of the call on, it leaves a disk that stands for a front of the list
+-- wherever a crash falls in the call, it leaves what it might have left before, or a disk that stands for a front of the list
 abbrev pub WhereverACrashFalls : Catalog → Database → ℕ → List Listed → DiskChange → Type 0
 WhereverACrashFalls catalog db first list disk = AtEachMoment disk (Prefix catalog db first list)
 
@@ -42,9 +42,10 @@ AllStands catalog db first list disk = AtTheExit disk (StandsForAll catalog db f
 abbrev pub entries_from : ℕ → ℕ → ℕ → List Listed → List (ℕ × Listed)
 entries_from client place first list = mine client place (drop (place - first) list)
 
--- at the exit each execution below this place stands, and of each client at most 16 entries are from there on
+-- at the exit each execution below this place of the list, or its end, stands, and of each client at most 16 entries are from there on
 pub record EveryReceiptStands (catalog : Catalog) (db : Database) (first : ℕ) (list : List Listed) (count : ℕ) (disk : DiskChange) : Type 0 where
   pub from_first : first ≤ count
+  pub within : count ≤ first + length list
   pub receipt : AtTheExit disk (StandsForAtLeast catalog count)
   pub fronts : AtTheExit disk (StandsForFront catalog db first list count)
   pub few_behind : (client : ℕ) → length (entries_from client count first list) ≤ 16

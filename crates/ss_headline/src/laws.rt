@@ -2,12 +2,13 @@
 
 ghost use Rattle.ss_headline.specs.Disks.{disk_of};
 ghost use Rattle.ss_headline.specs.Owed.{OwedIsEnough, FullListsHaveAll};
-ghost use Rattle.ss_headline.specs.Untouched.{UncalledIsAsBefore, ReadingIsAsBefore, FormingRanNothing, NothingRanStands};
+ghost use Rattle.ss_headline.specs.Untouched.{UncalledIsOnlyRead, NothingRanStands};
+ghost use Rattle.ss_headline.specs.Between.{QuietLeaves, QuietStays, CallsGoOn};
 ghost use Rattle.ss_headline.specs.Laws.{FewStandBehind, FewStayFew, LogsEndWithLists};
 ghost use Rattle.ss_headline.specs.Laws.{WholeSessions, StoppedSessions, SessionsHoldFromEach, WholeRuns, StoppedRuns, RunsHoldFromEach};
 
-use ss_disk::Disk;
-use ss_model_laws::{kept_carries, next_is_ready, settling_terminates};
+use ss_disk::{Claim, Disk};
+use ss_model_laws::{kept_carries, next_is_ready, replays_go_on, settling_terminates};
 use ss_report_laws::answers_make_report;
 use ss_standing::{receipts_bound_fronts, stands_for_one};
 
@@ -39,16 +40,22 @@ pub fn logs_end_with_lists()
     ensures { LogsEndWithLists }
 {}
 
-/// A disk that nothing called is as before (`uncalled`), and so is one that was read (`read`); where a store was being made
-/// nothing ran (`forming`). Where nothing ran a crash leaves what stands for the same as the disk did (`stands`).
+/// Of a disk that no call has reached nothing has changed, whatever is known of it (`uncalled`). Where nothing ran a crash
+/// leaves what it might have left before, or what stands for the same as the disk did (`stands`).
 pub fn nothing_ran<D: Disk>()
-    ensures uncalled { UncalledIsAsBefore D.tells D.honest D.seen D.moment D.images D.faults }
-    ensures read { ReadingIsAsBefore D.tells D.honest D.seen D.moment D.images D.faults }
-    ensures forming { FormingRanNothing D.tells D.honest D.seen D.moment D.images D.faults }
+    ensures uncalled { UncalledIsOnlyRead D.tells D.honest D.seen D.moment D.images D.faults }
     ensures stands { NothingRanStands D.tells D.honest D.seen D.moment D.images D.faults }
 {
     stands_for_one();
 }
+
+/// Where nothing was pending on the disk before the call, a crash leaves at each moment what has been promised, if what a
+/// read gave has it (`anew`), and of a disk that is as before what a read gave (`as_before`). A new disk is so, and the
+/// image that a crash left.
+pub fn quiet_leaves<D: Disk, P: Claim>()
+    ensures anew { QuietLeaves D.tells D.honest D.seen D.moment D.images D.faults P.holds }
+    ensures as_before { QuietStays D.tells D.honest D.seen D.moment D.images D.faults }
+{}
 
 /// An opening, an engine that was settled and closed, and its report are a whole session.
 pub fn whole_sessions<D: Disk>()
@@ -95,4 +102,17 @@ pub fn runs_hold_from_each<D: Disk>()
     ensures { RunsHoldFromEach (disk_of D.tells D.honest D.seen D.moment D.images D.faults) }
 {
     stands_for_one();
+}
+
+/// On an honest disk a run goes on from the one before it: behind a whole run both lists are one, and behind one that
+/// stopped the second goes on from a front of the first, which has all that is receipted.
+///
+/// The disk may have something pending between the two. A crash in the second call may then take what it could take
+/// before, but nothing that the first call promised: this stands at each moment of the second.
+pub fn calls_go_on<D: Disk>()
+    ensures { CallsGoOn (disk_of D.tells D.honest D.seen D.moment D.images D.faults) }
+{
+    stands_for_one();
+    kept_carries();
+    replays_go_on();
 }

@@ -3,15 +3,15 @@
 //! Whatever interleaving the clients and partitions take, and wherever a crash falls, the replies and tables of a run are
 //! those of the one serial list that it prints; in it each procedure takes its batches in order, each batch meets the
 //! procedures of its workflow in graph order and none twice, every receipted execution stands, and at the end each accepted
-//! batch has met each of them exactly once.
+//! batch has met each of them exactly once. The next call on the disk goes on from there.
 //!
 //! - `specs/Sentences` has a name for each sentence, and the two sessions in which they stand together, a whole and a
 //!   stopped one; `specs/Disks` says what a call did to its disk
 //! - `specs/Runs`: a run on a disk is a session from each database that the disk stood for
 //! - `specs/Layers`: what the calls below the top one owe, which are an opening, an engine that is settled and closed, and
 //!   the receipts that clients were given
-//! - `specs/Untouched`: calls that ran nothing; `specs/Owed`:
-//!   how many executions a run owes
+//! - `specs/Untouched`: calls that ran nothing; `specs/Between`: calls that follow each other; `specs/Owed`: how many
+//!   executions a run owes
 //! - `laws`: that these make up a run. Each is the contract of a function that does nothing, on any kind of disk;
 //!   `proofs/worked/Premises` meets their premises at a store that is made, run and closed
 //!
@@ -21,12 +21,15 @@
 //!   whole run or a stopped one (`whole_runs`, `stopped_runs`). By these two the top call promises what it does.
 //! - A session from one database is one from each of which the same is kept (`sessions_hold_from_each`), so a run is
 //!   one from every place and database that the disk stood for (`runs_hold_from_each`).
+//! - Two runs on one disk go on from each other (`calls_go_on`). Where nothing was pending on the disk before a call, a
+//!   crash leaves what is promised and nothing else (`quiet_leaves`).
 //!
 //! # Choices
 //!
-//! - All that is said of crashes presumes that the disk was quiet before, and an opening tells that it is quiet again
-//!   (`Opened.settled`), instead of one premise that is carried from the entry of the call: an engine knows the disk
-//!   that it was given and no earlier one.
+//! - All that is said of crashes presumes an honest disk and no more: at each moment of a call a crash leaves what it
+//!   might have left before, or what is promised (`AtEachMoment`), and behind the call what is promised (`AtTheExit`). A
+//!   premise that nothing was pending would make the promise shorter, but no call leaves a disk that is known to meet it:
+//!   behind a run that stopped each present image is a front of its list, and they may differ.
 //! - A stop is computed from the list and the disk (`stop_at`), instead of being any stop with the status: with a free
 //!   limit or free counts of faults each reply could say that the list is full or the log halted.
 //! - A receipt is said twice (`EveryReceiptStands`): that each image stands for the receipted executions, and that it
@@ -39,7 +42,7 @@
 mod laws;
 
 pub use laws::{
-    few_stand_behind, full_lists_have_all, logs_end_with_lists, nothing_ran, owed_is_enough,
-    runs_hold_from_each, sessions_hold_from_each, stopped_runs, stopped_sessions, whole_runs,
-    whole_sessions,
+    calls_go_on, few_stand_behind, full_lists_have_all, logs_end_with_lists, nothing_ran,
+    owed_is_enough, quiet_leaves, runs_hold_from_each, sessions_hold_from_each, stopped_runs,
+    stopped_sessions, whole_runs, whole_sessions,
 };

@@ -22,7 +22,7 @@ use Rattle.ss_words.specs.declared.command.CommandLine.{CommandLine}
 use Rattle.ss_words.specs.declared.command.Options.{Options}
 use Rattle.ss_words.specs.Words.{IsCommand, AsksFor, words_of}
 use Rattle.ss_words.proofs.CallerLemmas.{asks_is_command, asks_for_one}
-use Rattle.ss_headline.specs.Disks.{DiskChange, AsBefore}
+use Rattle.ss_headline.specs.Disks.{DiskChange}
 use Rattle.ss_recover.specs.Laws.{EmptyHasNoFault, StoreHasNoFault, StoreHasOneCatalog}
 use Rattle.ss_top.specs.declared.input.ReadError.{ReadError}
 use Rattle.ss_top.specs.declared.input.ReadError.TheVariants.{Line as OfLine, NoCatalog, Catalog as OfCatalog, Request as OfRequest}
@@ -149,13 +149,13 @@ module _ (limit : ℕ) (s : SourceChange) (w : SinkChange) (disk : DiskChange) w
 
   -- ---- the input is refused
 
-  module _ (one : HasOneRefusal) (either : StartsOrRefused) (as_before : AsBefore disk) (e : ReadError) (first : IfSome s.before (λ input. IsRefusedBy input e))
+  module _ (one : HasOneRefusal) (either : StartsOrRefused) (uncalled : disk.uncalled) (e : ReadError) (first : IfSome s.before (λ input. IsRefusedBy input e))
       (leaves : LeavesOfRefusedSource e s.faults_before s.faults_now s.before s.now) where
     -- the statuses that a refusal has
-    refused_so : (status : Status) → refusal_status e ≡ status → Writes (refusal_text e) w → IfSome s.before (λ input. RunEnds limit input status w disk)
-    refused_so Input is reported = IfSome_then s.before first (λ input by. record { refused = record { refusal = e; first = by; is = is; reported = reported }; as_before = as_before })
-    refused_so ReadFault is reported = always s.before (λ input. as_before)
-    refused_so NoMemory is reported = always s.before (λ input. inl (record { as_before = as_before; written = subst (λ text. Writes text w) (memory_text_is e is) reported }))
+    refused_so : (status : Status) → refusal_status e ≡ status → Writes (refusal_text e) w → RunEnds limit s.before status w disk
+    refused_so Input is reported = record { refused = record { refusal = e; first = first; is = is; reported = reported }; uncalled = uncalled }
+    refused_so ReadFault is reported = uncalled
+    refused_so NoMemory is reported = inl (record { uncalled = uncalled; written = subst (λ text. Writes text w) (memory_text_is e is) reported })
     refused_so Done is reported = never e Done is (λ of. of)
     refused_so Usage is reported = never e Usage is (λ of. of)
     refused_so WriteFault is reported = never e WriteFault is (λ of. of)
@@ -193,7 +193,7 @@ module _ (limit : ℕ) (s : SourceChange) (w : SinkChange) (disk : DiskChange) w
     memory_so : Writes no_memory_text w → EndsSo NoMemory
     memory_so reported = record {
       ends = record {
-        came = always s.before (λ input. inl (record { as_before = as_before; written = reported }));
+        came = inl (record { uncalled = uncalled; written = reported });
         empties = tt;
         refused = λ held. always s.before (λ input f has. inr refl);
         started = λ held calm still. always s.before (λ input c rs start. tt);
@@ -233,17 +233,17 @@ module _ (limit : ℕ) (s : SourceChange) (w : SinkChange) (disk : DiskChange) w
     not_refused : (ended : Status) → IfSome s.before (λ input. ExitsAsRefused input ended)
     not_refused ended = IfSome_then s.before starts (λ input start e has. absurd (false≢true (sym has.says ∙ either input catalog requests e start has.first)))
 
-    ran : (status : Status) (input : List ℕ) → CameTo limit InFull catalog requests status w disk → Starts input catalog requests → RanInput limit input status w disk
-    ran status input came start = record { catalog = catalog; requests = requests; starts = start; accepted = accepted; came = came }
+    ran : (status : Status) → CameTo limit InFull catalog requests status w disk → RanInput limit s.before status w disk
+    ran status came = record { catalog = catalog; requests = requests; starts = starts; accepted = accepted; came = came }
 
-    came_so : (ended : Status) → CameTo limit InFull catalog requests ended w disk → IfSome s.before (λ input. RunEnds limit input ended w disk)
-    came_so Done came = IfSome_then s.before starts (λ input start. ran Done input came start)
-    came_so WriteFault came = IfSome_then s.before starts (λ input start. ran WriteFault input came start)
-    came_so Disk came = IfSome_then s.before starts (λ input start. ran Disk input came start)
-    came_so NoMemory came = IfSome_then s.before starts (λ input start. inr (ran NoMemory input came start))
-    came_so Foreign came = IfSome_then s.before starts (λ input start. ran Foreign input came start)
-    came_so OtherCatalog came = IfSome_then s.before starts (λ input start. ran OtherCatalog input came start)
-    came_so Limit came = IfSome_then s.before starts (λ input start. ran Limit input came start)
+    came_so : (ended : Status) → CameTo limit InFull catalog requests ended w disk → RunEnds limit s.before ended w disk
+    came_so Done came = ran Done came
+    came_so WriteFault came = ran WriteFault came
+    came_so Disk came = ran Disk came
+    came_so NoMemory came = inr (ran NoMemory came)
+    came_so Foreign came = ran Foreign came
+    came_so OtherCatalog came = ran OtherCatalog came
+    came_so Limit came = ran Limit came
     came_so Usage came = absurd came
     came_so Input came = absurd came
     came_so ReadFault came = absurd came
@@ -323,14 +323,15 @@ module _ (limit : ℕ) (words : List (String Global)) (s : SourceChange) (w : Si
   abbrev Counts : Type 0
   Counts = (s.faults_before ≤ s.faults_now) × (w.faults_before ≤ w.faults_now) × (disk.faults_before ≤ disk.faults_now)
 
-  -- the words are no command, and nothing is read
-  pub ends_usage : ¬ (IsCommand (words_of words)) → s.now ≡ s.before → Counts → AsBefore disk → Writes usage_text w → Ends limit words s w disk Usage
-  ends_usage none same counts as_before reported = record {
+  -- the words are no command, nothing is read, and no call reaches the disk
+  pub ends_usage : ¬ (IsCommand (words_of words)) → s.now ≡ s.before → s.faults_now ≡ s.faults_before → Counts → disk.uncalled → Writes usage_text w → Ends limit words s w disk Usage
+  ends_usage none same unmoved counts uncalled reported = record {
     usage = (λ is. none, λ _. refl);
     run = λ what asks. absurd (none (asks_is_command _ _ asks));
     recover = λ what asks. absurd (none (asks_is_command _ _ asks));
     voter = λ what show asks. absurd (none (asks_is_command _ _ asks));
-    untouched = λ is. as_before;
+    unread = λ is. (same, unmoved);
+    untouched = λ is. uncalled;
     only = reported;
     counts = counts;
     cause = tt;
@@ -349,6 +350,7 @@ module _ (limit : ℕ) (words : List (String Global)) (s : SourceChange) (w : Si
       run = λ other more. so.ends;
       recover = λ other more. let no : Run ≡ Recover = other_command Run Recover other asks more in absurd cc;
       voter = λ other show more. let wrong : Run ≡ Voter show = other_command Run (Voter show) other asks more in absurd cc;
+      unread = λ is. absurd (so.no_usage is);
       untouched = λ is. absurd (so.no_usage is);
       only = so.only;
       counts = counts;
@@ -392,6 +394,7 @@ module _ (limit : ℕ) (words : List (String Global)) (s : SourceChange) (w : Si
         unread = (same, unmoved);
       };
       voter = λ other show more. let wrong : Recover ≡ Voter show = other_command Recover (Voter show) other asks more in absurd cc;
+      unread = λ is. (same, unmoved);
       untouched = λ is. absurd (subst (λ status. RecoveredTo limit status w disk) is came);
       only = recovered_so ended came;
       counts = counts;
@@ -438,6 +441,7 @@ module _ (limit : ℕ) (words : List (String Global)) (s : SourceChange) (w : Si
             complete = λ calm still. show_complete limit w disk no_fault store_has_none one_catalog calm still one show ended came so.cause;
             unread = (same, unmoved);
           });
+      unread = λ is. (same, unmoved);
       untouched = λ is. absurd ((show_so show ended came).1 is);
       only = (show_so show ended came).0;
       counts = counts;

@@ -139,13 +139,18 @@ module _ {D : Type 0} (tells honest : Type 0) (seen : D → Files) (moment : D �
     new = ended.log.disk
 
     closed : Closed catalog db first list (change log.disk new)
-    closed = record { replays = e.ends.run.replays; orders = e.ends.run.orders; crashes = λ quiet. e.crashes quiet.0 }
+    closed = record { replays = e.ends.run.replays; orders = e.ends.run.orders; crashes = e.crashes }
 
     few_of : (client : ℕ) → FewOpen (mine client first list) ended.receipted 16 → FewUnreceipted client first list ended.receipted
     few_of client f = record { receipted = f.safe; others = f.unsafe; parts = f.parts; below = f.below; few = f.few }
 
     receipted : Receipted catalog first list ended.receipted (change log.disk new)
-    receipted = record { from_first = e.ends.begun; receipt = λ quiet image left. e.receipt quiet.0 image left; few = λ client. few_of client (e.ends.run.few_behind client) }
+    receipted = record {
+      from_first = e.ends.begun;
+      within = omega (arith, e.ends.within, e.ends.holds.within);
+      receipt = e.receipt;
+      few = λ client. few_of client (e.ends.run.few_behind client);
+    }
 
     -- ---- all is written
 
@@ -169,7 +174,7 @@ module _ {D : Type 0} (tells honest : Type 0) (seen : D → Files) (moment : D �
       all image stands = record { count = first + length list; k = kept catalog (after catalog db list); stands = stands; enough = omega arith }
 
       settled : Drained catalog (after catalog db list) → Settled catalog db first list (change log.disk new)
-      settled drained = record { drained = drained; receipt = λ quiet image left. all image (e.ends.all_stands ok quiet.0 image left); logged = logged }
+      settled drained = record { drained = drained; receipt = λ true' image left. all image (e.ends.all_stands ok true' image left); logged = logged }
 
     -- ---- what is answered
 

@@ -10,8 +10,8 @@ use Rattle.ss_disk.specs.Files.{Files}
 use Rattle.ss_disk.proofs.CallerLemmas.{leaves_less}
 use Rattle.ss_cmdlog.specs.Log.{present}
 use Rattle.ss_cmdlog.specs.Store.{IsEmpty}
-use Rattle.ss_headline.specs.Disks.{DiskChange, disk_of, AsBefore, NothingRan}
-use Rattle.ss_headline.specs.Untouched.{ReadingIsAsBefore, FormingRanNothing}
+use Rattle.ss_cmdlog.specs.Opening.{OnlyReads}
+use Rattle.ss_headline.specs.Disks.{DiskChange, disk_of, AsBefore, NothingRan, OnlyRead}
 use Rattle.ss_recover.specs.declared.error.RecoverError.{RecoverError}
 use Rattle.ss_recover.specs.declared.error.RecoverError.TheVariants as recovery
 use Rattle.ss_recover.specs.declared.recovered.Recovered.{Recovered}
@@ -115,13 +115,16 @@ session_own failed answers end flushed status is other = by failed (some_say_ful
 
 -- ---- nothing was recovered
 
-module _ {D : Type 0} (tells honest : Type 0) (seen : D → Files) (moment : D → ℕ) (images : D → ℕ → Files → Type 0) (faults : D → ℕ) (read : ReadingIsAsBefore tells honest seen moment images faults)
-    (forming : FormingRanNothing tells honest seen moment images faults) (limit : ℕ) (printing : Printing) (w : SinkChange) (old new : D) where
+module _ {D : Type 0} (tells honest : Type 0) (seen : D → Files) (moment : D → ℕ) (images : D → ℕ → Files → Type 0) (faults : D → ℕ) (limit : ℕ) (printing : Printing) (w : SinkChange) (old new : D) where
   abbrev change : DiskChange
   change = disk_of tells honest seen moment images faults old new
 
+  -- what was only read
+  was_read : OnlyReads tells honest seen moment images old new → OnlyRead change
+  was_read reads = record { as_before = reads.moments; reads = reads.same }
+
   as_before_ran_nothing : (catalog : Catalog) → AsBefore change → NothingRan catalog change
-  as_before_ran_nothing catalog before quiet = leaves_less moment images old new (λ image. image ≡ seen old) _ (before quiet) (λ image is. inl is)
+  as_before_ran_nothing catalog before true' = leaves_less moment images old new (present moment images old) _ (before true') (λ image left. inl left)
 
   module _ (catalog : Catalog) (requests : List Request) where
     abbrev CameSo : Status → Type 0
@@ -132,11 +135,11 @@ module _ {D : Type 0} (tells honest : Type 0) (seen : D → Files) (moment : D �
 
     -- a refusal of a run on this catalogue
     pub run_refused : (error : RecoverError) → RefusesAsSaid tells honest seen moment images faults (Some catalog) old new error → (ended : Status) → TellsRefusal error ended w → CameSo ended
-    run_refused recovery.NoMemory refuses ended t = subst CameSo (sym t.is) (record { came = inl (record { nothing_ran = forming catalog old new refuses; written = t.reported }); cause = tt })
-    run_refused recovery.DiskFault refuses ended t = subst CameSo (sym t.is) (record { came = inl (record { nothing_ran = forming catalog old new refuses.0; written = t.reported }); cause = refuses.1 })
+    run_refused recovery.NoMemory refuses ended t = subst CameSo (sym t.is) (record { came = inl (record { nothing_ran = refuses; written = t.reported }); cause = tt })
+    run_refused recovery.DiskFault refuses ended t = subst CameSo (sym t.is) (record { came = inl (record { nothing_ran = refuses.0; written = t.reported }); cause = refuses.1 })
     run_refused (recovery.Foreign file at) refuses ended (inl t) =
-        subst CameSo (sym t.is) (record { came = record { file = file; place = at; fault = refuses.1; ends = record { as_before = read old new refuses.0.moments; written = t.reported } }; cause = tt })
-    run_refused (recovery.Foreign file at) refuses ended (inr t) = subst CameSo (sym t.is) (short_of_memory (read old new refuses.0.moments) t.reported)
+        subst CameSo (sym t.is) (record { came = record { file = file; place = at; fault = refuses.1; ends = record { only_read = was_read refuses.0; written = t.reported } }; cause = tt })
+    run_refused (recovery.Foreign file at) refuses ended (inr t) = subst CameSo (sym t.is) (short_of_memory refuses.0.moments t.reported)
     run_refused (recovery.OtherCatalog stored given) refuses ended (inl t) =
         let other = refuses.1 in
         let ours : other.ours ≡ catalog = (let same : Some other.ours ≡ Some catalog = sym other.is_given in cc) in
@@ -148,13 +151,13 @@ module _ {D : Type 0} (tells honest : Type 0) (seen : D → Files) (moment : D �
             store = other.store;
             differs = λ same. other.another (other.stored_is ∙ same ∙ sym given_is);
             ends = record {
-              as_before = read old new refuses.0.moments;
+              only_read = was_read refuses.0;
               written = subst (λ (text : List ℕ). Writes (other_catalog_text text catalog.text) w) other.stored_is (subst (λ (text : List ℕ). Writes (other_catalog_text stored text) w) given_is t.reported);
             };
           };
           cause = tt;
         })
-    run_refused (recovery.OtherCatalog stored given) refuses ended (inr t) = subst CameSo (sym t.is) (short_of_memory (read old new refuses.0.moments) t.reported)
+    run_refused (recovery.OtherCatalog stored given) refuses ended (inr t) = subst CameSo (sym t.is) (short_of_memory refuses.0.moments t.reported)
     run_refused recovery.Nothing refuses ended t = let no : Some catalog ≡ None = refuses.1 in absurd (cc)
 
   -- a refusal of a recovery
@@ -162,16 +165,16 @@ module _ {D : Type 0} (tells honest : Type 0) (seen : D → Files) (moment : D �
   RecoveredSo ended = RecoversTo limit ended w change
 
   -- where no catalogue is given no store is made
-  only_read : (honest → LeavesOldOr moment images old new (MayForm None (seen old))) → AsBefore change
-  only_read left = read old new (λ h. leaves_less moment images old new _ (present moment images old) (left h) (λ image either. by image either))
+  as_before_read : (honest → LeavesOldOr moment images old new (MayForm None (seen old))) → AsBefore change
+  as_before_read left true' = leaves_less moment images old new _ (present moment images old) (left true') (λ image either. by image either)
     where
       by : (image : Files) → present moment images old image ⊎ MayForm None (seen old) image → present moment images old image
       by image (inl stays) = stays
       by image (inr made) = absurd made
 
-  nothing_told : (ended : Status) → (tells → IsEmpty (seen old)) → AsBefore change → WritesWhole ended nothing_text w → RecoveredSo ended
-  nothing_told Done empty before wrote = record { came = inl (record { empty = empty; as_before = before; written = wrote }); cause = tt }
-  nothing_told WriteFault empty before wrote = record { came = inl (record { empty = empty; as_before = before; written = wrote.0 }); cause = wrote.1 }
+  nothing_told : (ended : Status) → (tells → IsEmpty (seen old)) → OnlyRead change → WritesWhole ended nothing_text w → RecoveredSo ended
+  nothing_told Done empty before wrote = record { came = inl (record { empty = empty; only_read = before; written = wrote }); cause = tt }
+  nothing_told WriteFault empty before wrote = record { came = inl (record { empty = empty; only_read = before; written = wrote.0 }); cause = wrote.1 }
   nothing_told Usage empty before wrote = absurd wrote
   nothing_told Input empty before wrote = absurd wrote
   nothing_told ReadFault empty before wrote = absurd wrote
@@ -182,13 +185,13 @@ module _ {D : Type 0} (tells honest : Type 0) (seen : D → Files) (moment : D �
   nothing_told Limit empty before wrote = absurd wrote
 
   pub recovery_refused : (error : RecoverError) → RefusesAsSaid tells honest seen moment images faults None old new error → (ended : Status) → TellsRefusal error ended w → RecoveredSo ended
-  recovery_refused recovery.NoMemory refuses ended t = subst RecoveredSo (sym t.is) (record { came = inl (record { as_before = only_read refuses; written = t.reported }); cause = tt })
-  recovery_refused recovery.DiskFault refuses ended t = subst RecoveredSo (sym t.is) (record { came = inl (record { as_before = only_read refuses.0; written = t.reported }); cause = refuses.1 })
+  recovery_refused recovery.NoMemory refuses ended t = subst RecoveredSo (sym t.is) (record { came = inl (record { as_before = as_before_read refuses; written = t.reported }); cause = tt })
+  recovery_refused recovery.DiskFault refuses ended t = subst RecoveredSo (sym t.is) (record { came = inl (record { as_before = as_before_read refuses.0; written = t.reported }); cause = refuses.1 })
   recovery_refused (recovery.Foreign file at) refuses ended (inl t) =
-      subst RecoveredSo (sym t.is) (record { came = record { file = file; place = at; fault = refuses.1; ends = record { as_before = read old new refuses.0.moments; written = t.reported } }; cause = tt })
-  recovery_refused (recovery.Foreign file at) refuses ended (inr t) = subst RecoveredSo (sym t.is) (record { came = inl (record { as_before = read old new refuses.0.moments; written = t.reported }); cause = tt })
+      subst RecoveredSo (sym t.is) (record { came = record { file = file; place = at; fault = refuses.1; ends = record { only_read = was_read refuses.0; written = t.reported } }; cause = tt })
+  recovery_refused (recovery.Foreign file at) refuses ended (inr t) = subst RecoveredSo (sym t.is) (record { came = inl (record { as_before = refuses.0.moments; written = t.reported }); cause = tt })
   recovery_refused (recovery.OtherCatalog stored given) refuses ended t = let no : None ≡ Some refuses.1.ours = refuses.1.is_given in absurd (cc)
-  recovery_refused recovery.Nothing refuses ended t = nothing_told ended refuses.2 (read old new refuses.0.moments) t
+  recovery_refused recovery.Nothing refuses ended t = nothing_told ended refuses.2 (was_read refuses.0) t
 
 -- the texts that are told of a refusal are UTF-8
 pub texts_told : {D : Type 0} (tells honest : Type 0) (seen : D → Files) (moment : D → ℕ) (images : D → ℕ → Files → Type 0) (faults : D → ℕ) (given : Option Catalog) (old new : D) (error : RecoverError)
@@ -216,8 +219,8 @@ recovered_opened tells honest seen moment images faults given parts old r is lat
   opened = record {
     whole = is.goes_on.ready.whole;
     stood = is.stood;
-    crashes = λ quiet. is.quiet quiet.0 quiet.1;
-    settled = λ quiet. is.goes_on.log.only quiet.0;
+    crashes = is.moments;
+    settled = is.goes_on.log.only;
     faults = later;
   };
   was = is.was;

@@ -13,7 +13,7 @@ use Rattle.ss_top.specs.declared.status.Status.TheVariants.{NoMemory}
 use Rattle.ss_top.specs.Complete.{HasRoom, IsDoneOrShort}
 use Rattle.ss_top.specs.Sinks.{SinkChange}
 use Rattle.ss_top.specs.Statuses.{no_memory_text}
-use Rattle.ss_top.specs.Stores.{CameTo, EndsUntouched}
+use Rattle.ss_top.specs.Stores.{CameTo, EndsUncalled}
 
 -- the requests of a show
 abbrev pub show_requests : Show → List Request
@@ -28,7 +28,7 @@ pub record RanShow (limit : ℕ) (show : Show) (status : Status) (w : SinkChange
 
 -- what the command voter has come to
 abbrev pub ShowEnds : ℕ → Show → Status → SinkChange → DiskChange → Type 0
-ShowEnds limit show NoMemory w disk = EndsUntouched no_memory_text w disk ⊎ RanShow limit show NoMemory w disk
+ShowEnds limit show NoMemory w disk = EndsUncalled no_memory_text w disk ⊎ RanShow limit show NoMemory w disk
 ShowEnds limit show status w disk = RanShow limit show status w disk
 
 -- where there is room for all that a show owes it is done, or there was no memory

@@ -58,10 +58,10 @@ LeavesOfRefusedSource (OfLine cause.ReadFault) faults_before faults_now before n
 LeavesOfRefusedSource (OfLine cause.InputTooLong) faults_before faults_now before now = IfSome before (λ input. max_input < length input)
 LeavesOfRefusedSource _ faults_before faults_now before now = IsAtEnd now
 
--- the input is refused with this status, and the refusal was reported
-pub record IsRefused (input : List ℕ) (status : Status) (w : SinkChange) : Type 0 where
+-- the input is refused with this status, by its first refusal where its bytes are known, and the refusal was reported
+pub record IsRefused (input : Option (List ℕ)) (status : Status) (w : SinkChange) : Type 0 where
   pub refusal : ReadError
-  pub first : IsRefusedBy input refusal
+  pub first : IfSome input (λ bytes. IsRefusedBy bytes refusal)
   pub is : refusal_status refusal ≡ status
   pub reported : Writes (refusal_text refusal) w
 

@@ -8,7 +8,7 @@ use Rattle.ss_model.specs.Database.{Database}
 use Rattle.ss_model.specs.Replays.{after}
 use Rattle.ss_model.specs.Report.{voter_text}
 use Rattle.ss_cmdlog.specs.Store.{IsEmpty}
-use Rattle.ss_headline.specs.Disks.{DiskChange, AsBefore, NothingRan}
+use Rattle.ss_headline.specs.Disks.{DiskChange, AsBefore, NothingRan, OnlyRead}
 use Rattle.ss_headline.specs.Layers.{Opened}
 use Rattle.ss_headline.specs.Owed.{outside, owed}
 use Rattle.ss_headline.specs.Sentences.{room_from}
@@ -24,17 +24,28 @@ use Rattle.ss_top.specs.Statuses.{status_number, disk_fault_text, foreign_text, 
 
 -- ---- before the clients start
 
--- nothing ran, and this was written: the disk is as it was, or, where it was empty, a store was being made on it
+-- nothing ran, and this was written: a crash leaves what it might have left before, or, of an empty disk, what a store that was being
+-- made on it leaves
 pub record EndsBefore (catalog : Catalog) (text : List ℕ) (w : SinkChange) (disk : DiskChange) : Type 0 where
   pub nothing_ran : NothingRan catalog disk
   pub written : Writes text w
 
--- nothing ran, this was written, and the disk is as it was
+-- nothing ran, this was written, and a crash leaves what it might have left before
 pub record EndsUntouched (text : List ℕ) (w : SinkChange) (disk : DiskChange) : Type 0 where
   pub as_before : AsBefore disk
   pub written : Writes text w
 
--- the disk stood for a database, no client started, and a crash leaves what stands for the same
+-- the same, and reads give what they gave
+pub record EndsRead (text : List ℕ) (w : SinkChange) (disk : DiskChange) : Type 0 where
+  pub only_read : OnlyRead disk
+  pub written : Writes text w
+
+-- the same, and no call has reached the disk
+pub record EndsUncalled (text : List ℕ) (w : SinkChange) (disk : DiskChange) : Type 0 where
+  pub uncalled : disk.uncalled
+  pub written : Writes text w
+
+-- the disk stood for a database, no client started, and a crash leaves what it might have left before, or what stands for the same
 pub record EndsOpened (catalog : Catalog) (text : List ℕ) (w : SinkChange) (disk : DiskChange) : Type 0 where
   pub db : Database
   pub first : ℕ
@@ -46,7 +57,7 @@ pub record IsForeign (w : SinkChange) (disk : DiskChange) : Type 0 where
   pub file : ℕ
   pub place : ℕ
   pub fault : disk.tells → HasFaultAt disk.seen_before file place
-  pub ends : EndsUntouched (foreign_text file place) w disk
+  pub ends : EndsRead (foreign_text file place) w disk
 
 -- the disk is a store of a catalogue with another text
 pub record IsOther (given : List ℕ) (w : SinkChange) (disk : DiskChange) : Type 0 where
@@ -54,7 +65,7 @@ pub record IsOther (given : List ℕ) (w : SinkChange) (disk : DiskChange) : Typ
   pub accepted : Accepted stored
   pub store : disk.tells → IsStore disk.seen_before stored
   pub differs : stored.text ≢ given
-  pub ends : EndsUntouched (other_catalog_text stored.text given) w disk
+  pub ends : EndsRead (other_catalog_text stored.text given) w disk
 
 -- the disk was empty, or a store of this catalogue
 abbrev pub WasOf : Catalog → DiskChange → Type 0
@@ -130,10 +141,10 @@ CameTo limit printing catalog requests _ w disk = ⊥
 abbrev pub nothing_text : List ℕ
 nothing_text = codes "[\"done\",0]\n"
 
--- an empty disk was recovered: there is no execution, and the disk is as it was
+-- an empty disk was recovered: there is no execution, and the disk was read alone
 pub record RecoversNothing (told : List ℕ → Type 0) (disk : DiskChange) : Type 0 where
   pub empty : disk.tells → IsEmpty disk.seen_before
-  pub as_before : AsBefore disk
+  pub only_read : OnlyRead disk
   pub written : told nothing_text
 
 -- a store was recovered, whose catalogue is accepted: what was pending ran

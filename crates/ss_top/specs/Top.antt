@@ -8,7 +8,7 @@ use Rattle.ss_lines.specs.Lines.{max_input}
 use Rattle.ss_model.specs.declared.catalog.Catalog.{Catalog}
 use Rattle.ss_model.specs.declared.entry.Request.{Request}
 use Rattle.ss_model.specs.Accepted.{Accepted}
-use Rattle.ss_headline.specs.Disks.{DiskChange, AsBefore}
+use Rattle.ss_headline.specs.Disks.{DiskChange}
 use Rattle.ss_top.specs.declared.session.Printing.TheVariants.{InFull}
 use Rattle.ss_top.specs.declared.status.Status.{Status}
 use Rattle.ss_top.specs.declared.status.Status.TheVariants.{Usage, Input, ReadFault, WriteFault, Disk, NoMemory}
@@ -18,7 +18,7 @@ use Rattle.ss_top.specs.Shows.{ShowEnds, IsCompleteShow}
 use Rattle.ss_top.specs.Sinks.{SinkChange, SinkHeld, SourceChange, SourceHeld, Writes, IsRefused}
 use Rattle.ss_top.specs.Starts.{Starts}
 use Rattle.ss_top.specs.Statuses.{usage_text, read_fault_text, no_memory_text}
-use Rattle.ss_top.specs.Stores.{CameTo, EndsUntouched, RecoveredTo}
+use Rattle.ss_top.specs.Stores.{CameTo, EndsUncalled, RecoveredTo}
 use Rattle.ss_words.specs.declared.names.Command.TheVariants.{Run, Recover, Voter}
 use Rattle.ss_words.specs.declared.command.Options.{Options}
 use Rattle.ss_words.specs.declared.names.Show.{Show}
@@ -28,9 +28,8 @@ use Rattle.ss_words.specs.Words.{IsCommand, AsksFor, words_of}
 abbrev pub most_entries : ℕ
 most_entries = 1000000
 
--- what a run leaves of its source: nothing, but where it read nothing, where reading failed, at out of memory, and of an input that is too long
+-- what a run leaves of its source: nothing, but where reading failed, at out of memory, and of an input that is too long
 abbrev pub LeavesOfSource : Status → Option (List ℕ) → Option (List ℕ) → Type 0
-LeavesOfSource Usage before now = now ≡ before
 LeavesOfSource Input before now = IfSome before (λ input. length input ≤ max_input → IsAtEnd now)
 LeavesOfSource ReadFault before now = Unit {0}
 LeavesOfSource NoMemory before now = Unit {0}
@@ -53,25 +52,26 @@ WritesOnly Usage w = Writes usage_text w
 WritesOnly ReadFault w = Writes read_fault_text w
 WritesOnly _ w = Unit {0}
 
--- the input is a catalogue that is accepted, and requests, and running them on the disk has come to this
-pub record RanInput (limit : ℕ) (input : List ℕ) (status : Status) (w : SinkChange) (disk : DiskChange) : Type 0 where
+-- there is a catalogue that is accepted, and requests, which are what the input says where its bytes are known, and running them on the
+-- disk has come to this
+pub record RanInput (limit : ℕ) (input : Option (List ℕ)) (status : Status) (w : SinkChange) (disk : DiskChange) : Type 0 where
   pub catalog : Catalog
   pub requests : List Request
-  pub starts : Starts input catalog requests
+  pub starts : IfSome input (λ bytes. Starts bytes catalog requests)
   pub accepted : Accepted catalog
   pub came : CameTo limit InFull catalog requests status w disk
 
--- the input's first refusal was written, and the disk is as it was
-pub record RefusedInput (input : List ℕ) (w : SinkChange) (disk : DiskChange) : Type 0 where
+-- the input's first refusal was written, and no call has reached the disk
+pub record RefusedInput (input : Option (List ℕ)) (w : SinkChange) (disk : DiskChange) : Type 0 where
   pub refused : IsRefused input Input w
-  pub as_before : AsBefore disk
+  pub uncalled : disk.uncalled
 
--- what the command run has come to on this input
-abbrev pub RunEnds : ℕ → List ℕ → Status → SinkChange → DiskChange → Type 0
+-- what the command run has come to on this input, whose bytes may not be known
+abbrev pub RunEnds : ℕ → Option (List ℕ) → Status → SinkChange → DiskChange → Type 0
 RunEnds limit input Usage w disk = ⊥
 RunEnds limit input Input w disk = RefusedInput input w disk
-RunEnds limit input ReadFault w disk = AsBefore disk
-RunEnds limit input NoMemory w disk = EndsUntouched no_memory_text w disk ⊎ RanInput limit input NoMemory w disk
+RunEnds limit input ReadFault w disk = disk.uncalled
+RunEnds limit input NoMemory w disk = EndsUncalled no_memory_text w disk ⊎ RanInput limit input NoMemory w disk
 RunEnds limit input status w disk = RanInput limit input status w disk
 
 -- an input that starts, on a disk with room for all that is owed, ends as done or at out of memory
@@ -81,7 +81,7 @@ IsComplete limit input disk ended = (catalog : Catalog) (requests : List Request
 -- what the command run promises
 pub record EndsRun (limit : ℕ) (s : SourceChange) (w : SinkChange) (disk : DiskChange) (ended : Status) : Type 0 where
   -- the headline
-  pub came : IfSome s.before (λ input. RunEnds limit input ended w disk)
+  pub came : RunEnds limit s.before ended w disk
   -- how much of the source is left
   pub empties : LeavesOfSource ended s.before s.now
   -- an input has one answer, and gets it, unless a fault was counted or at out of memory
@@ -112,12 +112,14 @@ pub record EndsVoter (limit : ℕ) (show : Show) (s : SourceChange) (w : SinkCha
 
 -- all that the program promises of a call with these words, on this source, sink and disk, whose list has at most so many entries
 pub record Ends (limit : ℕ) (words : List (String Global)) (s : SourceChange) (w : SinkChange) (disk : DiskChange) (ended : Status) : Type 0 where
-  -- the words alone decide whether they are a command, and which; where they are none the disk is as it was
+  -- the words alone decide whether they are a command, and which
   pub usage : (ended ≡ Usage) ↔ ¬ (IsCommand (words_of words))
   pub run : (what : Options) → AsksFor (words_of words) (record { command = Run; options = what }) → EndsRun limit s w disk ended
   pub recover : (what : Options) → AsksFor (words_of words) (record { command = Recover; options = what }) → EndsRecover limit s w disk ended
   pub voter : (what : Options) (show : Show) → AsksFor (words_of words) (record { command = Voter show; options = what }) → EndsVoter limit show s w disk ended
-  pub untouched : ended ≡ Usage → AsBefore disk
+  -- where they are none nothing is read, and no call reaches the disk
+  pub unread : ended ≡ Usage → (s.now ≡ s.before) × (s.faults_now ≡ s.faults_before)
+  pub untouched : ended ≡ Usage → disk.uncalled
   pub only : WritesOnly ended w
   -- a fault is answered only where it was counted, and counts never fall
   pub counts : (s.faults_before ≤ s.faults_now) × (w.faults_before ≤ w.faults_now) × (disk.faults_before ≤ disk.faults_now)

@@ -28,8 +28,8 @@
 //! What the calls below owe is said of the disk, from one value of it to the next:
 //!
 //! - `recover`, `IsRecovered`: in the words of `ss_headline` this is `Opened`, and that the disk was empty or a store
-//!   of this catalogue (`WasOf`), together `IsOpenedFor`. Where it refuses, `RefusesAsSaid`, it is `AsBefore`, or
-//!   `NothingRan` by the law `nothing_ran`.
+//!   of this catalogue (`WasOf`), together `IsOpenedFor`. Where it refuses, `RefusesAsSaid`, it is `OnlyRead`, `AsBefore`
+//!   or `NothingRan`.
 //! - `run_session`, `EndsOnDisk`: this is `Closed`, and with a last flush that went well behind a settling that ended
 //!   well `Settled`, else `Receipted`.
 //! - The laws `whole_runs` and `stopped_runs` take `Opened` of the disk up to the session, `Closed` with `Settled` or

@@ -16,7 +16,6 @@ use crate::status::Status;
 use crate::store_refusals::{refuse_store, write_whole};
 use ss_disk::Disk;
 use ss_engine::Gate;
-use ss_headline::nothing_ran;
 use ss_lines::{Sink, write_all};
 use ss_model::{Catalog, Request};
 use ss_proc::PlainRunner;
@@ -105,7 +104,6 @@ pub(crate) fn run_on_store<
         (disk_of D.tells D.honest D.seen D.moment D.images D.faults disk result.1) }
     ensures counts { (K.faults sink.old ≤ K.faults sink.new) × (D.faults disk ≤ D.faults result.1) }
 {
-    nothing_ran::<D>();
     match recover(alloc, &PlainRunner, disk, Some(catalog), partitions) {
         Ok(recovered) => serve(
             rt, alloc, sink, recovered, requests, partitions, gate, limit, printing,
@@ -128,7 +126,6 @@ pub(crate) fn recover_store<
         (disk_of D.tells D.honest D.seen D.moment D.images D.faults disk result.1) }
     ensures counts { (K.faults sink.old ≤ K.faults sink.new) × (D.faults disk ≤ D.faults result.1) }
 {
-    nothing_ran::<D>();
     let requests = Seq::new(alloc);
     match recover(alloc, &PlainRunner, disk, None, partitions) {
         Ok(recovered) => serve(

@@ -23,7 +23,6 @@ use crate::voter::show_input;
 use ss_catalog::a_value_has_one_answer;
 use ss_disk::Disk;
 use ss_engine::Gate;
-use ss_headline::nothing_ran;
 use ss_lines::{Sink, Source, read_lines};
 use ss_recover::a_disk_has_one_fault;
 use ss_words::{Command, CommandLine, Show, command_line};
@@ -72,7 +71,6 @@ fn run<S: Source, K: Sink, D: Disk + Drop + Send, G: Gate + Drop + Sync, R: Thre
 {
     // Do nothing: they state the laws by which the one answer of an input is the one given here, and so that of a disk.
     an_input_has_one_answer();
-    nothing_ran::<D>();
     a_disk_has_one_fault();
     match read_input(alloc, source) {
         Ok(ParsedInput { catalog, requests }) => run_on_store(
@@ -109,7 +107,6 @@ fn voter<K: Sink, D: Disk + Drop + Send, G: Gate + Drop + Sync, R: Threads + Wai
         (disk_of D.tells D.honest D.seen D.moment D.images D.faults disk result.1) }
     ensures counts { (K.faults sink.old ≤ K.faults sink.new) × (D.faults disk ≤ D.faults result.1) }
 {
-    nothing_ran::<D>();
     let Ok(ParsedInput { catalog, requests }) = show_input(alloc, show) else {
         write_line(sink, NO_MEMORY);
         return (Status::NoMemory, disk);
@@ -148,8 +145,7 @@ pub fn sstore_limited<
         (sink_of (K.written sink.old) (K.written sink.new) (K.faults sink.old) (K.faults sink.new))
         (disk_of D.tells D.honest D.seen D.moment D.images D.faults disk result.1) result.0 }
 {
-    // Do nothing: they state the laws by which a disk that is left alone is as before, and by which a store has room for what is owed.
-    nothing_ran::<D>();
+    // Do nothing: they state the laws by which a store has room for what is owed.
     a_disk_has_one_fault();
     a_value_has_one_answer();
     let Some(CommandLine { command, options }) = command_line(words) else {

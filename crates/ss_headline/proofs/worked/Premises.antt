@@ -18,22 +18,24 @@ use Rattle.ss_model.specs.Replays.{after}
 use Rattle.ss_model.specs.Report.{End, Whole, Report, Rising, client_index, report_text}
 use Rattle.ss_model.specs.Settled.{NoneReady}
 use Rattle.ss_model.specs.Settling.{kept, pending_steps}
-use Rattle.ss_model_laws.proofs.CallerLemmas.{accepted, workflow, empty_whole, matching_stays, replays_orders, whole_batch, whole_batch_drains, whole_batch_replays}
+use Rattle.ss_model_laws.proofs.CallerLemmas.{accepted, workflow, empty_whole, matching_stays, replays_orders, whole_after, whole_batch, whole_batch_drains, whole_batch_replays}
 use Rattle.ss_report_laws.specs.Replies.{mine, weave, AreAnswered}
 use Rattle.ss_report_laws.proofs.CallerLemmas.{answered_nothing, answered_request, answered_report, answered_step, pushed_one}
 use Rattle.ss_disk.specs.Files.{Files}
 use Rattle.ss_disk.specs.Moments.{LeavesOnly}
-use Rattle.ss_disk.proofs.CallerLemmas.{one_call}
+use Rattle.ss_disk.proofs.CallerLemmas.{no_call, one_call}
 use Rattle.ss_cmdlog.specs.Generation.{Stood, IsGroup, front_bytes}
 use Rattle.ss_cmdlog.specs.Formatting.{fresh}
-use Rattle.ss_cmdlog.specs.Store.{IsEmpty, StandsFor}
+use Rattle.ss_cmdlog.specs.Log.{IsSettled, present}
+use Rattle.ss_cmdlog.specs.Store.{IsEmpty, StandsFor, entries_of}
 use Rattle.ss_standing.specs.Image.{empty_image_of}
 use Rattle.ss_standing.specs.Standing.{Stands, Prefix, StandsForAtLeast}
-use Rattle.ss_standing.proofs.CallerLemmas.{forming_stands, new_image_is, nothing_stands, batch_store, batch_files, batch_files_stand, batch_prefix, batch_at_least}
-use Rattle.ss_headline.specs.Disks.{DiskChange, disk_of, NothingRan}
+use Rattle.ss_standing.proofs.CallerLemmas.{forming_stands, new_image_is, nothing_stands, batch_store, batch_files, batch_files_stand, batch_prefix, batch_stands, batch_at_least}
+use Rattle.ss_headline.specs.Between.{CallsGoOn, GoesOnBehindAll, GoesOnBehindFront, HadList, QuietLeaves, QuietStays}
+use Rattle.ss_headline.specs.Disks.{DiskChange, disk_of, AtEachMoment, NothingRan, OnlyRead}
 use Rattle.ss_headline.specs.Sentences.{WholeSession, StoppedSession, stop_at}
 use Rattle.ss_headline.specs.Runs.{IsWholeRun, IsStoppedRun}
-use Rattle.ss_headline.specs.Untouched.{FormingRanNothing}
+use Rattle.ss_headline.specs.Untouched.{NothingRanStands, UncalledIsOnlyRead}
 use Rattle.ss_headline.specs.Owed.{owed, outside, ListsAsked, FullListsHaveAll}
 use Rattle.ss_headline.specs.Laws.{WholeSessions, StoppedSessions, WholeRuns, StoppedRuns, RunsHoldFromEach}
 use Rattle.ss_headline.specs.Layers.{Opened, Closed, Settled, FewUnreceipted, Receipted}
@@ -84,13 +86,18 @@ images disk t image = image ≡ seen t
 abbrev change : ℕ → ℕ → DiskChange
 change = disk_of (Unit {0}) (Unit {0}) seen (λ disk. disk) images (λ disk. 0)
 
-quiet : (change 0 2).quiet
-quiet = (tt, λ image is. is)
+-- nothing is pending on it
+settled_so : (disk : ℕ) → IsSettled seen (present (λ disk. disk) images) disk
+settled_so disk image is = is
 
 next_call : (n : ℕ) (P : Files → Type 0) → P (seen n) → P (seen (suc n)) → LeavesOnly (λ disk. disk) images n (suc n) P
 next_call n P before after =
     one_call (λ disk. disk) images n (suc n) P (record { later = omega arith; by_one = omega arith; kept = λ t image le left. left; keeps = λ t image le left. left })
     (λ image is. subst P (sym is) before) (λ image is. subst P (sym is) after)
+
+-- so is one of which less is said
+next_call_anew : (n : ℕ) (P : Files → Type 0) → P (seen (suc n)) → AtEachMoment (change n (suc n)) P
+next_call_anew n P after true' = next_call n (λ image. (image ≡ seen n) ⊎ P image) (inl refl) (inr after)
 
 -- ---- the store is made
 
@@ -101,7 +108,7 @@ opened : Opened workflow start 0 (change 0 1)
 opened = record {
   whole = empty_whole workflow accepted;
   stood = λ t. nothing_stands;
-  crashes = λ q. next_call 0 (λ image. Stands workflow image 0 (kept workflow start)) nothing_stands new_stands;
+  crashes = next_call_anew 0 (λ image. Stands workflow image 0 (kept workflow start)) new_stands;
   settled = λ q image is. is;
   faults = omega arith;
 }
@@ -139,7 +146,7 @@ few client = record {
 }
 
 receipted : Receipted workflow 0 whole_batch 5 (change 1 2)
-receipted = record { from_first = omega arith; receipt = λ q image is. all_receipted image is; few = few }
+receipted = record { from_first = omega arith; within = omega arith; receipt = λ q image is. all_receipted image is; few = few }
 
 -- ---- what the client was told
 
@@ -191,9 +198,71 @@ stopped_run law = law 5 workflow (request ∷ []) start 0 whole_batch 9 5 NoMemo
 from_empty : RunsHoldFromEach change → (opening : Database) (first : ℕ) → IsWholeRun 5 workflow (request ∷ []) opening first whole_batch (report Whole) (change 0 2) → 0 ≡ first
 from_empty law opening first run = (law.whole 5 workflow (request ∷ []) opening first whole_batch (report Whole) 0 2 run tt 0 start nothing_stands).0
 
+-- ---- a second run, of no request, behind the first
+
+abbrev behind : Database
+behind = after workflow start whole_batch
+
+stood_behind : Stands workflow batch_files 5 (kept workflow behind)
+stood_behind = batch_stands
+
+matches_behind : MatchesCounts workflow behind
+matches_behind = (matching_stays workflow accepted.structure.streams.wired).stays start whole_batch matches whole_batch_replays
+
+-- no call writes to the disk
+stays_so : (P : Files → Type 0) → P batch_files → LeavesOnly (λ disk. disk) images 2 2 P
+stays_so P has = no_call (λ disk. disk) images 2 P (λ image is. subst P (sym is) has)
+
+opened_again : Opened workflow behind 5 (change 2 2)
+opened_again = record {
+  whole = whole_after workflow accepted start whole_batch (empty_whole workflow accepted);
+  stood = λ t. stood_behind;
+  crashes = λ true'. stays_so (λ image. (image ≡ batch_files) ⊎ Stands workflow image 5 (kept workflow behind)) (inl refl);
+  settled = λ true' image is. is;
+  faults = omega arith;
+}
+
+closed_again : Closed workflow behind 5 [] (change 2 2)
+closed_again = record {
+  replays = tt;
+  orders = replays_orders workflow accepted.structure.streams.wired behind [] matches_behind tt;
+  crashes = λ true'. stays_so (Prefix workflow behind 5 []) (none_stands workflow behind 5 [] batch_files stood_behind);
+}
+
+settled_again : Settled workflow behind 5 [] (change 2 2)
+settled_again = record {
+  drained = whole_batch_drains;
+  receipt = λ true' image is. all_receipted image is;
+  logged = λ t. record { stood = batch_store; stands = batch_files_stand; before = entries_of batch_store; ends = sym (append-nil (entries_of batch_store)) };
+}
+
+second : WholeRuns change → HadList 5 workflow [] behind 5 [] (change 2 2)
+second law =
+    inl (report_text workflow [] (weave NoMemory [] nothing_told) 5 [] behind Whole, law 5 workflow [] behind 5 [] NoMemory nothing_told 2 2 2 opened_again closed_again settled_again (answered_nothing 5 Whole 8) (omega arith))
+
+goes_on_behind_all : WholeRuns change → CallsGoOn change → GoesOnBehindAll change workflow start behind 0 5 whole_batch [] 0 2 2
+goes_on_behind_all runs law = law.whole 5 workflow (request ∷ []) [] start behind 0 5 whole_batch [] (report Whole) 0 2 2 tt (whole_run runs) (second runs)
+
+goes_on_behind_front : WholeRuns change → StoppedRuns change → CallsGoOn change → GoesOnBehindFront change workflow start behind 0 5 whole_batch [] 5 0 2 2
+goes_on_behind_front runs stops law = law.stopped 5 workflow (request ∷ []) [] start behind 0 5 whole_batch [] 9 5 (report full_end) 0 2 2 tt (stopped_run stops) (second runs)
+
 -- while the store is made nothing has run
-nothing : FormingRanNothing (Unit {0}) (Unit {0}) seen (λ disk. disk) images (λ disk. 0) → NothingRan workflow (change 0 1)
-nothing law = law workflow 0 1 (λ h. next_call 0 (λ image. (image ≡ seen 0) ⊎ (IsEmpty (seen 0) × Stands workflow image 0 (kept workflow start))) (inl refl) (inr (refl, new_stands)))
+nothing : NothingRan workflow (change 0 1)
+nothing = next_call_anew 0 (λ image. IsEmpty (seen 0) × Stands workflow image 0 (kept workflow start)) (refl, new_stands)
+
+stands_still : NothingRanStands (Unit {0}) (Unit {0}) seen (λ disk. disk) images (λ disk. 0) → AtEachMoment (change 0 1) (λ image. Stands workflow image 0 (kept workflow start))
+stands_still law = law workflow start 0 0 1 nothing_stands nothing
+
+-- a call that reached no disk
+uncalled : UncalledIsOnlyRead (Unit {0}) (Unit {0}) seen (λ disk. disk) images (λ disk. 0) → OnlyRead (change 1 1)
+uncalled law = law 1 1 refl
+
+-- nothing was pending before the batch
+quiet : QuietLeaves (Unit {0}) (Unit {0}) seen (λ disk. disk) images (λ disk. 0) (Prefix workflow start 0 whole_batch) → LeavesOnly (λ disk. disk) images 1 2 (Prefix workflow start 0 whole_batch)
+quiet law = law 1 2 tt (settled_so 1) (none_stands workflow start 0 whole_batch new_files new_stands) (next_call_anew 1 (Prefix workflow start 0 whole_batch) batch_prefix)
+
+stays : QuietStays (Unit {0}) (Unit {0}) seen (λ disk. disk) images (λ disk. 0) → LeavesOnly (λ disk. disk) images 1 1 (λ image. image ≡ seen 1)
+stays law = law 1 1 tt (settled_so 1) (λ true'. no_call (λ disk. disk) images 1 (λ image. image ≡ seen 1) (λ image is. is))
 
 -- ---- what was owed
 

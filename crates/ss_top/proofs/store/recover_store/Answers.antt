@@ -12,5 +12,5 @@ returns-in-Ok-clause-came g c =
 
 pub returns-in-Err-clause-came : goal.returns-in-Err-clause-came
 returns-in-Err-clause-came g c =
-    recovery_refused g.D.Disk.tells g.D.Disk.honest g.D.Disk.seen g.D.Disk.moment g.D.Disk.images g.D.Disk.faults c.nothing_ran.ensures.read c.nothing_ran.ensures.forming c.args.limit InFull _ c.args.disk c.in-Err.disk
+    recovery_refused g.D.Disk.tells g.D.Disk.honest g.D.Disk.seen g.D.Disk.moment g.D.Disk.images g.D.Disk.faults c.args.limit InFull _ c.args.disk c.in-Err.disk
     c.in-Err.error c.in-Err.ensures.refused c.refuse_store.result c.refuse_store.ensures.told

@@ -1,3 +1,4 @@
+use Rattle.std.proofs.Common.{refl}
 use Rattle.ss_top.proofs.Ending.{run_refused, run_came}
 use Rattle.ss_top.proofs.top.run.Goals as goal
 
@@ -8,5 +9,5 @@ returns-in-Ok-clause-ends g c =
 
 pub returns-in-Err-clause-ends : goal.returns-in-Err-clause-ends
 returns-in-Err-clause-ends g c =
-    run_refused c.args.limit _ _ _ c.an_input_has_one_answer.ensures.refusal c.an_input_has_one_answer.ensures.either (c.nothing_ran.ensures.uncalled c.args.disk) c.in-Err.error c.in-Err.ensures.refused c.in-Err.ensures.leaves
+    run_refused c.args.limit _ _ _ c.an_input_has_one_answer.ensures.refusal c.an_input_has_one_answer.ensures.either refl c.in-Err.error c.in-Err.ensures.refused c.in-Err.ensures.leaves
     c.refuse.result c.refuse.ensures.refused

@@ -1,4 +1,4 @@
-use Rattle.std.proofs.Common.{inl}
+use Rattle.std.proofs.Common.{inl, refl}
 use Rattle.ss_top.proofs.Storing.{show_came}
 use Rattle.ss_top.proofs.top.voter.Goals as goal
 
@@ -7,4 +7,4 @@ returns-clause-came g c =
     show_came c.args.limit c.args.show.now c.in-Ok.field-0.catalog c.in-Ok.field-0.requests _ _ c.in-Ok.ensures.voter c.in-Ok.ensures.own.0 c.in-Ok.ensures.requests c.run_on_store.result.0 c.run_on_store.ensures.came
 
 pub returns-in_default-clause-came : goal.returns-in_default-clause-came
-returns-in_default-clause-came g c = record { came = inl (record { as_before = c.nothing_ran.ensures.uncalled c.args.disk; written = c.write_line.ensures.written }); cause = tt }
+returns-in_default-clause-came g c = record { came = inl (record { uncalled = refl; written = c.write_line.ensures.written }); cause = tt }

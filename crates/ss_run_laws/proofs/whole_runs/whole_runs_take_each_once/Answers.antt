@@ -1,0 +1,6 @@
+use Rattle.ss_headline.specs.Disks.{disk_of}
+use Rattle.ss_run_laws.proofs.Done.{whole_runs_take_each_once}
+use Rattle.ss_run_laws.proofs.whole_runs.whole_runs_take_each_once.Goals as goal
+
+pub returns : goal.returns
+returns g c = whole_runs_take_each_once (disk_of g.D.Disk.tells g.D.Disk.honest g.D.Disk.seen g.D.Disk.moment g.D.Disk.images g.D.Disk.faults) c.takes_each_once.ensures

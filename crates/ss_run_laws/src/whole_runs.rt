@@ -1,0 +1,23 @@
+//! What the laws come to for runs that are done.
+
+ghost use Rattle.ss_headline.specs.Disks.{disk_of};
+ghost use Rattle.ss_run_laws.specs.WholeRun.{WholeRunsTakeEachOnce, WholeRunsOfOneClient};
+
+use crate::once::takes_each_once;
+use crate::one_client::one_client_one_report;
+use ss_disk::Disk;
+
+/// In a whole run each streaming procedure takes each batch of its workflow that it had not taken before exactly once.
+pub fn whole_runs_take_each_once<D: Disk>()
+    ensures { WholeRunsTakeEachOnce (disk_of D.tells D.honest D.seen D.moment D.images D.faults) }
+{
+    takes_each_once();
+}
+
+/// Two whole runs of the requests of one client alone, from one place and from where the same is kept, have one list and
+/// the same bytes, where no step was pending before them, one accepted no push, and neither left a request out.
+pub fn whole_runs_of_one_client<D: Disk>()
+    ensures { WholeRunsOfOneClient (disk_of D.tells D.honest D.seen D.moment D.images D.faults) }
+{
+    one_client_one_report();
+}
