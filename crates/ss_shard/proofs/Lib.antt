@@ -16,6 +16,7 @@ pub mod InTurn
 pub mod Inserting
 pub mod JoinedPairs
 pub mod Joining
+pub mod Named
 pub mod Numbers
 pub mod Occurring
 pub mod OpeningLemmas

@@ -1,6 +1,6 @@
 -- The entries of a tree, as a finite map from names to numbers.
 use Rattle.std.proofs.Common.{◌≡◌, ℕ, Bool, true, false, List, [], ◌∷◌, map, cond, refl, sym, ap, subst, ◌∙◌, Option, Some, None, unwrap_or}
-use Rattle.std.specs.Prelude.{IsSome, is_some}
+use Rattle.std.specs.Prelude.{IsTrue, is_some}
 use Rattle.std.specs.Ordering.{eq_by_cmp, is_eq, match_ordering, nat_cmp}
 use Rattle.std.specs.declared.cmp.Ordering.{Ordering}
 use Rattle.std.specs.declared.cmp.Ordering.TheVariants.{Less, Equal, Greater}
@@ -12,11 +12,34 @@ use Rattle.std.specs.FinMap.{from_entries, get-from_entries, get-insert, same_ma
 use Rattle.std.specs.FinMap.Entries.{find}
 use Rattle.std.specs.BTreeMap.{is_at, insert_entry}
 use Rattle.std.specs.Map.{lookup, set_value}
+use Rattle.ss_value.specs.Words.{is_name}
 use Rattle.ss_model.specs.Database.{NextNumbers}
-use Rattle.ss_shard.specs.Sources.{number_of}
+use Rattle.ss_shard.specs.Sources.{number_of, AreNames}
 
 abbrev pub bytes_cmp : List ℕ → List ℕ → Ordering
 bytes_cmp = slice_cmp nat_cmp
+
+tied : (p q : List ℕ) → is_eq (bytes_cmp p q) ≡ true → p ≡ q
+tied p q e = slice_cmp-IsAntisymmetric nat_cmp-IsAntisymmetric p q (by (bytes_cmp p q) e)
+  where
+    by : (o : Ordering) → is_eq o ≡ true → o ≡ Equal
+    by Less e = cc
+    by Equal e = refl
+    by Greater e = cc
+
+-- no source is there
+pub no_names : AreNames finite.empty
+no_names source has =
+    let never : false ≡ true = sym (ap is_some (finite.get-empty bytes_cmp source)) ∙ has in
+    cc
+
+-- a number more, at a source that is a name
+pub named_still : (ns : NextNumbers) (name : List ℕ) (n : ℕ) → IsTrue (is_name name) → AreNames ns → AreNames (finite.insert ns name n)
+named_still ns name n is names q has = by (is_eq (bytes_cmp q name)) refl (sym (ap is_some (get-insert nat_list_cmp_total ns name n q)) ∙ has)
+  where
+    by : (b : Bool) → is_eq (bytes_cmp q name) ≡ b → is_some (cond b (Some n) (finite.get ns q)) ≡ true → IsTrue (is_name q)
+    by true e h = subst (λ (p : List ℕ). IsTrue (is_name p)) (sym (tied q name e)) is
+    by false e h = names q h
 
 module _ {K : Type 0} (bytes : K → List ℕ) where
   abbrev pub named : K × ℕ → List ℕ × ℕ
@@ -36,14 +59,6 @@ module _ {K : Type 0} (bytes : K → List ℕ) where
 
   pub get_number : (es : List (K × ℕ)) (q : List ℕ) → finite.get (numbers_of es) q ≡ number_at es q
   get_number es q = get-from_entries nat_list_cmp_total (map named es) q ∙ found es q
-
-  tied : (p q : List ℕ) → is_eq (bytes_cmp p q) ≡ true → p ≡ q
-  tied p q e = slice_cmp-IsAntisymmetric nat_cmp-IsAntisymmetric p q (by (bytes_cmp p q) e)
-    where
-      by : (o : Ordering) → is_eq o ≡ true → o ≡ Equal
-      by Less e = cc
-      by Equal e = refl
-      by Greater e = cc
 
   -- one more in front of what else there is
   module _ (q name : List ℕ) (n : ℕ) where
@@ -109,6 +124,14 @@ module _ {K : Type 0} (bytes : K → List ℕ) where
   now_stands es fs k is =
       ap is_some (get_number fs (bytes k) ∙ ap (λ es. number_at es (bytes k)) is ∙ number_inserted (bytes k) k 0 es)
       ∙ ap (λ b. is_some (cond b (Some 0) (number_at es (bytes k)))) ((eq_by_cmp_equiv nat_list_cmp_total).refl (bytes k))
+
+  -- one source more, which is a name
+  pub named_too : (es fs : List (K × ℕ)) (k : K) → IsTrue (is_name (bytes k)) → AreNames (numbers_of es) → fs ≡ insert_entry (λ x y. bytes_cmp (bytes x) (bytes y)) es k 0 → AreNames (numbers_of fs)
+  named_too es fs k is names made q has = by (is_eq (bytes_cmp q (bytes k))) refl (sym (ap is_some (get_number fs q ∙ ap (λ es. number_at es q) made ∙ number_inserted q k 0 es)) ∙ has)
+    where
+      by : (b : Bool) → is_eq (bytes_cmp q (bytes k)) ≡ b → is_some (cond b (Some 0) (number_at es q)) ≡ true → IsTrue (is_name q)
+      by true e h = subst (λ (p : List ℕ). IsTrue (is_name p)) (sym (tied q (bytes k) e)) is
+      by false e h = names q (ap is_some (get_number es q) ∙ h)
 
 -- the bytes of a name that is a tree's key
 abbrev pub key_bytes : Vec ℕ → List ℕ

@@ -1,7 +1,8 @@
 -- The numbers that the next pushes of sources have to carry.
-use Rattle.std.specs.Prelude.{◌≡◌, ◌==◌, ℕ, nat_lt, cond, List, [], get_or, set, length, unwrap_or, IsSome}
+use Rattle.std.specs.Prelude.{◌≡◌, ◌==◌, ℕ, nat_lt, cond, List, [], get_or, set, length, unwrap_or, IsSome, IsTrue}
 use Rattle.std.specs.Coded.{Coded, coded_list, coded_ℕ}
 use Rattle.std.specs.FinMap as finite
+use Rattle.ss_value.specs.Words.{is_name}
 use Rattle.ss_model.specs.declared.entry.Outcome.{Outcome}
 use Rattle.ss_model.specs.declared.entry.Outcome.TheVariants.{Done, Duplicate, Gap}
 use Rattle.ss_model.specs.Database.{NextNumbers}
@@ -25,6 +26,14 @@ number_in sources s source = number_of (numbers_at sources s) source
 -- a source of a stream has an entry, whatever its number
 abbrev pub HasSource : List NextNumbers → ℕ → List ℕ → Type 0
 HasSource sources s source = IsSome (finite.get (numbers_at sources s) source)
+
+-- each source that has an entry is a name
+abbrev pub AreNames : NextNumbers → Type 0
+AreNames numbers = (source : List ℕ) → IsSome (finite.get numbers source) → IsTrue (is_name source)
+
+-- and so is each source of each stream
+abbrev pub AllAreNames : List NextNumbers → Type 0
+AllAreNames sources = (s : ℕ) → AreNames (numbers_at sources s)
 
 -- as many streams, and the same next number for each source; an entry with the number 0 counts as none
 pub record SameNumbers (old new : List NextNumbers) : Type 0 where

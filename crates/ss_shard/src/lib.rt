@@ -30,7 +30,8 @@
 //!   number of units and those that may still be seen (`tables`, `windows`). Behind both there is nothing to take back
 //!   (`committed`), and neither takes memory.
 //! - In each of the `indexes` of a table every live row has its pair (`rows`). `next_number` is exactly the next
-//!   number.
+//!   number. Each source is a name, and so is each source of a whole database that a shard stands for
+//!   (`sources_are_names`), of which the model knows nothing.
 //! - `absorb`, `unite` and `join` bring the parts of several shards into one, and `release`, `part` and `split` give
 //!   them back: whatever database each held its parts of, each holds just the parts that it then has (`HasAbsorbed`,
 //!   `WereUnited`, `WereJoined`; `HasReleased`, `WereParted`, `WasSplit`). Out of memory leaves each shard what it

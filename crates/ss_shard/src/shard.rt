@@ -2,7 +2,9 @@
 
 ghost use Rattle.std.specs.Prelude.{◌≡◌, ◌<◌, List, [], length, map, set, get_or, Some, OnOk, IfOk, IfErr, OnErr, IfSome, slice_get, option_map};
 ghost use Rattle.std.specs.Option.{option_copied};
+ghost use Rattle.std.specs.List.{AllByRecursion};
 ghost use Rattle.ss_model.specs.Database.{Database};
+ghost use Rattle.ss_model.specs.WholeDatabase.{WholeDatabase};
 ghost use Rattle.ss_model.specs.declared.catalog.Catalog.{Catalog};
 ghost use Rattle.ss_table.specs.TableValue.{TableValue};
 ghost use Rattle.ss_undo.specs.Holding.{HaveRows};
@@ -11,7 +13,7 @@ ghost use Rattle.ss_shard.specs.Contents.{tables_of};
 ghost use Rattle.ss_shard.specs.ShardValue.{ShardValue};
 ghost use Rattle.ss_shard.specs.Rows.{IsKeyed, HasSlot, HasKeyOf, refusal_of};
 ghost use Rattle.ss_shard.specs.Shards.{IsOf, CanRollBack, Changed, Same, IsCommitted, AllInvariant};
-ghost use Rattle.ss_shard.specs.Sources.{number_in, HasSource, SameNumbers, with_number};
+ghost use Rattle.ss_shard.specs.Sources.{number_in, HasSource, AreNames, AllAreNames, SameNumbers, with_number};
 ghost use Rattle.ss_shard.specs.Windows.{kept_part, HoldsDatabase};
 ghost use Rattle.ss_shard.specs.Parts.{dealing_of};
 ghost use Rattle.ss_shard.specs.Changes.{RowInserted, InsertStops, SlotTaken, SlotPut, UnitStaged, StagingStops};
@@ -97,6 +99,19 @@ fn refusal_of(table: u16, error: TableError) -> RunError
     }
 }
 
+/// The sources of each of these streams are names. A law: it does nothing but pass over the streams.
+fn all_are_names(sources: &[Sources])
+    ensures { AllByRecursion AreNames sources.now }
+{
+    match sources.split_first() {
+        None => (),
+        Some((first, rest)) => {
+            first.sources_are_names();
+            all_are_names(rest);
+        }
+    }
+}
+
 impl Shard {
     /// A shard of these tables, indexes, windows, counts and sources, with nothing to take back. A table past the end of
     /// `indexes` has no index. Takes no memory.
@@ -176,6 +191,15 @@ impl Shard {
             Some(sources) => sources.next(source),
             None => 0,
         }
+    }
+
+    /// Each source of a stream is a name, and so is each of whatever whole database the shard stands for. A law: it does
+    /// nothing but pass over the streams.
+    pub fn sources_are_names(&self)
+        ensures own { AllAreNames self.now.sources }
+        ensures held { (catalog : Catalog) (db : Database) → HoldsDatabase catalog self.now db → WholeDatabase catalog db → AllAreNames db.next_numbers }
+    {
+        all_are_names(self.sources.as_slice())
     }
 
     /// The indexes of a table, in each of which each live row of the table has its pair. Constant.

@@ -2,7 +2,7 @@
 
 ghost use Rattle.std.specs.Prelude.{◌≡◌, List, ℕ, IfOk, OnOk, OnErr, IsSome, replicate};
 ghost use Rattle.std.specs.FinMap as finite;
-ghost use Rattle.ss_shard.specs.Sources.{number_of, push_outcome};
+ghost use Rattle.ss_shard.specs.Sources.{number_of, AreNames, push_outcome};
 
 use ss_model::Outcome;
 use ss_value::{Name, NoMemory, Seq};
@@ -12,7 +12,11 @@ use std::marker::Model;
 
 /// The sources of a stream, by the bytes of their names, each with the number that its next push has to carry.
 ///
-/// A source without an entry has the number 0, as one that never pushed. Contracts see a finite map. A look-up is
+/// Contracts see a finite map from lists of bytes, as in the model, where any list of bytes may be a source. That each is
+/// a name is the type's invariant, since a source comes in by `add` alone. So whoever writes the sources down has names
+/// to write.
+///
+/// A source without an entry has the number 0, as one that never pushed. A look-up is
 /// logarithmic in the number of sources; a list in place of the map would make a million sources quadratic.
 ///
 /// A source gets its entry, with the number 0, before it is known whether its push will be committed, so that `set`
@@ -27,13 +31,15 @@ impl Model for Sources {
     ghost use Rattle.std.specs.Prelude.{map};
     ghost use Rattle.std.specs.FinMap.{from_entries};
     ghost use Rattle.ss_model.specs.Database.{NextNumbers};
-    ghost use Rattle.ss_shard.specs.Sources.{coded_numbers};
+    ghost use Rattle.ss_shard.specs.Sources.{coded_numbers, AreNames};
 
     ghost Value = { NextNumbers };
 
     ghost coded = { coded_numbers };
 
     ghost view = { λ s. from_entries (map (λ e. (e.0.items, e.1)) s.numbers.entries) };
+
+    ghost invariant = { λ s. AreNames (from_entries (map (λ e. (e.0.items, e.1)) s.numbers.entries)) };
 }
 
 impl Sources {
@@ -44,6 +50,13 @@ impl Sources {
         Sources {
             numbers: BTreeMap::new(alloc),
         }
+    }
+
+    /// Each source that has an entry is a name. A law: it does nothing.
+    pub fn sources_are_names(&self)
+        ensures { AreNames self.now }
+    {
+        let _ = &self.numbers;
     }
 
     /// The number that the next push of a source has to carry. Logarithmic; takes no memory.

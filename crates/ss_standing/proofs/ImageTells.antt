@@ -10,6 +10,7 @@ use Rattle.std.proofs.lemmas.Bool.{cases_lt}
 use Rattle.std.proofs.lemmas.List.{append_cancel_left, ext_get_or, get_or_past}
 use Rattle.std.proofs.lemmas.List.Elements.{All-nil}
 use Rattle.std.proofs.lemmas.Option.{slice_get_cases}
+use Rattle.ss_value.specs.Words.{is_name}
 use Rattle.ss_value.specs.Rows.{Rows}
 use Rattle.ss_model.specs.declared.catalog.Catalog.{Catalog}
 use Rattle.ss_model.specs.declared.catalog.TableDef.{TableDef}
@@ -39,6 +40,7 @@ pub no_numbers_fit : FitNumbers finmap.empty
 no_numbers_fit = (
   omega (arith, len-empty (slice_cmp nat_cmp) ℕ),
   subst (All (λ (next : List ℕ × ℕ). next.1 < 2 ^ 64)) (sym (no_entries (slice_cmp nat_cmp))) (All-nil (λ (next : List ℕ × ℕ). next.1 < 2 ^ 64)),
+  subst (All (λ (next : List ℕ × ℕ). is_name next.0 ≡ true)) (sym (no_entries (slice_cmp nat_cmp))) (All-nil (λ (next : List ℕ × ℕ). is_name next.0 ≡ true)),
 )
 
 module _ (catalog : Catalog) where

@@ -1,6 +1,7 @@
 -- What an image has room for.
-use Rattle.std.specs.Prelude.{◌^◌, ◌<◌, ℕ, List, length, All}
+use Rattle.std.specs.Prelude.{◌≡◌, ◌^◌, ◌<◌, ℕ, true, List, length, All}
 use Rattle.std.specs.FinMap as finmap
+use Rattle.ss_value.specs.Words.{is_name}
 use Rattle.ss_value.specs.Rows.{Rows}
 use Rattle.ss_model.specs.Contents.{Table, Window}
 use Rattle.ss_model.specs.Database.{NextNumbers}
@@ -23,11 +24,13 @@ FitsWindow w = (w.0 < 2 ^ 64) × All (FitRows (2 ^ 64)) w.1
 abbrev pub FitsStream : ℕ × (ℕ × List Rows) → Type 0
 FitsStream s = (s.0 < 2 ^ 64) × (s.1.0 < 2 ^ 64) × All (FitRows (2 ^ 16)) s.1.1
 
--- sources and their next numbers
+-- sources by their names, and their next numbers
 abbrev pub FitNumbers : NextNumbers → Type 0
-FitNumbers m = (finmap.len m < 2 ^ 64) × All (λ (next : List ℕ × ℕ). next.1 < 2 ^ 64) (finmap.entries m)
+FitNumbers m =
+    (finmap.len m < 2 ^ 64) × All (λ (next : List ℕ × ℕ). next.1 < 2 ^ 64) (finmap.entries m)
+    × All (λ (next : List ℕ × ℕ). is_name next.0 ≡ true) (finmap.entries m)
 
--- each number fits its bytes, and each row is of values that the types of a program hold
+-- each number fits its bytes, each row is of values that the types of a program hold, and sources have names
 pub record FitsImage (k : Kept) : Type 0 where
   pub tables : All FitsTable k.tables
   pub windows : All FitsWindow k.windows

@@ -32,9 +32,11 @@
 //! - The database of an image is whole, has had at most as many batches in each stream as there were executions, and
 //!   fits the image (`IsImageAt`), instead of being any of which the bytes spell what is kept. Without that bytes stand
 //!   for several things: 2^64 and 0 have one spelling, two tables with the same rows at other keys have one, and next
-//!   numbers of a stream that is no border stream have none. Of the databases that a list reaches the first two are
-//!   laws (`whole_databases_stay`, `batches_are_bounded` of `ss_model_laws`); the third is what the program's types
-//!   hold.
+//!   numbers of a stream that is no border stream have none. And what is spelled needn't be bytes: a source of 300 bytes
+//!   would begin with a length that no byte has, and no reader could read it again, so sources are names. Of the
+//!   databases that a list reaches the first two are laws (`whole_databases_stay`, `batches_are_bounded` of
+//!   `ss_model_laws`); the third is what the program's types hold, of sources `Sources` of `ss_shard`
+//!   (`sources_are_names`).
 //! - What fits an image is said of what is kept (`FitsImage`), instead of the database, because batches and units that
 //!   were dropped are in no image, and a recovered database needn't have them. How many units of a window are kept
 //!   isn't bounded, though an image gives their number in four bytes, because it follows from how many there have been.

@@ -1,5 +1,5 @@
 -- That an image tells what is kept needs its premises: databases of which other things are kept may have the same image.
-use Rattle.std.proofs.Common.{◌≡◌, ◌∙◌, ℕ, ◌^◌, ℤ, pos, nat_abs, codes, List, [], ◌∷◌, ◌<◌, All, length, get_or, refl, sym, ap, subst, arith, Option, Some, None, unwrap_or}
+use Rattle.std.proofs.Common.{◌≡◌, ◌∙◌, ℕ, ◌^◌, ℤ, pos, nat_abs, codes, true, List, [], ◌∷◌, ◌<◌, All, length, get_or, refl, sym, ap, subst, arith, Option, Some, None, unwrap_or}
 use Rattle.std.specs.Option.{option_map}
 use Rattle.std.specs.Ordering.{nat_cmp}
 use Rattle.std.specs.Cmp.Lexicographic.{slice_cmp, nat_list_cmp_total}
@@ -7,6 +7,7 @@ use Rattle.std.specs.FinMap as finmap
 use Rattle.std.specs.FinMap.{get-empty, get-insert, entries-insert, len-entries}
 use Rattle.std.specs.FinMap.Entries.{put}
 use Rattle.std.proofs.lemmas.List.Elements.{All-from_recursion}
+use Rattle.ss_value.specs.Words.{is_name}
 use Rattle.ss_value.specs.declared.value.Value.{Value}
 use Rattle.ss_value.specs.declared.value.Value.TheVariants.{Int, Text}
 use Rattle.ss_value.specs.Rows.{Rows, column_value}
@@ -87,6 +88,7 @@ one_number_fits : FitNumbers one_number
 one_number_fits = (
   omega (arith, len-entries one_number, ap length one_entry),
   subst (All (λ (next : List ℕ × ℕ). next.1 < 2 ^ 64)) (sym one_entry) (All-from_recursion (λ (next : List ℕ × ℕ). next.1 < 2 ^ 64) ((codes "a", 1) ∷ []) (omega arith, tt)),
+  subst (All (λ (next : List ℕ × ℕ). is_name next.0 ≡ true)) (sym one_entry) (All-from_recursion (λ (next : List ℕ × ℕ). is_name next.0 ≡ true) ((codes "a", 1) ∷ []) (refl, tt)),
 )
 
 odd_fits : FitsImage (kept workflow odd)

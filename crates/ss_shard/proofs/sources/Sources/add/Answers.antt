@@ -1,8 +1,11 @@
 use Rattle.std.proofs.Common.{◌≡◌, ◌∙◌, ℕ, true, ap, sym, subst, List, None, is_some}
 use Rattle.std.specs.FinMap as finite
+use Rattle.std.specs.Global.{Vec}
+use Rattle.std.specs.Prelude.{IsTrue}
+use Rattle.ss_value.specs.Words.{is_name}
 use Rattle.ss_model.specs.Database.{NextNumbers}
-use Rattle.ss_shard.specs.Sources.{number_of}
-use Rattle.ss_shard.proofs.Numbers.{key_bytes, numbers_of, number_at, get_number, none_there, none_risen, now_stands}
+use Rattle.ss_shard.specs.Sources.{number_of, AreNames}
+use Rattle.ss_shard.proofs.Numbers.{key_bytes, numbers_of, number_at, get_number, none_there, none_risen, now_stands, named_too}
 use Rattle.ss_shard.proofs.sources.Sources.add.Goals as goal
 
 pub returns-then-contains_key-clause-ok : goal.returns-then-contains_key-clause-ok
@@ -28,3 +31,13 @@ returns-clause-ok c =
     let key = c.in_ok-name.name in
     subst (λ (q : List ℕ). is_some (finite.get (numbers_of key_bytes c.insert.new.self.entries) q) ≡ true) (c.in_ok-name.ensures.items ∙ c.as_bytes-2.ensures.bytes)
     (now_stands key_bytes c.self.inside.numbers.entries c.insert.new.self.entries key c.in_ok-insert.ensures.entries)
+
+-- the map had no memory for it, and is as it was
+pub invariant_of-self : goal.invariant_of-self
+invariant_of-self c = subst (λ (es : List (Vec ℕ × ℕ)). AreNames (numbers_of key_bytes es)) (sym c.in_err-insert.ensures.err) c.self.invariant
+
+pub invariant_of-self-2 : goal.invariant_of-self-2
+invariant_of-self-2 c =
+    let key = c.in_ok-name.name in
+    let spelled : key.items ≡ c.args.source.now = c.in_ok-name.ensures.items ∙ c.as_bytes-2.ensures.bytes in
+    named_too key_bytes c.self.inside.numbers.entries c.insert.new.self.entries key (subst (λ (q : List ℕ). IsTrue (is_name q)) (sym spelled) c.as_bytes-2.ensures.name) c.self.invariant c.in_ok-insert.ensures.entries

@@ -4,7 +4,8 @@ use Rattle.std.specs.BTreeMap.{is_at}
 use Rattle.std.specs.Map.{set_value}
 use Rattle.std.specs.Option.{option_copied_mut}
 use Rattle.ss_model.specs.Database.{NextNumbers}
-use Rattle.ss_shard.proofs.Numbers.{bytes_cmp, key_bytes, number_at, has_number, number_set}
+use Rattle.ss_shard.specs.Sources.{AreNames}
+use Rattle.ss_shard.proofs.Numbers.{bytes_cmp, key_bytes, numbers_of, number_at, has_number, number_set, named_still}
 use Rattle.ss_shard.proofs.sources.Sources.set.Goals as goal
 
 pub unreachable-requires : goal.unreachable-requires
@@ -22,3 +23,13 @@ returns c =
     number_set key_bytes entries (c.get_mut.follows.lender c.args.next).entries c.args.source.now c.args.next (has_number key_bytes entries c.args.self.now c.args.source.now c.self.view_is c.requires)
     (written ∙ ap (λ (q : List ℕ). set_value (is_at (λ k. bytes_cmp q (key_bytes k))) entries c.args.next) c.as_bytes.ensures.bytes)
     ∙ ap (λ (ns : NextNumbers). finite.insert ns c.args.source.now c.args.next) c.self.view_is
+
+pub invariant_of-self : goal.invariant_of-self
+invariant_of-self c =
+    let entries = c.self.inside.numbers.entries in
+    let written = (c.get_mut.follows.holds c.args.next).0 in
+    subst AreNames (sym (
+    number_set key_bytes entries (c.get_mut.follows.lender c.args.next).entries c.args.source.now c.args.next (has_number key_bytes entries c.args.self.now c.args.source.now c.self.view_is c.requires)
+    (written ∙ ap (λ (q : List ℕ). set_value (is_at (λ k. bytes_cmp q (key_bytes k))) entries c.args.next) c.as_bytes.ensures.bytes)
+    ))
+    (named_still (numbers_of key_bytes entries) c.args.source.now c.args.next c.as_bytes.ensures.name c.self.invariant)
