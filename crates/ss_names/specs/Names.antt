@@ -1,5 +1,5 @@
 -- Names, and lists of them.
-use Rattle.std.specs.Prelude.{◌≡◌, ℕ, List, Bool, map}
+use Rattle.std.specs.Prelude.{◌≡◌, ◌<◌, ◌++◌, ℕ, List, Bool, length, map, take}
 use Rattle.std.specs.Borrow.{Bor}
 use Rattle.std.specs.List.{list_any}
 use Rattle.std.specs.Str.{bytes_eq}
@@ -12,6 +12,10 @@ is_among names name = list_any (bytes_eq name) names
 -- the same names, in any order and any number of times
 abbrev pub AreSameNames : List (List ℕ) → List (List ℕ) → Type 0
 AreSameNames these those = (name : List ℕ) → is_among these name ≡ is_among those name
+
+-- the names that were there, and those of some first items of a list, but not of all
+abbrev pub HasSomeOf : {X : Type 0} → (X → List ℕ) → List X → List (List ℕ) → List (List ℕ) → Type 0
+HasSomeOf name items old new = (n : ℕ) × (n < length items) × AreSameNames new (old ++ map name (take n items))
 
 -- the bytes behind references
 abbrev pub bytes_behind : List (Bor (List ℕ)) → List (List ℕ)

@@ -1,7 +1,7 @@
 //! Sets of names.
 
-ghost use Rattle.std.specs.Prelude.{◌≡◌, [], ◌∷◌, ◌++◌, map, not, if◌then◌else◌, IfOk, OnOk};
-ghost use Rattle.ss_names.specs.Names.{is_among, AreSameNames};
+ghost use Rattle.std.specs.Prelude.{◌≡◌, [], ◌∷◌, ◌++◌, map, not, if◌then◌else◌, IfOk, OnOk, OnErr};
+ghost use Rattle.ss_names.specs.Names.{is_among, AreSameNames, HasSomeOf};
 
 use crate::named::Named;
 use indexmap::IndexSet;
@@ -44,10 +44,11 @@ impl<'a> NameSet<'a> {
     }
 
     /// Puts a name behind the others, and answers whether it is new; one that was there stays where it is. Takes the
-    /// time of a hash on average over many.
+    /// time of a hash on average over many. Out of memory changes nothing.
     pub fn insert(&mut self, name: &'a [u8]) -> Result<bool, NoMemory>
         ensures ok { IfOk result (λ fresh. fresh ≡ not (is_among self.old name.entry.now)) }
         ensures names { OnOk result (self.new ≡ (if is_among self.old name.entry.now then self.old else self.old ++ name.entry.now ∷ [])) }
+        ensures err { OnErr result (self.new ≡ self.old) }
     {
         let fresh = self.names.insert(name)?;
         Ok(fresh)
@@ -61,9 +62,10 @@ impl<'a> NameSet<'a> {
     }
 }
 
-/// Adds the names of a list, in time linear in it.
+/// Adds the names of a list, in time linear in it. Out of memory has added some first ones of them.
 pub fn add_all<'a, T: Named>(names: &mut NameSet<'a>, items: &'a [T]) -> Result<(), NoMemory>
-    ensures { OnOk result (AreSameNames names.new (names.old ++ map T.name items.now)) }
+    ensures ok { OnOk result (AreSameNames names.new (names.old ++ map T.name items.now)) }
+    ensures err { OnErr result (HasSomeOf T.name items.now names.old names.new) }
 {
     for item in items {
         names.insert(item.name())?;

@@ -130,7 +130,7 @@ fn check_sides(found: &mut Option<TypeError>, op: BinaryOp, left: &TypedExpr, ri
 /// Types an expression. Linear in its nodes and the bytes of its texts.
 ///
 /// Where `grouped` is given, each column of the expression has to be one of these.
-pub fn expr_of(
+pub(crate) fn expr_of(
     alloc: Global,
     names: &Names,
     grouped: Option<&Grouped>,
@@ -205,7 +205,7 @@ fn binary_of(
 }
 
 /// Types an expression that has to be what its context needs.
-pub fn expr_at(
+pub(crate) fn expr_at(
     alloc: Global,
     names: &Names,
     grouped: Option<&Grouped>,

@@ -133,7 +133,7 @@ fn item_of(
 }
 
 /// Types the items of a query, each for the column that it goes into, where there is one.
-pub fn items_of(
+pub(crate) fn items_of(
     alloc: Global,
     names: &Names,
     grouped: Option<&Grouped>,
@@ -184,7 +184,7 @@ pub fn has_aggregate(items: &[ItemTree]) -> bool
 }
 
 /// Types the values of an INSERT, each for the column that it goes into, where there is one.
-pub fn values_of(
+pub(crate) fn values_of(
     alloc: Global,
     names: &Names,
     columns: &[Column],
@@ -207,7 +207,7 @@ pub fn values_of(
 }
 
 /// Types the condition behind WHERE, if there is one.
-pub fn test_of(
+pub(crate) fn test_of(
     alloc: Global,
     names: &Names,
     test: &Option<ExprTree>,
@@ -227,7 +227,7 @@ pub fn test_of(
 }
 
 /// Resolves the columns of GROUP BY. Those that are not known are left out.
-pub fn groups_of(
+pub(crate) fn groups_of(
     alloc: Global,
     names: &Names,
     groups: &[ColumnTree],
@@ -268,7 +268,7 @@ fn order_by(order: &OrderTree) -> OrderBy
 }
 
 /// Types ORDER BY of a query with `count` items.
-pub fn order_of(
+pub(crate) fn order_of(
     alloc: Global,
     count: usize,
     orders: &[OrderTree],

@@ -9,7 +9,8 @@
 //! - [`scope`]: what may be named, and why a tree is refused; [`column_limit`]: the bound on its columns
 //! - [`names`]: what names refer to; [`columns`], [`grouped`]: columns by hash
 //! - [`kinds`]: the types of expressions, and what a context needs
-//! - [`expr`], [`items`], [`query`], [`statement`]: the walk
+//! - [`expr`], [`items`], [`query`], [`statement`]: the walk, which is this crate's own: where it finds no memory, some
+//!   faults are found and others aren't
 //! - [`first_fault`]: the least fault so far; [`laws`]: a tree has one answer
 //!
 //! A name that is not known has no type (None), so that it is reported once, and never again as a wrong
@@ -42,13 +43,10 @@ mod typing;
 
 pub use column_limit::is_narrow;
 pub use columns::Columns;
-pub use expr::{TypedExpr, expr_at, expr_of, kind_of_expr};
+pub use expr::{TypedExpr, kind_of_expr};
 pub use first_fault::{check, record_fault};
 pub use grouped::Grouped;
-pub use items::{
-    check_item_limit, groups_of, has_aggregate, is_aggregate, item_kind, items_of, nat_of,
-    order_of, test_of, values_of,
-};
+pub use items::{check_item_limit, has_aggregate, is_aggregate, item_kind, nat_of};
 pub use kinds::{
     Kind, Needs, first_needs, fits, gives, kind_of, may_be, may_be_value, may_compare, sign_kind,
     value_kind,
@@ -57,7 +55,6 @@ pub use laws::a_tree_has_one_answer;
 pub use names::{
     Names, column_offset, columns_of, kind_at, kind_in, resolve, same_name, source_named,
 };
-pub use query::{check_count, check_known, query_names, query_of, query_within, wanted_columns};
+pub use query::{check_count, check_known, query_names, wanted_columns};
 pub use scope::{Named, Scope, TypeError};
-pub use statement::{condition_of, statement_of};
 pub use typing::{type_condition, type_query, type_statement};

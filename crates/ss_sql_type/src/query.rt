@@ -167,7 +167,7 @@ fn limit_of(limit: &Option<NumberTree>) -> Option<u64>
 }
 
 /// Types a query whose rows go into these columns. A wrong number of items is reported at the offset `at`.
-pub fn query_of(
+pub(crate) fn query_of(
     alloc: Global,
     scope: &Scope,
     columns: Option<&[Column]>,
@@ -187,7 +187,7 @@ pub fn query_of(
 /// Types a query whose rows go into these columns, where `names` says what its names refer to. A function of its own,
 /// since a condition needs the names again.
 #[tactic(auto, using(crate::proofs::Noted::all_noted_append))]
-pub fn query_within(
+pub(crate) fn query_within(
     alloc: Global,
     names: &Names,
     columns: Option<&[Column]>,

@@ -324,7 +324,7 @@ fn delete_of(
 }
 
 /// Types a statement.
-pub fn statement_of(
+pub(crate) fn statement_of(
     alloc: Global,
     scope: &Scope,
     tree: &StatementTree,
@@ -395,7 +395,7 @@ fn right_of(
 }
 
 /// Types a condition.
-pub fn condition_of(
+pub(crate) fn condition_of(
     alloc: Global,
     scope: &Scope,
     tree: &ConditionTree,

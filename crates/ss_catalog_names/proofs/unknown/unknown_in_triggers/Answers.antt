@@ -21,7 +21,7 @@ returns c =
     (λ r e. e ∙ c.unknown_source.ensures
     ∙ ap (λ (l : List TriggerOutline). first_unknown (names_in waits_on c.add_all.new.names l)) c.as_slice-3.ensures
     ∙ used_same waits_on c.add_all.new.names (streams ++ windows)
-    (λ name. c.in_ok-add_all.ensures name
+    (λ name. c.in_ok-add_all.ensures.ok name
     ∙ list_any-append (bytes_eq name) c.in_ok-sources.sources (map window_name c.as_slice-2.result.now)
     ∙ ap (λ b. b || is_among (map window_name c.as_slice-2.result.now) name) (c.in_ok-sources.ensures name ∙ ap (λ (l : List StreamOutline). is_among (map stream_name l) name) c.as_slice.ensures)
     ∙ ap (λ (l : List WindowOutline). is_among streams name || is_among (map window_name l) name) c.as_slice-2.ensures
