@@ -6,7 +6,7 @@
 //!   order of the input. It says nothing of how the answers came about, so it serves every way to run
 //!
 //! `specs/OneList` and `specs/Replies` state them; `proofs/Premises` and `proofs/RepliesPremises` meet their premises
-//! at a small catalogue. They are a crate of their own, below those that run requests and write reports (`ss_run`,
+//! at a small catalogue. `specs/PartOf` says when a list is another one without some of its items. They are a crate of their own, below those that run requests and write reports (`ss_run`,
 //! `ss_report`), since both promise in the words of `specs/Replies`.
 #![tactic(auto)]
 

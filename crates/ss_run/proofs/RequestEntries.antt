@@ -18,7 +18,8 @@ use Rattle.ss_model.specs.Database.{Database, fits_entry, has_call, is_ready_ent
 use Rattle.ss_model.specs.Report.{asked_entry, asked_entries, entries_behind, is_step}
 use Rattle.ss_lemmas.proofs.Bools.{first_of_two, second_of_two}
 use Rattle.ss_run.specs.BySteps.{Answered, GoesOnBySteps, IsAnswered}
-use Rattle.ss_run.specs.RunAnswers.{IsPartOf, all_fit, client_entries}
+use Rattle.ss_report_laws.specs.PartOf.{IsPartOf}
+use Rattle.ss_run.specs.RunAnswers.{all_fit, client_entries}
 use Rattle.ss_run.specs.Stands.{with_entry}
 use Rattle.ss_run.proofs.BySteps.{client_append}
 

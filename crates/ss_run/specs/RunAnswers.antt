@@ -1,5 +1,5 @@
 -- Which lists answer which requests.
-use Rattle.std.specs.Prelude.{◌≡◌, ◌⊎◌, Bool, not, List, [], ◌∷◌, map}
+use Rattle.std.specs.Prelude.{Bool, not, List, map}
 use Rattle.std.specs.List.{filter, list_all}
 use Rattle.ss_model.specs.declared.catalog.Catalog.{Catalog}
 use Rattle.ss_model.specs.declared.entry.Entry.{Entry}
@@ -7,16 +7,11 @@ use Rattle.ss_model.specs.declared.entry.Listed.{Listed}
 use Rattle.ss_model.specs.declared.entry.Request.{Request}
 use Rattle.ss_model.specs.Database.{fits_entry}
 use Rattle.ss_model.specs.Report.{asked_entries, is_step}
+use Rattle.ss_report_laws.specs.PartOf.{IsPartOf}
 
 -- whether each request names what the catalogue has, with arguments or rows that fit it
 abbrev pub all_fit : Catalog → List Request → Bool
 all_fit catalog requests = list_all (fits_entry catalog) (asked_entries requests)
-
--- the first list is the second without some of its items
-abbrev pub IsPartOf : {A : Type 0} → List A → List A → Type 0
-IsPartOf [] ys = Unit {0}
-IsPartOf (x ∷ xs) [] = ⊥
-IsPartOf (x ∷ xs) (y ∷ ys) = ((x ≡ y) × IsPartOf xs ys) ⊎ IsPartOf (x ∷ xs) ys
 
 -- the entries of a list that clients asked for
 abbrev pub client_entries : List Listed → List Entry

@@ -9,8 +9,9 @@ use Rattle.ss_model.specs.declared.entry.Listed.{Listed}
 use Rattle.ss_model.specs.declared.entry.Request.{Request}
 use Rattle.ss_model.specs.Report.{IsAsked, Rising, asked_entries, entries_behind, client_index, is_step}
 use Rattle.ss_standing.specs.Standing.{listed_entries}
-use Rattle.ss_report_laws.proofs.AnswersInOrder.{asked_index, before, count_here}
-use Rattle.ss_run_laws.specs.OneClient.{IsPartOf, OneClientInOrder}
+use Rattle.ss_report_laws.specs.PartOf.{IsPartOf}
+use Rattle.ss_report_laws.proofs.CallerLemmas.{asked_index, before, count_here}
+use Rattle.ss_run_laws.specs.OneClient.{OneClientInOrder}
 use Rattle.ss_run_laws.proofs.Resting.{no_steps}
 
 rising_rest : (i : ℕ) (js : List ℕ) → Rising (i ∷ js) → Rising js

@@ -22,9 +22,7 @@ use Rattle.ss_model.specs.ReportLines.{database_lines, done_line, list_lines, li
 use Rattle.ss_model.specs.Settling.{kept, pending_steps}
 use Rattle.ss_model_kept.proofs.CallerLemmas.{from_kept}
 use Rattle.ss_model_laws.proofs.CallerLemmas.{kept_carries}
-use Rattle.ss_report_laws.proofs.Asked.{same_asked}
-use Rattle.ss_report_laws.proofs.Replies.{is_found}
-use Rattle.ss_report_laws.proofs.SameIndices.{HaveTheSame, indices, same_indices}
+use Rattle.ss_report_laws.proofs.CallerLemmas.{HaveTheSame, indices, is_found, same_asked, same_indices}
 use Rattle.ss_headline.specs.Owed.{outside}
 use Rattle.ss_run_laws.specs.OneClient.{OneClientOneReport}
 use Rattle.ss_run_laws.proofs.InOrder.{among_asked, index_from, numbered}

@@ -1,5 +1,5 @@
 -- One client alone, whose pushes are not accepted: its requests run in their order, and each run of them is the same.
-use Rattle.std.specs.Prelude.{◌≡◌, ◌⊎◌, ℕ, List, [], ◌∷◌}
+use Rattle.std.specs.Prelude.{◌≡◌, ℕ, List}
 use Rattle.std.specs.List.{AllByRecursion}
 use Rattle.ss_model.specs.declared.catalog.Catalog.{Catalog}
 use Rattle.ss_model.specs.declared.entry.Listed.{Listed}
@@ -10,14 +10,9 @@ use Rattle.ss_model.specs.InStep.{IsInStep}
 use Rattle.ss_model.specs.Orders.{accepted_pushes}
 use Rattle.ss_model.specs.Report.{Report, Whole, asked_entries}
 use Rattle.ss_model.specs.Settling.{kept, pending_steps}
+use Rattle.ss_report_laws.specs.PartOf.{IsPartOf}
 use Rattle.ss_standing.specs.Standing.{listed_entries}
 use Rattle.ss_headline.specs.Owed.{ListsAsked, outside}
-
--- the first list is the second without some of its items
-abbrev pub IsPartOf : {A : Type 0} → List A → List A → Type 0
-IsPartOf [] ys = Unit {0}
-IsPartOf (x ∷ xs) [] = ⊥
-IsPartOf (x ∷ xs) (y ∷ ys) = ((x ≡ y) × IsPartOf xs ys) ⊎ IsPartOf (x ∷ xs) ys
 
 -- a list of the requests of one client alone, which begins where no step is pending, and accepts no push
 pub record RunsAlone (catalog : Catalog) (db : Database) (client : ℕ) (requests : List Request) (list : List Listed) : Type 0 where

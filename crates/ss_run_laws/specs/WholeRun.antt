@@ -1,4 +1,4 @@
--- What the laws come to for a run that is done.
+-- What the laws come to for a run that is done, and that it has one list.
 use Rattle.std.specs.Prelude.{◌≡◌, ℕ, true, List}
 use Rattle.std.specs.List.{AllByRecursion}
 use Rattle.ss_model.specs.declared.catalog.Catalog.{Catalog}
@@ -31,3 +31,11 @@ module _ {D : Type 0} (disk_of : D → D → DiskChange) where
       (old new before now : D) → IsWholeRun limit catalog requests x first list text (disk_of old new) →
       IsWholeRun limit catalog requests y first other more (disk_of before now) →
       ((s : ℕ) → accepted_pushes s list ≡ 0) → outside requests list ≡ 0 → outside requests other ≡ 0 → (list ≡ other) × (text ≡ more)
+
+  -- law: two whole runs of the same requests with one text, on disks that told the same before them, have one list, and begin at one place
+  abbrev pub WholeRunsHaveOneList : Type 0
+  WholeRunsHaveOneList =
+      (limit bound : ℕ) (catalog : Catalog) → Accepted catalog → (requests : List Request) (x y : Database) (first place : ℕ) (list other : List Listed)
+      (text : List ℕ) (old new before now : D) → IsWholeRun limit catalog requests x first list text (disk_of old new) →
+      IsWholeRun bound catalog requests y place other text (disk_of before now) → (disk_of old new).tells → (disk_of before now).tells →
+      (disk_of before now).seen_before ≡ (disk_of old new).seen_before → (list ≡ other) × (first ≡ place)

@@ -4,7 +4,8 @@
 //! - `one_client`: the requests of one client alone, where no step is pending and no push is accepted, run in their order,
 //!   and each run that leaves none of them out has the same list and the same report. So the bytes do not depend on how
 //!   many partitions run
-//! - `whole_runs`: both of a run that is done, in the words of `IsWholeRun` of `ss_headline`
+//! - `whole_runs`: both of a run that is done, in the words of `IsWholeRun` of `ss_headline`, and that the text of such a
+//!   run has one list
 //!
 //! `specs/Once`, `specs/OneClient` and `specs/WholeRun` state them; `proofs/worked` meets their premises at small
 //! catalogues.
@@ -16,4 +17,6 @@ mod whole_runs;
 
 pub use once::takes_each_once;
 pub use one_client::{one_client_in_order, one_client_one_report};
-pub use whole_runs::{whole_runs_of_one_client, whole_runs_take_each_once};
+pub use whole_runs::{
+    whole_runs_have_one_list, whole_runs_of_one_client, whole_runs_take_each_once,
+};

@@ -1,11 +1,13 @@
 //! What the laws come to for runs that are done.
 
 ghost use Rattle.ss_headline.specs.Disks.{disk_of};
-ghost use Rattle.ss_run_laws.specs.WholeRun.{WholeRunsTakeEachOnce, WholeRunsOfOneClient};
+ghost use Rattle.ss_run_laws.specs.WholeRun.{WholeRunsTakeEachOnce, WholeRunsOfOneClient, WholeRunsHaveOneList};
 
 use crate::once::takes_each_once;
 use crate::one_client::one_client_one_report;
 use ss_disk::Disk;
+use ss_headline::runs_hold_from_each;
+use ss_report_laws::a_report_has_one_list;
 
 /// In a whole run each streaming procedure takes each batch of its workflow that it had not taken before exactly once.
 pub fn whole_runs_take_each_once<D: Disk>()
@@ -20,4 +22,13 @@ pub fn whole_runs_of_one_client<D: Disk>()
     ensures { WholeRunsOfOneClient (disk_of D.tells D.honest D.seen D.moment D.images D.faults) }
 {
     one_client_one_report();
+}
+
+/// Two whole runs of the same requests with one text have one list and begin at one place, on disks that tell their contents
+/// and had the same before them: what a run wrote determines what ran.
+pub fn whole_runs_have_one_list<D: Disk>()
+    ensures { WholeRunsHaveOneList (disk_of D.tells D.honest D.seen D.moment D.images D.faults) }
+{
+    runs_hold_from_each::<D>();
+    a_report_has_one_list();
 }

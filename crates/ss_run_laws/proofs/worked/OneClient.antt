@@ -17,9 +17,10 @@ use Rattle.ss_model.proofs.Accounts as accounts
 use Rattle.ss_model_laws.proofs.CallerLemmas.{empty_in_step, empty_whole, in_step_after}
 use Rattle.ss_model_laws.proofs.worked.Workflow as flow
 use Rattle.ss_model_laws.proofs.worked.WorkflowRun as run
+use Rattle.ss_report_laws.specs.PartOf.{IsPartOf}
 use Rattle.ss_standing.specs.Standing.{listed_entries}
 use Rattle.ss_headline.specs.Owed.{ListsAsked, outside}
-use Rattle.ss_run_laws.specs.OneClient.{IsPartOf, RunsAlone, OneClientInOrder, OneClientOneReport}
+use Rattle.ss_run_laws.specs.OneClient.{RunsAlone, OneClientInOrder, OneClientOneReport}
 
 -- ---- three calls
 

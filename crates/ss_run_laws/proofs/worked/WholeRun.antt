@@ -1,5 +1,6 @@
--- Two whole runs on a disk that tells nothing, as a folder does: a batch through a workflow, and three calls of one client.
-use Rattle.std.proofs.Common.{◌≡◌, ◌≤◌, ◌==◌, ℕ, zero, suc, pos, codes, List, [], ◌∷◌, length, true, false, cond, Some, None, refl, sym, arith}
+-- Two whole runs on a disk that tells nothing, as a folder does: a batch through a workflow, and three calls of one client; and the first on
+-- a disk that tells its contents.
+use Rattle.std.proofs.Common.{◌≡◌, ◌≤◌, ◌==◌, ℕ, zero, suc, pos, codes, List, [], ◌∷◌, length, Bool, true, false, cond, Some, None, refl, sym, arith}
 use Rattle.std.specs.List.{cons_option, filter_map}
 use Rattle.ss_value.specs.declared.value.Value.TheVariants.{Int}
 use Rattle.ss_model.specs.declared.catalog.Catalog.{Catalog}
@@ -11,20 +12,21 @@ use Rattle.ss_model.specs.declared.entry.Outcome.TheVariants.{Done, Aborted}
 use Rattle.ss_model.specs.declared.entry.Reason.TheVariants.{KeyTaken}
 use Rattle.ss_model.specs.declared.entry.Request.{Request}
 use Rattle.ss_model.specs.Accepted.{Accepted}
-use Rattle.ss_model.specs.Database.{empty_database}
+use Rattle.ss_model.specs.Database.{Database, empty_database}
 use Rattle.ss_model.specs.Replays.{Replays, after}
 use Rattle.ss_model.specs.Report.{Whole, Report, Rising, client_index, report_text}
 use Rattle.ss_model.specs.Settling.{Drained, streams_on}
 use Rattle.ss_model.proofs.Accounts as accounts
 use Rattle.ss_model_laws.proofs.CallerLemmas.{accepted, workflow, empty_whole, matching_stays, replays_orders, whole_batch, whole_batch_drains, whole_batch_replays}
 use Rattle.ss_disk.specs.Files.{Files}
+use Rattle.ss_standing.proofs.CallerLemmas.{nothing_stands, batch_store, batch_files, batch_files_stand}
 use Rattle.ss_headline.specs.Disks.{DiskChange, disk_of}
 use Rattle.ss_headline.specs.Laws.{SessionsHoldFromEach}
 use Rattle.ss_headline.specs.Owed.{outside}
 use Rattle.ss_headline.specs.Runs.{IsWholeRun}
 use Rattle.ss_headline.specs.Sentences.{WholeSession, room_from}
 use Rattle.ss_run_laws.specs.Once.{TakesEach}
-use Rattle.ss_run_laws.specs.WholeRun.{WholeRunsTakeEachOnce, WholeRunsOfOneClient}
+use Rattle.ss_run_laws.specs.WholeRun.{WholeRunsTakeEachOnce, WholeRunsOfOneClient, WholeRunsHaveOneList}
 use Rattle.ss_run_laws.proofs.worked.OneClient.{start, calls, calls_alone}
 
 abbrev nothing : Files
@@ -36,14 +38,15 @@ change = disk_of ⊥ ⊥ (λ disk. nothing) (λ disk. 0) (λ disk moment image. 
 -- a list with its report, from the empty database
 module _ (catalog : Catalog) (ok : Accepted catalog) (requests : List Request) (list : List Listed) (text : List ℕ) (replays : Replays catalog (empty_database catalog) list)
     (reported : Report catalog requests (empty_database catalog) 0 list Whole text) (drained : Drained catalog (after catalog (empty_database catalog) list)) where
-  session : WholeSession catalog requests 0 list text (change tt tt) (empty_database catalog)
-  session =
+  -- on a disk of which nothing is said about crashes
+  session : (disk : DiskChange) → (disk.honest → ⊥) → WholeSession catalog requests 0 list text disk (empty_database catalog)
+  session disk crashes =
       let wired = ok.structure.streams.wired in
       record {
         replies_and_tables = record { one_by_one = replays; report = reported };
         in_order = replays_orders catalog wired (empty_database catalog) list (matching_stays catalog wired).starts replays;
-        wherever_a_crash_falls = λ honest. absurd honest;
-        all_stands = λ honest image left. absurd honest;
+        wherever_a_crash_falls = λ honest. absurd (crashes honest);
+        all_stands = λ honest image left. absurd (crashes honest);
         at_the_end = drained;
       }
 
@@ -54,7 +57,7 @@ module _ (catalog : Catalog) (ok : Accepted catalog) (requests : List Request) (
     session = record {
       whole = empty_whole catalog ok;
       stood = λ tells. absurd tells;
-      each = λ db same. (law catalog (empty_database catalog) db (sym same)).whole requests 0 list text tt tt session;
+      each = λ db same. (law catalog (empty_database catalog) db (sym same)).whole requests 0 list text tt tt (session (change tt tt) (λ honest. honest));
     };
   }
 
@@ -85,6 +88,34 @@ takes_each : SessionsHoldFromEach change → WholeRunsTakeEachOnce change → (q
 takes_each each law =
     law 5 workflow accepted pushes (empty_database workflow) 0 whole_batch push_text tt tt
     (whole_run workflow accepted pushes whole_batch push_text whole_batch_replays push_reported whole_batch_drains each (omega arith))
+
+-- ---- the same on a disk that tells: empty before the run, and a store with the batch behind it
+
+abbrev files : Bool → Files
+files false = nothing
+files true = batch_files
+
+abbrev told : Bool → Bool → DiskChange
+told = disk_of (Unit {0}) ⊥ files (λ disk. 0) (λ disk moment image. Unit {0}) (λ disk. 0)
+
+told_run : SessionsHoldFromEach told → IsWholeRun 5 workflow pushes (empty_database workflow) 0 whole_batch push_text (told false true)
+told_run law = record {
+  within = omega arith;
+  logged = λ tells. record { stood = batch_store; stands = batch_files_stand; before = []; ends = refl };
+  session = record {
+    whole = empty_whole workflow accepted;
+    stood = λ tells. nothing_stands;
+    each = λ db same.
+        (law workflow (empty_database workflow) db (sym same)).whole pushes 0 whole_batch push_text false true
+        (session workflow accepted pushes whole_batch push_text whole_batch_replays push_reported whole_batch_drains (told false true) (λ honest. honest));
+  };
+}
+
+-- whatever whole run wrote this text from an empty disk, it had this list, from place 0 on
+one_list : SessionsHoldFromEach told → WholeRunsHaveOneList told → (opening : Database) (place : ℕ) (other : List Listed) → IsWholeRun 5 workflow pushes opening place other push_text (told false true)
+    → (whole_batch ≡ other) × (0 ≡ place)
+one_list each law opening place other run =
+    law 5 5 workflow accepted pushes (empty_database workflow) opening 0 place whole_batch other push_text false true false true (told_run each) run tt tt refl
 
 -- ---- three calls
 

@@ -1,7 +1,8 @@
 use Rattle.std.proofs.Common.{◌≡◌, [], length, take}
 use Rattle.ss_model.specs.Report.{Whole, asked_entries}
 use Rattle.ss_report_laws.specs.Replies.{AreAnswered}
-use Rattle.ss_run.specs.RunAnswers.{IsPartOf, client_entries}
+use Rattle.ss_report_laws.specs.PartOf.{IsPartOf}
+use Rattle.ss_run.specs.RunAnswers.{client_entries}
 use Rattle.ss_run.specs.Stands.{IsAt}
 use Rattle.ss_run.proofs.Answering.{HaveRoom}
 use Rattle.ss_run.proofs.session.run_from.Given as goal
