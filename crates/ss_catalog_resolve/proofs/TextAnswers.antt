@@ -1,5 +1,5 @@
 -- What a text says, from what the parser and typing answer for it.
-use Rattle.std.proofs.Common.{◌≡◌, ℕ, refl, sym, subst, List, [], Some, Result, Ok, Err, inl, inr}
+use Rattle.std.proofs.Common.{◌≡◌, ℕ, refl, sym, subst, List, [], Some, Result, Ok, Err, inl, inr, IfOk, IfErr}
 use Rattle.ss_sql_parse.specs.declared.parse.ParseError.{ParseError}
 use Rattle.ss_sql_parse.specs.Sql.{Sql}
 use Rattle.ss_sql_parse.specs.Texts.{IsTextOf, IsParseError}
@@ -12,7 +12,7 @@ use Rattle.ss_catalog_resolve.specs.declared.fault.BodyFault.{BodyFault}
 use Rattle.ss_catalog_resolve.specs.declared.fault.SqlRefusal.{SqlRefusal}
 use Rattle.ss_catalog_resolve.specs.declared.fault.SqlRefusal.TheVariants.{NoMemory, Fault}
 use Rattle.ss_catalog_resolve.specs.Answers.{Answers, fault_of}
-use Rattle.ss_catalog_resolve.specs.Texts.{parse_fault, type_fault, type_refusal, Says}
+use Rattle.ss_catalog_resolve.specs.Texts.{parse_fault, type_fault, type_refusal, RefusesAs, Says}
 use Rattle.ss_catalog_resolve.specs.Steps.{refusal_at, OfText}
 
 -- the parser is given the bytes of the text
@@ -35,6 +35,14 @@ module _ {A T : Type 0} (g : Sql A) (faults : A → List TypeError) (typed : A �
   is_untyped tree parsed (typing.KeyIsSet at) (Fault fault) is reported = broken tree parsed (typing.KeyIsSet at) fault is reported
   is_untyped tree parsed (typing.WrongCount at) (Fault fault) is reported = broken tree parsed (typing.WrongCount at) fault is reported
   is_untyped tree parsed (typing.NotAggregated at) (Fault fault) is reported = broken tree parsed (typing.NotAggregated at) fault is reported
+
+  -- what typing answers for the tree of the text, with its refusal as one of the text
+  pub is_answered : (tree : A) → IsTextOf g bytes tree → (t : Result T TypeError) (r : Result T (SqlRefusal SqlFault)) → RefusesAs t r
+      → IfOk t (λ a. (faults tree ≡ []) × (a ≡ typed tree)) → IfErr t (IsRefusal (faults tree)) → Answers (Says g faults typed text) r
+  is_answered tree parsed (Ok a) (Ok b) same h refused = let one : a ≡ b = cc in subst (λ (x : T). Answers (Says g faults typed text) (Ok x)) one (is_typed tree a parsed h)
+  is_answered tree parsed (Ok a) (Err r) same h refused = absurd cc
+  is_answered tree parsed (Err e) (Ok b) same h refused = absurd same
+  is_answered tree parsed (Err e) (Err r) same h refused = is_untyped tree parsed e r refused same
 
 -- a step of what a text says
 module _ {A B : Type 0} (n : ℕ) (step : A → B) (Says : Result A SqlFault → Type 0) where

@@ -17,6 +17,8 @@ use Rattle.ss_sql_type.specs.Refusals.{IsLeast, fault_number, fault_offset}
 use Rattle.ss_sql_type.specs.Queries.{query_faults, typed_query}
 use Rattle.ss_sql_type.specs.Statements.{statement_faults, typed_statement, condition_faults, typed_condition}
 use Rattle.ss_catalog_resolve.specs.declared.fault.SqlFault.{SqlFault}
+use Rattle.ss_catalog_resolve.specs.declared.fault.SqlRefusal.{SqlRefusal}
+use Rattle.ss_catalog_resolve.specs.Answers.{fault_of}
 
 -- the fault of this code at this offset
 abbrev pub fault_at : ℕ → ℕ → SqlFault
@@ -43,6 +45,12 @@ type_fault e = fault_at (fault_number e) (fault_offset e)
 abbrev pub type_refusal : TypeError → Option SqlFault
 type_refusal typing.NoMemory = None
 type_refusal e = Some (type_fault e)
+
+-- the typed tree that typing answers, or its refusal as one of the text
+abbrev pub RefusesAs : {T : Type 0} → Result T TypeError → Result T (SqlRefusal SqlFault) → Type 0
+RefusesAs (Ok t) r = r ≡ Ok t
+RefusesAs (Err e) (Ok t) = ⊥
+RefusesAs (Err e) (Err refusal) = fault_of refusal ≡ type_refusal e
 
 module _ {A T : Type 0} (g : Sql A) (faults : A → List TypeError) (typed : A → T) (text : List ℕ) where
   -- the text has a tree that breaks no rule, and this is its typed tree

@@ -3,7 +3,7 @@
 ghost use Rattle.std.specs.Prelude.{◌≡◌, IsTrue};
 ghost use Rattle.ss_sql_type.specs.Queries.{scope_narrow};
 ghost use Rattle.ss_catalog_resolve.specs.Answers.{Answers, fault_of};
-ghost use Rattle.ss_catalog_resolve.specs.Texts.{fault_at, parse_fault, type_refusal, StatementSays, ConditionSays, QuerySays};
+ghost use Rattle.ss_catalog_resolve.specs.Texts.{fault_at, parse_fault, type_refusal, RefusesAs, StatementSays, ConditionSays, QuerySays};
 
 use crate::fault::{SqlFault, SqlRefusal};
 use ss_catalog_json::Word;
@@ -47,6 +47,17 @@ fn type_refusal(error: TypeError) -> SqlRefusal<SqlFault>
     }
 }
 
+/// What typing answers for a tree, with its refusal as one of the text. Whoever calls it with a call lets the tree go once,
+/// and not once for each answer.
+fn with_fault<T>(typed: Result<T, TypeError>) -> Result<T, SqlRefusal<SqlFault>>
+    ensures { RefusesAs typed result }
+{
+    match typed {
+        Ok(tree) => Ok(tree),
+        Err(error) => Err(type_refusal(error)),
+    }
+}
+
 /// The statement of a text, or its first fault.
 ///
 /// Takes time and memory linear in the text and the columns of what it names, and walks the names in scope up to
@@ -60,10 +71,7 @@ pub fn statement_of(
     ensures { Answers (StatementSays scope.now text.now) result }
 {
     match parse_statement(alloc, text.as_str().as_bytes()) {
-        Ok(tree) => match type_statement(alloc, scope, &tree) {
-            Ok(statement) => Ok(statement),
-            Err(error) => Err(type_refusal(error)),
-        },
+        Ok(tree) => with_fault(type_statement(alloc, scope, &tree)),
         Err(error) => Err(parse_fault(error)),
     }
 }
@@ -78,10 +86,7 @@ pub fn condition_of(
     ensures { Answers (ConditionSays scope.now text.now) result }
 {
     match parse_condition(alloc, text.as_str().as_bytes()) {
-        Ok(tree) => match type_condition(alloc, scope, &tree) {
-            Ok(condition) => Ok(condition),
-            Err(error) => Err(type_refusal(error)),
-        },
+        Ok(tree) => with_fault(type_condition(alloc, scope, &tree)),
         Err(error) => Err(parse_fault(error)),
     }
 }
@@ -92,10 +97,7 @@ pub fn query_of(alloc: Global, scope: &Scope, text: &Word) -> Result<Query, SqlR
     ensures { Answers (QuerySays scope.now text.now) result }
 {
     match parse_query(alloc, text.as_str().as_bytes()) {
-        Ok(tree) => match type_query(alloc, scope, &tree) {
-            Ok(query) => Ok(query),
-            Err(error) => Err(type_refusal(error)),
-        },
+        Ok(tree) => with_fault(type_query(alloc, scope, &tree)),
         Err(error) => Err(parse_fault(error)),
     }
 }

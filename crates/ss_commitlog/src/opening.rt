@@ -1,7 +1,8 @@
 //! The opening of a log under a name.
 
-ghost use Rattle.std.specs.Prelude.{◌≡◌, ◌≤◌, ◌+◌, ◌^◌, ℕ, [], length, IfOk};
+ghost use Rattle.std.specs.Prelude.{◌≡◌, ◌≤◌, ◌+◌, ◌^◌, ℕ, [], length, vec_capacity, IfOk};
 ghost use Rattle.ss_model.specs.Database.{stream_batches};
+ghost use Rattle.ss_partition.specs.Homes.{homes_of};
 ghost use Rattle.ss_stream.specs.OfDatabase.{AreStreamsOf};
 ghost use Rattle.ss_commitlog.specs.declared.role.Role.TheVariants.{Part, Client, Disk};
 ghost use Rattle.ss_commitlog.specs.Rule.{numbered, reader};
@@ -14,7 +15,7 @@ use crate::hands::give_back;
 use crate::log::CommitLog;
 use crate::notes::give_one;
 use crate::rule::Opening;
-use crate::token::{Marks, Note, Notes};
+use crate::token::{Mark, Marks, Note, Notes};
 use ss_model::{Catalog, Life};
 use ss_partition::homes;
 use ss_stream::Streams;
@@ -35,6 +36,43 @@ pub struct Opened<I: Life> {
     pub notes: Notes<I>,
     /// The disk's note.
     pub disk: Note<I>,
+}
+
+/// What an opening takes memory for.
+#[derive(Drop)]
+struct Room<I: Life> {
+    /// The home of each procedure.
+    homes: Seq<u8>,
+    /// Lists with room for the marks of partitions, for those of clients, and for notes.
+    parts: Vec<Mark<I>>,
+    clients: Vec<Mark<I>>,
+    notes: Vec<Note<I>>,
+}
+
+/// The homes of the catalogue's procedures, and lists with room for each token that an opening deals.
+fn room_for<I: Life>(
+    alloc: Global,
+    catalog: &Catalog,
+    opening: &Opening,
+) -> Result<Room<I>, NoMemory>
+    requires some { 1 ≤ opening.now.parts }
+    ensures homes { IfOk result (λ r. r.homes ≡ homes_of catalog.now opening.now.parts) }
+    ensures parts { IfOk result (λ r. (r.parts.items ≡ []) × (opening.now.parts ≤ vec_capacity r.parts)) }
+    ensures clients { IfOk result (λ r. (r.clients.items ≡ []) × (opening.now.clients ≤ vec_capacity r.clients)) }
+    ensures notes { IfOk result (λ r. (r.notes.items ≡ []) × (opening.now.parts + opening.now.clients ≤ vec_capacity r.notes)) }
+{
+    let homes = homes(alloc, catalog, opening.parts)?;
+    let parts_count = opening.parts as usize;
+    let clients_count = opening.clients as usize;
+    let parts = Vec::with_capacity(alloc, parts_count)?;
+    let clients = Vec::with_capacity(alloc, clients_count)?;
+    let notes = Vec::with_capacity(alloc, parts_count + clients_count)?;
+    Ok(Room {
+        homes,
+        parts,
+        clients,
+        notes,
+    })
 }
 
 impl<I: Life> CommitLog<I> {
@@ -60,13 +98,16 @@ impl<I: Life> CommitLog<I> {
         ensures notes { IfOk result (λ o. o.notes ≡ at_opening I.first (numbered reader 0 (I.parts + I.clients) [])) }
         ensures disk { IfOk result (λ o. o.disk ≡ known Disk [] I.first 0) }
     {
-        let homes = homes(alloc, catalog, opening.parts)?;
+        let room = room_for(alloc, catalog, &opening)?;
         let parts_count = opening.parts as usize;
         let clients_count = opening.clients as usize;
         let notes_count = parts_count + clients_count;
-        let mut parts = Vec::with_capacity(alloc, parts_count)?;
-        let mut clients = Vec::with_capacity(alloc, clients_count)?;
-        let mut notes = Vec::with_capacity(alloc, notes_count)?;
+        let Room {
+            homes,
+            mut parts,
+            mut clients,
+            mut notes,
+        } = room;
         let Blank {
             table,
             mut seat,

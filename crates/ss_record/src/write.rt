@@ -1,7 +1,8 @@
 //! Rows and entries to bytes.
 
-ghost use Rattle.std.specs.Prelude.{◌≡◌, ◌++◌, ◌≤◌, ◌<◌, ◌+◌, length, OnOk, OnErr, IfOk, IsTrue, All};
+ghost use Rattle.std.specs.Prelude.{◌≡◌, ◌∷◌, ◌++◌, ◌≤◌, ◌<◌, ◌+◌, ◌^◌, length, OnOk, OnErr, IfOk, IsTrue, All};
 ghost use Rattle.std.specs.List.{flat_map};
+ghost use Rattle.ss_record.specs.Numbers.{number_bytes};
 ghost use Rattle.ss_record.specs.Spelling.{value_bytes, row_bytes, name_bytes, record_bytes, max_record};
 ghost use Rattle.ss_value.specs.Words.{is_name};
 ghost use Rattle.ss_record.specs.Bounds.{IsShort, IsRecordable, IsTypedValue, IsTypedRow, IsTyped};
@@ -73,6 +74,41 @@ fn push_name(out: &mut Vec<u8>, name: &Name) -> Result<(), NoMemory>
     Ok(())
 }
 
+/// Adds what the record of a client's entry begins with: its kind, the client, its index, and what it calls or feeds.
+fn push_front(
+    out: &mut Vec<u8>,
+    kind: u8,
+    client: u8,
+    index: u64,
+    target: u16,
+) -> Result<(), NoMemory>
+    ensures spelled { OnOk result (out.new.items ≡ out.old.items ++ kind ∷ client ∷ number_bytes 8 index ++ number_bytes 2 target) }
+    ensures long { OnOk result (length out.new.items ≡ length out.old.items + 12) }
+    ensures typed { OnOk result ((index < 2 ^ 64) × (target < 2 ^ 16)) }
+{
+    out.push(kind)?;
+    out.push(client)?;
+    push_u64(out, index)?;
+    push_u16(out, target)?;
+    Ok(())
+}
+
+/// Adds a batch: its source, its number there, and its rows.
+fn push_batch(out: &mut Vec<u8>, source: &Name, seq: u64, rows: &Rows) -> Result<(), NoMemory>
+    requires few { length rows.now ≤ 1024 }
+    requires short { All IsShort rows.now }
+    ensures spelled { OnOk result (out.new.items
+        ≡ out.old.items ++ name_bytes source.now ++ number_bytes 8 seq ++ number_bytes 2 (length rows.now) ++ flat_map row_bytes rows.now) }
+    ensures long { OnOk result (length out.new.items ≤ length out.old.items + 4211755) }
+    ensures typed { OnOk result (IsTrue (is_name source.now) × All IsTypedRow rows.now) }
+{
+    push_name(out, source)?;
+    push_u64(out, seq)?;
+    push_u16(out, rows.len() as u16)?;
+    push_rows(out, rows)?;
+    Ok(())
+}
+
 /// Adds an entry. Where memory is wanting it may leave a part of it.
 fn push_entry(out: &mut Vec<u8>, entry: &Entry) -> Result<(), NoMemory>
     requires { IsRecordable entry.now }
@@ -87,10 +123,7 @@ fn push_entry(out: &mut Vec<u8>, entry: &Entry) -> Result<(), NoMemory>
             procedure,
             args,
         } => {
-            out.push(1)?;
-            out.push(*client)?;
-            push_u64(out, *index)?;
-            push_u16(out, *procedure)?;
+            push_front(out, 1, *client, *index, *procedure)?;
             push_row(out, args)?;
         }
         Entry::Push {
@@ -101,14 +134,8 @@ fn push_entry(out: &mut Vec<u8>, entry: &Entry) -> Result<(), NoMemory>
             seq,
             rows,
         } => {
-            out.push(2)?;
-            out.push(*client)?;
-            push_u64(out, *index)?;
-            push_u16(out, *stream)?;
-            push_name(out, source)?;
-            push_u64(out, *seq)?;
-            push_u16(out, rows.len() as u16)?;
-            push_rows(out, rows)?;
+            push_front(out, 2, *client, *index, *stream)?;
+            push_batch(out, source, *seq, rows)?;
         }
         Entry::Step { procedure, batch } => {
             out.push(3)?;

@@ -72,10 +72,10 @@ invariant_of-desk g c =
         log = log_alone c.args.opening.first seat.me alone;
       };
       legal = nothing_legal catalog g.I.Life.parts g.I.Life.clients g.I.Life.limit db _ _ seat.me alone;
-      flow = subst (λ (l : List Listed). IsFlow catalog g.I.Life.parts (after catalog db l) c.args.streams.streams c.args.counts c.in_ok-homes.homes) none_yet (record {
+      flow = subst (λ (l : List Listed). IsFlow catalog g.I.Life.parts (after catalog db l) c.args.streams.streams c.args.counts c.in_ok-room.room.homes) none_yet (record {
         streams_are = c.requires.streams;
         counts_are = c.requires.counts;
-        homes_are = c.in_ok-homes.ensures ∙ (λ i. homes_of (c.requires.catalog i) (numbers.2 i));
+        homes_are = c.in_ok-room.ensures.homes ∙ (λ i. homes_of (c.requires.catalog i) (numbers.2 i));
       });
     }
 
