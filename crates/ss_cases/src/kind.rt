@@ -1,5 +1,6 @@
 //! The kinds of blocks, and what runs each.
 
+use crate::calls::check_calls;
 use crate::run::check_run;
 use crate::{examples, inputs, listings, requests};
 use ss_case_files::{Behind, BlockForm, Case, Wrong};
@@ -19,6 +20,7 @@ enum Kind {
     Requests,
     Report,
     Tables,
+    Calls,
     Run,
     First,
     Script,
@@ -41,6 +43,7 @@ impl Kind {
             "requests" => Some(Kind::Requests),
             "report" => Some(Kind::Report),
             "tables" => Some(Kind::Tables),
+            "calls" => Some(Kind::Calls),
             "run" => Some(Kind::Run),
             "first" => Some(Kind::First),
             "script" => Some(Kind::Script),
@@ -64,7 +67,7 @@ impl Kind {
     fn has_rows(self) -> bool {
         !matches!(
             self,
-            Kind::Report | Kind::Tables | Kind::Script | Kind::Misfit | Kind::List
+            Kind::Report | Kind::Tables | Kind::Calls | Kind::Script | Kind::Misfit | Kind::List
         )
     }
 }
@@ -99,6 +102,7 @@ pub fn check<R: Files + AllocGlobal + Threads + Wait + Sync>(
         Some(Kind::Bodies) => listings::check_body(rt, base, row),
         Some(Kind::Report) => requests::check_block(rt, base, lines),
         Some(Kind::Tables) => requests::check_tables(rt, base, lines),
+        Some(Kind::Calls) => check_calls(rt, base, lines),
         Some(Kind::Script) => listings::check_script(rt, base, lines),
         Some(Kind::Misfit) => listings::check_misfit(rt, base, lines),
         Some(Kind::List) => listings::check_list(rt, base, lines),

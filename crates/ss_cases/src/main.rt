@@ -5,10 +5,12 @@
 //!
 //! - `kind`: the kinds of blocks, and which module runs each
 //! - `inputs`, `requests`, `examples`: whole inputs, requests on a catalogue, and inputs in files of their own
+//! - `calls`: calls one after another on one disk
 //! - `listings`: scripts, lists, queries and bodies
 //! - `run`: one run of the program, and whether it answered as its case says
 #![tactic(auto)]
 
+mod calls;
 mod examples;
 mod inputs;
 mod kind;
