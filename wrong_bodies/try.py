@@ -2,20 +2,23 @@
 """Tries the wrong bodies that the gate leaves out: the prover must refuse each.
 
     python3 wrong_bodies/try.py          sees that each line that an edit changes stands in its file just once: a second
-    python3 wrong_bodies/try.py NAME..   lends these crates their edits, runs `rt must-fail NAME..`, and takes them back
+    python3 wrong_bodies/try.py NAME..   tries the edits of these crates by `rt ci`, on a copy of them and of what is below
 
-The first edit of a crate costs that crate's whole proof, each further one 20 seconds to a minute; and first what the crate
-stands on is built where it isn't yet, which a `rt ci` that proved it in this checkout has done. An edit is written like those
-of crates/NAME/must-fail, which `rt ci` tries itself.
+The copy has these edits in place of those that the gate tries, and no tests and programs. So it takes the proofs of the
+crates below, side by side on all processors (none of them, where the toolchain keeps on a machine what it proved there), once
+more that of the crate itself before its first edit, and 20 seconds to a minute for each further one. An edit is written like
+those of crates/NAME/must-fail, which `rt ci` tries itself. The status is that of `rt ci`.
 """
 import os
 import shutil
 import signal
 import subprocess
 import sys
+import tempfile
 
 HERE = os.path.dirname(os.path.abspath(__file__))
-CRATES = os.path.join(os.path.dirname(HERE), "crates")
+TOP = os.path.dirname(HERE)
+CRATES = os.path.join(TOP, "crates")
 
 
 def edits_of(name):
@@ -38,25 +41,44 @@ def stale_lines(name):
     return found
 
 
+def libraries_of_crates():
+    """What each line of crates.txt names: the libraries of each crate."""
+    found = {}
+    with open(os.path.join(TOP, "crates.txt")) as lines:
+        for line in lines:
+            head, _, libraries = line.partition("#")[0].partition(":")
+            if head.strip():
+                found[head.split()[0]] = line, libraries.split()
+    return found
+
+
+def with_those_below(names):
+    """The lines of crates.txt for these crates and those below them, by crate."""
+    libraries, found, left = libraries_of_crates(), {}, list(names)
+    while left:
+        name = left.pop()
+        if name in libraries and name not in found:
+            found[name], below = libraries[name]
+            left += below
+    return found
+
+
 def try_them(names):
-    """Lends the crates their edits, and gives the status of `rt must-fail`."""
-    lent = []
-    try:
+    """The status of `rt ci` on a copy of these crates with their edits, and of those below them without any."""
+    lines = with_those_below(names)
+    unknown = sorted(set(names) - set(lines))
+    if unknown:
+        sys.exit(f"crates.txt has no {' '.join(unknown)}")
+    with tempfile.TemporaryDirectory(prefix="wrong-bodies-") as room:
+        shutil.copyfile(os.path.join(TOP, "HANDLES"), os.path.join(room, "HANDLES"))
+        with open(os.path.join(room, "crates.txt"), "w") as to:
+            to.writelines(lines.values())
+        for name in lines:
+            leave_out = shutil.ignore_patterns("out", "must-fail")
+            shutil.copytree(os.path.join(CRATES, name), os.path.join(room, "crates", name), ignore=leave_out)
         for name in names:
-            folder = os.path.join(CRATES, name, "must-fail")
-            os.makedirs(folder, exist_ok=True)
-            for edit in edits_of(name):
-                to = os.path.join(folder, os.path.basename(edit))
-                if os.path.exists(to):
-                    sys.exit(f"{to} stands there already")
-                lent.append(to)
-                shutil.copyfile(edit, to)
-        return subprocess.call(["rt", "must-fail", *names], cwd=os.path.dirname(HERE))
-    finally:
-        for file in lent:
-            os.remove(file)
-            if not os.listdir(os.path.dirname(file)):
-                os.rmdir(os.path.dirname(file))
+            shutil.copytree(os.path.join(HERE, name), os.path.join(room, "crates", name, "must-fail"))
+        return subprocess.call(["rt", "ci"], cwd=room)
 
 
 def main():
@@ -66,7 +88,7 @@ def main():
     if stale:
         sys.exit(1)
     if sys.argv[1:]:
-        signal.signal(signal.SIGTERM, lambda *_: sys.exit(1))  # so that the edits are taken back then too
+        signal.signal(signal.SIGTERM, lambda *_: sys.exit(1))  # so that the copy goes then too
         sys.exit(try_them(names))
 
 
