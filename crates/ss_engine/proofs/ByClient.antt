@@ -5,7 +5,7 @@ use Rattle.ss_model.specs.declared.entry.Request.{Request}
 use Rattle.ss_report_laws.specs.Replies.{requests_of}
 use Rattle.ss_engine.specs.declared.clients.Client.{Client}
 use Rattle.ss_engine.specs.Clients.{AllThere, EachAt, EachHasLane, HasLane, MayBegin, lane_of, some_lane}
-use Rattle.ss_engine.specs.Lanes.{LaneView, IsFresh}
+use Rattle.ss_lanes.specs.Lanes.{LaneView, IsFresh}
 
 -- what holds at each number holds at one number more
 each_more : {A : Type 0} (P : ℕ → A → Type 0) (xs : List A) (x : A) → ((k : ℕ) (d : A) → k < length xs → P k (get_or xs k d)) → P (length xs) x

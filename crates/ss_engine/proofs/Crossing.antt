@@ -13,14 +13,14 @@ use Rattle.std.specs.contracts.alloc.Global as global
 use Rattle.std.specs.contracts.impls.GlobalAllocator.TheImpl as allocator
 use Rattle.std.specs.contracts.option.Option as option
 use Rattle.std.specs.contracts.sync.atomic.AtomicBool as flag
-use Rattle.atomic_table.proofs.shared.Seat.TheSendSync as seat
 use Rattle.atomic_table.proofs.shared.Shared.TheSendSync as table
 use Rattle.atomic_table.proofs.send_lease.SendLease.TheSendSync as lease
 use Rattle.atomic_table.specs.contracts.owned.Table as owned
 use Rattle.ss_commitlog.proofs.Crossing.{log_sync, note_send}
 use Rattle.ss_commitlog.specs.contracts.token.Token as token
 use Rattle.ss_hand.proofs.Crossing.{partition_send}
-use Rattle.ss_model.proofs.Crossing.{catalog_sync, entry_send, request_sync}
+use Rattle.ss_lanes.proofs.Crossing.{inbox_sync, slot_sync}
+use Rattle.ss_model.proofs.Crossing.{catalog_sync, request_sync}
 use Rattle.ss_model.specs.contracts.entry.Request as request
 use Rattle.ss_model.specs.declared.life.Life.{Ghosts}
 use Rattle.ss_disk.specs.declared.disk.Disk.{Ghosts as DiskGhosts}
@@ -34,29 +34,13 @@ use Rattle.ss_party.specs.contracts.rule.BayRule as bay_rule
 use Rattle.ss_engine.specs.contracts.engine.Engine as engine
 use Rattle.ss_engine.specs.contracts.engine.Engine.TheInside as inside
 use Rattle.ss_engine.specs.contracts.hub.Hub as hub
-use Rattle.ss_engine.specs.contracts.inbox.SharedInbox as inbox
-use Rattle.ss_engine.specs.contracts.job.Job as job
-use Rattle.ss_engine.specs.contracts.reply.Reply as reply
-use Rattle.ss_engine.specs.contracts.slot.Slot as slot
 
 module _ (I : RattleType) (life : Ghosts I.Denot) where
-  job_send : IsSend I → IsSend (job.the_row I life)
-  job_send s = let a = entry_send in search (sendable, crosses, seat.the_send) depth 60 fits 30000
-
-  reply_send : IsSend I → IsSend (reply.the_row I life)
-  reply_send s = let a = entry_send in let n = note_send I life s in search (sendable, crosses) depth 60 fits 30000
-
-  slot_sync : IsSend I → IsSync I → IsSync (slot.the_row I life)
-  slot_sync s y = let r = reply_send s in search (sendable, crosses) depth 60 fits 30000
-
-  inbox_sync : IsSend I → IsSync I → IsSync (inbox.the_row I life)
-  inbox_sync s y = let j = job_send s in search (sendable, crosses) depth 60 fits 30000
-
   hub_sync : IsSend I → IsSync I → IsSync (hub.the_row I life)
   hub_sync s y =
       let l = log_sync I life s y in
-      let b = slot_sync s y in
-      let i = inbox_sync s y in
+      let b = slot_sync I life s y in
+      let i = inbox_sync I life s y in
       declared_sync (hub.the_type I life) (search (crosses, sendable) depth 40, (search (crosses, sendable) depth 40, (search (crosses, sendable) depth 40, (search (crosses, sendable) depth 40, tt))))
 
   parts_send : IsSend I → IsSend (option.the_row (partition.the_row I life))

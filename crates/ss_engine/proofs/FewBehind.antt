@@ -4,9 +4,9 @@ use Rattle.std.specs.List.{AllByRecursion}
 use Rattle.ss_model.specs.declared.entry.Listed.{Listed}
 use Rattle.ss_report_laws.specs.Replies.{mine}
 use Rattle.ss_commitlog.specs.Roles.{In}
-use Rattle.ss_engine.specs.Dues.{FewOpen, StandBelow, entries_from}
-use Rattle.ss_engine.specs.Mines.{Placed}
-use Rattle.ss_engine.proofs.Mines.{mine-append, mine_from}
+use Rattle.ss_lanes.specs.Dues.{FewOpen, StandBelow, entries_from}
+use Rattle.ss_lanes.specs.Mines.{Placed}
+use Rattle.ss_lanes.proofs.CallerLemmas.{mine-append, mine_from}
 
 -- each of these entries stands at a count or behind it
 abbrev StandFrom : ℕ → List Placed → Type 0

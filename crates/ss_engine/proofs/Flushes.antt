@@ -20,7 +20,7 @@ use Rattle.ss_receipts.proofs.CallerLemmas.{disk_since}
 use Rattle.ss_engine.specs.declared.closing.Closed.{Closed}
 use Rattle.ss_engine.specs.declared.session.Finished.{Finished}
 use Rattle.ss_engine.specs.Sessions.{Ends, EndsOnDisk, IsFlushed, IsRun}
-use Rattle.ss_engine.proofs.Dues.{few_open_on}
+use Rattle.ss_lanes.proofs.CallerLemmas.{few_open_on}
 use Rattle.ss_engine.proofs.FewBehind.{few_from}
 use Rattle.ss_engine.proofs.Making.{still_unlisted}
 

@@ -13,7 +13,7 @@ use Rattle.ss_shard.specs.Parts.{HasParts, HoldsParts, IsShardOf, IsWholeShard, 
 use Rattle.ss_shard.specs.Windows.{HoldsDatabase}
 use Rattle.ss_shard.specs.ShardValue.{ShardValue}
 use Rattle.ss_shard.proofs.AllPartitions.{each_more}
-use Rattle.ss_engine.specs.Lanes.{LaneView, IsFresh}
+use Rattle.ss_lanes.specs.Lanes.{LaneView, IsFresh}
 use Rattle.ss_engine.specs.Openings.{AreFresh, ArePartitionsFrom}
 
 -- ---- partitions

@@ -38,18 +38,17 @@ use Rattle.ss_commitlog.proofs.CallerLemmas.{in_left, in_right, length-listed_of
 use Rattle.ss_hand.specs.Hands.{IsInHand}
 use Rattle.ss_hand.specs.declared.hand.Hand.{Hand}
 use Rattle.ss_engine.specs.declared.closing.Closed.{Closed}
-use Rattle.ss_engine.specs.declared.due.Due.{Due}
+use Rattle.ss_lanes.specs.declared.due.Due.{Due}
 use Rattle.ss_engine.specs.declared.settling.Settling.{Settling}
 use Rattle.ss_engine.specs.declared.settling.Settling.TheVariants.{Done, NoMemory, ListFull}
 use Rattle.ss_engine.specs.Closings.{AreMarksOf, AreOfClients, EachTouches, EndedWith, IsClosed, IsLeft, IsMarkOf, IsOfLane, MayBeWhole, SettledTo}
-use Rattle.ss_engine.specs.Dues.{FewOpen}
-use Rattle.ss_engine.specs.Lanes.{LaneView, HasSeen}
-use Rattle.ss_engine.specs.Mines.{Placed, mine_in}
+use Rattle.ss_lanes.specs.Dues.{FewOpen}
+use Rattle.ss_lanes.specs.Lanes.{LaneView, HasSeen}
+use Rattle.ss_lanes.specs.Mines.{Placed, mine_in}
 use Rattle.ss_report_laws.specs.Replies.{mine}
 use Rattle.ss_engine.specs.Pumped.{NoneReady}
-use Rattle.ss_engine.proofs.Dues.{all_still_halted, few_open_on}
-use Rattle.ss_engine.proofs.InHand.{holds_behind}
-use Rattle.ss_engine.proofs.Mines.{mine_own}
+use Rattle.ss_lanes.proofs.CallerLemmas.{all_still_halted, few_open_on, mine_own}
+use Rattle.ss_turns.proofs.CallerLemmas.{holds_behind}
 use Rattle.ss_engine.proofs.Touching.{some_touched}
 
 -- ---- lanes

@@ -5,9 +5,9 @@ use Rattle.ss_model.specs.declared.entry.Answer.{Answer}
 use Rattle.ss_commitlog.specs.Tokens.{Known}
 use Rattle.ss_engine.specs.Closings.{AreMarksOf, IsMarkOf}
 use Rattle.ss_value.specs.Reserved.{ReservedList}
-use Rattle.ss_engine.specs.declared.due.Due.{Due}
-use Rattle.ss_engine.specs.declared.ticket.Ticket.{Ticket}
-use Rattle.ss_engine.specs.Lanes.{LaneView, lane_view, IsLane}
+use Rattle.ss_lanes.specs.declared.due.Due.{Due}
+use Rattle.ss_lanes.specs.declared.ticket.Ticket.{Ticket}
+use Rattle.ss_lanes.specs.Lanes.{LaneView, lane_view, IsLane}
 
 one_mark : (first : ℕ) (lanes : List LaneView) (ms : List Known) (lane : LaneView) (m : Known) → AreMarksOf first lanes ms → IsMarkOf first lane m → AreMarksOf first (lanes ++ lane ∷ []) (ms ++ m ∷ [])
 one_mark first [] [] lane m are is = (is, tt)

@@ -13,17 +13,15 @@ use Rattle.ss_cmdlog.specs.declared.log.Receipt.{Receipt}
 use Rattle.ss_receipts.specs.declared.durable.DurableError.{DurableError}
 use Rattle.ss_receipts.specs.declared.durable.DurableError.TheVariants.{NoMemory, DiskFault, Halted}
 use Rattle.ss_commitlog.specs.Tokens.{Known, Follows, KnowOne}
-use Rattle.ss_engine.specs.declared.due.Due.{Due}
-use Rattle.ss_engine.specs.declared.ticket.Ticket.{Ticket}
+use Rattle.ss_lanes.specs.declared.due.Due.{Due}
+use Rattle.ss_lanes.specs.declared.ticket.Ticket.{Ticket}
 use Rattle.ss_engine.specs.Assured.{AsksForReceipt, HasRequested, IsReceiptOr, KeepsAnswers}
-use Rattle.ss_engine.specs.Dues.{AllBelow, IsDue, failed_at, receipted}
-use Rattle.ss_engine.specs.Growing.{GoesOn}
-use Rattle.ss_engine.specs.Lanes.{LaneView, lane_view, HasSeen, IsLane, IsSubmitted}
-use Rattle.ss_engine.specs.Mines.{Placed, mine_in}
-use Rattle.ss_engine.specs.Told.{told, outcomes}
-use Rattle.ss_engine.proofs.Dues.{all_below_on, due_failed, due_on, due_receipted}
-use Rattle.ss_engine.proofs.Growing.{follows_on, on_and_on, on_longer}
-use Rattle.ss_engine.proofs.Mines.{mine_own}
+use Rattle.ss_lanes.specs.Dues.{AllBelow, IsDue, failed_at, receipted}
+use Rattle.ss_lanes.specs.Growing.{GoesOn}
+use Rattle.ss_lanes.specs.Lanes.{LaneView, lane_view, HasSeen, IsLane, IsSubmitted}
+use Rattle.ss_lanes.specs.Mines.{Placed, mine_in}
+use Rattle.ss_lanes.specs.Told.{told, outcomes}
+use Rattle.ss_lanes.proofs.CallerLemmas.{all_below_on, due_failed, due_on, due_receipted, follows_on, mine_own, on_and_on, on_longer}
 
 -- ---- the lane keeps its answers
 

@@ -10,11 +10,11 @@ use Rattle.ss_commitlog.specs.Reading.{IsReadyAt}
 use Rattle.ss_commitlog.specs.Right.{known_database}
 use Rattle.ss_commitlog.specs.Tokens.{Known}
 use Rattle.ss_engine.specs.Closings.{StepsWhenFound, WasIdle}
-use Rattle.ss_engine.specs.Growing.{GoesOn}
+use Rattle.ss_lanes.specs.Growing.{GoesOn}
 use Rattle.ss_engine.specs.Least.{NoneBelow}
 use Rattle.ss_engine.specs.Pumped.{NoneReady}
 use Rattle.ss_engine.specs.Ranking.{IsFirstRanked}
-use Rattle.ss_engine.proofs.Growing.{on_itself, on_and_on}
+use Rattle.ss_lanes.proofs.CallerLemmas.{on_and_on, on_itself}
 use Rattle.ss_engine.proofs.Trying.{ready_below, ready_steps}
 
 -- a set has just the procedures that are ready at a partition, behind the list that a mark knows

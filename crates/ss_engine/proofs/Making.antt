@@ -16,15 +16,13 @@ use Rattle.ss_model.specs.Database.{fits_entry}
 use Rattle.ss_model.specs.Report.{asked_entry, entries_behind}
 use Rattle.ss_report_laws.specs.Replies.{expected_entries, requests_of, IsListedOr}
 use Rattle.ss_commitlog.specs.declared.rule.Item.{Item}
-use Rattle.ss_engine.specs.declared.due.Due.{Due}
+use Rattle.ss_lanes.specs.declared.due.Due.{Due}
 use Rattle.ss_engine.specs.Assured.{HasRequested, KeepsAnswers}
 use Rattle.ss_engine.specs.Clients.{AllFit, AreListedOr, HasMade, IsUnlisted, MayBegin}
-use Rattle.ss_engine.specs.Lanes.{LaneView, IsRightAnswer, IsSubmitted}
-use Rattle.ss_engine.specs.Mines.{mine_in}
-use Rattle.ss_engine.specs.Served.{IsServed}
-use Rattle.ss_engine.proofs.Dues.{last_too}
-use Rattle.ss_engine.proofs.Telling.{same_faults}
-use Rattle.ss_engine.proofs.ServedLanes.{lanes_serve}
+use Rattle.ss_lanes.specs.Lanes.{LaneView, IsRightAnswer, IsSubmitted}
+use Rattle.ss_lanes.specs.Mines.{mine_in}
+use Rattle.ss_lanes.specs.Served.{IsServed}
+use Rattle.ss_lanes.proofs.CallerLemmas.{lanes_serve, last_too, same_faults}
 
 -- ---- requests that fit
 

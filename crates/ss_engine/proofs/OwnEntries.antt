@@ -10,7 +10,7 @@ use Rattle.ss_report_laws.specs.Replies.{is_of}
 use Rattle.ss_commitlog.specs.declared.role.Role.{Role}
 use Rattle.ss_commitlog.specs.declared.role.Role.TheVariants.{Client}
 use Rattle.ss_commitlog.specs.Meaning.{HasClientBelow}
-use Rattle.ss_engine.specs.Executed.{IsOfRole}
+use Rattle.ss_turns.specs.Executed.{IsOfRole}
 
 -- what a client asks for is its own
 pub asked_is_of : (c index : ℕ) (what : Asked) → is_of c (asked_entry c index what) ≡ true

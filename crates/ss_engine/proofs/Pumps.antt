@@ -9,14 +9,14 @@ use Rattle.ss_commitlog.specs.Roles.{In}
 use Rattle.ss_commitlog.specs.Rule.{item}
 use Rattle.ss_commitlog.specs.Tokens.{Known, roles_of}
 use Rattle.ss_commitlog.proofs.CallerLemmas.{in_left}
-use Rattle.ss_engine.specs.declared.reply.Said.{Said}
-use Rattle.ss_engine.specs.declared.reply.Said.TheVariants.{Listed, NoMemory, ListFull}
-use Rattle.ss_engine.specs.Commits.{with_client, CommitsAsked}
-use Rattle.ss_engine.specs.Growing.{GoesOn}
+use Rattle.ss_lanes.specs.declared.reply.Said.{Said}
+use Rattle.ss_lanes.specs.declared.reply.Said.TheVariants.{Listed, NoMemory, ListFull}
+use Rattle.ss_turns.specs.Commits.{with_client, CommitsAsked}
+use Rattle.ss_lanes.specs.Growing.{GoesOn}
 use Rattle.ss_engine.specs.declared.pump.Pumped.{Pumped}
 use Rattle.ss_engine.specs.declared.pump.Pumped.TheVariants as pumped
 use Rattle.ss_engine.specs.Pumped.{IsLeastOf, IsPumped, AfterPump, pumped_of}
-use Rattle.ss_engine.proofs.Growing.{on_and_on, on_longer}
+use Rattle.ss_lanes.proofs.CallerLemmas.{on_and_on, on_longer}
 
 -- a note met the mark of one of the partitions before the commit, and the client's mark after it
 module _ (catalog : Catalog) (parts : ℕ) (db : Database) (first limit p : ℕ) (ks : List Known) (k : Known) (l : model.Listed) (ks' : List Known) (k' x held start shown end : Known)

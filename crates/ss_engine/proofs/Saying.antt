@@ -10,15 +10,14 @@ use Rattle.ss_commitlog.specs.Roles.{In}
 use Rattle.ss_commitlog.specs.Rule.{item}
 use Rattle.ss_commitlog.specs.Tokens.{Known, AllContinue, added, roles_of}
 use Rattle.ss_commitlog.proofs.CallerLemmas.{in_right}
-use Rattle.ss_engine.specs.declared.reply.Said.{Said}
-use Rattle.ss_engine.specs.declared.reply.Said.TheVariants.{Listed, NoMemory, ListFull}
-use Rattle.ss_engine.specs.declared.ticket.Ticket.{Ticket}
-use Rattle.ss_engine.specs.Mines.{Placed, mine_in}
-use Rattle.ss_engine.specs.Growing.{GoesOn}
-use Rattle.ss_engine.specs.Commits.{with_client, CommitsAsked}
-use Rattle.ss_engine.specs.Replies.{MaySay}
-use Rattle.ss_engine.proofs.Growing.{on_longer}
-use Rattle.ss_engine.proofs.Mines.{mine_in-append, mine_own, mine_shorter}
+use Rattle.ss_lanes.specs.declared.reply.Said.{Said}
+use Rattle.ss_lanes.specs.declared.reply.Said.TheVariants.{Listed, NoMemory, ListFull}
+use Rattle.ss_lanes.specs.declared.ticket.Ticket.{Ticket}
+use Rattle.ss_lanes.specs.Mines.{Placed, mine_in}
+use Rattle.ss_lanes.specs.Growing.{GoesOn}
+use Rattle.ss_turns.specs.Commits.{with_client, CommitsAsked}
+use Rattle.ss_lanes.specs.Replies.{MaySay}
+use Rattle.ss_lanes.proofs.CallerLemmas.{mine_in-append, mine_own, mine_shorter, on_longer}
 
 -- one entry of the client at the end
 mine_last : (c first : ℕ) (list : List Item) (roles : List Role) (l : model.Listed) → is_of c l.entry ≡ true → mine_in c first (added list roles l) ≡ mine_in c first list ++ (first + length list, l) ∷ []

@@ -9,15 +9,15 @@ use Rattle.ss_commitlog.specs.declared.role.Role.TheVariants.{Client}
 use Rattle.ss_commitlog.specs.Tokens.{Known, Follows, KnowOne}
 use Rattle.ss_hand.specs.declared.hand.Hand.{Hand}
 use Rattle.ss_engine.specs.declared.pump.Pumped.{Pumped}
-use Rattle.ss_engine.specs.declared.reply.Said.{Said}
-use Rattle.ss_engine.specs.declared.reply.Said.TheVariants.{Listed}
-use Rattle.ss_engine.specs.declared.ticket.Ticket.{Ticket}
-use Rattle.ss_engine.specs.Executed.{HoldsFor, RanAsked}
-use Rattle.ss_engine.specs.Mines.{mine_in}
+use Rattle.ss_lanes.specs.declared.reply.Said.{Said}
+use Rattle.ss_lanes.specs.declared.reply.Said.TheVariants.{Listed}
+use Rattle.ss_lanes.specs.declared.ticket.Ticket.{Ticket}
+use Rattle.ss_turns.specs.Executed.{HoldsFor, RanAsked}
+use Rattle.ss_lanes.specs.Mines.{mine_in}
 use Rattle.ss_engine.specs.Pumped.{IsLeastOf, IsPumped, pumped_of}
-use Rattle.ss_engine.specs.Replies.{MaySay}
+use Rattle.ss_lanes.specs.Replies.{MaySay}
 use Rattle.ss_engine.specs.Serving.{ServesHere}
-use Rattle.ss_engine.proofs.Growing.{follows_on, on_itself}
+use Rattle.ss_lanes.proofs.CallerLemmas.{follows_on, on_itself}
 use Rattle.ss_engine.proofs.Pumps.{commit_pumps}
 use Rattle.ss_engine.proofs.Saying.{may_say}
 use Rattle.ss_engine.proofs.Touching.{some_mark, of_mark}

@@ -17,14 +17,14 @@ use Rattle.ss_commitlog.specs.Reading.{IsReadyAt}
 use Rattle.ss_commitlog.specs.Roles.{In}
 use Rattle.ss_commitlog.specs.Rule.{item}
 use Rattle.ss_commitlog.specs.Tokens.{Known, AllContinue, AllKnow, Continues, roles_of}
-use Rattle.ss_engine.specs.declared.execution.Stepped.{Stepped}
-use Rattle.ss_engine.specs.declared.execution.Stepped.TheVariants.{Ran, NotReady, NoMemory, ListFull}
+use Rattle.ss_turns.specs.declared.execution.Stepped.{Stepped}
+use Rattle.ss_turns.specs.declared.execution.Stepped.TheVariants.{Ran, NotReady, NoMemory, ListFull}
 use Rattle.ss_engine.specs.declared.pump.Pumped.{Pumped}
-use Rattle.ss_engine.specs.Executed.{IsStepped}
-use Rattle.ss_engine.specs.Growing.{GoesOn}
+use Rattle.ss_turns.specs.Executed.{IsStepped}
+use Rattle.ss_lanes.specs.Growing.{GoesOn}
 use Rattle.ss_engine.specs.Pumped.{IsLeastOf, IsPumped, AfterPump}
 use Rattle.ss_engine.specs.Tried.{StepsAt, tried_of, IsOfProcedure, IsTried}
-use Rattle.ss_engine.proofs.Growing.{on_and_on, on_longer}
+use Rattle.ss_lanes.proofs.CallerLemmas.{on_and_on, on_longer}
 use Rattle.ss_engine.proofs.Pumps.{after_later, pumped_later}
 
 -- a procedure that is ready at a partition takes its steps there

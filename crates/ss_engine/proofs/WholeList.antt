@@ -24,17 +24,17 @@ use Rattle.ss_commitlog.specs.Tokens.{Known, Continues, AllContinue, AllKnow, Me
 use Rattle.ss_commitlog.proofs.CallerLemmas.{in_left, in_right, token_of}
 use Rattle.ss_hand.specs.Hands.{IsInHand}
 use Rattle.ss_hand.specs.declared.hand.Hand.{Hand}
-use Rattle.ss_engine.specs.declared.execution.Stepped.{Stepped}
-use Rattle.ss_engine.specs.declared.execution.Stepped.TheVariants.{Ran, NotReady, NoMemory, ListFull}
+use Rattle.ss_turns.specs.declared.execution.Stepped.{Stepped}
+use Rattle.ss_turns.specs.declared.execution.Stepped.TheVariants.{Ran, NotReady, NoMemory, ListFull}
 use Rattle.ss_engine.specs.declared.settling.Settling.{Settling}
 use Rattle.ss_engine.specs.declared.settling.Settling.TheVariants as settling
 use Rattle.ss_engine.specs.Closings.{AllAt, EachTouches, FoundReady, MayBeWhole, NoneReadyBehind, SettledTo, StepsWhenFound, WasIdle, settling_of}
-use Rattle.ss_engine.specs.Executed.{HoldsFor, IsStepped}
-use Rattle.ss_engine.specs.Growing.{GoesOn}
+use Rattle.ss_turns.specs.Executed.{HoldsFor, IsStepped}
+use Rattle.ss_lanes.specs.Growing.{GoesOn}
 use Rattle.ss_engine.specs.Pumped.{NoneReady}
-use Rattle.ss_engine.specs.Stepping.{AllGoOn}
-use Rattle.ss_engine.proofs.Growing.{on_and_on}
-use Rattle.ss_engine.proofs.MarksOn.{all_met, all_on_and_on, continue_through, last_goes_on, reaching, roles_go_on}
+use Rattle.ss_turns.specs.Stepping.{AllGoOn}
+use Rattle.ss_lanes.proofs.CallerLemmas.{on_and_on}
+use Rattle.ss_turns.proofs.CallerLemmas.{all_met, all_on_and_on, continue_through, last_goes_on, reaching, roles_go_on}
 
 -- ---- marks that know one list
 

@@ -5,10 +5,10 @@ use Rattle.ss_cmdlog.specs.declared.log.Receipt.{Receipt}
 use Rattle.ss_commitlog.specs.declared.rule.Item.{Item}
 use Rattle.ss_receipts.specs.declared.durable.DurableError.{DurableError}
 use Rattle.ss_receipts.specs.declared.durable.DurableError.TheVariants.{NoMemory, DiskFault, Halted}
-use Rattle.ss_engine.specs.Dues.{AllBelow, failed_at, receipted}
-use Rattle.ss_engine.specs.Lanes.{LaneView, IsSubmitted}
-use Rattle.ss_engine.specs.Mines.{mine_in}
-use Rattle.ss_engine.specs.Told.{told}
+use Rattle.ss_lanes.specs.Dues.{AllBelow, failed_at, receipted}
+use Rattle.ss_lanes.specs.Lanes.{LaneView, IsSubmitted}
+use Rattle.ss_lanes.specs.Mines.{mine_in}
+use Rattle.ss_lanes.specs.Told.{told}
 
 -- the lane has the answers that it had, and knows a list that begins with its old one, with no further entry of its client; faults that
 -- it was told of are still those

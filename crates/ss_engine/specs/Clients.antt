@@ -8,8 +8,8 @@ use Rattle.ss_model.specs.declared.entry.Request.{Request}
 use Rattle.ss_model.specs.Database.{fits_entry}
 use Rattle.ss_model.specs.Report.{asked_entries}
 use Rattle.ss_report_laws.specs.Replies.{requests_of, IsListedOr}
-use Rattle.ss_engine.specs.Lanes.{LaneView, IsFresh}
-use Rattle.ss_engine.specs.Served.{IsServed}
+use Rattle.ss_lanes.specs.Lanes.{LaneView, IsFresh}
+use Rattle.ss_lanes.specs.Served.{IsServed}
 use Rattle.ss_engine.specs.declared.clients.Client.{Client}
 
 -- whether each request names what the catalogue has, with arguments or rows that fit it

@@ -23,14 +23,14 @@ use Rattle.ss_commitlog.specs.Right.{known_database}
 use Rattle.ss_commitlog.specs.Roles.{In}
 use Rattle.ss_commitlog.specs.Tokens.{Known, AllContinue}
 use Rattle.ss_engine.specs.declared.closing.Closed.{Closed}
-use Rattle.ss_engine.specs.declared.execution.Stepped.{Stepped}
-use Rattle.ss_engine.specs.declared.execution.Stepped.TheVariants as stepped
+use Rattle.ss_turns.specs.declared.execution.Stepped.{Stepped}
+use Rattle.ss_turns.specs.declared.execution.Stepped.TheVariants as stepped
 use Rattle.ss_engine.specs.declared.settling.Settling.{Settling}
 use Rattle.ss_engine.specs.declared.settling.Settling.TheVariants.{Done, NoMemory, ListFull}
-use Rattle.ss_engine.specs.Growing.{GoesOn}
-use Rattle.ss_engine.specs.Dues.{AreHaltedAt, FewOpen, IsDue}
-use Rattle.ss_engine.specs.Lanes.{LaneView, HasSeen}
-use Rattle.ss_engine.specs.Mines.{mine_in}
+use Rattle.ss_lanes.specs.Growing.{GoesOn}
+use Rattle.ss_lanes.specs.Dues.{AreHaltedAt, FewOpen, IsDue}
+use Rattle.ss_lanes.specs.Lanes.{LaneView, HasSeen}
+use Rattle.ss_lanes.specs.Mines.{mine_in}
 use Rattle.ss_engine.specs.Pumped.{NoneReady}
 
 -- ---- settling

@@ -1,18 +1,5 @@
-pub mod Mines
-pub mod Told
-pub mod Dues
-pub mod Growing
-pub mod Lanes
-pub mod Replies
-pub mod Owning
-pub mod Answered
 pub mod Pumped
-pub mod Commits
-pub mod Served
 pub mod Assured
-pub mod Executed
-pub mod Stepping
-pub mod Runs
 pub mod Engines
 pub mod Least
 pub mod Ranking
@@ -22,3 +9,5 @@ pub mod Openings
 pub mod Closings
 pub mod Clients
 pub mod Sessions
+-- What of a client's entries has no receipt yet, which a run says.
+pub use Rattle.ss_lanes.specs.Dues

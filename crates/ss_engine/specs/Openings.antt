@@ -5,7 +5,7 @@ use Rattle.ss_model.specs.Database.{Database}
 use Rattle.ss_commitlog.specs.Tokens.{Known}
 use Rattle.ss_shard.specs.ShardValue.{ShardValue}
 use Rattle.ss_hand.specs.Partitions.{IsPartition}
-use Rattle.ss_engine.specs.Lanes.{LaneView, IsFresh}
+use Rattle.ss_lanes.specs.Lanes.{LaneView, IsFresh}
 
 -- as many lanes as clients, each that of the client of its number, before the client's first request
 pub record AreFresh (first clients : ℕ) (lanes : List LaneView) : Type 0 where

@@ -10,9 +10,9 @@ use Rattle.ss_commitlog.specs.Right.{known_database}
 use Rattle.ss_commitlog.specs.Tokens.{Known}
 use Rattle.ss_engine.specs.declared.pump.Pumped.{Pumped}
 use Rattle.ss_engine.specs.declared.pump.Pumped.TheVariants.{Ran, Idle, NoMemory, ListFull}
-use Rattle.ss_engine.specs.declared.reply.Said.{Said}
-use Rattle.ss_engine.specs.declared.reply.Said.TheVariants as said
-use Rattle.ss_engine.specs.Growing.{GoesOn}
+use Rattle.ss_lanes.specs.declared.reply.Said.{Said}
+use Rattle.ss_lanes.specs.declared.reply.Said.TheVariants as said
+use Rattle.ss_lanes.specs.Growing.{GoesOn}
 
 -- the least partition that an entry touches
 abbrev pub IsLeastOf : Catalog → ℕ → Entry → ℕ → Type 0

@@ -26,7 +26,7 @@ use Rattle.ss_engine.specs.declared.session.Finished.{Finished}
 use Rattle.ss_engine.specs.declared.settling.Settling.TheVariants.{NoMemory}
 use Rattle.ss_engine.specs.Clients.{AreListedOr}
 use Rattle.ss_engine.specs.Closings.{EndedWith}
-use Rattle.ss_engine.specs.Dues.{FewOpen, entries_from}
+use Rattle.ss_lanes.specs.Dues.{FewOpen, entries_from}
 
 -- each request is of one of so many clients
 abbrev pub AreOfClients : ℕ → List Request → Type 0

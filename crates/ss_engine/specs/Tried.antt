@@ -5,11 +5,11 @@ use Rattle.ss_model.specs.declared.entry.Entry.TheVariants.{Step as StepEntry}
 use Rattle.ss_model.specs.Database.{Database, fits_entry}
 use Rattle.ss_model.specs.Partitions.{home_of}
 use Rattle.ss_commitlog.specs.Tokens.{Known}
-use Rattle.ss_engine.specs.declared.execution.Stepped.{Stepped}
-use Rattle.ss_engine.specs.declared.execution.Stepped.TheVariants as stepped
+use Rattle.ss_turns.specs.declared.execution.Stepped.{Stepped}
+use Rattle.ss_turns.specs.declared.execution.Stepped.TheVariants as stepped
 use Rattle.ss_engine.specs.declared.pump.Pumped.{Pumped}
 use Rattle.ss_engine.specs.declared.pump.Pumped.TheVariants.{Ran, NoMemory, ListFull}
-use Rattle.ss_engine.specs.Growing.{GoesOn}
+use Rattle.ss_lanes.specs.Growing.{GoesOn}
 use Rattle.ss_engine.specs.Pumped.{AfterPump}
 
 -- the procedure takes batches, and is at home on this partition

@@ -2,17 +2,15 @@
 
 ghost use Rattle.std.specs.Prelude.{◌≡◌, ◌≢◌};
 ghost use Rattle.ss_engine.specs.Assured.{AsksForReceipt};
-ghost use Rattle.ss_engine.specs.Dues.{failed_at};
-ghost use Rattle.ss_engine.specs.Lanes.{IsLane, lane_view};
+ghost use Rattle.ss_lanes.specs.Dues.{failed_at};
+ghost use Rattle.ss_lanes.specs.Lanes.{IsLane, lane_view};
 
-use crate::due::Due;
 use crate::engine::Engine;
 use crate::gate::Gate;
-use crate::lane::Lane;
-use crate::ticket::Ticket;
 use ss_cmdlog::Receipt;
 use ss_commitlog::{CommitLog, Mark, Note};
 use ss_disk::Disk;
+use ss_lanes::{Due, Lane, Ticket};
 use ss_model::{Answer, Life};
 use ss_proc::Runner;
 use ss_receipts::{DurableError, Receipts};

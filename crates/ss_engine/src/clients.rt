@@ -3,14 +3,14 @@
 ghost use Rattle.std.specs.Prelude.{◌≡◌, ◌<◌, ◌≤◌, [], map, length, vec_capacity, IfOk};
 ghost use Rattle.ss_report_laws.specs.Replies.{requests_of};
 ghost use Rattle.ss_engine.specs.Clients.{AllFit, AllThere, EachAt, EachHasLane, HasLane, HasMade, MayBegin, lane_of, some_lane};
-ghost use Rattle.ss_engine.specs.Lanes.{IsFresh};
+ghost use Rattle.ss_lanes.specs.Lanes.{IsFresh};
 
 use crate::engine::Engine;
 use crate::gate::Gate;
-use crate::lane::Lane;
 use crate::requesting::make_requests;
 use ss_commitlog::{Note, Notes};
 use ss_disk::Disk;
+use ss_lanes::Lane;
 use ss_model::{Life, Request};
 use ss_proc::Runner;
 use ss_receipts::Receipts;

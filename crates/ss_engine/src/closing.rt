@@ -3,16 +3,16 @@
 ghost use Rattle.std.specs.Prelude.{◌≡◌, ◌≤◌, ◌+◌, ◌++◌, [], map, length, vec_capacity};
 ghost use Rattle.ss_commitlog.specs.declared.role.Role.TheVariants.{Disk};
 ghost use Rattle.ss_engine.specs.Closings.{AreMarksOf, AreOfClients, IsClosed};
-ghost use Rattle.ss_engine.specs.Lanes.{LaneView};
+ghost use Rattle.ss_lanes.specs.Lanes.{LaneView};
 
 use crate::engine::Engine;
 use crate::gate::Gate;
 use crate::hub::Hub;
-use crate::lane::Lane;
 use crate::room::Room;
 use crate::settling::{Settling, settle};
 use ss_commitlog::{Mark, Marks, Note};
 use ss_hand::{Hand, in_one_hand};
+use ss_lanes::Lane;
 use ss_model::{Answer, Catalog, Life, Listed};
 use ss_proc::Runner;
 use ss_shard::Database;

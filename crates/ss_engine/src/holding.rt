@@ -10,8 +10,8 @@ ghost use Rattle.ss_commitlog.specs.Roles.{In};
 ghost use Rattle.ss_commitlog.specs.Tokens.{Known, Continues, Follows};
 ghost use Rattle.ss_party.specs.Turns.{turn_of};
 ghost use Rattle.ss_hand.specs.Hands.{IsInHand, WereTaken};
-ghost use Rattle.ss_engine.specs.Executed.{StaysInHand};
-ghost use Rattle.ss_engine.specs.Growing.{GoesOn};
+ghost use Rattle.ss_turns.specs.Executed.{StaysInHand};
+ghost use Rattle.ss_lanes.specs.Growing.{GoesOn};
 ghost use Rattle.ss_engine.specs.Pumped.{IsLeastOf};
 
 use crate::engine::Engine;

@@ -5,23 +5,18 @@ ghost use Rattle.ss_model.specs.Database.{fits_entry};
 ghost use Rattle.ss_model.specs.Report.{asked_entry};
 ghost use Rattle.ss_commitlog.specs.declared.role.Role.TheVariants.{Client};
 ghost use Rattle.ss_commitlog.specs.Tokens.{Known};
-ghost use Rattle.ss_engine.specs.Growing.{GoesOn};
-ghost use Rattle.ss_engine.specs.Lanes.{IsLane, IsSubmitted, lane_view};
-ghost use Rattle.ss_engine.specs.Owning.{IsOwn};
-ghost use Rattle.ss_engine.specs.Replies.{MaySay};
+ghost use Rattle.ss_lanes.specs.Growing.{GoesOn};
+ghost use Rattle.ss_lanes.specs.Lanes.{IsLane, IsSubmitted, lane_view};
+ghost use Rattle.ss_lanes.specs.Owning.{IsOwn};
+ghost use Rattle.ss_lanes.specs.Replies.{MaySay};
 
-use crate::due::Due;
 use crate::engine::Engine;
 use crate::gate::Gate;
-use crate::inbox::SharedInbox;
-use crate::job::Job;
-use crate::lane::{Lane, answered, unsent};
-use crate::lookers::Lookers;
 use crate::pump::Pumped;
-use crate::reply::{Reply, Said, reply_of};
-use crate::slot::Slot;
-use crate::ticket::Ticket;
 use ss_commitlog::{CommitLog, Mark, Note};
+use ss_lanes::{
+    Due, Job, Lane, Lookers, Reply, Said, SharedInbox, Slot, Ticket, answered, reply_of, unsent,
+};
 use ss_model::{Answer, Asked, Entry, Life};
 use ss_proc::Runner;
 use ss_sched::Work;

@@ -1,43 +1,22 @@
 //! The engine: clients in lanes, whose requests wait as jobs in the inboxes of partitions and come back as replies.
 //!
-//! A client's mark in the commit log goes out with each request and comes back with its reply, by way of two places behind
-//! locks of their own: the inbox of a partition, and the slot of the client. No clause follows a value through a lock, so
-//! each of these values carries its own facts: a job that its mark is that of its client, a reply that a listed entry is
-//! its client's last one in the list that the mark knows. A reply is tied to its request by three numbers, the ticket,
-//! and by the entry's content, which are compared when it is taken. Then mark and note of the lane meet in the log; so
-//! the lane knows a list in which its client has just the entries of its listed answers.
+//! Requests go out from lanes (`ss_lanes`) as jobs to the inbox of a partition, with the client's mark in the commit log, and come
+//! back as replies. Who runs the work of an inbox takes the partitions of an entry out of their bays (`ss_hand`), runs and
+//! commits it (`ss_turns`), and puts them back.
 //!
 //! Source: S-Store's clients and partition engines, whose triggered work goes ahead of client work (Meehan et al., PVLDB 8,
-//! 2015, section 3); that marks travel with requests is this project's own rule.
+//! 2015, section 3).
 //!
-//! - `lane`: a client's side, with its law in `laws`; `hub`: the calls of clients, and of those who run their requests
-//! - `due`: what of a client's answers waits for a receipt
-//! - `ticket`, `job`, `reply`: what travels; `inbox`, `slot`: where it waits; `signal`: that it does
-//! - `patience`: how long it pays to look for a signal before a sleep; `lookers`: how many threads look at the same time
-//! - `own`: whether a reply is the one that is waited for
-//! - `pump`: what the work of an inbox came to; `asking`: the commit of what a client asked for
 //! - `engine`: what threads share; `opening`: one with an empty list, and a lane for each client; `closing`: what it leaves, in the `room` for it
+//! - `hub`: the calls of clients, and of those who run their requests
 //! - `submitting`: its calls for clients; `assuring`: receipts for them; `pumping`: it runs the work of its inboxes
 //! - `settling`: its own last steps; `ranking`: in which order
 //! - `requesting`: a client's requests; `clients`: clients and executors in threads; `session`: a whole run
 //! - `serving`: a job; `hints`: a procedure that may be ready; `waking`: hints of what an entry may have made ready
-//! - `holding`: partitions in and out of bays; `gate`: what is told of an execution; `least`: small sets
-//! - `execution`: an entry on the parts in hand; `running`: its run and its end; `stepping`: the batches and the commit of a step
+//! - `pump`: what the work of an inbox came to; `holding`: partitions in and out of bays; `gate`: what is told of an execution;
+//!   `least`: small sets
 //!
-//! In `specs/`: `Mines` and `Told` (the entries of a client, and what answers tell of them), `Dues`, `Lanes`, `Replies`, `Owning`,
-//! `Answered`, `Growing` (tokens whose lists go on), `Pumped`, `Commits`, `Served`, `Engines`, `Executed`, `Runs`, `Stepping`,
-//! `Serving`, `Tried`, `Least`, `Ranking`, `Assured`, `Openings`, `Closings`, `Clients`, `Sessions`.
-//!
-//! # Why an execution may be committed
-//!
-//! A hand has a shard with the parts of some database with which each of its marks agrees. `execute_asked` runs the
-//! entry on that shard, commits it in the log under the marks, and then makes the shard's changes final; where it has
-//! no place in the list, they are taken back. What the commit needs (`IsRight`) is one law of `ss_proc`: what ran on
-//! each database that the shard stood for ran on each of which it held the parts that are touched (`runs_on_parts`). So
-//! the outcome is the model's on every database that agrees with the marks. Behind it the shard holds its parts of the
-//! database after the list that ends with the entry, which the marks then know; so the same partitions are in hand
-//! (`StaysInHand`), and `put_parts` finds what each bay needs. A step is the same with its batches, for which one of
-//! the marks looks in the log (`execute_step`).
+//! In `specs/`: `Pumped`, `Engines`, `Serving`, `Tried`, `Least`, `Ranking`, `Assured`, `Openings`, `Closings`, `Clients`, `Sessions`.
 //!
 //! # What is known of threads
 //!
@@ -76,52 +55,34 @@
 //!   leaving it to one search from here down, because that search gives up on the way to the trees of SQL.
 #![tactic(auto)]
 
-mod asking;
 mod assuring;
 mod clients;
 mod closing;
-mod due;
 mod engine;
-mod execution;
 mod gate;
 mod hints;
 mod holding;
 mod hub;
-mod inbox;
-mod job;
-mod lane;
-mod laws;
 mod least;
-mod lookers;
 mod opening;
-mod own;
-mod patience;
 mod pump;
 mod pumping;
 mod ranking;
-mod reply;
 mod requesting;
 mod room;
-mod running;
 mod serving;
 mod session;
 mod settling;
-mod signal;
-mod slot;
-mod stepping;
 mod submitting;
-mod ticket;
 mod waking;
 
 pub use closing::Closed;
-pub use due::Due;
 pub use engine::Engine;
 pub use gate::{Gate, NoGate};
 pub use hub::Hub;
-pub use lane::Lane;
-pub use laws::lanes_serve;
 pub use opening::Opened;
 pub use pump::Pumped;
 pub use room::Room;
 pub use session::{Finished, run_session};
 pub use settling::Settling;
+pub use ss_lanes::{Due, Lane, lanes_serve};

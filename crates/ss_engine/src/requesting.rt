@@ -6,11 +6,10 @@ ghost use Rattle.ss_model.specs.Report.{asked_entry};
 ghost use Rattle.ss_engine.specs.Assured.{HasRequested};
 ghost use Rattle.ss_engine.specs.Clients.{AllFit, HasMade, MayBegin};
 
-use crate::due::MOST_PENDING;
 use crate::engine::Engine;
 use crate::gate::Gate;
-use crate::lane::{Lane, halted, unsent};
 use ss_disk::Disk;
+use ss_lanes::{Lane, MOST_PENDING, halted, unsent};
 use ss_model::{Life, Request};
 use ss_proc::Runner;
 use ss_receipts::{DurableError, Receipts};

@@ -2,21 +2,19 @@
 
 ghost use Rattle.std.specs.Prelude.{◌≡◌, List, ℕ, map};
 ghost use Rattle.ss_party.specs.Turns.{turn_of};
-ghost use Rattle.ss_engine.specs.Pumped.{IsPumped};
+ghost use Rattle.ss_engine.specs.Pumped.{IsPumped, pumped_of};
 ghost use Rattle.ss_engine.specs.Serving.{ServesHere};
 
-use crate::asking::pumped_of;
 use crate::engine::Engine;
-use crate::execution::execute_asked;
 use crate::gate::Gate;
-use crate::job::Job;
 use crate::pump::Pumped;
-use crate::reply::Said;
 use ss_commitlog::Note;
 use ss_hand::{Hand, Partition};
+use ss_lanes::{Job, Said};
 use ss_model::Life;
 use ss_party::Turn;
 use ss_proc::Runner;
+use ss_turns::execute_asked;
 use std::alloc::Global;
 use std::sync::Wait;
 
@@ -92,5 +90,16 @@ impl<I: Life, N: Runner + Drop, G: Gate + Drop> Engine<I, N, G> {
         let did = pumped_of(&said);
         self.hub.reply(rt, ticket, mark, said);
         (note, did)
+    }
+}
+
+/// What a pump says of a run.
+fn pumped_of(said: &Said) -> Pumped
+    ensures { result ≡ pumped_of said.now }
+{
+    match said {
+        Said::Listed { place, .. } => Pumped::Ran(*place),
+        Said::NoMemory => Pumped::NoMemory,
+        Said::ListFull { count } => Pumped::ListFull(*count),
     }
 }

@@ -1,7 +1,7 @@
 //! Settling at the close of an engine: steps run until no procedure is ready.
 
 ghost use Rattle.std.specs.Prelude.{◌≡◌, ◌<◌, ◌≤◌, ℕ, List, true, IfSome, IfNone};
-ghost use Rattle.ss_engine.specs.Executed.{IsStepped};
+ghost use Rattle.ss_turns.specs.Executed.{IsStepped};
 ghost use Rattle.ss_model.specs.declared.entry.Entry.TheVariants.{Step as StepEntry};
 ghost use Rattle.ss_model.specs.Accepted.{Accepted};
 ghost use Rattle.ss_model.specs.Database.{fits_entry};
@@ -9,10 +9,9 @@ ghost use Rattle.ss_shard.specs.Parts.{all_partitions};
 ghost use Rattle.ss_commitlog.specs.declared.rule.Item.{Item};
 ghost use Rattle.ss_hand.specs.Hands.{IsInHand};
 ghost use Rattle.ss_engine.specs.Closings.{FoundReady, MayBeWhole, NoneReadyBehind, SettledTo, StepsWhenFound, WasIdle, settling_of};
-ghost use Rattle.ss_engine.specs.Growing.{GoesOn};
-ghost use Rattle.ss_engine.specs.Stepping.{AllGoOn};
+ghost use Rattle.ss_lanes.specs.Growing.{GoesOn};
+ghost use Rattle.ss_turns.specs.Stepping.{AllGoOn};
 
-use crate::execution::{Stepped, execute_step};
 use crate::gate::Gate;
 use crate::ranking::first_ranked;
 use ss_commitlog::{CommitLog, Mark};
@@ -20,6 +19,7 @@ use ss_hand::Hand;
 use ss_model::{Catalog, Entry, Life};
 use ss_proc::Runner;
 use ss_sched::Ranks;
+use ss_turns::{Stepped, execute_step};
 use ss_value::{Reserved, Seq};
 use std::alloc::Global;
 use std::sync::Wait;

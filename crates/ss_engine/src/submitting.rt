@@ -3,11 +3,11 @@
 ghost use Rattle.std.specs.Prelude.{◌≡◌, ◌<◌, ◌≤◌, true, length};
 ghost use Rattle.ss_model.specs.Database.{fits_entry};
 ghost use Rattle.ss_model.specs.Report.{asked_entry};
-ghost use Rattle.ss_engine.specs.Lanes.{IsSubmitted};
+ghost use Rattle.ss_lanes.specs.Lanes.{IsSubmitted};
 
 use crate::engine::Engine;
 use crate::gate::Gate;
-use crate::lane::{Lane, halted, unsent};
+use ss_lanes::{Lane, halted, unsent};
 use ss_model::{Life, Request, asked_entry};
 use ss_proc::Runner;
 use ss_value::Copies;

@@ -11,21 +11,21 @@ use Rattle.ss_report_laws.specs.Replies.{listed_at}
 use Rattle.ss_commitlog.specs.declared.role.Role.TheVariants.{Client}
 use Rattle.ss_commitlog.specs.declared.rule.Item.{Item}
 use Rattle.ss_commitlog.specs.Tokens.{Known, Follows, KnowOne}
-use Rattle.ss_engine.specs.declared.due.Due.{Due}
-use Rattle.ss_engine.specs.declared.reply.Said.{Said}
-use Rattle.ss_engine.specs.declared.reply.Said.TheVariants.{Listed, NoMemory, ListFull}
-use Rattle.ss_engine.specs.declared.ticket.Ticket.{Ticket}
-use Rattle.ss_engine.specs.Mines.{Placed, mine_in}
-use Rattle.ss_engine.specs.Growing.{GoesOn}
-use Rattle.ss_engine.specs.Answered.{answer_of, IsAfter, IsAnswered}
-use Rattle.ss_engine.specs.Dues.{due_after}
-use Rattle.ss_engine.specs.Lanes.{LaneView, lane_view, IsLane, IsRightAnswer, IsSubmitted}
-use Rattle.ss_engine.specs.Owning.{IsOwnSaid, IsOwn}
-use Rattle.ss_engine.specs.Replies.{ReplyView, IsSaid, IsReply}
-use Rattle.ss_engine.proofs.Dues.{due_on}
-use Rattle.ss_engine.proofs.Growing.{follows_on, on_and_on, on_longer}
-use Rattle.ss_engine.proofs.Mines.{mine_own, no_more, just_one}
-use Rattle.ss_engine.proofs.Telling.{few_more}
+use Rattle.ss_lanes.specs.declared.due.Due.{Due}
+use Rattle.ss_lanes.specs.declared.reply.Said.{Said}
+use Rattle.ss_lanes.specs.declared.reply.Said.TheVariants.{Listed, NoMemory, ListFull}
+use Rattle.ss_lanes.specs.declared.ticket.Ticket.{Ticket}
+use Rattle.ss_lanes.specs.Mines.{Placed, mine_in}
+use Rattle.ss_lanes.specs.Growing.{GoesOn}
+use Rattle.ss_lanes.specs.Answered.{answer_of, IsAfter, IsAnswered}
+use Rattle.ss_lanes.specs.Dues.{due_after}
+use Rattle.ss_lanes.specs.Lanes.{LaneView, lane_view, IsLane, IsRightAnswer, IsSubmitted}
+use Rattle.ss_lanes.specs.Owning.{IsOwnSaid, IsOwn}
+use Rattle.ss_lanes.specs.Replies.{ReplyView, IsSaid, IsReply}
+use Rattle.ss_lanes.proofs.Dues.{due_on}
+use Rattle.ss_lanes.proofs.Growing.{follows_on, on_and_on, on_longer}
+use Rattle.ss_lanes.proofs.Mines.{mine_own, no_more, just_one}
+use Rattle.ss_lanes.proofs.Telling.{few_more}
 
 -- the client's entries in a list that went on, by what was said of what the mark had known
 said_after : (first limit : ℕ) (t : Ticket) (due : Due) (what : Asked) (note : Known) (as' : ReservedList Answer) (own new rest : List Item) (count : ℕ) (said : Said) → t.index ≡ length as'.items

@@ -7,14 +7,14 @@ use Rattle.ss_model.specs.declared.entry.Answer.{Answer}
 use Rattle.ss_model.specs.declared.entry.Answer.TheVariants as variants
 use Rattle.ss_model.specs.declared.entry.Outcome.{Outcome}
 use Rattle.ss_commitlog.specs.Roles.{In}
-use Rattle.ss_engine.specs.declared.due.Due.{Due}
-use Rattle.ss_engine.specs.declared.reply.Said.{Said}
-use Rattle.ss_engine.specs.declared.reply.Said.TheVariants.{Listed, NoMemory, ListFull}
-use Rattle.ss_engine.specs.Answered.{answer_of, IsAfter}
-use Rattle.ss_engine.specs.Dues.{AllBelow, AreHaltedAt, FewOpen, IsDue, IsHaltedAt, StandBelow, due_after, failed_at, no_due, receipted}
-use Rattle.ss_engine.specs.Mines.{Placed}
-use Rattle.ss_engine.specs.Replies.{more_entries}
-use Rattle.ss_engine.specs.Told.{told, outcomes}
+use Rattle.ss_lanes.specs.declared.due.Due.{Due}
+use Rattle.ss_lanes.specs.declared.reply.Said.{Said}
+use Rattle.ss_lanes.specs.declared.reply.Said.TheVariants.{Listed, NoMemory, ListFull}
+use Rattle.ss_lanes.specs.Answered.{answer_of, IsAfter}
+use Rattle.ss_lanes.specs.Dues.{AllBelow, AreHaltedAt, FewOpen, IsDue, IsHaltedAt, StandBelow, due_after, failed_at, no_due, receipted}
+use Rattle.ss_lanes.specs.Mines.{Placed}
+use Rattle.ss_lanes.specs.Replies.{more_entries}
+use Rattle.ss_lanes.specs.Told.{told, outcomes}
 
 -- what holds of each and of one more
 pub last_too : {A : Type 0} (P : A → Type 0) (xs : List A) (x : A) → AllByRecursion P xs → P x → AllByRecursion P (xs ++ x ∷ [])

@@ -1,5 +1,5 @@
 -- Tokens whose lists go on.
-use Rattle.std.proofs.Common.{◌≡◌, ◌≤◌, ℕ, false, List, [], ◌++◌, length, refl, sym, ap, ◌∙◌, subst, arith, inl, inr, ⊎_elim, length-append, append_assoc, append-nil}
+use Rattle.std.proofs.Common.{◌≡◌, ◌≤◌, ℕ, false, List, [], ◌++◌, length, refl, sym, ap, ◌∙◌, subst, arith, ⊎_elim, length-append, append_assoc, append-nil}
 use Rattle.ss_model.specs.declared.catalog.Catalog.{Catalog}
 use Rattle.ss_commitlog.specs.declared.role.Role.{Role}
 use Rattle.ss_commitlog.specs.declared.rule.Item.{Item}
@@ -7,8 +7,7 @@ use Rattle.ss_commitlog.specs.Meaning.{concerns}
 use Rattle.ss_commitlog.specs.Roles.{In}
 use Rattle.ss_commitlog.specs.Tokens.{Known, Continues, Follows}
 use Rattle.ss_commitlog.proofs.CallerLemmas.{in_either}
-use Rattle.ss_hand.specs.Meetings.{MayFollow}
-use Rattle.ss_engine.specs.Growing.{GoesOn}
+use Rattle.ss_lanes.specs.Growing.{GoesOn}
 
 pub on_itself : (catalog : Catalog) (parts : ℕ) (k : Known) → GoesOn catalog parts k k
 on_itself catalog parts k = record {
@@ -38,8 +37,3 @@ on_and_on catalog parts a b c f g = record {
 
 pub on_longer : (catalog : Catalog) (parts : ℕ) (list : List Item) (k : Known) → Continues catalog parts list k → length k.list ≤ length list
 on_longer catalog parts list k on = let e : length list ≡ length (k.list ++ on.rest) = ap (λ (l : List Item). length l) on.is in let l = length-append k.list on.rest in omega arith
-
--- and it goes on where it may be as it was
-pub may_go_on : (catalog : Catalog) (parts limit : ℕ) (k l : Known) → MayFollow catalog parts limit k l → GoesOn catalog parts k l
-may_go_on catalog parts limit k l (inl e) = subst (λ (x : Known). GoesOn catalog parts k x) (sym e) (on_itself catalog parts k)
-may_go_on catalog parts limit k l (inr f) = follows_on catalog parts limit k l f

@@ -14,7 +14,7 @@ use Rattle.ss_commitlog.specs.Meaning.{concerns, is_of_client, listed_of}
 use Rattle.ss_commitlog.specs.Roles.{In}
 use Rattle.ss_commitlog.specs.Tokens.{Known, Continues}
 use Rattle.ss_commitlog.proofs.CallerLemmas.{length-listed_of, listed_of-append}
-use Rattle.ss_engine.specs.Mines.{Placed, mine_in}
+use Rattle.ss_lanes.specs.Mines.{Placed, mine_in}
 
 kept_first : (b : Bool) (p : Placed) (both xs ys : List Placed) → both ≡ xs ++ ys → cond b (p ∷ both) both ≡ cond b (p ∷ xs) xs ++ ys
 kept_first true p both xs ys e = ap (λ (l : List Placed). p ∷ l) e

@@ -8,9 +8,9 @@ use Rattle.ss_model.specs.Report.{asked_entry}
 use Rattle.ss_report_laws.specs.Replies.{expected_entries, listed_at}
 use Rattle.ss_report_laws.proofs.CallerLemmas.{expected_more}
 use Rattle.ss_commitlog.specs.declared.rule.Item.{Item}
-use Rattle.ss_engine.specs.Mines.{Placed, mine_in}
-use Rattle.ss_engine.specs.Lanes.{LaneView, IsFresh, IsRightAnswer, IsSubmitted}
-use Rattle.ss_engine.specs.Served.{IsServed, LanesServe}
+use Rattle.ss_lanes.specs.Mines.{Placed, mine_in}
+use Rattle.ss_lanes.specs.Lanes.{LaneView, IsFresh, IsRightAnswer, IsSubmitted}
+use Rattle.ss_lanes.specs.Served.{IsServed, LanesServe}
 
 -- the client's entries with one answer more
 one_more : (first limit : ℕ) (old : LaneView) (r : Request) (new : List Item) (a : Answer) → IsRightAnswer first limit old r.what new a

@@ -8,18 +8,18 @@ use Rattle.ss_commitlog.specs.Meaning.{listed_of}
 use Rattle.ss_commitlog.specs.Roles.{In}
 use Rattle.ss_commitlog.specs.Tokens.{Known}
 use Rattle.ss_commitlog.proofs.CallerLemmas.{length-listed_of}
-use Rattle.ss_engine.specs.declared.due.Due.{Due}
-use Rattle.ss_engine.specs.declared.reply.Said.{Said}
-use Rattle.ss_engine.specs.declared.reply.Said.TheVariants.{Listed, NoMemory, ListFull}
-use Rattle.ss_engine.specs.declared.ticket.Ticket.{Ticket}
-use Rattle.ss_engine.specs.Mines.{Placed, mine_in}
-use Rattle.ss_engine.specs.Told.{told, outcomes, outcome_at}
-use Rattle.ss_engine.specs.Answered.{answer_of, IsAfter, IsAnswered}
-use Rattle.ss_engine.specs.Dues.{IsDue, due_after, place_of}
-use Rattle.ss_engine.specs.Lanes.{IsLane}
-use Rattle.ss_engine.specs.Replies.{more_entries}
-use Rattle.ss_engine.proofs.Dues.{due_halted, due_more, told_same, told_with}
-use Rattle.ss_engine.proofs.Mines.{mine_below}
+use Rattle.ss_lanes.specs.declared.due.Due.{Due}
+use Rattle.ss_lanes.specs.declared.reply.Said.{Said}
+use Rattle.ss_lanes.specs.declared.reply.Said.TheVariants.{Listed, NoMemory, ListFull}
+use Rattle.ss_lanes.specs.declared.ticket.Ticket.{Ticket}
+use Rattle.ss_lanes.specs.Mines.{Placed, mine_in}
+use Rattle.ss_lanes.specs.Told.{told, outcomes, outcome_at}
+use Rattle.ss_lanes.specs.Answered.{answer_of, IsAfter, IsAnswered}
+use Rattle.ss_lanes.specs.Dues.{IsDue, due_after, place_of}
+use Rattle.ss_lanes.specs.Lanes.{IsLane}
+use Rattle.ss_lanes.specs.Replies.{more_entries}
+use Rattle.ss_lanes.proofs.Dues.{due_halted, due_more, told_same, told_with}
+use Rattle.ss_lanes.proofs.Mines.{mine_below}
 
 told_shorter : (xs : List Answer) → length (told xs) ≤ length xs
 told_shorter [] = omega arith

@@ -4,15 +4,15 @@ use Rattle.ss_model.specs.declared.entry.Answer.{Answer}
 use Rattle.ss_model.specs.declared.entry.Answer.TheVariants as variants
 use Rattle.ss_commitlog.specs.declared.role.Role.TheVariants.{Reader, Client}
 use Rattle.ss_commitlog.specs.Tokens.{Known}
-use Rattle.ss_engine.specs.declared.due.Due.{Due}
-use Rattle.ss_engine.specs.declared.reply.Said.{Said}
-use Rattle.ss_engine.specs.declared.reply.Said.TheVariants.{Listed, NoMemory, ListFull}
-use Rattle.ss_engine.specs.declared.ticket.Ticket.{Ticket}
-use Rattle.ss_engine.specs.Dues.{IsDue}
-use Rattle.ss_engine.specs.Lanes.{HasSeen}
-use Rattle.ss_engine.specs.Mines.{Placed, mine_in}
-use Rattle.ss_engine.specs.Replies.{more_entries}
-use Rattle.ss_engine.specs.Told.{told, outcomes}
+use Rattle.ss_lanes.specs.declared.due.Due.{Due}
+use Rattle.ss_lanes.specs.declared.reply.Said.{Said}
+use Rattle.ss_lanes.specs.declared.reply.Said.TheVariants.{Listed, NoMemory, ListFull}
+use Rattle.ss_lanes.specs.declared.ticket.Ticket.{Ticket}
+use Rattle.ss_lanes.specs.Dues.{IsDue}
+use Rattle.ss_lanes.specs.Lanes.{HasSeen}
+use Rattle.ss_lanes.specs.Mines.{Placed, mine_in}
+use Rattle.ss_lanes.specs.Replies.{more_entries}
+use Rattle.ss_lanes.specs.Told.{told, outcomes}
 
 -- what the client is answered
 abbrev pub answer_of : Said → Answer

@@ -6,9 +6,9 @@ use Rattle.ss_model.specs.declared.entry.Answer.TheVariants.{Listed as ListedAns
 use Rattle.ss_model.specs.declared.entry.Outcome.{Outcome}
 use Rattle.ss_model.specs.declared.entry.Listed.{Listed}
 use Rattle.ss_report_laws.specs.Replies.{mine}
-use Rattle.ss_engine.specs.declared.due.Due.{Due}
-use Rattle.ss_engine.specs.Mines.{Placed}
-use Rattle.ss_engine.specs.Told.{told}
+use Rattle.ss_lanes.specs.declared.due.Due.{Due}
+use Rattle.ss_lanes.specs.Mines.{Placed}
+use Rattle.ss_lanes.specs.Told.{told}
 
 -- before the first answer
 abbrev pub no_due : Due

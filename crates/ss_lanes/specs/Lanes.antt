@@ -9,11 +9,11 @@ use Rattle.ss_report_laws.specs.Replies.{listed_at}
 use Rattle.ss_commitlog.specs.declared.role.Role.TheVariants.{Reader, Client}
 use Rattle.ss_commitlog.specs.declared.rule.Item.{Item}
 use Rattle.ss_commitlog.specs.Tokens.{Known}
-use Rattle.ss_engine.specs.declared.due.Due.{Due}
-use Rattle.ss_engine.specs.declared.ticket.Ticket.{Ticket}
-use Rattle.ss_engine.specs.Dues.{IsDue, due_after, no_due}
-use Rattle.ss_engine.specs.Mines.{mine_in}
-use Rattle.ss_engine.specs.Told.{told, outcomes}
+use Rattle.ss_lanes.specs.declared.due.Due.{Due}
+use Rattle.ss_lanes.specs.declared.ticket.Ticket.{Ticket}
+use Rattle.ss_lanes.specs.Dues.{IsDue, due_after, no_due}
+use Rattle.ss_lanes.specs.Mines.{mine_in}
+use Rattle.ss_lanes.specs.Told.{told, outcomes}
 
 -- a client, the list that it knows and the receipted count that it has seen posted, what of its answers waits for a receipt, its answers
 -- so far, as many as its requests, and for how many more there is room

@@ -2,8 +2,8 @@
 use Rattle.std.specs.Prelude.{◌≡◌, ℕ, List, [], ◌∷◌, ◌++◌, length}
 use Rattle.ss_model.specs.declared.entry.Request.{Request}
 use Rattle.ss_report_laws.specs.Replies.{expected_entries}
-use Rattle.ss_engine.specs.Mines.{mine_in}
-use Rattle.ss_engine.specs.Lanes.{LaneView, IsFresh, IsSubmitted}
+use Rattle.ss_lanes.specs.Mines.{mine_in}
+use Rattle.ss_lanes.specs.Lanes.{LaneView, IsFresh, IsSubmitted}
 
 -- the list that the lane knows has of its client just the entries that the answers to these requests report
 pub record IsServed (first : ℕ) (requests : List Request) (lane : LaneView) : Type 0 where

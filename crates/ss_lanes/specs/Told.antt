@@ -3,7 +3,7 @@ use Rattle.std.specs.Prelude.{ℕ, List, [], ◌∷◌, map}
 use Rattle.ss_model.specs.declared.entry.Answer.{Answer}
 use Rattle.ss_model.specs.declared.entry.Answer.TheVariants.{Listed as ListedAnswer, NoMemory, ListFull, Halted}
 use Rattle.ss_model.specs.declared.entry.Outcome.{Outcome}
-use Rattle.ss_engine.specs.Mines.{Placed}
+use Rattle.ss_lanes.specs.Mines.{Placed}
 
 -- the places and outcomes of the listed answers; others tell of no entry
 abbrev pub told : List Answer → List (ℕ × Outcome)

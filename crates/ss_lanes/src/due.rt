@@ -1,7 +1,7 @@
 //! What of a client's answers waits for a receipt.
 
 ghost use Rattle.std.specs.Prelude.{◌≡◌, ◌+◌, ◌<◌, ◌≤◌, ◌^◌, IfSome};
-ghost use Rattle.ss_engine.specs.Dues.{due_after, failed_at, no_due, place_of, receipted};
+ghost use Rattle.ss_lanes.specs.Dues.{due_after, failed_at, no_due, place_of, receipted};
 
 use ss_model::Answer;
 
@@ -32,7 +32,7 @@ impl Due {
     }
 
     /// Once there is a receipt of all that the answers tell.
-    pub(crate) fn receipted(self) -> Due
+    pub fn receipted(self) -> Due
         ensures { result ≡ receipted self }
     {
         Due {
@@ -43,7 +43,7 @@ impl Due {
     }
 
     /// Once the client is told that the disk has failed, at these faults.
-    pub(crate) fn failed_at(self, faults: u64) -> Due
+    pub fn failed_at(self, faults: u64) -> Due
         ensures { result ≡ failed_at faults self }
     {
         Due {

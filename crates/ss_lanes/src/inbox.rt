@@ -36,7 +36,7 @@ fn put_into<I: Life>(work: &mut Inbox<Job<I>>, job: Job<I>) -> Result<(), Job<I>
 /// No clause can tell how many jobs wait behind the lock, so the room is tested there. Each call takes the lock once at most;
 /// `is_short`, `look`, `leave_unserved` and `is_unserved` take none. Only `new` takes memory.
 #[derive(Drop)]
-pub(crate) struct SharedInbox<I: Life> {
+pub struct SharedInbox<I: Life> {
     waiting: Mutex<Waiting<I>>,
     moved: Condvar,
     there: Signal,

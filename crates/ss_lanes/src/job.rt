@@ -4,7 +4,7 @@ ghost use Rattle.std.specs.Prelude.{◌≡◌, ◌<◌, true, length};
 ghost use Rattle.ss_model.specs.Database.{fits_entry};
 ghost use Rattle.ss_report_laws.specs.Replies.{is_of};
 ghost use Rattle.ss_commitlog.specs.declared.role.Role.TheVariants.{Client};
-ghost use Rattle.ss_engine.specs.Mines.{mine_in};
+ghost use Rattle.ss_lanes.specs.Mines.{mine_in};
 
 use crate::ticket::Ticket;
 use ss_commitlog::Mark;
@@ -20,12 +20,15 @@ use ss_model::{Entry, Life};
 /// puts it into another inbox, keeps each of them, and its client waits for ever.
 #[derive(Drop)]
 pub struct Job<I: Life> {
-    pub(crate) ticket: Ticket,
-    pub(crate) entry: Entry,
-    pub(crate) mark: Mark<I>,
-    pub(crate) ghost client_is: { ticket.client < I.clients },
-    pub(crate) ghost mark_is: { mark.role ≡ Client ticket.client },
-    pub(crate) ghost counted: { ticket.count ≡ length (mine_in ticket.client I.first mark.list) },
-    pub(crate) ghost own: { is_of ticket.client entry ≡ true },
-    pub(crate) ghost fits: { fits_entry I.catalog entry ≡ true },
+    /// The request's numbers.
+    pub ticket: Ticket,
+    /// What is asked for.
+    pub entry: Entry,
+    /// The client's mark.
+    pub mark: Mark<I>,
+    pub ghost client_is: { ticket.client < I.clients },
+    pub ghost mark_is: { mark.role ≡ Client ticket.client },
+    pub ghost counted: { ticket.count ≡ length (mine_in ticket.client I.first mark.list) },
+    pub ghost own: { is_of ticket.client entry ≡ true },
+    pub ghost fits: { fits_entry I.catalog entry ≡ true },
 }

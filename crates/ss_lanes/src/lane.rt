@@ -4,10 +4,10 @@ ghost use Rattle.std.specs.Prelude.{◌≡◌, ◌≢◌, ℕ, ◌+◌, ◌<◌,
 ghost use Rattle.ss_model.specs.declared.entry.Asked.{Asked};
 ghost use Rattle.ss_commitlog.specs.declared.role.Role.TheVariants.{Reader, Client};
 ghost use Rattle.ss_commitlog.specs.Tokens.{known};
-ghost use Rattle.ss_engine.specs.Answered.{IsAnswered, answer_of};
-ghost use Rattle.ss_engine.specs.Dues.{due_after};
-ghost use Rattle.ss_engine.specs.Lanes.{IsFresh, IsSubmitted};
-ghost use Rattle.ss_engine.specs.Replies.{more_entries};
+ghost use Rattle.ss_lanes.specs.Answered.{IsAnswered, answer_of};
+ghost use Rattle.ss_lanes.specs.Dues.{due_after};
+ghost use Rattle.ss_lanes.specs.Lanes.{IsFresh, IsSubmitted};
+ghost use Rattle.ss_lanes.specs.Replies.{more_entries};
 
 use crate::due::Due;
 use crate::reply::Said;
@@ -25,15 +25,20 @@ use std::marker::Model;
 /// posted; and each answer that the disk has failed carries the faults at which it did.
 #[derive(Drop)]
 pub struct Lane<I: Life> {
-    pub(crate) ticket: Ticket,
-    pub(crate) due: Due,
-    pub(crate) mark: Mark<I>,
-    pub(crate) note: Note<I>,
-    pub(crate) answers: Reserved<Answer>,
+    /// The numbers of the next request.
+    pub ticket: Ticket,
+    /// What of the answers waits for a receipt.
+    pub due: Due,
+    /// The client's mark, which goes out with each request.
+    pub mark: Mark<I>,
+    /// The client's note, which stays while the mark is away.
+    pub note: Note<I>,
+    /// The answers so far.
+    pub answers: Reserved<Answer>,
 }
 
 impl<I: Life> Model for Lane<I> {
-    ghost use Rattle.ss_engine.specs.Lanes.{LaneView, lane_view, IsLane};
+    ghost use Rattle.ss_lanes.specs.Lanes.{LaneView, lane_view, IsLane};
 
     ghost Value = { LaneView };
 
@@ -44,7 +49,7 @@ impl<I: Life> Model for Lane<I> {
 
 impl<I: Life> Lane<I> {
     /// The lane of a client that asked for nothing yet. Takes no memory.
-    pub(crate) fn new(alloc: Global, client: u8, mark: Mark<I>, note: Note<I>) -> Lane<I>
+    pub fn new(alloc: Global, client: u8, mark: Mark<I>, note: Note<I>) -> Lane<I>
         requires client { client < I.clients }
         requires mark { mark ≡ known (Client client) [] I.first 0 }
         requires note { note ≡ known Reader [] I.first 0 }
@@ -117,7 +122,7 @@ impl<I: Life> Lane<I> {
 }
 
 /// The lane with one answer more, once its mark has come back and met its note. Takes no memory.
-pub(crate) fn answered<I: Life>(
+pub fn answered<I: Life>(
     ticket: Ticket,
     due: Due,
     mark: Mark<I>,
@@ -153,7 +158,7 @@ pub(crate) fn answered<I: Life>(
 }
 
 /// The lane whose request was not sent: it is answered that there was no memory for it. Takes none.
-pub(crate) fn unsent<I: Life>(lane: Lane<I>) -> Lane<I>
+pub fn unsent<I: Life>(lane: Lane<I>) -> Lane<I>
     requires spare { 1 ≤ lane.spare }
     requires going { lane.due.faults ≡ 0 }
     ensures { (limit : ℕ) (what : Asked) → IsSubmitted I.first limit lane what result }
@@ -169,7 +174,7 @@ pub(crate) fn unsent<I: Life>(lane: Lane<I>) -> Lane<I>
 }
 
 /// The lane whose request was not sent: it is answered that the disk has failed, as the client was told. Takes no memory.
-pub(crate) fn halted<I: Life>(lane: Lane<I>) -> Lane<I>
+pub fn halted<I: Life>(lane: Lane<I>) -> Lane<I>
     requires spare { 1 ≤ lane.spare }
     requires halted { lane.due.faults ≢ 0 }
     ensures { (limit : ℕ) (what : Asked) → IsSubmitted I.first limit lane what result }
@@ -211,7 +216,7 @@ fn answer_of(said: Said) -> Answer
 }
 
 /// How many entries of the client there are more than before.
-pub(crate) fn more_entries(said: &Said) -> u64
+fn more_entries(said: &Said) -> u64
     ensures { result ≡ more_entries said.now }
 {
     match said {

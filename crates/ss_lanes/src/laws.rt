@@ -1,6 +1,6 @@
 //! Laws of lanes, each the contract of a function that does nothing.
 
-ghost use Rattle.ss_engine.specs.Served.{LanesServe};
+ghost use Rattle.ss_lanes.specs.Served.{LanesServe};
 
 /// The list that a lane knows has of its client just the entries that its answers to all requests so far report.
 pub fn lanes_serve()

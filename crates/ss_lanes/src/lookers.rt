@@ -5,7 +5,7 @@ use std::sync::atomic::{AtomicU32, Ordering};
 /// How many threads look for something instead of sleeping, and how many may: who looks has a processor to itself, so there
 /// are to be fewer than processors, and none where there is one. Each call takes constant time.
 #[derive(Drop)]
-pub(crate) struct Lookers {
+pub struct Lookers {
     looking: AtomicU32,
     most: AtomicU32,
 }

@@ -3,7 +3,7 @@
 ghost use Rattle.std.specs.Prelude.{◌≡◌, ◌↔◌, IsTrue};
 ghost use Rattle.ss_model.specs.declared.entry.Entry.TheVariants.{Call, Push};
 ghost use Rattle.ss_model.specs.Report.{asked_entry};
-ghost use Rattle.ss_engine.specs.Owning.{IsOwn};
+ghost use Rattle.ss_lanes.specs.Owning.{IsOwn};
 
 use crate::reply::{Reply, Said};
 use crate::ticket::Ticket;

@@ -2,7 +2,7 @@
 
 ghost use Rattle.std.specs.Prelude.{◌≡◌};
 ghost use Rattle.ss_commitlog.specs.declared.role.Role.TheVariants.{Client};
-ghost use Rattle.ss_engine.specs.Replies.{MaySay};
+ghost use Rattle.ss_lanes.specs.Replies.{MaySay};
 
 use crate::ticket::Ticket;
 use ss_commitlog::Mark;
@@ -25,13 +25,16 @@ pub enum Said {
 /// By its type a listed entry is the client's last one in the list that the mark knows. Others may stand behind it.
 #[derive(Drop)]
 pub struct Reply<I: Life> {
-    pub(crate) ticket: Ticket,
-    pub(crate) mark: Mark<I>,
-    pub(crate) said: Said,
+    /// The numbers that went out with the request, with as many entries of the client as the mark then knows.
+    pub ticket: Ticket,
+    /// The client's mark.
+    pub mark: Mark<I>,
+    /// What became of the request.
+    pub said: Said,
 }
 
 impl<I: Life> Model for Reply<I> {
-    ghost use Rattle.ss_engine.specs.Replies.{ReplyView, IsReply};
+    ghost use Rattle.ss_lanes.specs.Replies.{ReplyView, IsReply};
 
     ghost Value = { ReplyView };
 
@@ -41,7 +44,7 @@ impl<I: Life> Model for Reply<I> {
 }
 
 /// The reply to what went out with this ticket. Takes no memory.
-pub(crate) fn reply_of<I: Life>(ticket: Ticket, mark: Mark<I>, said: Said) -> Reply<I>
+pub fn reply_of<I: Life>(ticket: Ticket, mark: Mark<I>, said: Said) -> Reply<I>
     requires mark { mark.role ≡ Client ticket.client }
     requires may_say { MaySay I.first I.limit ticket mark.list said }
     ensures numbers { (result.ticket.client ≡ ticket.client) × (result.ticket.index ≡ ticket.index) }

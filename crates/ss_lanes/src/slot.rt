@@ -1,7 +1,7 @@
 //! The slot of a client, in which its reply waits behind a lock of its own.
 
 ghost use Rattle.std.specs.Prelude.{◌≡◌, IfSome, IfNone, Some, None};
-ghost use Rattle.ss_engine.specs.Owning.{IsOwn};
+ghost use Rattle.ss_lanes.specs.Owning.{IsOwn};
 
 use crate::lookers::Lookers;
 use crate::own::is_own;
@@ -15,7 +15,7 @@ use std::sync::{Condvar, Mutex, Wait};
 ///
 /// Each call takes the lock once at most, but `look` none, and no memory.
 #[derive(Drop)]
-pub(crate) struct Slot<I: Life> {
+pub struct Slot<I: Life> {
     reply: Mutex<Option<Reply<I>>>,
     moved: Condvar,
     there: Signal,

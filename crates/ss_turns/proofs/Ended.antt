@@ -12,9 +12,9 @@ use Rattle.ss_shard.specs.Shards.{IsCommitted}
 use Rattle.ss_shard.specs.ShardValue.{ShardValue}
 use Rattle.ss_shard.specs.Windows.{HoldsDatabase}
 use Rattle.ss_shard.proofs.CallerLemmas.{still_dealt}
-use Rattle.ss_engine.specs.declared.reply.Said.{Said}
-use Rattle.ss_engine.specs.declared.reply.Said.TheVariants.{Listed as ListedSaid}
-use Rattle.ss_engine.specs.Runs.{HasRun, HasCommitted, SaysOnly, EndedAsSaid}
+use Rattle.ss_lanes.specs.declared.reply.Said.{Said}
+use Rattle.ss_lanes.specs.declared.reply.Said.TheVariants.{Listed as ListedSaid}
+use Rattle.ss_turns.specs.Runs.{HasRun, HasCommitted, SaysOnly, EndedAsSaid}
 
 module _ (catalog : Catalog) (n : ℕ) (old now new : ShardValue) (l : Listed) (batches : List Rows) (emitted : List Emitted) (run : HasRun catalog n old now l batches emitted) where
   committed_so : Commits catalog l.entry l.outcome now new → new.number ≡ now.number → map dealing_of new.tables ≡ map dealing_of now.tables → IsCommitted catalog new → HasCommitted catalog n old new l.entry batches

@@ -25,10 +25,10 @@ use Rattle.ss_commitlog.specs.Right.{known_database}
 use Rattle.ss_commitlog.specs.Roles.{In}
 use Rattle.ss_commitlog.specs.Tokens.{Known, Continues}
 use Rattle.ss_commitlog.proofs.CallerLemmas.{after_rest}
-use Rattle.ss_engine.specs.declared.stepping.Found.{Found}
-use Rattle.ss_engine.specs.declared.stepping.Found.TheVariants.{All, NotReady, NoMemory}
-use Rattle.ss_engine.specs.Runs.{AreGiven}
-use Rattle.ss_engine.specs.Stepping.{AreFound, AreFoundFor}
+use Rattle.ss_turns.specs.declared.stepping.Found.{Found}
+use Rattle.ss_turns.specs.declared.stepping.Found.TheVariants.{All, NotReady, NoMemory}
+use Rattle.ss_turns.specs.Runs.{AreGiven}
+use Rattle.ss_turns.specs.Stepping.{AreFound, AreFoundFor}
 
 -- ---- batches that were found
 

@@ -27,11 +27,11 @@ use Rattle.ss_commitlog.proofs.CallerLemmas.{own_part}
 use Rattle.ss_commitlog.proofs.Replaying.{after_more, known_inputs}
 use Rattle.ss_hand.specs.declared.hand.Hand.{Hand}
 use Rattle.ss_hand.specs.Hands.{IsInHand}
-use Rattle.ss_engine.specs.declared.reply.Said.{Said}
-use Rattle.ss_engine.specs.declared.reply.Said.TheVariants.{Listed as ListedSaid, NoMemory, ListFull}
-use Rattle.ss_engine.specs.Runs.{AreGiven, EndedAsSaid, HasCommitted, HasRun, HasStayed}
+use Rattle.ss_lanes.specs.declared.reply.Said.{Said}
+use Rattle.ss_lanes.specs.declared.reply.Said.TheVariants.{Listed as ListedSaid, NoMemory, ListFull}
+use Rattle.ss_turns.specs.Runs.{AreGiven, EndedAsSaid, HasCommitted, HasRun, HasStayed}
 use Rattle.ss_hand.proofs.CallerLemmas.{holds_same_parts}
-use Rattle.ss_engine.proofs.Marks.{agree_behind, agree_fewer, same_held, same_roles}
+use Rattle.ss_turns.proofs.Marks.{agree_behind, agree_fewer, same_held, same_roles}
 
 -- ---- what an entry that ran beside blanks gives
 

@@ -22,8 +22,8 @@ use Rattle.ss_hand.specs.declared.hand.Hand.{Hand}
 use Rattle.ss_hand.specs.Hands.{IsInHand}
 use Rattle.ss_shard.specs.Parts.{is_among}
 use Rattle.ss_shard.specs.Unions.{numbers_of}
-use Rattle.ss_engine.specs.Commits.{with_client}
-use Rattle.ss_engine.specs.Executed.{IsOfRole}
+use Rattle.ss_turns.specs.Commits.{with_client}
+use Rattle.ss_turns.specs.Executed.{IsOfRole}
 
 -- ---- which partitions have marks
 

@@ -11,9 +11,9 @@ use Rattle.ss_commitlog.specs.Tokens.{Known, AllContinue, AllKnow, Continues, Kn
 use Rattle.ss_commitlog.proofs.CallerLemmas.{own_part}
 use Rattle.ss_hand.specs.declared.hand.Hand.{Hand}
 use Rattle.ss_hand.specs.Hands.{IsInHand}
-use Rattle.ss_engine.specs.Growing.{GoesOn}
-use Rattle.ss_engine.specs.Stepping.{AllGoOn}
-use Rattle.ss_engine.proofs.Growing.{on_and_on, on_itself}
+use Rattle.ss_lanes.specs.Growing.{GoesOn}
+use Rattle.ss_turns.specs.Stepping.{AllGoOn}
+use Rattle.ss_lanes.proofs.CallerLemmas.{on_and_on, on_itself}
 
 -- marks that came back as they were
 pub all_on_itself : (catalog : Catalog) (parts : ℕ) (ks : List Known) → AllGoOn catalog parts ks ks

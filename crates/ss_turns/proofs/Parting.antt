@@ -5,8 +5,8 @@ use Rattle.ss_model.specs.declared.catalog.Catalog.{Catalog}
 use Rattle.ss_model.specs.declared.entry.Listed as model
 use Rattle.ss_commitlog.specs.declared.rule.Item.{Item}
 use Rattle.ss_commitlog.specs.Tokens.{Known, AllContinue, AllKnow, Knows, added, roles_of}
-use Rattle.ss_engine.specs.declared.reply.Said.TheVariants.{Listed, ListFull}
-use Rattle.ss_engine.specs.Commits.{with_client, CommitsAsked}
+use Rattle.ss_lanes.specs.declared.reply.Said.TheVariants.{Listed, ListFull}
+use Rattle.ss_turns.specs.Commits.{with_client, CommitsAsked}
 
 -- as many come back as went in
 none_more : (list : List Item) (ls : List Known) (l : Known) → AllKnow list [] (ls ++ l ∷ []) → ⊥

@@ -9,12 +9,12 @@ use Rattle.ss_model.specs.Database.{Database}
 use Rattle.ss_commitlog.specs.declared.role.Role.{Role}
 use Rattle.ss_commitlog.specs.Tokens.{Known, roles_of}
 use Rattle.ss_commitlog.proofs.CallerLemmas.{in_left}
-use Rattle.ss_engine.specs.declared.reply.Said.{Said}
-use Rattle.ss_engine.specs.declared.reply.Said.TheVariants.{Listed as ListedSaid, NoMemory, ListFull}
-use Rattle.ss_engine.specs.Commits.{with_client, CommitsAsked}
-use Rattle.ss_engine.specs.Executed.{IsOfRole}
-use Rattle.ss_engine.specs.Runs.{AreGiven, SaysOnly}
-use Rattle.ss_engine.proofs.InHand.{Came}
+use Rattle.ss_lanes.specs.declared.reply.Said.{Said}
+use Rattle.ss_lanes.specs.declared.reply.Said.TheVariants.{Listed as ListedSaid, NoMemory, ListFull}
+use Rattle.ss_turns.specs.Commits.{with_client, CommitsAsked}
+use Rattle.ss_turns.specs.Executed.{IsOfRole}
+use Rattle.ss_turns.specs.Runs.{AreGiven, SaysOnly}
+use Rattle.ss_turns.proofs.InHand.{Came}
 
 -- it takes no batches
 no_batches : (catalog : Catalog) (db : Database) (ks : List Known) (role : Role) (e : Entry) → IsOfRole role e → AreGiven catalog db ks e []

@@ -9,15 +9,15 @@ use Rattle.ss_model.specs.declared.entry.Listed as model
 use Rattle.ss_model.specs.Database.{Database, has_step}
 use Rattle.ss_commitlog.specs.declared.role.Role.{Role}
 use Rattle.ss_commitlog.specs.Tokens.{Known, AllKnow, added, roles_of}
-use Rattle.ss_engine.specs.declared.execution.Stepped.{Stepped}
-use Rattle.ss_engine.specs.declared.execution.Stepped.TheVariants as stepped
-use Rattle.ss_engine.specs.declared.reply.Said.{Said}
-use Rattle.ss_engine.specs.declared.reply.Said.TheVariants.{Listed, NoMemory, ListFull}
-use Rattle.ss_engine.specs.Executed.{IsStepped}
-use Rattle.ss_engine.specs.Runs.{SaysOnly}
-use Rattle.ss_engine.specs.Stepping.{AllGoOn, CommitsStep, HadBatches, LacksWhereNotReady, stepped_of}
-use Rattle.ss_engine.proofs.InHand.{Came}
-use Rattle.ss_engine.proofs.MarksOn.{all_on_and_on, all_on_itself, continue_through, know_through, roles_go_on}
+use Rattle.ss_turns.specs.declared.execution.Stepped.{Stepped}
+use Rattle.ss_turns.specs.declared.execution.Stepped.TheVariants as stepped
+use Rattle.ss_lanes.specs.declared.reply.Said.{Said}
+use Rattle.ss_lanes.specs.declared.reply.Said.TheVariants.{Listed, NoMemory, ListFull}
+use Rattle.ss_turns.specs.Executed.{IsStepped}
+use Rattle.ss_turns.specs.Runs.{SaysOnly}
+use Rattle.ss_turns.specs.Stepping.{AllGoOn, CommitsStep, HadBatches, LacksWhereNotReady, stepped_of}
+use Rattle.ss_turns.proofs.InHand.{Came}
+use Rattle.ss_turns.proofs.MarksOn.{all_on_and_on, all_on_itself, continue_through, know_through, roles_go_on}
 
 -- what its commit says, and the marks as they come back
 module _ (catalog : Catalog) (n first limit : ℕ) (ks : List Known) (l : model.Listed) (ks' : List Known) where

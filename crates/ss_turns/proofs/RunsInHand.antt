@@ -12,10 +12,10 @@ use Rattle.ss_commitlog.specs.Roles.{In}
 use Rattle.ss_commitlog.specs.Tokens.{Known}
 use Rattle.ss_hand.specs.declared.hand.Hand.{Hand}
 use Rattle.ss_hand.specs.Hands.{IsInHand}
-use Rattle.ss_engine.specs.declared.reply.Said.{Said}
-use Rattle.ss_engine.specs.Executed.{HoldsFor, StaysInHand}
-use Rattle.ss_engine.specs.Runs.{AreGiven, HasEnded, HasRun, HasStayed, MayEnd, SaysOnly}
-use Rattle.ss_engine.proofs.InHand.{Came, ended_in_hand, right_in_hand, still_in_hand}
+use Rattle.ss_lanes.specs.declared.reply.Said.{Said}
+use Rattle.ss_turns.specs.Executed.{HoldsFor, StaysInHand}
+use Rattle.ss_turns.specs.Runs.{AreGiven, HasEnded, HasRun, HasStayed, MayEnd, SaysOnly}
+use Rattle.ss_turns.proofs.InHand.{Came, ended_in_hand, right_in_hand, still_in_hand}
 
 -- which partitions a hand has
 same_hand : {I : Type 0} (catalog : Catalog) (n : ℕ) (db : Database) (held other : List ℕ) (hand : Hand I) → IsInHand catalog n db held hand → IsInHand catalog n db other hand → held ≡ other

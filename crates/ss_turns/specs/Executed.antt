@@ -13,11 +13,11 @@ use Rattle.ss_commitlog.specs.Tokens.{Known, AllContinue, AllKnow, added, roles_
 use Rattle.ss_hand.specs.Hands.{IsInHand}
 use Rattle.ss_hand.specs.declared.hand.Hand.{Hand}
 use Rattle.ss_shard.specs.Parts.{is_among}
-use Rattle.ss_engine.specs.declared.execution.Stepped.{Stepped}
-use Rattle.ss_engine.specs.declared.execution.Stepped.TheVariants.{Ran, NotReady, NoMemory, ListFull}
-use Rattle.ss_engine.specs.declared.reply.Said.{Said}
-use Rattle.ss_engine.specs.Commits.{CommitsAsked}
-use Rattle.ss_engine.specs.Stepping.{AllGoOn}
+use Rattle.ss_turns.specs.declared.execution.Stepped.{Stepped}
+use Rattle.ss_turns.specs.declared.execution.Stepped.TheVariants.{Ran, NotReady, NoMemory, ListFull}
+use Rattle.ss_lanes.specs.declared.reply.Said.{Said}
+use Rattle.ss_turns.specs.Commits.{CommitsAsked}
+use Rattle.ss_turns.specs.Stepping.{AllGoOn}
 
 -- the entry is what a client asked for, whose role this is
 abbrev pub IsOfRole : Role → Entry → Type 0

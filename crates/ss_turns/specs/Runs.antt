@@ -15,8 +15,8 @@ use Rattle.ss_commitlog.specs.Tokens.{Known}
 use Rattle.ss_shard.specs.Parts.{is_among, HasParts, HoldsParts}
 use Rattle.ss_shard.specs.Shards.{CanRollBack, IsCommitted, IsOf}
 use Rattle.ss_shard.specs.ShardValue.{ShardValue}
-use Rattle.ss_engine.specs.declared.reply.Said.{Said}
-use Rattle.ss_engine.specs.declared.reply.Said.TheVariants.{Listed as ListedSaid, NoMemory, ListFull}
+use Rattle.ss_lanes.specs.declared.reply.Said.{Said}
+use Rattle.ss_lanes.specs.declared.reply.Said.TheVariants.{Listed as ListedSaid, NoMemory, ListFull}
 
 -- these are the batches that an entry takes, on each database that has the same inputs for it as one that some mark knows
 pub record AreGiven (catalog : Catalog) (db : Database) (ks : List Known) (e : Entry) (batches : List Rows) : Type 0 where

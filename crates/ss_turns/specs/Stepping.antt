@@ -10,14 +10,14 @@ use Rattle.ss_commitlog.specs.Reading.{found_batch}
 use Rattle.ss_commitlog.specs.Right.{known_database}
 use Rattle.ss_commitlog.specs.Roles.{In}
 use Rattle.ss_commitlog.specs.Tokens.{Known, AllContinue, AllKnow, added, roles_of}
-use Rattle.ss_engine.specs.declared.execution.Stepped.{Stepped}
-use Rattle.ss_engine.specs.declared.execution.Stepped.TheVariants as stepped
-use Rattle.ss_engine.specs.declared.reply.Said.{Said}
-use Rattle.ss_engine.specs.declared.reply.Said.TheVariants.{Listed, NoMemory, ListFull}
-use Rattle.ss_engine.specs.declared.stepping.Found.{Found}
-use Rattle.ss_engine.specs.declared.stepping.Found.TheVariants as found
-use Rattle.ss_engine.specs.Growing.{GoesOn}
-use Rattle.ss_engine.specs.Runs.{AreGiven}
+use Rattle.ss_turns.specs.declared.execution.Stepped.{Stepped}
+use Rattle.ss_turns.specs.declared.execution.Stepped.TheVariants as stepped
+use Rattle.ss_lanes.specs.declared.reply.Said.{Said}
+use Rattle.ss_lanes.specs.declared.reply.Said.TheVariants.{Listed, NoMemory, ListFull}
+use Rattle.ss_turns.specs.declared.stepping.Found.{Found}
+use Rattle.ss_turns.specs.declared.stepping.Found.TheVariants as found
+use Rattle.ss_lanes.specs.Growing.{GoesOn}
+use Rattle.ss_turns.specs.Runs.{AreGiven}
 
 -- marks, each of which goes on
 abbrev pub AllGoOn : Catalog → ℕ → List Known → List Known → Type 0

@@ -4,12 +4,10 @@ ghost use Rattle.std.specs.Prelude.{◌≡◌, List, [], IfOk, IfErr};
 ghost use Rattle.ss_commitlog.specs.Meaning.{HasClientBelow};
 ghost use Rattle.ss_commitlog.specs.Right.{IsRight};
 ghost use Rattle.ss_commitlog.specs.Tokens.{Known, roles_of, Covers};
-ghost use Rattle.ss_engine.specs.Commits.{with_client, CommitsAsked};
-ghost use Rattle.ss_engine.specs.Pumped.{pumped_of};
+ghost use Rattle.ss_turns.specs.Commits.{with_client, CommitsAsked};
 
-use crate::pump::Pumped;
-use crate::reply::Said;
 use ss_commitlog::{CommitLog, Committed, Mark, Marks};
+use ss_lanes::Said;
 use ss_model::{Catalog, Emitted, Life, Listed, copy_listed};
 use ss_value::Seq;
 use std::alloc::Global;
@@ -104,15 +102,4 @@ fn parted<I: Life>(mut marks: Marks<I>) -> (Marks<I>, Mark<I>)
         unreachable!()
     };
     (marks, mark)
-}
-
-/// What a pump says of a run.
-pub(crate) fn pumped_of(said: &Said) -> Pumped
-    ensures { result ≡ pumped_of said.now }
-{
-    match said {
-        Said::Listed { place, .. } => Pumped::Ran(*place),
-        Said::NoMemory => Pumped::NoMemory,
-        Said::ListFull { count } => Pumped::ListFull(*count),
-    }
 }

@@ -6,16 +6,16 @@ ghost use Rattle.ss_model.specs.Accepted.{Accepted};
 ghost use Rattle.ss_model.specs.Database.{fits_entry};
 ghost use Rattle.ss_commitlog.specs.Meaning.{HasClientBelow};
 ghost use Rattle.ss_proc.specs.Entries.{IsNext, IsCountable};
-ghost use Rattle.ss_engine.specs.Runs.{AreGiven};
-ghost use Rattle.ss_engine.specs.Stepping.{HadBatches, LacksWhereNotReady};
-ghost use Rattle.ss_engine.specs.Executed.{IsOfRole, HoldsFor, StaysInHand, RanAsked, IsStepped};
+ghost use Rattle.ss_turns.specs.Runs.{AreGiven};
+ghost use Rattle.ss_turns.specs.Stepping.{HadBatches, LacksWhereNotReady};
+ghost use Rattle.ss_turns.specs.Executed.{IsOfRole, HoldsFor, StaysInHand, RanAsked, IsStepped};
 
 use crate::asking::commit_asked;
-use crate::reply::Said;
 use crate::running::{end, run};
 use crate::stepping::{Found, commit_step, look_for, next_batch, run_step, stepped_of};
 use ss_commitlog::{CommitLog, Mark};
 use ss_hand::Hand;
+use ss_lanes::Said;
 use ss_model::{Catalog, Entry, Life, Listed};
 use ss_plan::Batches;
 use ss_proc::{Executed, Runner};
@@ -25,7 +25,7 @@ use std::sync::Wait;
 
 /// What became of the next step of a procedure.
 #[derive(Drop)]
-pub(crate) enum Stepped {
+pub enum Stepped {
     /// It ran, and stands at this place.
     Ran { place: u64, listed: Listed },
     /// Some input of the procedure has no batch for it.
@@ -39,7 +39,7 @@ pub(crate) enum Stepped {
 /// Runs what a client asks for on the parts in hand, and commits it under their marks and the client's.
 ///
 /// What has no place in the list is rolled back. Costs the execution and its commit, and a copy of the entry.
-pub(crate) fn execute_asked<I: Life, N: Runner, R: Wait>(
+pub fn execute_asked<I: Life, N: Runner, R: Wait>(
     rt: &R,
     alloc: Global,
     log: &CommitLog<I>,
@@ -89,7 +89,7 @@ pub(crate) fn execute_asked<I: Life, N: Runner, R: Wait>(
 ///
 /// What has no place in the list is rolled back. Costs copies of its batches, the execution and its commit, and a copy of the
 /// entry; takes the log's lock once for each input and once for the commit.
-pub(crate) fn execute_step<I: Life, N: Runner, R: Wait>(
+pub fn execute_step<I: Life, N: Runner, R: Wait>(
     rt: &R,
     alloc: Global,
     log: &CommitLog<I>,

@@ -5,9 +5,9 @@ ghost use Rattle.ss_model.specs.Accepted.{Accepted};
 ghost use Rattle.ss_model.specs.Database.{fits_entry};
 ghost use Rattle.ss_proc.specs.Entries.{IsNext, IsCountable};
 ghost use Rattle.ss_shard.specs.Shards.{IsCommitted};
-ghost use Rattle.ss_engine.specs.Runs.{HasRun, HasStayed, MayEnd, HasEnded};
+ghost use Rattle.ss_turns.specs.Runs.{HasRun, HasStayed, MayEnd, HasEnded};
 
-use crate::reply::Said;
+use ss_lanes::Said;
 use ss_model::{Catalog, Entry};
 use ss_plan::{Batches, Inputs};
 use ss_proc::{Executed, Runner, commit, rollback, runs_on_parts};

@@ -10,14 +10,14 @@ ghost use Rattle.ss_proc.specs.Entries.{IsNext, IsCountable};
 ghost use Rattle.ss_shard.specs.Shards.{IsCommitted};
 ghost use Rattle.ss_commitlog.specs.Right.{IsRight, known_database};
 ghost use Rattle.ss_commitlog.specs.Tokens.{Covers, roles_of};
-ghost use Rattle.ss_engine.specs.Growing.{GoesOn};
-ghost use Rattle.ss_engine.specs.Runs.{HasRun, HasStayed};
-ghost use Rattle.ss_engine.specs.Stepping.{AllGoOn, AreFound, AreFoundFor, CommitsStep, stepped_of};
+ghost use Rattle.ss_lanes.specs.Growing.{GoesOn};
+ghost use Rattle.ss_turns.specs.Runs.{HasRun, HasStayed};
+ghost use Rattle.ss_turns.specs.Stepping.{AllGoOn, AreFound, AreFoundFor, CommitsStep, stepped_of};
 
 use crate::execution::Stepped;
-use crate::reply::Said;
 use crate::running::run;
 use ss_commitlog::{CommitLog, Committed, Mark, Marks};
+use ss_lanes::Said;
 use ss_model::{Catalog, Emitted, Entry, Life, Listed, copy_listed};
 use ss_plan::Batches;
 use ss_proc::{Executed, Runner};

@@ -1,7 +1,7 @@
 use Rattle.std.proofs.Common.{ap, sym, subst}
 use Rattle.ss_commitlog.specs.Tokens.{Known}
-use Rattle.ss_engine.specs.declared.due.Due.{Due}
-use Rattle.ss_engine.specs.Lanes.{IsLane}
+use Rattle.ss_lanes.specs.declared.due.Due.{Due}
+use Rattle.ss_lanes.specs.Lanes.{IsLane}
 use Rattle.ss_engine.proofs.LanesAssured.{lane_failed}
 use Rattle.ss_engine.proofs.assuring.failed.Goals as goal
 

@@ -1,6 +1,6 @@
 use Rattle.std.proofs.Common.{rules, ◌≡◌, ◌∷◌, List, length, drop, sym, ap, subst, ◌∙◌, arith}
 use Rattle.ss_engine.specs.Clients.{EachHasLane, MayBegin}
-use Rattle.ss_engine.specs.Lanes.{LaneView}
+use Rattle.ss_lanes.specs.Lanes.{LaneView}
 use Rattle.ss_engine.proofs.ByClient.{one_begins}
 use Rattle.ss_engine.proofs.clients.clients_of.Goals as goal
 

@@ -2,7 +2,7 @@ use Rattle.std.proofs.Common.{rules, ◌≡◌, ◌∙◌, List, length, ap, sub
 use Rattle.std.proofs.lemmas.List.{length_push, nil_from_length}
 use Rattle.ss_commitlog.specs.Tokens.{Known}
 use Rattle.ss_model.specs.declared.entry.Answer.{Answer}
-use Rattle.ss_engine.specs.Lanes.{LaneView}
+use Rattle.ss_lanes.specs.Lanes.{LaneView}
 use Rattle.ss_engine.proofs.LanesApart.{AreApart, one_apart, all_apart, of_one_lane}
 use Rattle.ss_engine.proofs.closing.apart.Goals as goal
 

@@ -3,8 +3,8 @@ use Rattle.ss_commitlog.specs.declared.rule.Item.{Item}
 use Rattle.ss_commitlog.specs.Roles.{In}
 use Rattle.ss_commitlog.specs.Tokens.{Known, Continues}
 use Rattle.ss_commitlog.proofs.CallerLemmas.{in_right}
-use Rattle.ss_engine.proofs.Growing.{follows_on}
-use Rattle.ss_engine.proofs.MarksOn.{last_goes_on, looked_in_hand}
+use Rattle.ss_lanes.proofs.CallerLemmas.{follows_on}
+use Rattle.ss_turns.proofs.CallerLemmas.{last_goes_on, looked_in_hand}
 use Rattle.ss_engine.proofs.holding.show.Goals as goal
 
 pub returns-clause-in_hand : goal.returns-clause-in_hand

@@ -1,6 +1,6 @@
 use Rattle.std.proofs.Common.{◌<◌, ◌+◌, ℕ, List, sym, subst, arith}
 use Rattle.std.proofs.lemmas.List.{nil_from_length}
-use Rattle.ss_engine.specs.Lanes.{LaneView}
+use Rattle.ss_lanes.specs.Lanes.{LaneView}
 use Rattle.ss_engine.specs.Openings.{AreFresh}
 use Rattle.ss_engine.proofs.Fresh.{mark_left, note_left, next_left, fresh_more}
 use Rattle.ss_engine.proofs.opening.fresh_lanes.Goals as goal

@@ -1,5 +1,5 @@
 use Rattle.std.proofs.Common.{arith}
-use Rattle.ss_engine.proofs.Growing.{on_itself, on_and_on, follows_on}
+use Rattle.ss_lanes.proofs.CallerLemmas.{follows_on, on_and_on, on_itself}
 use Rattle.ss_engine.proofs.Looks.{first_low, first_ready, idle_still, idle_to}
 use Rattle.ss_engine.proofs.settling.next_ready.Goals as goal
 

@@ -1,6 +1,6 @@
 use Rattle.std.proofs.Common.{◌<◌, ℕ, IfSome, IfNone}
 use Rattle.ss_engine.specs.Closings.{StepsWhenFound, WasIdle}
-use Rattle.ss_engine.specs.Growing.{GoesOn}
+use Rattle.ss_lanes.specs.Growing.{GoesOn}
 use Rattle.ss_engine.proofs.settling.next_ready.Given as goal
 
 -- what was found was ready behind some list on the way; where nothing was, no procedure was so at each partition so far

@@ -1,7 +1,6 @@
 use Rattle.std.proofs.Common.{◌≤◌, ◌∙◌, ℕ, sym, subst}
 use Rattle.ss_shard.specs.Parts.{all_partitions}
-use Rattle.ss_engine.proofs.Marks.{some_marks}
-use Rattle.ss_engine.proofs.MarksOn.{looked_in_hand}
+use Rattle.ss_turns.proofs.CallerLemmas.{looked_in_hand, some_marks}
 use Rattle.ss_engine.proofs.WholeList.{looked_on, none_found, none_met, some_found}
 use Rattle.ss_engine.proofs.settling.ready_in_hand.Goals as goal
 

@@ -1,13 +1,13 @@
 use Rattle.std.proofs.Common.{rules, ◌≡◌, ◌+◌, ◌<◌, ◌^◌, IfSome, ◌∙◌, sym, subst, ap, List, [], ◌∷◌, ◌++◌, length}
 use Rattle.std.proofs.lemmas.List.{length_push}
 use Rattle.ss_model.specs.declared.entry.Answer.{Answer}
-use Rattle.ss_engine.specs.declared.due.Due.{Due}
-use Rattle.ss_engine.specs.declared.ticket.Ticket.{Ticket}
-use Rattle.ss_engine.specs.Answered.{answer_of}
-use Rattle.ss_engine.specs.Dues.{due_after, place_of}
-use Rattle.ss_engine.specs.Lanes.{IsLane}
-use Rattle.ss_engine.proofs.Telling.{few_more, lane_more, listed_few, small_place}
-use Rattle.ss_engine.proofs.lane.answered.Goals as goal
+use Rattle.ss_lanes.specs.declared.due.Due.{Due}
+use Rattle.ss_lanes.specs.declared.ticket.Ticket.{Ticket}
+use Rattle.ss_lanes.specs.Answered.{answer_of}
+use Rattle.ss_lanes.specs.Dues.{due_after, place_of}
+use Rattle.ss_lanes.specs.Lanes.{IsLane}
+use Rattle.ss_lanes.proofs.Telling.{few_more, lane_more, listed_few, small_place}
+use Rattle.ss_lanes.proofs.lane.answered.Goals as goal
 
 pub invariant_of-result : goal.invariant_of-result
 invariant_of-result g c =

@@ -1,8 +1,8 @@
 use Rattle.std.proofs.Common.{◌≢◌, ap, arith, refl, sym, subst}
-use Rattle.ss_engine.specs.Lanes.{LaneView}
-use Rattle.ss_engine.proofs.Coming.{halted_again}
-use Rattle.ss_engine.proofs.Telling.{lane_halted}
-use Rattle.ss_engine.proofs.lane.halted.Goals as goal
+use Rattle.ss_lanes.specs.Lanes.{LaneView}
+use Rattle.ss_lanes.proofs.Coming.{halted_again}
+use Rattle.ss_lanes.proofs.Telling.{lane_halted}
+use Rattle.ss_lanes.proofs.lane.halted.Goals as goal
 
 pub invariant_of-result : goal.invariant_of-result
 invariant_of-result g c =

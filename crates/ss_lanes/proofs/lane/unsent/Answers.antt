@@ -1,9 +1,9 @@
 use Rattle.std.proofs.Common.{◌∙◌, ap, refl}
-use Rattle.ss_engine.specs.declared.reply.Said.TheVariants.{NoMemory}
-use Rattle.ss_engine.specs.Lanes.{LaneView}
-use Rattle.ss_engine.proofs.Coming.{as_before, submitted}
-use Rattle.ss_engine.proofs.Growing.{on_itself}
-use Rattle.ss_engine.proofs.lane.unsent.Goals as goal
+use Rattle.ss_lanes.specs.declared.reply.Said.TheVariants.{NoMemory}
+use Rattle.ss_lanes.specs.Lanes.{LaneView}
+use Rattle.ss_lanes.proofs.Coming.{as_before, submitted}
+use Rattle.ss_lanes.proofs.Growing.{on_itself}
+use Rattle.ss_lanes.proofs.lane.unsent.Goals as goal
 
 pub answered-requires-clause-answered : goal.answered-requires-clause-answered
 answered-requires-clause-answered g c = as_before g.I.Life.clients g.I.Life.first c.lane.inside.ticket c.lane.inside.due c.lane.inside.mark c.lane.inside.note c.lane.inside.answers.items c.lane.invariant

@@ -1,5 +1,5 @@
-use Rattle.ss_engine.proofs.ServedLanes.{lanes_serve}
-use Rattle.ss_engine.proofs.laws.lanes_serve.Goals as goal
+use Rattle.ss_lanes.proofs.ServedLanes.{lanes_serve}
+use Rattle.ss_lanes.proofs.laws.lanes_serve.Goals as goal
 
 pub returns : goal.returns
 returns c = lanes_serve

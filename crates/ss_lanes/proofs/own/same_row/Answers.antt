@@ -1,5 +1,5 @@
-use Rattle.ss_engine.proofs.Same.{row_decides}
-use Rattle.ss_engine.proofs.own.same_row.Goals as goal
+use Rattle.ss_lanes.proofs.Same.{row_decides}
+use Rattle.ss_lanes.proofs.own.same_row.Goals as goal
 
 pub returns : goal.returns
 returns c = row_decides c.args.a.now c.args.b.now c.eq.result c.eq.ensures

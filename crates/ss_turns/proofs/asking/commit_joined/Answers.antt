@@ -1,7 +1,7 @@
 use Rattle.std.proofs.Common.{sym, ◌∙◌}
 use Rattle.ss_commitlog.specs.Tokens.{added, roles_of}
-use Rattle.ss_engine.proofs.Parting.{some_known, done_apart, same_apart, full_apart}
-use Rattle.ss_engine.proofs.asking.commit_joined.Goals as goal
+use Rattle.ss_turns.proofs.Parting.{some_known, done_apart, same_apart, full_apart}
+use Rattle.ss_turns.proofs.asking.commit_joined.Goals as goal
 
 pub parted-parts-requires : goal.parted-parts-requires
 parted-parts-requires g c =

@@ -1,11 +1,11 @@
 use Rattle.std.proofs.Common.{refl, [], ◌∷◌}
 use Rattle.ss_model.specs.declared.entry.Outcome.TheVariants.{Done}
 use Rattle.ss_commitlog.proofs.CallerLemmas.{in_left}
-use Rattle.ss_engine.specs.Commits.{with_client}
-use Rattle.ss_engine.proofs.Marks.{covers_asked}
-use Rattle.ss_engine.proofs.RanAsked.{came_asked, given_asked, says_asked}
-use Rattle.ss_engine.proofs.RunsInHand.{right_of_run, run_in_hand, run_may_end, stays_in_hand}
-use Rattle.ss_engine.proofs.execution.execute_asked.Goals as goal
+use Rattle.ss_turns.specs.Commits.{with_client}
+use Rattle.ss_turns.proofs.Marks.{covers_asked}
+use Rattle.ss_turns.proofs.RanAsked.{came_asked, given_asked, says_asked}
+use Rattle.ss_turns.proofs.RunsInHand.{right_of_run, run_in_hand, run_may_end, stays_in_hand}
+use Rattle.ss_turns.proofs.execution.execute_asked.Goals as goal
 
 pub returns-in_default-clause-in_hand : goal.returns-in_default-clause-in_hand
 returns-in_default-clause-in_hand g c =

@@ -1,12 +1,12 @@
 use Rattle.std.proofs.Common.{refl, sym, subst}
-use Rattle.ss_engine.specs.declared.execution.Stepped.{Stepped}
-use Rattle.ss_engine.specs.Executed.{IsStepped}
-use Rattle.ss_engine.specs.Stepping.{HadBatches}
-use Rattle.ss_engine.proofs.Marks.{covers_step}
-use Rattle.ss_engine.proofs.MarksOn.{all_on_itself}
-use Rattle.ss_engine.proofs.RanStep.{came_step, had_batches, says_step, stepped_so}
-use Rattle.ss_engine.proofs.RunsInHand.{right_of_run, run_in_hand, run_may_end, stays_in_hand}
-use Rattle.ss_engine.proofs.execution.execute_found.Goals as goal
+use Rattle.ss_turns.specs.declared.execution.Stepped.{Stepped}
+use Rattle.ss_turns.specs.Executed.{IsStepped}
+use Rattle.ss_turns.specs.Stepping.{HadBatches}
+use Rattle.ss_turns.proofs.Marks.{covers_step}
+use Rattle.ss_turns.proofs.MarksOn.{all_on_itself}
+use Rattle.ss_turns.proofs.RanStep.{came_step, had_batches, says_step, stepped_so}
+use Rattle.ss_turns.proofs.RunsInHand.{right_of_run, run_in_hand, run_may_end, stays_in_hand}
+use Rattle.ss_turns.proofs.execution.execute_found.Goals as goal
 
 pub returns-in_default-clause-in_hand : goal.returns-in_default-clause-in_hand
 returns-in_default-clause-in_hand g c =

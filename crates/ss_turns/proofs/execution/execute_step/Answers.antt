@@ -1,11 +1,11 @@
 use Rattle.std.proofs.Common.{◌<◌, ℕ, length, subst, sym}
 use Rattle.ss_model.specs.declared.catalog.Catalog.{Catalog}
-use Rattle.ss_engine.specs.declared.stepping.Found.{Found}
-use Rattle.ss_engine.specs.Stepping.{AreFoundFor, LacksInput}
-use Rattle.ss_engine.proofs.Marks.{some_marks}
-use Rattle.ss_engine.proofs.MarksOn.{all_on_itself, looked_in_hand}
-use Rattle.ss_engine.proofs.RanStep.{lacks_nothing, step_there, stepped_through}
-use Rattle.ss_engine.proofs.execution.execute_step.Goals as goal
+use Rattle.ss_turns.specs.declared.stepping.Found.{Found}
+use Rattle.ss_turns.specs.Stepping.{AreFoundFor, LacksInput}
+use Rattle.ss_turns.proofs.Marks.{some_marks}
+use Rattle.ss_turns.proofs.MarksOn.{all_on_itself, looked_in_hand}
+use Rattle.ss_turns.proofs.RanStep.{lacks_nothing, step_there, stepped_through}
+use Rattle.ss_turns.proofs.execution.execute_step.Goals as goal
 
 pub look_for-marks-requires-clause-some : goal.look_for-marks-requires-clause-some
 look_for-marks-requires-clause-some g c =

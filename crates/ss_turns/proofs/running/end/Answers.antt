@@ -1,5 +1,5 @@
-use Rattle.ss_engine.proofs.Ended.{listed_so}
-use Rattle.ss_engine.proofs.running.end.Goals as goal
+use Rattle.ss_turns.proofs.Ended.{listed_so}
+use Rattle.ss_turns.proofs.running.end.Goals as goal
 
 pub returns-in-Listed : goal.returns-in-Listed
 returns-in-Listed c = λ catalog n old l batches emitted run says.

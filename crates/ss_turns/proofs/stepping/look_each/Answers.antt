@@ -1,7 +1,7 @@
 use Rattle.ss_commitlog.specs.Right.{known_database}
-use Rattle.ss_engine.proofs.FoundBatches.{found_next, lacks_one, looked_so, pushed_so}
-use Rattle.ss_engine.proofs.Growing.{follows_on, on_and_on}
-use Rattle.ss_engine.proofs.stepping.look_each.Goals as goal
+use Rattle.ss_turns.proofs.FoundBatches.{found_next, lacks_one, looked_so, pushed_so}
+use Rattle.ss_lanes.proofs.CallerLemmas.{follows_on, on_and_on}
+use Rattle.ss_turns.proofs.stepping.look_each.Goals as goal
 
 pub returns-in_default-clause-mark : goal.returns-in_default-clause-mark
 returns-in_default-clause-mark g c =

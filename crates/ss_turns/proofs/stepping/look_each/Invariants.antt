@@ -1,8 +1,8 @@
 use Rattle.std.proofs.Common.{◌≡◌, map, take, slice_get, Some}
 use Rattle.ss_model.specs.Database.{stream_batches}
 use Rattle.ss_commitlog.specs.Right.{known_database}
-use Rattle.ss_engine.specs.Growing.{GoesOn}
-use Rattle.ss_engine.proofs.stepping.look_each.Given as goal
+use Rattle.ss_lanes.specs.Growing.{GoesOn}
+use Rattle.ss_turns.proofs.stepping.look_each.Given as goal
 
 abbrev pub invariant-loop-stream : goal.invariant-loop-stream
 invariant-loop-stream g l = record {

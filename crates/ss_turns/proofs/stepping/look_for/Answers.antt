@@ -6,10 +6,10 @@ use Rattle.ss_commitlog.specs.Right.{known_database}
 use Rattle.ss_commitlog.specs.Roles.{In}
 use Rattle.ss_commitlog.specs.Tokens.{Known}
 use Rattle.ss_commitlog.proofs.CallerLemmas.{in_right}
-use Rattle.ss_engine.specs.Stepping.{AreFound}
-use Rattle.ss_engine.proofs.FoundBatches.{found_for, takes_inputs}
-use Rattle.ss_engine.proofs.MarksOn.{last_goes_on}
-use Rattle.ss_engine.proofs.stepping.look_for.Goals as goal
+use Rattle.ss_turns.specs.Stepping.{AreFound}
+use Rattle.ss_turns.proofs.FoundBatches.{found_for, takes_inputs}
+use Rattle.ss_turns.proofs.MarksOn.{last_goes_on}
+use Rattle.ss_turns.proofs.stepping.look_for.Goals as goal
 
 pub look_each-mark-requires : goal.look_each-mark-requires
 look_each-mark-requires g c =

@@ -1,7 +1,7 @@
 use Rattle.std.proofs.Common.{◌≤◌, ℕ, List, IfOk, subst}
 use Rattle.ss_value.specs.Rows.{Rows}
-use Rattle.ss_engine.specs.Runs.{HasRun}
-use Rattle.ss_engine.proofs.stepping.run_step.Goals as goal
+use Rattle.ss_turns.specs.Runs.{HasRun}
+use Rattle.ss_turns.proofs.stepping.run_step.Goals as goal
 
 pub returns-clause-ok : goal.returns-clause-ok
 returns-clause-ok g c =

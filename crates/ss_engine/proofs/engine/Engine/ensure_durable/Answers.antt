@@ -1,10 +1,10 @@
 use Rattle.std.proofs.Common.{◌≡◌, Ok, Err, refl, sym, ap, subst, arith}
 use Rattle.ss_receipts.specs.declared.durable.DurableError.TheVariants.{NoMemory, DiskFault, Halted}
 use Rattle.ss_receipts.specs.Durable.{IsDurable}
-use Rattle.ss_engine.specs.declared.due.Due.{Due}
+use Rattle.ss_lanes.specs.declared.due.Due.{Due}
 use Rattle.ss_engine.specs.Assured.{AsksForReceipt}
-use Rattle.ss_engine.specs.Dues.{failed_at}
-use Rattle.ss_engine.specs.Lanes.{LaneView, IsLane}
+use Rattle.ss_lanes.specs.Dues.{failed_at}
+use Rattle.ss_lanes.specs.Lanes.{LaneView, IsLane}
 use Rattle.ss_engine.proofs.LanesAssured.{asks_again, asks_met, covers_all, lane_met, lane_receipted, receipt_seen}
 use Rattle.ss_engine.proofs.engine.Engine.ensure_durable.Goals as goal
 

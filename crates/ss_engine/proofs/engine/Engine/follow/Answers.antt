@@ -1,4 +1,4 @@
-use Rattle.ss_engine.proofs.Growing.{follows_on}
+use Rattle.ss_lanes.proofs.CallerLemmas.{follows_on}
 use Rattle.ss_engine.proofs.Trying.{tried_later}
 use Rattle.ss_engine.proofs.engine.Engine.follow.Goals as goal
 

@@ -1,5 +1,5 @@
 use Rattle.ss_engine.specs.Tried.{IsTried}
-use Rattle.ss_engine.proofs.Growing.{on_and_on}
+use Rattle.ss_lanes.proofs.CallerLemmas.{on_and_on}
 use Rattle.ss_engine.proofs.Pumps.{pumped_later}
 use Rattle.ss_engine.proofs.Trying.{tried_pumps}
 use Rattle.ss_engine.proofs.engine.Engine.pump.Goals as goal

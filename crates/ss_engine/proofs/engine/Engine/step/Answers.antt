@@ -3,7 +3,7 @@ use Rattle.ss_model.specs.declared.entry.Entry.TheVariants.{Step as StepEntry}
 use Rattle.ss_commitlog.specs.Roles.{In}
 use Rattle.ss_commitlog.specs.Tokens.{Known}
 use Rattle.ss_hand.specs.Hands.{WereTaken}
-use Rattle.ss_engine.proofs.Growing.{follows_on}
+use Rattle.ss_lanes.proofs.CallerLemmas.{follows_on}
 use Rattle.ss_engine.proofs.Touching.{just_here, members_run, holds_touched, some_member, home_is_least, some_mark, of_mark}
 use Rattle.ss_engine.proofs.Trying.{of_ok, step_tried, tried_later}
 use Rattle.ss_engine.proofs.engine.Engine.step.Goals as goal

@@ -1,4 +1,4 @@
-use Rattle.ss_engine.proofs.Growing.{on_and_on}
+use Rattle.ss_lanes.proofs.CallerLemmas.{on_and_on}
 use Rattle.ss_engine.proofs.hub.Hub.awaited.Goals as goal
 
 pub loop-preserved-in-Idle : goal.loop-preserved-in-Idle

@@ -1,7 +1,7 @@
 use Rattle.std.proofs.Common.{refl, sym, subst}
-use Rattle.ss_engine.specs.Owning.{IsOwn}
-use Rattle.ss_engine.specs.Replies.{ReplyView}
-use Rattle.ss_engine.proofs.Coming.{came_back, submitted}
+use Rattle.ss_lanes.specs.Owning.{IsOwn}
+use Rattle.ss_lanes.specs.Replies.{ReplyView}
+use Rattle.ss_lanes.proofs.CallerLemmas.{came_back, submitted}
 use Rattle.ss_engine.proofs.hub.Hub.returned.Goals as goal
 
 pub answered-requires-clause-answered : goal.answered-requires-clause-answered

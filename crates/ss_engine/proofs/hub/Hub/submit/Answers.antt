@@ -1,5 +1,5 @@
 use Rattle.std.proofs.Common.{subst}
-use Rattle.ss_engine.specs.Lanes.{LaneView, IsSubmitted}
+use Rattle.ss_lanes.specs.Lanes.{LaneView, IsSubmitted}
 use Rattle.ss_engine.proofs.hub.Hub.submit.Goals as goal
 
 pub returns-in-Err : goal.returns-in-Err

@@ -1,0 +1,9 @@
+pub mod Mines
+pub mod Growing
+pub mod Dues
+pub mod Telling
+pub mod Coming
+pub mod Same
+pub mod ServedLanes
+pub mod Crossing
+pub mod CallerLemmas

@@ -1,0 +1,9 @@
+pub mod Mines
+pub mod Told
+pub mod Dues
+pub mod Growing
+pub mod Lanes
+pub mod Replies
+pub mod Owning
+pub mod Answered
+pub mod Served

@@ -1,0 +1,10 @@
+pub mod Parting
+pub mod Marks
+pub mod Ended
+pub mod InHand
+pub mod FoundBatches
+pub mod MarksOn
+pub mod RunsInHand
+pub mod RanAsked
+pub mod RanStep
+pub mod CallerLemmas

@@ -1,0 +1,4 @@
+pub mod Commits
+pub mod Executed
+pub mod Stepping
+pub mod Runs

@@ -1,0 +1,36 @@
+//! Turns: an execution on the parts in hand, and its commit.
+//!
+//! Who has a hand runs one entry on its shard, commits the entry in the log under the marks in hand, and then makes the shard's
+//! changes final; where it has no place in the list, they are taken back. Who takes the hand out of bays and puts it back is
+//! not seen here, nor who asked: that is `ss_engine`.
+//!
+//! - `execution`: an entry that a client asks for, or the next step of a procedure, on the parts in hand
+//! - `running`: its run and its end; `asking`: the commit of what a client asked for
+//! - `stepping`: the batches and the commit of a step
+//!
+//! In `specs/`: `Runs` (a run that waits for its end, and behind it), `Commits`, `Stepping`, `Executed`.
+//!
+//! # Promises
+//!
+//! - `execute_asked` (`ran`: `RanAsked`): the entry stands in the list behind all that each mark knew, and all marks know the list that
+//!   ends with it; or there was no memory, or the list is full, and nothing has changed. Its client's mark comes back.
+//! - `execute_step` (`stepped`: `IsStepped`): the same of the next step of a procedure; where some input has no batch for it,
+//!   that is what one of the marks saw (`not_ready`).
+//! - Whatever came of it, the same partitions are in hand (`in_hand`: `StaysInHand`), so each bay gets back what it needs.
+//!
+//! # Why an execution may be committed
+//!
+//! A hand has a shard with the parts of some database with which each of its marks agrees. `execute_asked` runs the
+//! entry on that shard and commits it under the marks. What the commit needs (`IsRight`) is one law of `ss_proc`: what ran on
+//! each database that the shard stood for ran on each of which it held the parts that are touched (`runs_on_parts`). So
+//! the outcome is the model's on every database that agrees with the marks. Behind it the shard holds its parts of the
+//! database after the list that ends with the entry, which the marks then know. A step is the same with its batches, for which one
+//! of the marks looks in the log.
+#![tactic(auto)]
+
+mod asking;
+mod execution;
+mod running;
+mod stepping;
+
+pub use execution::{Stepped, execute_asked, execute_step};
