@@ -12,6 +12,7 @@ use Rattle.ss_report_laws.specs.Replies.{answers_of, IsListedOr, AreAnswered, we
 use Rattle.ss_standing.specs.Laws.{StandsForOne}
 use Rattle.ss_headline.specs.Disks.{DiskChange, disk_of}
 use Rattle.ss_headline.specs.Sentences.{stop_at}
+use Rattle.ss_headline.specs.Runs.{LogEndsAsStopped}
 use Rattle.ss_headline.specs.Laws.{WholeSessions, StoppedSessions, SessionsHoldFromEach, WholeRuns, StoppedRuns, RunsHoldFromEach}
 
 -- ---- answers that a later count of faults explains, an earlier one explains too
@@ -57,13 +58,21 @@ module _ {D : Type 0} (tells honest : Type 0) (seen : D → Files) (moment : D �
         };
       }
 
+  -- a disk that failed since the opening has failed since before it
+  failed_since : (status first : ℕ) (list : List Listed) (count : ℕ) (old mid new : D) → faults old ≤ faults mid → LogEndsAsStopped status first list count (change mid new) → LogEndsAsStopped status first list count (change old new)
+  failed_since status first list count old mid new le logged told = elim (logged told) [
+    | inl front ↦ inl front
+    | inr failed ↦ inr (record { status_is = failed.status_is; rose = (let rose = failed.rose in omega (arith, rose, le)) })
+  ]
+
   pub stopped_runs : AnswersMakeReport → StoppedSessions change → SessionsHoldFromEach change → StoppedRuns change
-  stopped_runs makes sessions from_each = λ limit catalog requests db first list status count missing answers old mid new opened closed receipted answered within.
+  stopped_runs makes sessions from_each = λ limit catalog requests db first list status count missing answers old mid new opened closed receipted logged answered within.
       let end = stop_at status count limit first list (faults old) (faults new) in
       let text = report_text catalog requests (weave missing requests answers) first list db end in
       let since = answered_since _ (faults old) opened.faults requests first list answers answered in
       let session = sessions catalog requests limit db first list status count text old mid new opened closed receipted (makes catalog requests db first list end missing answers since) in record {
         within = within;
+        logged = failed_since status first list count old mid new opened.faults logged;
         session = record {
           whole = opened.whole;
           stood = opened.stood;

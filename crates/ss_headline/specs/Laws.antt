@@ -15,7 +15,7 @@ use Rattle.ss_standing.specs.Standing.{listed_entries, Stands}
 use Rattle.ss_standing.specs.Behind.{IsBehind}
 use Rattle.ss_headline.specs.Disks.{DiskChange}
 use Rattle.ss_headline.specs.Sentences.{WholeSession, StoppedSession, entries_from, room_from, stop_at}
-use Rattle.ss_headline.specs.Runs.{LogEndsWith, IsWholeRun, IsStoppedRun}
+use Rattle.ss_headline.specs.Runs.{LogEndsWith, LogEndsAsStopped, IsWholeRun, IsStoppedRun}
 use Rattle.ss_headline.specs.Layers.{Opened, Closed, Settled, FewUnreceipted, Receipted}
 
 -- ---- receipts and logs
@@ -83,12 +83,13 @@ module _ {D : Type 0} (disk_of : D → D → DiskChange) where
       AreAnswered requests first list Whole answers → length list ≤ room_from limit first →
       IsWholeRun limit catalog requests db first list (report_text catalog requests (weave missing requests answers) first list db Whole) (disk_of old new)
 
-  -- law: an opening, an engine that was closed, its receipts and the answers to its clients are a stopped run
+  -- law: an opening, an engine that was closed, its receipts, its log and the answers to its clients are a stopped run
   abbrev pub StoppedRuns : Type 0
   StoppedRuns =
       (limit : ℕ) (catalog : Catalog) (requests : List Request) (db : Database) (first : ℕ) (list : List Listed) (status count : ℕ)
       (missing : Answer) (answers : List (List Answer)) (old mid new : D) →
       Opened catalog db first (disk_of old mid) → Closed catalog db first list (disk_of mid new) → Receipted catalog first list count (disk_of mid new) →
+      LogEndsAsStopped status first list count (disk_of mid new) →
       AreAnswered requests first list (stop_on status count limit first list mid new) answers → length list ≤ room_from limit first →
       IsStoppedRun limit catalog requests db first list status count
       (report_text catalog requests (weave missing requests answers) first list db (stop_on status count limit first list old new)) (disk_of old new)

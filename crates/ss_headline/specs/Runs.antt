@@ -1,5 +1,6 @@
 -- Runs on a disk: the session is one from each database that the disk stood for.
-use Rattle.std.specs.Prelude.{◌≡◌, ◌≤◌, ℕ, List, ◌++◌, length}
+use Rattle.std.specs.Prelude.{◌≡◌, ◌⊎◌, ◌≤◌, ◌+◌, ℕ, List, ◌++◌, length, take}
+use Rattle.ss_value.specs.FaultCounts.{Rose}
 use Rattle.ss_model.specs.declared.catalog.Catalog.{Catalog}
 use Rattle.ss_model.specs.declared.entry.Entry.{Entry}
 use Rattle.ss_model.specs.declared.entry.Listed.{Listed}
@@ -28,6 +29,22 @@ pub record LogEndsWith (list : List Listed) (seen : Files) : Type 0 where
   pub before : List Entry
   pub ends : entries_of stood ≡ before ++ listed_entries list
 
+-- so they are those of a front of the list, which ends at this place at least
+pub record LogEndsWithFront (first : ℕ) (list : List Listed) (least : ℕ) (seen : Files) : Type 0 where
+  pub some : ℕ
+  pub within : some ≤ length list
+  pub enough : least ≤ first + some
+  pub logged : LogEndsWith (take some list) seen
+
+-- the disk failed in the call, and the run stopped with the status that tells so (5), or where there was no memory to tell it (6)
+pub record HasFailed (status : ℕ) (disk : DiskChange) : Type 0 where
+  pub status_is : (status ≡ 5) ⊎ (status ≡ 6)
+  pub rose : Rose disk.faults_before disk.faults_now
+
+-- the log ends with a front of the list that has all below this count, or the disk has failed
+abbrev pub LogEndsAsStopped : ℕ → ℕ → List Listed → ℕ → DiskChange → Type 0
+LogEndsAsStopped status first list count disk = disk.tells → LogEndsWithFront first list count disk.seen_now ⊎ HasFailed status disk
+
 -- this list, which began at this database and place, is a whole run with this report; a log that ends with it tells it also where the
 -- report is cut
 pub record IsWholeRun (limit : ℕ) (catalog : Catalog) (requests : List Request) (opening : Database) (first : ℕ) (list : List Listed) (text : List ℕ)
@@ -40,4 +57,5 @@ pub record IsWholeRun (limit : ℕ) (catalog : Catalog) (requests : List Request
 pub record IsStoppedRun (limit : ℕ) (catalog : Catalog) (requests : List Request) (opening : Database) (first : ℕ) (list : List Listed) (status count : ℕ)
     (text : List ℕ) (disk : DiskChange) : Type 0 where
   pub within : length list ≤ room_from limit first
+  pub logged : LogEndsAsStopped status first list count disk
   pub session : FromStore catalog opening first disk (StoppedSession catalog requests limit first list status count text disk)

@@ -1,5 +1,5 @@
 -- The headline, a record or a name for each of its sentences.
-use Rattle.std.specs.Prelude.{◌==◌, ℕ, ◌+◌, ◌-◌, ◌^◌, ◌≤◌, min, List, length, drop}
+use Rattle.std.specs.Prelude.{◌==◌, ◌&&◌, not, cond, ℕ, ◌+◌, ◌-◌, ◌^◌, ◌≤◌, min, List, length, drop}
 use Rattle.ss_model.specs.declared.catalog.Catalog.{Catalog}
 use Rattle.ss_model.specs.declared.entry.Listed.{Listed}
 use Rattle.ss_model.specs.declared.entry.Request.{Request}
@@ -66,10 +66,17 @@ pub record WholeSession (catalog : Catalog) (requests : List Request) (first : �
 abbrev pub room_from : ℕ → ℕ → ℕ
 room_from limit first = min limit (2 ^ 60 - first)
 
--- the stop with this status and count, of this list, at a disk with these faults before and now
+-- The stop with this status and count, of this list, at a disk with these faults before and now. A reply may say that the list is full
+-- where it is, but not at a stop for want of memory (6); and that the disk has failed at the stop alone that tells so (5).
 abbrev pub stop_at : ℕ → ℕ → ℕ → ℕ → List Listed → ℕ → ℕ → End
 stop_at status count limit first list before now =
-    Stopped (record { status = status; count = count; at_limit = length list == room_from limit first; faults_before = before; faults_after = now })
+    Stopped (record {
+      status = status;
+      count = count;
+      at_limit = not (status == 6) && length list == room_from limit first;
+      faults_before = before;
+      faults_after = cond (status == 5) now 0;
+    })
 
 -- it stopped with this status, and the executions below this count are receipted
 pub record StoppedSession (catalog : Catalog) (requests : List Request) (limit first : ℕ) (list : List Listed) (status count : ℕ) (text : List ℕ)

@@ -88,7 +88,7 @@ pub fn whole_runs<D: Disk>()
     sessions_hold_from_each::<D>();
 }
 
-/// An opening, an engine that was closed, its receipts and the answers to its clients are a stopped run.
+/// An opening, an engine that was closed, its receipts, its log and the answers to its clients are a stopped run.
 pub fn stopped_runs<D: Disk>()
     ensures { StoppedRuns (disk_of D.tells D.honest D.seen D.moment D.images D.faults) }
 {

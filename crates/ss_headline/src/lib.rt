@@ -17,8 +17,9 @@
 //!
 //! # Promises
 //!
-//! - What the calls below owe (`Opened`, `Closed`, and `Settled` or `Receipted`), with the answers to the clients, is a
-//!   whole run or a stopped one (`whole_runs`, `stopped_runs`). By these two the top call promises what it does.
+//! - What the calls below owe (`Opened`, `Closed`, and `Settled`, or `Receipted` with `LogEndsAsStopped`), with the
+//!   answers to the clients, is a whole run or a stopped one (`whole_runs`, `stopped_runs`). By these two the top call
+//!   promises what it does.
 //! - A session from one database is one from each of which the same is kept (`sessions_hold_from_each`), so a run is
 //!   one from every place and database that the disk stood for (`runs_hold_from_each`).
 //! - Two runs on one disk go on from each other (`calls_go_on`). Where nothing was pending on the disk before a call, a
@@ -30,8 +31,10 @@
 //!   might have left before, or what is promised (`AtEachMoment`), and behind the call what is promised (`AtTheExit`). A
 //!   premise that nothing was pending would make the promise shorter, but no call leaves a disk that is known to meet it:
 //!   behind a run that stopped each present image is a front of its list, and they may differ.
-//! - A stop is computed from the list and the disk (`stop_at`), instead of being any stop with the status: with a free
-//!   limit or free counts of faults each reply could say that the list is full or the log halted.
+//! - A stop is computed from the status, the list and the disk (`stop_at`), instead of being any stop with the status:
+//!   with a free limit or free counts of faults each reply could say that the list is full or the log halted.
+//! - What a stopped run's log ends with is said of a log that goes on alone (`LogEndsAsStopped`): once a disk has failed
+//!   nobody knows what it has. That it failed is in the status, but for a run whose report found no memory.
 //! - A receipt is said twice (`EveryReceiptStands`): that each image stands for the receipted executions, and that it
 //!   is a front of the list which ends there at least. The second tells the first; the first is what a client was
 //!   promised, without the list.

@@ -5,6 +5,7 @@ pub mod OneInput
 pub mod TopAnswers
 pub mod InputPremises
 pub mod Outside
+pub mod Unreported
 pub mod Running
 pub mod Storing
 pub mod ClientsBelow

@@ -18,7 +18,7 @@ use Rattle.ss_model.specs.Report.{asked_entry, entries_behind, is_same_request, 
 use Rattle.ss_report_laws.specs.Replies.{is_of, mine, requests_of, expected_entries}
 use Rattle.ss_report_laws.proofs.CallerLemmas.{before, count_here, same_before}
 use Rattle.ss_headline.specs.Owed.{outside}
-use Rattle.ss_top.specs.Runs.{say_full}
+use Rattle.ss_top.specs.Told.{say_full}
 
 -- ---- other requests
 

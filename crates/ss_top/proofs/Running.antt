@@ -1,6 +1,6 @@
 -- What is reported of a session, by how it ended.
-use Rattle.std.proofs.Common.{◌≡◌, ◌≢◌, ◌≤◌, ◌<◌, ◌+◌, ◌-◌, ◌^◌, ◌==◌, ◌⊎◌, ◌∙◌, inl, inr, ℕ, zero, suc, refl, Bool, true, false, cond, List, [], ◌∷◌, ◌++◌, length, take, get_or, sym, ap, subst, Some, None, Result, Ok, Err, arith, is_some, unwrap_or, eq-eqb}
-use Rattle.std.specs.Prelude.{Option, IfSome, IfNone, IsOk}
+use Rattle.std.proofs.Common.{◌≡◌, ◌≢◌, ◌≤◌, ◌<◌, ◌+◌, ◌-◌, ◌^◌, ◌==◌, ◌⊎◌, ◌∙◌, inl, inr, ℕ, zero, suc, refl, Bool, true, false, cond, List, [], ◌∷◌, length, take, get_or, sym, ap, subst, Some, None, Result, Ok, Err, arith, is_some, unwrap_or, eq-eqb}
+use Rattle.std.specs.Prelude.{Option, IfSome, IfNone, IsOk, ◌&&◌, not}
 use Rattle.std.specs.List.{AllByRecursion, list_any}
 use Rattle.std.proofs.lemmas.Bool.{cases_lt, false≢true, or_parts}
 use Rattle.std.proofs.lemmas.List.{take_all}
@@ -28,7 +28,7 @@ use Rattle.ss_disk.specs.Files.{Files}
 use Rattle.ss_cmdlog.specs.declared.log.CmdLog.{CmdLog}
 use Rattle.ss_cmdlog.specs.declared.log.Receipt.{Receipt}
 use Rattle.ss_cmdlog.proofs.CallerLemmas.{open_stands}
-use Rattle.ss_standing.specs.Standing.{listed_entries, StandsForAll, StandsForAtLeast}
+use Rattle.ss_standing.specs.Standing.{StandsForAll, StandsForAtLeast}
 use Rattle.ss_receipts.specs.declared.durable.DurableError.{DurableError}
 use Rattle.ss_receipts.specs.Durable.{IsDurable}
 use Rattle.ss_receipts.specs.Holding.{HaltedAt}
@@ -38,7 +38,7 @@ use Rattle.ss_headline.specs.Sentences.{room_from}
 use Rattle.ss_headline.specs.Layers.{Opened, Closed, Settled, FewUnreceipted, Receipted}
 use Rattle.ss_headline.specs.Laws.{WholeRuns, StoppedRuns}
 use Rattle.ss_headline.specs.Laws as law
-use Rattle.ss_headline.specs.Runs.{LogEndsWith, IsWholeRun, IsStoppedRun}
+use Rattle.ss_headline.specs.Runs.{LogEndsWith, LogEndsAsStopped, IsStoppedRun}
 use Rattle.ss_engine.specs.declared.session.Finished.{Finished}
 use Rattle.ss_engine.specs.declared.settling.Settling.{Settling}
 use Rattle.ss_engine.specs.declared.settling.Settling.TheVariants as settling
@@ -50,21 +50,23 @@ use Rattle.ss_top.specs.declared.session.Printing.{Printing}
 use Rattle.ss_top.specs.declared.session.Printing.TheVariants.{InFull, Summary}
 use Rattle.ss_top.specs.declared.status.Status.{Status}
 use Rattle.ss_top.specs.declared.status.Status.TheVariants.{Done, Usage, Input, ReadFault, WriteFault, Disk, NoMemory, Foreign, OtherCatalog, Limit}
-use Rattle.ss_top.specs.Runs.{say_full, some_say_full, settled_status, session_status, end_for, Reports}
+use Rattle.ss_top.specs.Runs.{settled_status, session_status, end_for, Reports}
 use Rattle.ss_top.specs.Statuses.{status_number}
+use Rattle.ss_top.specs.Told.{say_full, some_say_full}
 use Rattle.ss_top.specs.Stores.{IsPrinted, WholeRun, StoppedRun, FullRun, RanAs}
 use Rattle.ss_top.proofs.Outside.{outside_by_one}
+use Rattle.ss_top.proofs.Unreported.{all_without_memory, answered_without_memory}
 
 -- ---- answers at a stop, and at the end of a whole run
 
 module _ (room entries faults : ℕ) where
   -- where no disk has failed and no answer says that the list is full, the others say that there was no memory
-  at_whole : faults ≡ 0 → (these : List Answer) → AreListedOr room entries faults these → say_full these ≡ false → AllByRecursion (IsListedOr (Unlisted Whole)) these
-  at_whole calm [] h none = tt
-  at_whole calm (ListedAnswer place outcome ∷ these) h none = (tt, at_whole calm these h.1 none)
-  at_whole calm (NoMemoryAnswer ∷ these) h none = (tt, at_whole calm these h.1 none)
-  at_whole calm (ListFull count ∷ these) h none = absurd (false≢true (sym none))
-  at_whole calm (Halted n ∷ these) h none = absurd (h.0.1 (h.0.0 ∙ calm))
+  at_calm : (end : End) → Unlisted end NoMemoryAnswer → faults ≡ 0 → (these : List Answer) → AreListedOr room entries faults these → say_full these ≡ false → AllByRecursion (IsListedOr (Unlisted end)) these
+  at_calm end may calm [] h none = tt
+  at_calm end may calm (ListedAnswer place outcome ∷ these) h none = (tt, at_calm end may calm these h.1 none)
+  at_calm end may calm (NoMemoryAnswer ∷ these) h none = (may, at_calm end may calm these h.1 none)
+  at_calm end may calm (ListFull count ∷ these) h none = absurd (false≢true (sym none))
+  at_calm end may calm (Halted n ∷ these) h none = absurd (h.0.1 (h.0.0 ∙ calm))
 
   -- where one says so the list is full
   full_by_one : (these : List Answer) → AreListedOr room entries faults these → say_full these ≡ true → room ≤ entries
@@ -93,6 +95,10 @@ some_of (these ∷ answers) some = elim (either_so (say_full these) (list_any sa
 calm_at : (before now : ℕ) (halted : Option ℕ) (fault : ℕ) → HaltedAt before now halted fault → halted ≡ None → fault ≡ 0
 calm_at before now halted fault (inl calm) none = calm.1
 calm_at before now halted fault (inr failed) none = let no : None ≡ Some fault = sym none ∙ failed.0 in absurd (cc)
+
+not_halted : (halted : Option ℕ) → is_some halted ≡ false → halted ≡ None
+not_halted None is = refl
+not_halted (Some fault) is = absurd (false≢true (sym is))
 
 -- one that was tells a count to which the disk's rose
 rose_at : (before now : ℕ) (halted : Option ℕ) (fault : ℕ) → HaltedAt before now halted fault → is_some halted ≡ true → Rose before now
@@ -152,6 +158,27 @@ module _ {D : Type 0} (tells honest : Type 0) (seen : D → Files) (moment : D �
       few = λ client. few_of client (e.ends.run.few_behind client);
     }
 
+    -- ---- what the log ends with
+
+    -- a log that wasn't halted has a front of the list up to its count
+    front_logged : ended.log.halted ≡ None → tells → LogEndsWith (take (e.ends.count - first) list) (seen new)
+    front_logged going told =
+        let goes = e.ends.holds.going going in record {
+          stood = goes.generation;
+          stands = open_stands (seen new) ended.log.file ended.log.gate goes.generation (goes.opened_at.at told);
+          before = goes.earlier;
+          ends = goes.ends told;
+        }
+
+    goes_as_stopped : ended.log.halted ≡ None → (status : ℕ) → LogEndsAsStopped status first list ended.receipted (change log.disk new)
+    goes_as_stopped going status told =
+        let held = e.ends.holds.within in
+        let told_of = e.ends.within in
+        inl (record { some = e.ends.count - first; within = omega (arith, held); enough = omega (arith, told_of); logged = front_logged going told })
+
+    failed_as_stopped : is_some ended.log.halted ≡ true → (status : ℕ) → (status ≡ 5) ⊎ (status ≡ 6) → LogEndsAsStopped status first list ended.receipted (change log.disk new)
+    failed_as_stopped some status is told = inr (record { status_is = is; rose = rose_at (faults log.disk) (faults new) ended.log.halted e.ends.fault e.ends.holds.halt some })
+
     -- ---- all is written
 
     module _ (ok : IsOk ended.flushed) (going : ended.log.halted ≡ None) where
@@ -162,13 +189,7 @@ module _ {D : Type 0} (tells honest : Type 0) (seen : D → Files) (moment : D �
       whole_front = take_all (e.ends.count - first) list (omega (arith, at_end))
 
       logged : tells → LogEndsWith list (seen new)
-      logged told =
-          let goes = e.ends.holds.going going in record {
-            stood = goes.generation;
-            stands = open_stands (seen new) ended.log.file ended.log.gate goes.generation (goes.opened_at.at told);
-            before = goes.earlier;
-            ends = goes.ends told ∙ ap (λ (l : List Listed). goes.earlier ++ listed_entries l) whole_front;
-          }
+      logged told = subst (λ (l : List Listed). LogEndsWith l (seen new)) whole_front (front_logged going told)
 
       all : (image : Files) → StandsForAll catalog db first list image → StandsForAtLeast catalog (first + length list) image
       all image stands = record { count = first + length list; k = kept catalog (after catalog db list); stands = stands; enough = omega arith }
@@ -178,64 +199,100 @@ module _ {D : Type 0} (tells honest : Type 0) (seen : D → Files) (moment : D �
 
     -- ---- what is answered
 
-    module _ (status : ℕ) where
-      abbrev stop : End
-      stop = law.stop_on change status ended.receipted limit first list log.disk new
+    -- these answers, at an end that explains each that isn't listed
+    explained : (end : End) → ((a : Answer) → IsListedOr (IsUnlisted (room_from limit first) (length list) e.ends.fault) a → IsListedOr (Unlisted end) a) → AreAnswered requests first list end answers
+    explained end explains = record {
+      many = e.ends.run.many;
+      each = e.ends.run.each;
+      others = λ client. all_with (IsListedOr (IsUnlisted (room_from limit first) (length list) e.ends.fault)) (IsListedOr (Unlisted end)) explains (answers_of answers client) (e.ends.run.others client);
+    }
 
-      explains : (a : Answer) → IsListedOr (IsUnlisted (room_from limit first) (length list) e.ends.fault) a → IsListedOr (Unlisted stop) a
-      explains (ListedAnswer place outcome) h = tt
-      explains NoMemoryAnswer h = tt
-      explains (ListFull count) h = let within = e.ends.run.within in eq-eqb (length list) (room_from limit first) (omega (arith, h.1, within))
-      explains (Halted n) h = explained_at (faults log.disk) (faults new) ended.log.halted e.ends.fault n e.ends.holds.halt small h.0 h.1
+    -- where the disk hasn't failed and none says that the list is full, at each end
+    answered_calm : (end : End) → Unlisted end NoMemoryAnswer → ended.log.halted ≡ None → some_say_full answers ≡ false → AreAnswered requests first list end answers
+    answered_calm end may going none =
+        let calm = calm_at (faults log.disk) (faults new) ended.log.halted e.ends.fault e.ends.holds.halt going in record {
+          many = e.ends.run.many;
+          each = e.ends.run.each;
+          others = λ client. at_calm (room_from limit first) (length list) e.ends.fault end may calm (answers_of answers client) (e.ends.run.others client) (none_of answers client none);
+        }
 
-      at_stop : AreAnswered requests first list stop answers
-      at_stop = record {
-        many = e.ends.run.many;
-        each = e.ends.run.each;
-        others = λ client. all_with (IsListedOr (IsUnlisted (room_from limit first) (length list) e.ends.fault)) (IsListedOr (Unlisted stop)) explains (answers_of answers client) (e.ends.run.others client);
-      }
+    -- an answer that the list is full comes where it is
+    list_is_full : (count : ℕ) → IsUnlisted (room_from limit first) (length list) e.ends.fault (ListFull count) → (length list == room_from limit first) ≡ true
+    list_is_full count h = let within = e.ends.run.within in eq-eqb (length list) (room_from limit first) (omega (arith, h.1, within))
 
-      -- the text of a stop with this status and the count that is receipted
-      abbrev stop_text : Answer → List ℕ
-      stop_text missing = report_text catalog requests (weave missing requests answers) first list db (law.stop_on change status ended.receipted limit first list old new)
+    -- the stop with this status, on a disk that was this one before
+    abbrev stop_since : D → ℕ → End
+    stop_since since status = law.stop_on change status ended.receipted limit first list since new
 
-      run_stopped : (missing : Answer) → IsStoppedRun limit catalog requests db first list status ended.receipted (stop_text missing) (change old new)
-      run_stopped missing = stopped_law limit catalog requests db first list status ended.receipted missing answers old log.disk new opened closed receipted at_stop e.ends.run.within
+    -- at the stop that tells that the disk has failed
+    answered_failed : AreAnswered requests first list (stop_since log.disk 5) answers
+    answered_failed = explained (stop_since log.disk 5) explains
+      where
+        explains : (a : Answer) → IsListedOr (IsUnlisted (room_from limit first) (length list) e.ends.fault) a → IsListedOr (Unlisted (stop_since log.disk 5)) a
+        explains (ListedAnswer place outcome) h = tt
+        explains NoMemoryAnswer h = tt
+        explains (ListFull count) h = list_is_full count h
+        explains (Halted n) h = explained_at (faults log.disk) (faults new) ended.log.halted e.ends.fault n e.ends.holds.halt small h.0 h.1
 
-      abbrev stop_record : Stop
-      stop_record = record { status = status; count = ended.receipted; at_limit = length list == room_from limit first; faults_before = faults old; faults_after = faults new }
+    -- at the stop of a full list, where it hasn't
+    answered_full : (since : D) → ended.log.halted ≡ None → AreAnswered requests first list (stop_since since 9) answers
+    answered_full since going = explained (stop_since since 9) explains
+      where
+        calm : e.ends.fault ≡ 0
+        calm = calm_at (faults log.disk) (faults new) ended.log.halted e.ends.fault e.ends.holds.halt going
 
-      -- as it is written
-      abbrev stop_end : ℕ → report.End
-      stop_end n = written.Stopped status ended.receipted n
+        explains : (a : Answer) → IsListedOr (IsUnlisted (room_from limit first) (length list) e.ends.fault) a → IsListedOr (Unlisted (stop_since since 9)) a
+        explains (ListedAnswer place outcome) h = tt
+        explains NoMemoryAnswer h = tt
+        explains (ListFull count) h = list_is_full count h
+        explains (Halted n) h = absurd (h.1 (h.0 ∙ calm))
 
-      stopped_as : (n : ℕ) (text : List ℕ) → IsReportOf catalog requests answers first list (stop_end n) text → IsStoppedRun limit catalog requests db first list status ended.receipted text (change old new)
-      stopped_as n text is =
-          subst (λ t. IsStoppedRun limit catalog requests db first list status ended.receipted t (change old new)) (sym (is db stop_record refl refl)) (run_stopped (missing_answer (stop_end n)))
+    -- ---- a stopped run
 
-    stopped_run : (status : Status) (n : ℕ) (text : List ℕ) → IsReportOf catalog requests answers first list (stop_end (status_number status) n) text → StoppedRun limit catalog requests status text (change old new)
-    stopped_run status n text is = record { opening = db; first = first; list = list; count = ended.receipted; run = stopped_as (status_number status) n text is }
+    module _ (status : ℕ) (logged_so : LogEndsAsStopped status first list ended.receipted (change log.disk new)) (told : List (List Answer)) (answered : AreAnswered requests first list (stop_since log.disk status) told) where
+      run_stopped : (missing : Answer) → IsStoppedRun limit catalog requests db first list status ended.receipted (report_text catalog requests (weave missing requests told) first list db (stop_since old status)) (change old new)
+      run_stopped missing = stopped_law limit catalog requests db first list status ended.receipted missing told old log.disk new opened closed receipted logged_so answered e.ends.run.within
+
+    -- as it is written
+    abbrev stop_end : ℕ → ℕ → report.End
+    stop_end status n = written.Stopped status ended.receipted n
+
+    abbrev stop_record : ℕ → Stop
+    stop_record status = record {
+      status = status;
+      count = ended.receipted;
+      at_limit = not (status == 6) && length list == room_from limit first;
+      faults_before = faults old;
+      faults_after = cond (status == 5) (faults new) 0;
+    }
+
+    stopped_run : (status : Status) → LogEndsAsStopped (status_number status) first list ended.receipted (change log.disk new) → AreAnswered requests first list (stop_since log.disk (status_number status)) answers
+        → (n : ℕ) (text : List ℕ) → IsReportOf catalog requests answers first list (stop_end (status_number status) n) text → StoppedRun limit catalog requests status text (change old new)
+    stopped_run status logged_so answered n text is =
+        let number = status_number status in record {
+          opening = db;
+          first = first;
+          list = list;
+          count = ended.receipted;
+          run = subst (λ t. IsStoppedRun limit catalog requests db first list number ended.receipted t (change old new)) (sym (is db (stop_record number) refl refl))
+              (run_stopped number logged_so answers answered (missing_answer (stop_end number n)));
+        }
 
     -- where something was to follow a list with all its room, more was owed
-    owes_more : length list ≡ room_from limit first → (1 ≤ outside requests list) ⊎ SomeReady catalog (after catalog db list) → room_from limit first < owed catalog db requests
-    owes_more full more = elim (cases_lt (room_from limit first) (owed catalog db requests)) [
+    owes_more : ended.log.halted ≡ None → length list ≡ room_from limit first → (1 ≤ outside requests list) ⊎ SomeReady catalog (after catalog db list) → room_from limit first < owed catalog db requests
+    owes_more going full more = elim (cases_lt (room_from limit first) (owed catalog db requests)) [
       | inl less ↦ less
       | inr enough ↦ absurd (by more (full_law catalog accepted db in_step requests list lists_asked (omega (arith, enough, full))))
     ]
       where
         lists_asked : ListsAsked catalog db requests list
         lists_asked =
-            let session = (run_stopped 9 NoMemoryAnswer).session.each db refl in
+            let session = (run_stopped 9 (goes_as_stopped going 9) answers (answered_full log.disk going) NoMemoryAnswer).session.each db refl in
             record { replays = session.replies.one_by_one; asked = session.replies.report.asked; in_turn = session.replies.report.in_turn }
 
         by : (1 ≤ outside requests list) ⊎ SomeReady catalog (after catalog db list) → (outside requests list ≡ 0) × NoneReady catalog (after catalog db list) → ⊥
         by (inl some) none = omega (arith, some, none.0)
         by (inr (q, ready)) none = false≢true (sym (none.1 q) ∙ ready)
-
-    full_run : length list ≡ room_from limit first → (1 ≤ outside requests list) ⊎ SomeReady catalog (after catalog db list) → (n : ℕ) (text : List ℕ)
-        → IsReportOf catalog requests answers first list (stop_end 9 n) text → FullRun limit catalog requests text (change old new)
-    unfolding stopped_run
-    full_run full more n text is = record { stopped = stopped_run Limit n text is; full = full; more = more; owed_more = owes_more full more }
 
     full_is : some_say_full answers ≡ true → length list ≡ room_from limit first
     full_is some =
@@ -247,6 +304,22 @@ module _ {D : Type 0} (tells honest : Type 0) (seen : D → Files) (moment : D �
     some_outside some =
         let one = some_of answers some in outside_by_one requests first list one.0 (answers_of answers one.0) (e.ends.run.many one.0) (e.ends.run.each one.0) one.1
 
+    outside_or : (some_say_full answers ≡ true) ⊎ SomeReady catalog (after catalog db list) → (1 ≤ outside requests list) ⊎ SomeReady catalog (after catalog db list)
+    outside_or (inl some) = inl (some_outside some)
+    outside_or (inr ready) = inr ready
+
+    full_run : ended.log.halted ≡ None → length list ≡ room_from limit first → (some_say_full answers ≡ true) ⊎ SomeReady catalog (after catalog db list) → (n : ℕ) (text : List ℕ)
+        → IsReportOf catalog requests answers first list (stop_end 9 n) text → FullRun limit catalog requests text (change old new)
+    unfolding stopped_run
+    full_run going full more n text is = record {
+      stopped = stopped_run Limit (goes_as_stopped going 9) (answered_full log.disk going) n text is;
+      full = full;
+      answers = answers;
+      told = record { answered = answered_full old going; missing = missing_answer (stop_end 9 n); written = is db (stop_record 9) refl refl };
+      more = more;
+      owed_more = owes_more going full (outside_or more);
+    }
+
     -- ---- a whole run
 
     -- its report
@@ -256,18 +329,12 @@ module _ {D : Type 0} (tells honest : Type 0) (seen : D → Files) (moment : D �
     whole_run : ended.log.halted ≡ None → some_say_full answers ≡ false → IsOk ended.flushed → Drained catalog (after catalog db list) → (text : List ℕ) → IsPrinted printing list whole_text text
         → WholeRun limit printing catalog requests text (change old new)
     whole_run going none ok drained text printed =
-        let calm = calm_at (faults log.disk) (faults new) ended.log.halted e.ends.fault e.ends.holds.halt going in
-        let answered : AreAnswered requests first list Whole answers = record {
-          many = e.ends.run.many;
-          each = e.ends.run.each;
-          others = λ client. at_whole (room_from limit first) (length list) e.ends.fault calm (answers_of answers client) (e.ends.run.others client) (none_of answers client none);
-        } in
         record {
           opening = db;
           first = first;
           list = list;
           report = whole_text;
-          run = whole_law limit catalog requests db first list NoMemoryAnswer answers old log.disk new opened closed (settled ok going drained) answered e.ends.run.within;
+          run = whole_law limit catalog requests db first list NoMemoryAnswer answers old log.disk new opened closed (settled ok going drained) (answered_calm Whole tt going none) e.ends.run.within;
           printed = printed;
         }
 
@@ -295,23 +362,19 @@ module _ {D : Type 0} (tells honest : Type 0) (seen : D → Files) (moment : D �
     by_settling : ended.log.halted ≡ None → some_say_full answers ≡ false → (end : Settling) → ended.closed.end ≡ end → EndedWith catalog db (room_from limit first) list end
         → (flushed : Bool) → (flushed ≡ true → IsOk ended.flushed) → (n : ℕ) (text : List ℕ) → IsWritten (settled_status end flushed) n text → Is (settled_status end flushed) text
     by_settling going none settling.Done is ends true ok n text written' = by_database going none (ok refl) (ends.1 in_step) is ended.closed.database refl e.ends.run.lost e.ends.run.left n text written'
-    by_settling going none settling.Done is ends false ok n text written' = stopped_run NoMemory n text written'
-    by_settling going none (settling.ListFull count) is ends flushed ok n text written' = full_run ends.0 (inr ends.2) n text written'
-    by_settling going none settling.NoMemory is ends flushed ok n text written' = stopped_run NoMemory n text written'
+    by_settling going none settling.Done is ends false ok n text written' = stopped_run NoMemory (goes_as_stopped going 6) (answered_calm (stop_since log.disk 6) tt going none) n text written'
+    by_settling going none (settling.ListFull count) is ends flushed ok n text written' = full_run going ends.0 (inr ends.2) n text written'
+    by_settling going none settling.NoMemory is ends flushed ok n text written' = stopped_run NoMemory (goes_as_stopped going 6) (answered_calm (stop_since log.disk 6) tt going none) n text written'
 
     by_answers : ended.log.halted ≡ None → (b : Bool) → some_say_full answers ≡ b → (flushed : Bool) → (flushed ≡ true → IsOk ended.flushed) → (n : ℕ) (text : List ℕ)
         → IsWritten (cond b Limit (settled_status ended.closed.end flushed)) n text → Is (cond b Limit (settled_status ended.closed.end flushed)) text
-    by_answers going true some flushed ok n text written' = full_run (full_is some) (inl (some_outside some)) n text written'
+    by_answers going true some flushed ok n text written' = full_run going (full_is some) (inl some) n text written'
     by_answers going false none flushed ok n text written' = by_settling going none ended.closed.end refl e.ends.run.end flushed ok n text written'
 
     by_failed : (failed : Bool) → is_some ended.log.halted ≡ failed → (flushed : Bool) → (flushed ≡ true → IsOk ended.flushed) → (n : ℕ) (text : List ℕ)
         → IsWritten (session_status failed answers ended.closed.end flushed) n text → Is (session_status failed answers ended.closed.end flushed) text
-    by_failed true is flushed ok n text written' = stopped_run Disk n text written'
-    by_failed false is flushed ok n text written' = by_answers (no_some ended.log.halted is) (some_say_full answers) refl flushed ok n text written'
-      where
-        no_some : (o : Option ℕ) → is_some o ≡ false → o ≡ None
-        no_some None is = refl
-        no_some (Some n) is = let no : true ≡ false = is in absurd (cc)
+    by_failed true is flushed ok n text written' = stopped_run Disk (failed_as_stopped is 5 (inl refl)) answered_failed n text written'
+    by_failed false is flushed ok n text written' = by_answers (not_halted ended.log.halted is) (some_say_full answers) refl flushed ok n text written'
 
     -- the status and the report that was written of it
     pub reported : (failed : Bool) → is_some ended.log.halted ≡ failed → (flushed : Bool) → (flushed ≡ true → IsOk ended.flushed) → (status : Status) → status ≡ session_status failed answers ended.closed.end flushed
@@ -338,12 +401,23 @@ module _ {D : Type 0} (tells honest : Type 0) (seen : D → Files) (moment : D �
     -- there was no memory for a report
     pub unreported : Reports limit printing catalog requests NoMemory None (change old new)
     unreported = record {
-      whole = stop_text 6 NoMemoryAnswer;
-      ran = record { opening = db; first = first; list = list; count = ended.receipted; run = run_stopped 6 NoMemoryAnswer };
+      whole = report_text catalog requests (weave NoMemoryAnswer requests told) first list db (stop_since old 6);
+      ran = record { opening = db; first = first; list = list; count = ended.receipted; run = run_stopped 6 (logged_at (is_some ended.log.halted) refl) told answered NoMemoryAnswer };
       written = tt;
       unwritten = refl;
       rose = λ disk. let no : ⊥ = cc in absurd no;
     }
+      where
+        -- whatever was answered, no text tells it
+        told : List (List Answer)
+        told = all_without_memory answers
+
+        answered : AreAnswered requests first list (stop_since log.disk 6) told
+        answered = answered_without_memory requests first list (stop_since log.disk 6) answers tt e.ends.run.many e.ends.run.each
+
+        logged_at : (failed : Bool) → is_some ended.log.halted ≡ failed → LogEndsAsStopped 6 first list ended.receipted (change log.disk new)
+        logged_at true is = failed_as_stopped is 6 (inr refl)
+        logged_at false is = goes_as_stopped (not_halted ended.log.halted is) 6
 
     -- where the report begins, and the tables that it has
     pub places : first + length list < 2 ^ 64

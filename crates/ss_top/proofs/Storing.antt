@@ -23,7 +23,8 @@ use Rattle.ss_top.specs.declared.status.Status.{Status}
 use Rattle.ss_top.specs.declared.status.Status.TheVariants.{Done, Usage, Input, ReadFault, WriteFault, Disk, NoMemory, Foreign, OtherCatalog, Limit}
 use Rattle.ss_engine.specs.declared.settling.Settling.{Settling}
 use Rattle.ss_engine.specs.declared.settling.Settling.TheVariants as settling
-use Rattle.ss_top.specs.Runs.{some_say_full, settled_status, session_status, Reports}
+use Rattle.ss_top.specs.Runs.{settled_status, session_status, Reports}
+use Rattle.ss_top.specs.Told.{some_say_full}
 use Rattle.ss_top.specs.Sinks.{SinkChange, Writes}
 use Rattle.ss_top.specs.Statuses.{no_memory_text, other_catalog_text}
 use Rattle.ss_top.specs.StoreRefusals.{TellsReport, TellsRefusal, WritesWhole, HasTexts}

@@ -3,6 +3,7 @@ pub mod Starts
 pub mod Refused
 pub mod Inputs
 pub mod Sinks
+pub mod Told
 pub mod Stores
 pub mod StoreRefusals
 pub mod Complete

@@ -1,10 +1,8 @@
 -- How a session ended, by the answers and the ways in which settling and the last flush ended; and its report.
-use Rattle.std.specs.Prelude.{◌≡◌, ◌≤◌, ◌^◌, ℕ, Bool, true, false, cond, List, Option, Some, IfSome, IfNone}
-use Rattle.std.specs.List.{list_any}
+use Rattle.std.specs.Prelude.{◌≡◌, ◌≤◌, ◌^◌, ℕ, Bool, cond, List, Option, Some, IfSome, IfNone}
 use Rattle.ss_value.specs.FaultCounts.{Rose}
 use Rattle.ss_model.specs.declared.catalog.Catalog.{Catalog}
 use Rattle.ss_model.specs.declared.entry.Answer.{Answer}
-use Rattle.ss_model.specs.declared.entry.Answer.TheVariants.{ListFull}
 use Rattle.ss_model.specs.declared.entry.Request.{Request}
 use Rattle.ss_model.specs.Accepted.{Accepted}
 use Rattle.ss_model.specs.Database.{Database as Model}
@@ -28,19 +26,7 @@ use Rattle.ss_top.specs.declared.status.Status.{Status}
 use Rattle.ss_top.specs.declared.status.Status.TheVariants.{Done, Disk, NoMemory, Limit}
 use Rattle.ss_top.specs.Statuses.{status_number}
 use Rattle.ss_top.specs.Stores.{RanAs}
-
--- whether a request was answered that the list is full
-abbrev pub says_full : Answer → Bool
-says_full (ListFull count) = true
-says_full _ = false
-
--- whether one of these was
-abbrev pub say_full : List Answer → Bool
-say_full answers = list_any says_full answers
-
--- whether one of any client's was
-abbrev pub some_say_full : List (List Answer) → Bool
-some_say_full answers = list_any say_full answers
+use Rattle.ss_top.specs.Told.{some_say_full}
 
 -- the end where settling ended so: nothing is pending, and all is written; or the list is full; or there was no memory
 abbrev pub settled_status : Settling → Bool → Status

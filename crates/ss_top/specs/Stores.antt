@@ -1,6 +1,7 @@
 -- What running requests on a store comes to, by the status with which the program ends.
-use Rattle.std.specs.Prelude.{◌≡◌, ◌≢◌, ◌⊎◌, ◌<◌, ◌≤◌, ℕ, List, [], length, codes}
+use Rattle.std.specs.Prelude.{◌≡◌, ◌≢◌, ◌⊎◌, ◌<◌, ℕ, true, List, [], length, codes}
 use Rattle.ss_model.specs.declared.catalog.Catalog.{Catalog}
+use Rattle.ss_model.specs.declared.entry.Answer.{Answer}
 use Rattle.ss_model.specs.declared.entry.Listed.{Listed}
 use Rattle.ss_model.specs.declared.entry.Request.{Request}
 use Rattle.ss_model.specs.Accepted.{Accepted}
@@ -10,8 +11,8 @@ use Rattle.ss_model.specs.Report.{voter_text}
 use Rattle.ss_cmdlog.specs.Store.{IsEmpty}
 use Rattle.ss_headline.specs.Disks.{DiskChange, AsBefore, NothingRan, OnlyRead}
 use Rattle.ss_headline.specs.Layers.{Opened}
-use Rattle.ss_headline.specs.Owed.{outside, owed}
-use Rattle.ss_headline.specs.Sentences.{room_from}
+use Rattle.ss_headline.specs.Owed.{owed}
+use Rattle.ss_headline.specs.Sentences.{room_from, stop_at}
 use Rattle.ss_headline.specs.Runs.{IsWholeRun, IsStoppedRun}
 use Rattle.ss_recover.specs.Faults.{HasFaultAt, IsStore}
 use Rattle.ss_engine.specs.Closings.{SomeReady}
@@ -20,6 +21,7 @@ use Rattle.ss_top.specs.declared.session.Printing.TheVariants.{InFull, Summary}
 use Rattle.ss_top.specs.declared.status.Status.{Status}
 use Rattle.ss_top.specs.declared.status.Status.TheVariants.{Done, WriteFault, Disk, NoMemory, Foreign, OtherCatalog, Limit}
 use Rattle.ss_top.specs.Sinks.{SinkChange, Writes, WritesAll, WritesPrefix}
+use Rattle.ss_top.specs.Told.{WereTold, some_say_full}
 use Rattle.ss_top.specs.Statuses.{status_number, disk_fault_text, foreign_text, no_memory_text, other_catalog_text}
 
 -- ---- before the clients start
@@ -95,12 +97,15 @@ pub record StoppedRun (limit : ℕ) (catalog : Catalog) (requests : List Request
   pub count : ℕ
   pub run : IsStoppedRun limit catalog requests opening first list (status_number status) count text disk
 
--- a run that stopped where its list has all its room, and a request or a ready step was to follow, so that more was owed than there was
--- room for
+-- a run that stopped where its list has all its room, and a request was answered that the list is full, or a procedure is ready behind it,
+-- so that more was owed than there was room for
 pub record FullRun (limit : ℕ) (catalog : Catalog) (requests : List Request) (text : List ℕ) (disk : DiskChange) : Type 0 where
   pub stopped : StoppedRun limit catalog requests Limit text disk
   pub full : length stopped.list ≡ room_from limit stopped.first
-  pub more : (1 ≤ outside requests stopped.list) ⊎ SomeReady catalog (after catalog stopped.opening stopped.list)
+  pub answers : List (List Answer)
+  pub told : WereTold catalog requests stopped.opening stopped.first stopped.list
+      (stop_at (status_number Limit) stopped.count limit stopped.first stopped.list disk.faults_before disk.faults_now) text answers
+  pub more : (some_say_full answers ≡ true) ⊎ SomeReady catalog (after catalog stopped.opening stopped.list)
   pub owed_more : room_from limit stopped.first < owed catalog stopped.opening requests
 
 -- a session that ended with this status has this report

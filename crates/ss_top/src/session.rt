@@ -12,7 +12,8 @@ ghost use Rattle.ss_headline.specs.Sentences.{room_from};
 ghost use Rattle.ss_recover.specs.Recovering.{GoesOn};
 ghost use Rattle.ss_engine.specs.Clients.{AllFit};
 ghost use Rattle.ss_engine.specs.Sessions.{AreOfClients, IsLeftOver};
-ghost use Rattle.ss_top.specs.Runs.{says_full, say_full, some_say_full, settled_status, session_status, end_for, Reports, ReportsFinished};
+ghost use Rattle.ss_top.specs.Runs.{settled_status, session_status, end_for, Reports, ReportsFinished};
+ghost use Rattle.ss_top.specs.Told.{says_full, say_full, some_say_full};
 
 use crate::status::Status;
 use ss_commitlog::Opening;
@@ -154,7 +155,8 @@ fn end_for(
 /// The report of a finished session.
 ///
 /// Linear in the bytes of the report. Where there is no memory for it the session has stopped for want of memory, whatever it
-/// ended with. It is a stopped run all the same (`Reports`): the list and the receipts are what they would be with a report.
+/// ended with. It is a stopped run all the same (`Reports`): the list and the receipts are what they would be with a report,
+/// and its text, which nobody reads, says of no request but that there was no memory.
 fn report_session<D: Disk + Drop>(
     alloc: Global,
     finished: Finished<D>,

@@ -34,7 +34,7 @@ use Rattle.ss_standing.proofs.CallerLemmas.{forming_stands, new_image_is, nothin
 use Rattle.ss_headline.specs.Between.{CallsGoOn, GoesOnBehindAll, GoesOnBehindFront, HadList, QuietLeaves, QuietStays}
 use Rattle.ss_headline.specs.Disks.{DiskChange, disk_of, AtEachMoment, NothingRan, OnlyRead}
 use Rattle.ss_headline.specs.Sentences.{WholeSession, StoppedSession, stop_at}
-use Rattle.ss_headline.specs.Runs.{IsWholeRun, IsStoppedRun}
+use Rattle.ss_headline.specs.Runs.{IsWholeRun, IsStoppedRun, LogEndsAsStopped}
 use Rattle.ss_headline.specs.Untouched.{NothingRanStands, UncalledIsOnlyRead}
 use Rattle.ss_headline.specs.Owed.{owed, outside, ListsAsked, FullListsHaveAll}
 use Rattle.ss_headline.specs.Laws.{WholeSessions, StoppedSessions, WholeRuns, StoppedRuns, RunsHoldFromEach}
@@ -191,8 +191,12 @@ stopped_session law = law workflow (request ∷ []) 5 start 0 whole_batch 9 5 (r
 whole_run : WholeRuns change → IsWholeRun 5 workflow (request ∷ []) start 0 whole_batch (report Whole) (change 0 2)
 whole_run law = law 5 workflow (request ∷ []) start 0 whole_batch NoMemory told 0 1 2 opened closed settled (answered Whole) (omega arith)
 
+-- the log has all five entries
+logged : LogEndsAsStopped 9 0 whole_batch 5 (change 1 2)
+logged = λ t. inl (record { some = 5; within = omega arith; enough = omega arith; logged = record { stood = batch_store; stands = batch_files_stand; before = []; ends = refl } })
+
 stopped_run : StoppedRuns change → IsStoppedRun 5 workflow (request ∷ []) start 0 whole_batch 9 5 (report full_end) (change 0 2)
-stopped_run law = law 5 workflow (request ∷ []) start 0 whole_batch 9 5 NoMemory told 0 1 2 opened closed receipted (answered full_end) (omega arith)
+stopped_run law = law 5 workflow (request ∷ []) start 0 whole_batch 9 5 NoMemory told 0 1 2 opened closed receipted logged (answered full_end) (omega arith)
 
 -- the disk was empty, and stood for the empty database
 from_empty : RunsHoldFromEach change → (opening : Database) (first : ℕ) → IsWholeRun 5 workflow (request ∷ []) opening first whole_batch (report Whole) (change 0 2) → 0 ≡ first
