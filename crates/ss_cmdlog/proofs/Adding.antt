@@ -3,15 +3,16 @@ use Rattle.std.proofs.Common.{◌≡◌, ⊎_elim, ℕ, ◌≤◌, List, [], ◌
 use Rattle.ss_model.specs.declared.entry.Entry.{Entry}
 use Rattle.ss_disk.specs.Files.{Files}
 use Rattle.ss_disk.specs.Moments.{LeavesOnly}
-use Rattle.ss_disk.proofs.CallerLemmas.{no_call, runs_join, leaves_less}
+use Rattle.ss_disk.proofs.CallerLemmas.{no_call, runs_join, leaves_less, stays_join}
 use Rattle.ss_cmdlog.specs.declared.log.CmdLog.{CmdLog}
 use Rattle.ss_cmdlog.specs.declared.log.LogError.{LogError}
 use Rattle.ss_cmdlog.specs.declared.log.LogError.TheVariants.{NoMemory}
 use Rattle.ss_cmdlog.specs.Generation.{Stood}
 use Rattle.ss_cmdlog.specs.Store.{StandsFor, StandsForPart, with_groups}
 use Rattle.ss_cmdlog.specs.Groups.{groups_of}
-use Rattle.ss_cmdlog.specs.Log.{IsOpen, AddsGroup}
+use Rattle.ss_cmdlog.specs.Log.{IsOpen, AddsGroup, HasAtLeast, KeepsCounts}
 use Rattle.ss_cmdlog.proofs.Logs.{open_here}
+use Rattle.ss_cmdlog.proofs.Staying.{nothing_stays}
 
 with_none : (s : Stood) → with_groups s [] ≡ s
 with_none s = ap (λ (gs : List (List Entry)). record { first = s.first; image = s.image; groups = gs }) (append-nil s.groups)
@@ -37,6 +38,7 @@ module _ {D : Type 0} (tells honest : Type 0) (seen : D → Files) (moment : D �
     pub split : groups_of entries ≡ done ++ groups_of rest
     pub opens : (s : Stood) → IsOpen tells honest seen present old s → IsOpen tells honest seen present now (with_groups s done)
     pub moments : honest → (s : Stood) → IsOpen tells honest seen present old s → LeavesOnly moment images old.disk now.disk (StandsForPart s (groups_of entries))
+    pub stays : honest → (s : Stood) → IsOpen tells honest seen present old s → KeepsCounts moment images (moment old.disk) now.disk
 
   pub begun : (honest → tells) → (log : CmdLog D) (entries : List Entry) → SoFar log log entries entries
   begun honest_tells log entries = record {
@@ -45,6 +47,7 @@ module _ {D : Type 0} (tells honest : Type 0) (seen : D → Files) (moment : D �
     opens = λ s is. subst (λ (t : Stood). IsOpen tells honest seen present log t) (sym (with_none s)) is;
     moments = λ true' s is. no_call moment images log.disk (StandsForPart s (groups_of entries)) (λ image left.
         part s (groups_of entries) [] (groups_of entries) image refl (subst (λ (t : Stood). StandsFor image t) (sym (with_none s)) (open_here tells honest seen present log s is (honest_tells true') true' image left)));
+    stays = λ true' s is. nothing_stays moment images log.disk;
   }
 
   module _ (old mid new : CmdLog D) (result : Result (Unit {0}) LogError) (entries rest behind g : _) (so_far : SoFar old mid entries rest) (next : groups_of rest ≡ g ∷ groups_of behind)
@@ -62,6 +65,12 @@ module _ {D : Type 0} (tells honest : Type 0) (seen : D → Files) (moment : D �
         (λ (after : StandsFor image (with_groups (with_groups s so_far.done) (g ∷ []))).
         part s (groups_of entries) (so_far.done ++ g ∷ []) (groups_of behind) image split_more (subst (λ (t : Stood). StandsFor image t) (with_more s so_far.done (g ∷ [])) after))
         either))
+
+    -- what stood at one of its moments stands at the later ones
+    pub stays_more : honest → (s : Stood) → IsOpen tells honest seen present old s → KeepsCounts moment images (moment old.disk) new.disk
+    stays_more true' s is n =
+        let group = adds (with_groups s so_far.done) (so_far.opens s is) in
+        stays_join moment images (HasAtLeast n) (moment old.disk) mid.disk new.disk _ (so_far.stays true' s is n) (group.moments true') (group.stays true' n)
 
     -- the group had no room, and the log goes on
     pub kept_so_far : IsErrOf result NoMemory → (s : Stood) → IsOpen tells honest seen present old s
@@ -81,6 +90,7 @@ module _ {D : Type 0} (tells honest : Type 0) (seen : D → Files) (moment : D �
       opens = λ s is. subst (λ (t : Stood). IsOpen tells honest seen present new t) (with_more s so_far.done (g ∷ []))
           (subst (λ (r : Result (Unit {0}) LogError). OnOk r (IsOpen tells honest seen present new (with_groups (with_groups s so_far.done) (g ∷ [])))) ok (adds (with_groups s so_far.done) (so_far.opens s is)).done);
       moments = moments_more;
+      stays = stays_more;
     }
 
   -- a log that goes on with the groups that were added

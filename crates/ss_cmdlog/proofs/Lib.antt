@@ -13,3 +13,6 @@ pub mod Adding
 pub mod Filled
 pub mod Formatted
 pub mod Flat
+pub mod Staying
+pub mod OnlyRead
+pub mod LeftSome

@@ -4,7 +4,7 @@ use Rattle.ss_model.specs.declared.entry.Entry.{Entry}
 use Rattle.ss_disk.specs.declared.disk.FileNo.{FileNo}
 use Rattle.ss_disk.specs.Files.{Files, file}
 use Rattle.ss_disk.specs.Crash.{Only}
-use Rattle.ss_disk.specs.Moments.{LeavesOnly}
+use Rattle.ss_disk.specs.Moments.{LeavesOnly, StaysFrom}
 use Rattle.ss_value.specs.FaultCounts.{Rose}
 use Rattle.ss_cmdlog.specs.declared.log.CmdLog.{CmdLog}
 use Rattle.ss_cmdlog.specs.declared.log.LogError.{LogError}
@@ -40,9 +40,17 @@ pub record IsOpen {D : Type 0} (tells honest : Type 0) (seen : D → Files) (pre
   pub count : tells → log.count ≡ count_of s
   pub only : honest → Only (seen log.disk) (present log.disk)
 
+-- the files stand for this count at least
+abbrev pub HasAtLeast : ℕ → Files → Type 0
+HasAtLeast n disk = (s : Stood) × StandsFor disk s × (n ≤ count_of s)
+
 -- each present image of a disk stands for this count at least
 abbrev pub IsReceipted : {D : Type 0} → (D → Files → Type 0) → ℕ → D → Type 0
-IsReceipted present n disk = (image : Files) → present disk image → (s : Stood) × StandsFor image s × (n ≤ count_of s)
+IsReceipted present n disk = (image : Files) → present disk image → HasAtLeast n image
+
+-- the count that each image of a moment stands for at least, from this one on up to now, each image of each later moment does
+abbrev pub KeepsCounts : {D : Type 0} → (D → ℕ) → (D → ℕ → Files → Type 0) → ℕ → D → Type 0
+KeepsCounts moment images from now = (n : ℕ) → StaysFrom moment images from now (HasAtLeast n)
 
 -- a group is added whole, or not at all
 pub record AddsGroup {D : Type 0} (tells honest : Type 0) (seen : D → Files) (moment : D → ℕ) (images : D → ℕ → Files → Type 0) (old new : CmdLog D) (result : Result (Unit {0}) LogError) (s : Stood)
@@ -50,6 +58,7 @@ pub record AddsGroup {D : Type 0} (tells honest : Type 0) (seen : D → Files) (
   pub done : OnOk result (IsOpen tells honest seen (λ disk. images disk (moment disk)) new (with_groups s (entries ∷ [])))
   pub kept : IsErrOf result NoMemory → IsOpen tells honest seen (λ disk. images disk (moment disk)) new s
   pub moments : honest → LeavesOnly moment images old.disk new.disk (λ image. StandsFor image s ⊎ StandsFor image (with_groups s (entries ∷ [])))
+  pub stays : honest → KeepsCounts moment images (moment old.disk) new.disk
 
 -- the first groups of the entries are added: all of them, or so many as had room
 pub record AddsEntries {D : Type 0} (tells honest : Type 0) (seen : D → Files) (moment : D → ℕ) (images : D → ℕ → Files → Type 0) (old new : CmdLog D) (ok no_memory : Type 0) (s : Stood)
@@ -57,10 +66,11 @@ pub record AddsEntries {D : Type 0} (tells honest : Type 0) (seen : D → Files)
   pub done : ok → IsOpen tells honest seen (λ disk. images disk (moment disk)) new (with_groups s (groups_of entries))
   pub kept : no_memory → (j : ℕ) × (j ≤ length (groups_of entries)) × IsOpen tells honest seen (λ disk. images disk (moment disk)) new (with_groups s (take j (groups_of entries)))
   pub moments : honest → LeavesOnly moment images old.disk new.disk (StandsForPart s (groups_of entries))
+  pub stays : honest → KeepsCounts moment images (moment old.disk) new.disk
 
 -- each image at each moment of a call stands for this count at least
 abbrev pub KeepsReceipts : {D : Type 0} → (D → ℕ) → (D → ℕ → Files → Type 0) → ℕ → D → D → Type 0
-KeepsReceipts moment images n old new = LeavesOnly moment images old new (λ image. (s : Stood) × StandsFor image s × (n ≤ count_of s))
+KeepsReceipts moment images n old new = LeavesOnly moment images old new (HasAtLeast n)
 
 -- a fault is answered only where the disk's count rose, and is kept; nothing else halts the log
 pub record HasLogCause {T : Type 0} (before now : ℕ) (old new : Option ℕ) (result : Result T LogError) : Type 0 where

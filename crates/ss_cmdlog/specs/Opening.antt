@@ -3,7 +3,7 @@ use Rattle.std.specs.Prelude.{◌≡◌, ◌≢◌, ℕ, List, [], ◌∷◌, �
 use Rattle.ss_disk.specs.declared.disk.FileNo.{FileNo}
 use Rattle.ss_disk.specs.declared.disk.FileNo.TheVariants.{Selector, First, Second}
 use Rattle.ss_disk.specs.Files.{Files, file}
-use Rattle.ss_disk.specs.Moments.{LeavesOnly}
+use Rattle.ss_disk.specs.Moments.{LeavesOnly, LeavesFewer}
 use Rattle.ss_cmdlog.specs.declared.open.Loaded.{Loaded}
 use Rattle.ss_cmdlog.specs.declared.log.LogError.{LogError}
 use Rattle.ss_cmdlog.specs.declared.log.LogError.TheVariants.{NoMemory, DiskFault, Foreign, Halted}
@@ -62,10 +62,11 @@ IsForeignAt disk refused = (which at : ℕ) → refused ≡ Foreign which at →
 abbrev pub StandForLoaded : (Files → Type 0) → Loaded → Type 0
 StandForLoaded present loaded = (image : Files) → present image → (s : Stood) × StandsFor image s × IsLoaded loaded s
 
--- a call that changes nothing: reads give what they gave, and a crash leaves nothing new
+-- a call that changes nothing: reads give what they gave, and a crash leaves nothing new, at each moment no more than at those before
 pub record OnlyReads {D : Type 0} (tells honest : Type 0) (seen : D → Files) (moment : D → ℕ) (images : D → ℕ → Files → Type 0) (old new : D) : Type 0 where
   pub same : tells → seen new ≡ seen old
   pub moments : honest → LeavesOnly moment images old new (images old (moment old))
+  pub fewer : honest → LeavesFewer moment images (moment old) new
 
 -- what opening may refuse
 abbrev pub IsOpenRefusal : LogError → Type 0

@@ -6,7 +6,7 @@ ghost use Rattle.ss_disk.specs.Moments.{LeavesOnly};
 ghost use Rattle.ss_cmdlog.specs.Errors.{HasWriteCause};
 ghost use Rattle.ss_cmdlog.specs.Generation.{head_bytes};
 ghost use Rattle.ss_cmdlog.specs.Log.{IsSettled, present};
-ghost use Rattle.ss_cmdlog.specs.Formatting.{KeepsSelector};
+ghost use Rattle.ss_cmdlog.specs.Formatting.{KeepsSelector, LeavesSome};
 
 use crate::log::{CmdLog, LogError};
 use ss_disk::{Disk, DiskError, FileNo, write_synced};
@@ -36,6 +36,7 @@ pub(crate) fn refill<D: Disk>(disk: &mut D, which: FileNo, bytes: &[u8]) -> Resu
     requires { which ≢ FileNo.Selector }
     ensures filled { D.tells → OnOk result (D.seen disk.new ≡ with_file which bytes.now (D.seen disk.old)) }
     ensures moments { D.honest → LeavesOnly D.moment D.images disk.old disk.new (KeepsSelector (present D.moment D.images disk.old)) }
+    ensures some { D.honest → LeavesSome D.moment D.images (D.moment disk.old) disk.new }
     ensures cause { HasWriteCause (D.faults disk.old) (D.faults disk.new) result }
 {
     disk.cut(which, 0)?;
@@ -47,6 +48,7 @@ pub(crate) fn fill_both<D: Disk>(disk: &mut D, bytes: &[u8]) -> Result<(), DiskE
     ensures filled { D.tells → OnOk result (D.seen disk.new ≡ record { selector = (D.seen disk.old).selector; first = bytes.now; second = bytes.now }) }
     ensures durable { D.honest → OnOk result (IsSettled D.seen (present D.moment D.images) disk.new) }
     ensures moments { D.honest → LeavesOnly D.moment D.images disk.old disk.new (KeepsSelector (present D.moment D.images disk.old)) }
+    ensures some { D.honest → LeavesSome D.moment D.images (D.moment disk.old) disk.new }
     ensures cause { HasWriteCause (D.faults disk.old) (D.faults disk.new) result }
 {
     refill(disk, FileNo::First, bytes)?;
@@ -65,7 +67,7 @@ impl<D: Disk> CmdLog<D> {
 
     /// Makes a store of an image on an empty disk of which nothing is unsynced, at place 0.
     ///
-    /// A crash at any moment leaves a disk that is still empty, or one that stands for the image. `DiskFault` comes only
+    /// A crash at any moment leaves something (`some`): a disk that is still empty, or one that stands for the image. `DiskFault` comes only
     /// where the disk counted a fault. There are seven calls of the disk. Time is linear in the image, of which there is one copy.
     pub fn format(alloc: Global, mut disk: D, image: &[u8]) -> Result<CmdLog<D>, (LogError, D)>
         requires empty { D.tells → IsEmpty (D.seen disk) }
@@ -75,6 +77,7 @@ impl<D: Disk> CmdLog<D> {
         ensures moments { D.honest → MatchResult result
             (λ log. LeavesOnly D.moment D.images disk log.disk (λ crashed. IsEmpty crashed ⊎ StandsFor crashed (fresh image.now)))
             (λ refused. LeavesOnly D.moment D.images disk refused.1 (λ crashed. IsEmpty crashed ⊎ StandsFor crashed (fresh image.now))) }
+        ensures some { D.honest → IfOk result (λ log. LeavesSome D.moment D.images (D.moment disk) log.disk) }
         ensures cause { IfErr result (λ refused. HasCallCause (D.faults disk) (D.faults refused.1) refused.0) }
         ensures later { IfOk result (λ log. D.faults disk ≤ D.faults log.disk) }
         ensures refusals { IfErr result (λ refused. IsAddRefusal refused.0) }

@@ -8,7 +8,7 @@ ghost use Rattle.ss_disk.specs.Moments.{LeavesOnly};
 ghost use Rattle.ss_cmdlog.specs.Errors.{HasWriteCause};
 ghost use Rattle.ss_cmdlog.specs.Generation.{Stood, IsGroup, group_bytes};
 ghost use Rattle.ss_cmdlog.specs.Store.{StandsFor, with_groups};
-ghost use Rattle.ss_cmdlog.specs.Log.{IsOpenAt, IsSettled, present};
+ghost use Rattle.ss_cmdlog.specs.Log.{IsOpenAt, IsSettled, KeepsCounts, present};
 
 use ss_disk::{Disk, DiskError, FileNo, write_synced};
 
@@ -27,6 +27,9 @@ pub(crate) fn add_group<D: Disk>(
     ensures moments { D.honest → (s : Stood) (g : List Entry) → IsOpenAt (D.seen disk.old) current gate s → IsGroup g → bytes.now ≡ group_bytes g ++ 0 ∷ []
         → IsSettled D.seen (present D.moment D.images) disk.old
         → LeavesOnly D.moment D.images disk.old disk.new (λ image. StandsFor image s ⊎ StandsFor image (with_groups s (g ∷ []))) }
+    ensures stays { D.honest → (s : Stood) (g : List Entry) → IsOpenAt (D.seen disk.old) current gate s → IsGroup g → bytes.now ≡ group_bytes g ++ 0 ∷ []
+        → IsSettled D.seen (present D.moment D.images) disk.old
+        → KeepsCounts D.moment D.images (D.moment disk.old) disk.new }
     ensures kept { D.tells → (s : Stood) → IsOpenAt (D.seen disk.old) current gate s → IsErrOf result NoMemory → IsOpenAt (D.seen disk.new) current gate s }
     ensures kept_only { D.honest → IsSettled D.seen (present D.moment D.images) disk.old → IsErrOf result NoMemory
         → IsSettled D.seen (present D.moment D.images) disk.new }

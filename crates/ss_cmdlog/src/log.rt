@@ -72,7 +72,7 @@ pub struct CmdLog<D: Disk> {
 impl<D: Disk> CmdLog<D> {
     ghost use Rattle.ss_cmdlog.specs.Generation.{Stood, IsGroup, max_body};
     ghost use Rattle.ss_record.specs.Bounds.{IsRecordable};
-    ghost use Rattle.ss_cmdlog.specs.Log.{IsOpenAt, IsOpen, AddsGroup, AddsEntries, HasLogCause, IsAddRefusal, present, IsReceipted, KeepsReceipts};
+    ghost use Rattle.ss_cmdlog.specs.Log.{IsOpenAt, IsOpen, AddsGroup, AddsEntries, HasLogCause, IsAddRefusal, present, IsReceipted, KeepsReceipts, KeepsCounts};
 
     /// Adds the group of these records.
     pub(crate) fn write_group(&mut self, body: &[u8], number: usize) -> Result<(), LogError>
@@ -134,9 +134,10 @@ impl<D: Disk> CmdLog<D> {
     /// (Malviya et al., ICDE 2014, section 3).
     ///
     /// Each group takes as many entries as fit 8,388,608 bytes of records, so entries whose records fit are one group. A
-    /// crash at any moment leaves the entries of the first of the groups: none of them, some or all. After `NoMemory` the
-    /// log goes on behind the groups that are on the disk. `DiskFault` comes only where the disk counted a fault; the log
-    /// answers `Halted` with that count from then on, and touches the disk no more.
+    /// crash at any moment leaves the entries of the first of the groups: none of them, some or all; and what a crash at one
+    /// moment could not take, a crash at no later moment takes (`stays`). After `NoMemory` the log goes on behind the groups
+    /// that are on the disk. `DiskFault` comes only where the disk counted a fault; the log answers `Halted` with that count
+    /// from then on, and touches the disk no more.
     ///
     /// No entries are a receipt of what is there, without a call on the disk. Else there are four calls of the disk for
     /// each group: its bytes behind the present gate, a sync, the gate, a sync. Time is linear in the bytes of the records,
@@ -154,6 +155,7 @@ impl<D: Disk> CmdLog<D> {
         ensures receipt { D.honest → IfOk result (λ receipt. IsReceipted (present D.moment D.images) receipt.count self.new.disk) }
         ensures receipts { D.honest → (n : ℕ) → n ≤ self.old.count → IsReceipted (present D.moment D.images) n self.old.disk
             → KeepsReceipts D.moment D.images n self.old.disk self.new.disk }
+        ensures stays { D.honest → KeepsCounts D.moment D.images (D.moment self.old.disk) self.new.disk }
         ensures halted { (faults : ℕ) → self.old.halted ≡ Some faults → (result ≡ Err (LogError.Halted faults)) × (self.new ≡ self.old) }
         ensures halted_only { (faults : ℕ) → result ≡ Err (LogError.Halted faults) → self.old.halted ≡ Some faults }
         ensures own { (file at : ℕ) → result ≡ Err (LogError.Foreign file at) → ⊥ }

@@ -97,14 +97,14 @@ fn current_of<D: Disk>(alloc: Global, disk: &mut D) -> Result<Current, LogError>
 
 impl<D: Disk> CmdLog<D> {
     ghost use Rattle.std.specs.Prelude.{MatchResult, ◌+◌, length};
-    ghost use Rattle.ss_disk.specs.Moments.{LeavesOnly};
+    ghost use Rattle.ss_disk.specs.Moments.{LeavesOnly, LeavesFewer};
     ghost use Rattle.ss_cmdlog.specs.Log.{IsOpen, present};
     ghost use Rattle.ss_cmdlog.specs.Opening.{IsOpenRefusal, IsForeignAt, StandForLoaded};
 
     /// Opens the store on a disk that isn't empty, and gives what it holds.
     ///
     /// It begins with a sync, and then reads: there are five calls of the disk, none of which changes it. A read gives what it
-    /// gave, and a crash at any moment leaves what it could leave before. `Foreign` tells the first byte that can't be, where the image is taken as
+    /// gave, and a crash at any moment leaves what it could leave before, and no more than at the moments between. `Foreign` tells the first byte that can't be, where the image is taken as
     /// bytes; `DiskFault` comes only where the disk counted a fault. Time is linear in the current file, which is read whole
     /// into one buffer; the image is copied out of it, and each entry.
     pub fn open(alloc: Global, mut disk: D) -> Result<(CmdLog<D>, Loaded), (LogError, D)>
@@ -117,6 +117,8 @@ impl<D: Disk> CmdLog<D> {
         ensures moments { D.honest → MatchResult result
             (λ r. LeavesOnly D.moment D.images disk r.0.disk (present D.moment D.images disk))
             (λ refused. LeavesOnly D.moment D.images disk refused.1 (present D.moment D.images disk)) }
+        ensures fewer { D.honest → MatchResult result
+            (λ r. LeavesFewer D.moment D.images (D.moment disk) r.0.disk) (λ refused. LeavesFewer D.moment D.images (D.moment disk) refused.1) }
         ensures stands { D.honest → IfOk result (λ r. StandForLoaded (present D.moment D.images r.0.disk) r.1) }
         ensures cause { IfErr result (λ refused. HasCallCause (D.faults disk) (D.faults refused.1) refused.0) }
         ensures later { IfOk result (λ r. D.faults disk ≤ D.faults r.0.disk) }

@@ -2,3 +2,4 @@ pub mod CallerLemmas
 pub mod Moments
 pub mod Recorded
 pub mod Loose
+pub mod Staying

@@ -2,7 +2,7 @@
 use Rattle.std.specs.Prelude.{ℕ, ◌+◌, ◌≤◌}
 use Rattle.ss_disk.specs.declared.disk.FileNo.{FileNo}
 use Rattle.ss_disk.specs.Files.{Files}
-use Rattle.ss_disk.specs.Crash.{After, TornWrite}
+use Rattle.ss_disk.specs.Crash.{After, NoNewImage, TornWrite}
 
 -- A call goes by: the moments up to now keep their images, and at most one moment more has come.
 pub record Passes (before now : ℕ) (past images : ℕ → Files → Type 0) : Type 0 where
@@ -25,3 +25,11 @@ pub record LeavesOnly {D : Type 0} (moment : D → ℕ) (images : D → ℕ → 
 -- What a crash at any moment leaves is what one might leave before, or that with a torn write.
 abbrev pub LeavesWrite : {D : Type 0} → (D → ℕ) → (D → ℕ → Files → Type 0) → D → D → FileNo → ℕ → ℕ → Type 0
 LeavesWrite moment images old new which at n = LeavesOnly moment images old new (After (TornWrite which at n) (images old (moment old)))
+
+-- From this moment on, up to now, a crash leaves nothing that it might not have left at each moment between.
+abbrev pub LeavesFewer : {D : Type 0} → (D → ℕ) → (D → ℕ → Files → Type 0) → ℕ → D → Type 0
+LeavesFewer moment images from now = (t u : ℕ) → from ≤ t → t ≤ u → u ≤ moment now → NoNewImage (images now t) (images now u)
+
+-- What each image of a moment has, from this one on up to now, each image of each later moment has.
+abbrev pub StaysFrom : {D : Type 0} → (D → ℕ) → (D → ℕ → Files → Type 0) → ℕ → D → (Files → Type 0) → Type 0
+StaysFrom moment images from now P = (t u : ℕ) → from ≤ t → t ≤ u → u ≤ moment now → ((image : Files) → images now t image → P image) → (image : Files) → images now u image → P image

@@ -105,6 +105,7 @@ pub ends_on_disk : {D : Type 0} (tells honest : Type 0) (seen : D → Files) (mo
 ends_on_disk tells honest seen moment images faults catalog db first limit clients requests old ended ends = record {
   ends = ends;
   crashes = λ good. disk_since moment images old.disk ended.log.disk _ (ends.holds.crashes good);
+  stands_on = λ good. ends.holds.stands_on good;
   receipt = λ good image now. fewer (ends.holds.receipt good image now);
   few_behind = λ client. few_from client first ended.receipted 16 ended.closed.list ends.begun (let a = ends.within in let b = ends.holds.within in omega arith) (ends.run.few_behind client);
 }

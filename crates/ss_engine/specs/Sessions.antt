@@ -17,7 +17,7 @@ use Rattle.ss_cmdlog.specs.declared.log.CmdLog.{CmdLog}
 use Rattle.ss_cmdlog.specs.Generation.{Stood}
 use Rattle.ss_cmdlog.specs.Log.{present, IsOpen}
 use Rattle.ss_commitlog.specs.Meaning.{HaveClientsBelow}
-use Rattle.ss_standing.specs.Standing.{Prefix, Receipt, Replayed, StandsForAll, StandsForFront}
+use Rattle.ss_standing.specs.Standing.{Prefix, Receipt, Replayed, StandsForAll, StandsForFront, StandsOn}
 use Rattle.ss_receipts.specs.Durable.{IsDurable}
 use Rattle.ss_receipts.specs.Holding.{Holds}
 use Rattle.ss_receipts.specs.Past.{past_of}
@@ -97,10 +97,11 @@ module _ {D : Type 0} (tells honest : Type 0) (seen : D → Files) (moment : D �
       pub fronts : LeavesNow ended.log.disk (StandsForFront catalog db first ended.closed.list ended.receipted)
       pub all_stands : IsOk ended.flushed → LeavesNow ended.log.disk (StandsForAll catalog db first ended.closed.list)
 
-    -- the same with the log at the opening: a crash at any moment since then leaves a front of the list, what is below the count that is
-    -- told stands for good, and of each client at most 16 entries stand from there on
+    -- the same with the log at the opening: a crash at any moment since then leaves a front of the list, and takes nothing that one at an
+    -- earlier moment could not take; what is below the count that is told stands for good, and of each client at most 16 entries stand from there on
     pub record EndsOnDisk (limit clients : ℕ) (requests : List Request) (old : CmdLog D) (ended : Finished D) : Type 0 where
       pub ends : Ends limit clients (moment old.disk) (faults old.disk) (past_of images old.disk) requests ended
       pub crashes : honest → LeavesOnly moment images old.disk ended.log.disk (Prefix catalog db first ended.closed.list)
+      pub stands_on : honest → StandsOn catalog moment images (moment old.disk) ended.log.disk
       pub receipt : honest → Receipt catalog (present moment images) ended.receipted ended.log.disk
       pub few_behind : (client : ℕ) → entries_from client ended.receipted first ended.closed.list ≤ 16

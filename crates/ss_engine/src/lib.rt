@@ -38,8 +38,9 @@
 //!   stand below the count that it has seen (`IsDue`); `submit` needs that fewer than 16 wait.
 //! - `run_session` (`ok`: `EndsOnDisk`), from any database that the log's generation stands for (`OpensOn`): a list
 //!   that replays and has its orders, with just the entries of each client that its answers report, and how settling
-//!   ended on it (`IsRun`); a crash at any moment leaves a prefix of it, and one now a front that ends at the receipted
-//!   count at least, or all of it where the last flush went well. An error hands the log back as it was (`err`).
+//!   ended on it (`IsRun`); a crash at any moment leaves a prefix of it, and takes nothing that one at an earlier moment
+//!   could not take; and one now leaves a front that ends at the receipted count at least, or all of it where the last
+//!   flush went well. An error hands the log back as it was (`err`).
 //!
 //! No clause says that an answer ever comes, or that an inbox had no job when a pump found none.
 //!

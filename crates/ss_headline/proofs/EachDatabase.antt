@@ -62,6 +62,7 @@ module _ (carries : KeptCarries) (catalog : Catalog) (x y : Database) (same : ke
       replies_and_tables = replies_carried requests first list Whole text s.replies_and_tables;
       in_order = (carries catalog x y same list).orders s.in_order;
       wherever_a_crash_falls = less_at_each tells honest seen moment images faults (Prefix catalog x first list) (Prefix catalog y first list) old new (front_carried first list first) s.wherever_a_crash_falls;
+      receipts_stay = s.receipts_stay;
       all_stands = λ true' image left. subst (λ (k : Kept). Stands catalog image (first + length list) k) (carries catalog x y same list).after (s.all_stands true' image left);
       at_the_end = drained_carried list s.at_the_end;
     }
@@ -72,6 +73,7 @@ module _ (carries : KeptCarries) (catalog : Catalog) (x y : Database) (same : ke
       replies = replies_carried requests first list (stop_at status count limit first list (faults old) (faults new)) text s.replies;
       in_order = (carries catalog x y same list).orders s.in_order;
       wherever_a_crash_falls = less_at_each tells honest seen moment images faults (Prefix catalog x first list) (Prefix catalog y first list) old new (front_carried first list first) s.wherever_a_crash_falls;
+      receipts_stay = s.receipts_stay;
       every_receipt_stands = record {
         from_first = s.every_receipt_stands.from_first;
         within = s.every_receipt_stands.within;

@@ -11,7 +11,7 @@ use Rattle.ss_standing.specs.Laws.{ReceiptsBoundFronts}
 use Rattle.ss_headline.specs.Disks.{DiskChange, disk_of, AtTheExit}
 use Rattle.ss_headline.specs.Laws.{FewStandBehind, WholeSessions, StoppedSessions}
 use Rattle.ss_headline.specs.Layers.{Closed}
-use Rattle.ss_headline.proofs.Untouched.{crashes_join}
+use Rattle.ss_headline.proofs.Untouched.{crashes_join, receipts_join}
 
 -- a front that ends at the end is all
 front_is_all : (catalog : Catalog) (db : Database) (first : ℕ) (list : List Listed) (image : Files) → StandsForFront catalog db first list (first + length list) image → StandsForAll catalog db first list image
@@ -37,6 +37,7 @@ module _ {D : Type 0} (tells honest : Type 0) (seen : D → Files) (moment : D �
     replies_and_tables = record { one_by_one = closed.replays; report = report };
     in_order = closed.orders;
     wherever_a_crash_falls = crashes_join tells honest seen moment images faults catalog db first list old mid new opened closed;
+    receipts_stay = receipts_join tells honest seen moment images faults catalog db first list old mid new opened closed;
     all_stands = λ true' image left. front_is_all catalog db first list image (fronts_at_exit catalog db first list (first + length list) mid new closed settled.receipt true' image left);
     at_the_end = settled.drained;
   }
@@ -46,6 +47,7 @@ module _ {D : Type 0} (tells honest : Type 0) (seen : D → Files) (moment : D �
     replies = record { one_by_one = closed.replays; report = report };
     in_order = closed.orders;
     wherever_a_crash_falls = crashes_join tells honest seen moment images faults catalog db first list old mid new opened closed;
+    receipts_stay = receipts_join tells honest seen moment images faults catalog db first list old mid new opened closed;
     every_receipt_stands = record {
       from_first = receipted.from_first;
       within = receipted.within;

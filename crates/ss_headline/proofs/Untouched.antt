@@ -5,13 +5,14 @@ use Rattle.ss_model.specs.declared.entry.Listed.{Listed}
 use Rattle.ss_model.specs.Database.{Database, empty_database}
 use Rattle.ss_model.specs.Settling.{Kept, kept}
 use Rattle.ss_disk.specs.Files.{Files}
-use Rattle.ss_disk.proofs.CallerLemmas.{no_call, leaves_less}
+use Rattle.ss_disk.proofs.CallerLemmas.{no_call, stays_join}
 use Rattle.ss_cmdlog.specs.Log.{present}
 use Rattle.ss_cmdlog.specs.Store.{IsEmpty}
-use Rattle.ss_standing.specs.Standing.{Stands, Prefix}
+use Rattle.ss_standing.specs.Standing.{Stands, Prefix, StandsForAtLeast}
 use Rattle.ss_standing.specs.Laws.{StandsForOne}
 use Rattle.ss_headline.specs.Disks.{DiskChange, disk_of, AtEachMoment, OnlyRead}
 use Rattle.ss_headline.specs.Untouched.{UncalledIsOnlyRead, NothingRanStands}
+use Rattle.ss_headline.specs.Sentences.{ReceiptsStay}
 use Rattle.ss_headline.specs.Layers.{Opened, Closed}
 use Rattle.ss_headline.proofs.Disks.{less_at_each, calls_join}
 
@@ -44,6 +45,12 @@ module _ {D : Type 0} (tells honest : Type 0) (seen : D → Files) (moment : D �
   nothing_ran_stands one = λ catalog db first old new stood nothing.
       less_at_each tells honest seen moment images faults (λ image. IsEmpty (seen old) × Stands catalog image 0 (kept catalog (empty_database catalog))) (λ image. Stands catalog image first (kept catalog db)) old new
       (λ image made. stands_as_empty one catalog db first (seen old) image stood made.0 made.1) nothing
+
+  -- what stays through the opening, and then through the engine, stays through all of the call
+  pub receipts_join : (catalog : Catalog) (db : Database) (first : ℕ) (list : List Listed) (old mid new : D) → Opened catalog db first (change old mid) → Closed catalog db first list (change mid new)
+      → ReceiptsStay catalog (change old new)
+  receipts_join catalog db first list old mid new opened closed true' n =
+      stays_join moment images (StandsForAtLeast catalog n) (moment old) mid new (Prefix catalog db first list) (opened.receipts_stay true' n) (closed.crashes true') (closed.receipts_stay true' n)
 
   -- what the opening and the engine say of crashes is said of all of the call
   pub crashes_join : (catalog : Catalog) (db : Database) (first : ℕ) (list : List Listed) (old mid new : D) → Opened catalog db first (change old mid) → Closed catalog db first list (change mid new)

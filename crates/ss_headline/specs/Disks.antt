@@ -4,7 +4,7 @@ use Rattle.ss_model.specs.declared.catalog.Catalog.{Catalog}
 use Rattle.ss_model.specs.Database.{empty_database}
 use Rattle.ss_model.specs.Settling.{kept}
 use Rattle.ss_disk.specs.Files.{Files}
-use Rattle.ss_disk.specs.Moments.{LeavesOnly}
+use Rattle.ss_disk.specs.Moments.{LeavesOnly, StaysFrom}
 use Rattle.ss_cmdlog.specs.Log.{present as present_images}
 use Rattle.ss_cmdlog.specs.Store.{IsEmpty}
 use Rattle.ss_standing.specs.Standing.{Stands}
@@ -24,6 +24,8 @@ pub record DiskChange : Type 1 where
   pub present : Files → Type 0
   -- that a crash at any moment of the call leaves only what has this, and the moments before keep their images
   pub leaves_only : (Files → Type 0) → Type 0
+  -- that what each image of a moment of the call has, each image of each later moment has
+  pub stays : (Files → Type 0) → Type 0
   pub faults_before : ℕ
   pub faults_now : ℕ
 
@@ -38,6 +40,7 @@ disk_of tells honest seen moment images faults before now = record {
   present_before = present_images moment images before;
   present = present_images moment images now;
   leaves_only = LeavesOnly moment images before now;
+  stays = StaysFrom moment images (moment before) now;
   faults_before = faults before;
   faults_now = faults now;
 }

@@ -12,6 +12,7 @@ use Rattle.ss_report_laws.specs.Replies.{mine}
 use Rattle.ss_standing.specs.Standing.{Stands, Prefix, StandsForAtLeast}
 use Rattle.ss_headline.specs.Disks.{DiskChange, AlwaysLeaves, AtEachMoment, AtTheExit}
 use Rattle.ss_headline.specs.Runs.{LogEndsWith}
+use Rattle.ss_headline.specs.Sentences.{ReceiptsStay}
 
 -- a store was recovered, or made on an empty disk: the files stood for this, as does what a crash leaves anew at each moment, and nothing
 -- is pending on the disk
@@ -19,6 +20,7 @@ pub record Opened (catalog : Catalog) (db : Database) (first : ℕ) (disk : Disk
   pub whole : WholeDatabase catalog db
   pub stood : disk.tells → Stands catalog disk.seen_before first (kept catalog db)
   pub crashes : AtEachMoment disk (λ image. Stands catalog image first (kept catalog db))
+  pub receipts_stay : ReceiptsStay catalog disk
   pub settled : AtTheExit disk (λ image. image ≡ disk.seen_now)
   pub faults : disk.faults_before ≤ disk.faults_now
 
@@ -27,6 +29,7 @@ pub record Closed (catalog : Catalog) (db : Database) (first : ℕ) (list : List
   pub replays : Replays catalog db list
   pub orders : Orders catalog db list
   pub crashes : AlwaysLeaves disk (Prefix catalog db first list)
+  pub receipts_stay : ReceiptsStay catalog disk
 
 -- the engine had settled, and all was flushed: no batch is pending, all of the list is receipted, and the log ends with it
 pub record Settled (catalog : Catalog) (db : Database) (first : ℕ) (list : List Listed) (disk : DiskChange) : Type 0 where

@@ -34,6 +34,10 @@ AtTheEnd catalog db list = Drained catalog (after catalog db list)
 abbrev pub WhereverACrashFalls : Catalog → Database → ℕ → List Listed → DiskChange → Type 0
 WhereverACrashFalls catalog db first list disk = AtEachMoment disk (Prefix catalog db first list)
 
+-- so many executions that a crash at some moment of the call could not take, a crash at no later moment takes
+abbrev pub ReceiptsStay : Catalog → DiskChange → Type 0
+ReceiptsStay catalog disk = disk.honest → (n : ℕ) → disk.stays (StandsForAtLeast catalog n)
+
 -- at the exit it leaves one that stands for the whole list
 abbrev pub AllStands : Catalog → Database → ℕ → List Listed → DiskChange → Type 0
 AllStands catalog db first list disk = AtTheExit disk (StandsForAll catalog db first list)
@@ -57,6 +61,7 @@ pub record WholeSession (catalog : Catalog) (requests : List Request) (first : �
   pub replies_and_tables : RepliesAndTables catalog requests db first list Whole text
   pub in_order : InOrder catalog db list
   pub wherever_a_crash_falls : WhereverACrashFalls catalog db first list disk
+  pub receipts_stay : ReceiptsStay catalog disk
   pub all_stands : AllStands catalog db first list disk
   pub at_the_end : AtTheEnd catalog db list
 
@@ -84,4 +89,5 @@ pub record StoppedSession (catalog : Catalog) (requests : List Request) (limit f
   pub replies : RepliesAndTables catalog requests db first list (stop_at status count limit first list disk.faults_before disk.faults_now) text
   pub in_order : InOrder catalog db list
   pub wherever_a_crash_falls : WhereverACrashFalls catalog db first list disk
+  pub receipts_stay : ReceiptsStay catalog disk
   pub every_receipt_stands : EveryReceiptStands catalog db first list count disk

@@ -22,6 +22,8 @@
 //!   promises what it does.
 //! - A session from one database is one from each of which the same is kept (`sessions_hold_from_each`), so a run is
 //!   one from every place and database that the disk stood for (`runs_hold_from_each`).
+//! - What is receipted stands at each later moment of the call: in both sessions, so many executions that a crash at some
+//!   moment could not take, a crash at no later moment takes (`ReceiptsStay`).
 //! - Two runs on one disk go on from each other (`calls_go_on`). Where nothing was pending on the disk before a call, a
 //!   crash leaves what is promised and nothing else (`quiet_leaves`).
 //!

@@ -11,17 +11,18 @@ use Rattle.ss_model.specs.Database.{Database}
 use Rattle.ss_model.specs.Replays.{after, ReplaysGoOn}
 use Rattle.ss_model.specs.Settling.{kept}
 use Rattle.ss_disk.specs.Files.{Files}
-use Rattle.ss_disk.specs.Moments.{LeavesOnly}
+use Rattle.ss_disk.specs.Moments.{AnyMoment, LeavesOnly}
+use Rattle.ss_disk.proofs.CallerLemmas.{stays_join}
 use Rattle.ss_cmdlog.specs.declared.log.CmdLog.{CmdLog}
 use Rattle.ss_cmdlog.specs.Generation.{Stood}
 use Rattle.ss_cmdlog.specs.Groups.{groups_of}
-use Rattle.ss_cmdlog.specs.Log.{present, IsOpen, IsReceipted, KeepsReceipts}
+use Rattle.ss_cmdlog.specs.Log.{present, IsOpen, IsReceipted, KeepsReceipts, HasAtLeast, KeepsCounts}
 use Rattle.ss_cmdlog.specs.Store.{StandsForPart, count_of, entries_of, with_groups}
 use Rattle.ss_cmdlog.proofs.CallerLemmas.{open_receipted}
-use Rattle.ss_standing.specs.Standing.{listed_entries, Replayed, Prefix, StandsForAtLeast, Receipt}
+use Rattle.ss_standing.specs.Standing.{listed_entries, Replayed, Prefix, StandsForAtLeast, Receipt, StandsOn}
 use Rattle.ss_standing.specs.Behind.{IsBehind}
 use Rattle.ss_standing.specs.Laws.{GenerationsGoOn}
-use Rattle.ss_standing.specs.Keeping.{Keeps, KeepsOverFlush, LogReceiptsTell}
+use Rattle.ss_standing.specs.Keeping.{Keeps, KeepsOverFlush, LogReceiptsTell, KeptCountsStandOn}
 use Rattle.ss_standing.proofs.CallerLemmas.{entries_count, front_replays, rest_replays}
 use Rattle.ss_receipts.specs.Past.{LeavesSince}
 use Rattle.ss_receipts.specs.Holding.{Holds, AreRest}
@@ -49,7 +50,7 @@ rest_count catalog db first list count entries rest begun within =
 
 module _ {D : Type 0} (catalog : Catalog) (db : Database) (first opened before : ℕ) (past : ℕ → List (List ℕ) → Type 0) (tells honest : Type 0) (seen : D → Files) (moment : D → ℕ)
     (images : D → ℕ → Files → Type 0) (faults : D → ℕ) (honest_tells : honest → tells)
-    (goes_on : ReplaysGoOn) (more : GenerationsGoOn) (over : KeepsOverFlush D moment images) (tell : LogReceiptsTell D (present moment images))
+    (goes_on : ReplaysGoOn) (more : GenerationsGoOn) (over : KeepsOverFlush D moment images) (tell : LogReceiptsTell D (present moment images)) (stand : KeptCountsStandOn D moment images)
     (list : List Listed) (old new : CmdLog D) (count fault : ℕ) (entries : List Entry) (rest : AreRest catalog db first list count entries)
     (h : Holds catalog db first opened before past tells honest seen moment images faults list old count fault) (none : old.halted ≡ None) where
   abbrev held : ℕ
@@ -76,7 +77,7 @@ module _ {D : Type 0} (catalog : Catalog) (db : Database) (first opened before :
     crashes = nothing_since moment images opened past old.disk (Prefix catalog db first list) (h.crashes honestly);
   }
 
-  module _ (moments : honest → LeavesOnly moment images old.disk new.disk (StandsForPart s (groups_of entries))) where
+  module _ (moments : honest → LeavesOnly moment images old.disk new.disk (StandsForPart s (groups_of entries))) (counts : honest → KeepsCounts moment images (moment old.disk) new.disk) where
     crashes : honest → LeavesSince moment images opened past new.disk (Prefix catalog db first list)
     crashes honestly = since_run moment images opened past old.disk new.disk (Prefix catalog db first list) (h.crashes honestly)
         (over catalog db first list held s old.disk old.disk new.disk (keeps honestly) rest.replays
@@ -84,6 +85,22 @@ module _ {D : Type 0} (catalog : Catalog) (db : Database) (first opened before :
 
     told : (n : ℕ) → honest → IsReceipted (present moment images) n new.disk → Receipt catalog (present moment images) n new.disk
     told n honestly receipted = tell catalog n new.disk (λ image stays. at_least catalog db first list image (since_now moment images opened past new.disk (Prefix catalog db first list) (crashes honestly) image stays)) receipted
+
+    -- each image of the flush stands for something, in the log's words and in those of executions
+    each_has : honest → AnyMoment moment images (moment old.disk) new.disk (HasAtLeast 0)
+    each_has honestly t image from to there =
+        let part = (moments honestly).each t image from to there in
+        (with_groups s (take part.0 (groups_of entries)), part.2, omega arith)
+
+    each_stands : honest → AnyMoment moment images (moment old.disk) new.disk (StandsForAtLeast catalog 0)
+    each_stands honestly t image from to there =
+        at_least catalog db first list image ((crashes honestly).each t image (omega (arith, from, (h.crashes honestly).later)) to there)
+
+    -- what a crash at some moment since the opening could not take, none in the flush takes
+    stands_on : honest → StandsOn catalog moment images opened new.disk
+    stands_on honestly n =
+        stays_join moment images (StandsForAtLeast catalog n) opened old.disk new.disk _ (h.stands_on honestly n) (moments honestly)
+        (stand catalog (moment old.disk) new.disk (each_has honestly) (each_stands honestly) (counts honestly) n)
 
     module _ (later : faults old.disk ≤ faults new.disk) where
       -- the first entries of the rest are there
@@ -135,6 +152,7 @@ module _ {D : Type 0} (catalog : Catalog) (db : Database) (first opened before :
           going = λ _. record { generation = with_groups s groups; opened_at = open'; replayed = replayed; earlier = (h.going none).earlier; ends = ends };
           crashes = crashes;
           receipt = λ honestly. told new.count honestly (open_receipted tells honest seen (present moment images) new (with_groups s groups) open' (honest_tells honestly) honestly new.count refl);
+          stands_on = stands_on;
         }
 
       -- all of it is written
@@ -169,4 +187,5 @@ module _ {D : Type 0} (catalog : Catalog) (db : Database) (first opened before :
         receipt = λ honestly. told count honestly (λ image there.
             let run = stays honestly (open_receipted tells honest seen (present moment images) old s (h.going none).opened_at (honest_tells honestly) honestly count (sym (h.counted none))) in
             run.each (moment new.disk) image run.later (omega arith) there);
+        stands_on = stands_on;
       }

@@ -37,6 +37,7 @@ module _ {D : Type 0} (catalog : Catalog) (db : Database) (first opened before :
         };
     crashes = λ honestly. since_less moment images opened past log.disk (Prefix catalog db first list) (Prefix catalog db first (list ++ more)) (h.crashes honestly) (front_goes_on catalog db first list more);
     receipt = h.receipt;
+    stands_on = h.stands_on;
   }
 
   module _ (bound : ReceiptsBoundFronts) where

@@ -7,13 +7,13 @@ use Rattle.ss_model.specs.Database.{Database}
 use Rattle.ss_model.specs.Replays.{after}
 use Rattle.ss_model.specs.Settling.{kept}
 use Rattle.ss_disk.specs.Files.{Files}
-use Rattle.ss_disk.proofs.CallerLemmas.{no_call}
+use Rattle.ss_disk.proofs.CallerLemmas.{no_call, stays_none}
 use Rattle.ss_cmdlog.specs.declared.log.CmdLog.{CmdLog}
 use Rattle.ss_cmdlog.specs.Generation.{Stood}
 use Rattle.ss_cmdlog.specs.Log.{present, IsOpen}
 use Rattle.ss_cmdlog.specs.Store.{entries_of}
 use Rattle.ss_cmdlog.proofs.CallerLemmas.{open_here}
-use Rattle.ss_standing.specs.Standing.{listed_entries, Replayed, Stands, Prefix}
+use Rattle.ss_standing.specs.Standing.{listed_entries, Replayed, Stands, Prefix, StandsForAtLeast}
 use Rattle.ss_receipts.specs.Past.{past_of}
 use Rattle.ss_receipts.specs.Holding.{Holds}
 use Rattle.ss_receipts.proofs.Since.{since_disk}
@@ -47,6 +47,7 @@ module _ {D : Type 0} (catalog : Catalog) (db : Database) (first : ℕ) (tells h
       stands = subst (λ (n : ℕ). Stands catalog image n (kept catalog db)) (omega arith) (stands honestly image left);
     }));
     receipt = λ honestly image left. record { count = first; k = kept catalog db; stands = stands honestly image left; enough = omega arith };
+    stands_on = λ honestly n. stays_none moment images (StandsForAtLeast catalog n) (moment log.disk) log.disk (omega arith);
   }
     where
       stands : honest → (image : Files) → images log.disk (moment log.disk) image → Stands catalog image first (kept catalog db)

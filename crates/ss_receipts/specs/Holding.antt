@@ -13,7 +13,7 @@ use Rattle.ss_cmdlog.specs.Generation.{Stood}
 use Rattle.ss_cmdlog.specs.Log.{present, IsOpen}
 use Rattle.ss_cmdlog.specs.Store.{entries_of}
 use Rattle.ss_commitlog.specs.Tokens.{Known}
-use Rattle.ss_standing.specs.Standing.{listed_entries, Replayed, Prefix, Receipt}
+use Rattle.ss_standing.specs.Standing.{listed_entries, Replayed, Prefix, Receipt, StandsOn}
 use Rattle.ss_receipts.specs.Past.{LeavesSince}
 
 -- by the disk's count of faults at the opening and now: the log goes on, and no faults are told; or it was halted at this count,
@@ -31,7 +31,8 @@ pub record GoesOnAt {D : Type 0} (tells honest : Type 0) (seen : D → Files) (p
   pub ends : tells → entries_of generation ≡ earlier ++ listed_entries front
 
 -- Of the list, which began at this first place behind this database, the log's disk has all entries below the count for good, and
--- what a crash since the opening leaves is a front of it. A log that wasn't halted goes on at that count.
+-- what a crash since the opening leaves is a front of it; what one at some moment since then could not take, one at no later moment
+-- takes. A log that wasn't halted goes on at that count.
 pub record Holds {D : Type 0} (catalog : Catalog) (db : Database) (first opened before : ℕ) (past : ℕ → List (List ℕ) → Type 0) (tells honest : Type 0) (seen : D → Files) (moment : D → ℕ)
     (images : D → ℕ → Files → Type 0) (faults : D → ℕ) (list : List Listed) (log : CmdLog D) (count fault : ℕ) : Type 0 where
   pub begun : first ≤ count
@@ -42,6 +43,7 @@ pub record Holds {D : Type 0} (catalog : Catalog) (db : Database) (first opened 
   pub going : log.halted ≡ None → GoesOnAt tells honest seen (present moment images) catalog db (take (count - first) list) log count
   pub crashes : honest → LeavesSince moment images opened past log.disk (Prefix catalog db first list)
   pub receipt : honest → Receipt catalog (present moment images) count log.disk
+  pub stands_on : honest → StandsOn catalog moment images opened log.disk
 
 -- the entries are those of a list that replays, from this place on, which has no place above the greatest
 pub record AreRest (catalog : Catalog) (db : Database) (first : ℕ) (list : List Listed) (from : ℕ) (entries : List Entry) : Type 0 where

@@ -12,7 +12,7 @@ use ss_cmdlog::{
 };
 use ss_disk::Disk;
 use ss_model::{Entry, Life};
-use ss_standing::{generations_go_on, log_receipts_tell, prefixes_go_on};
+use ss_standing::{generations_go_on, kept_counts_stand_on, log_receipts_tell, prefixes_go_on};
 use ss_value::Seq;
 
 /// What a flush has left.
@@ -46,6 +46,7 @@ pub(crate) fn flush_rest<I: Life, D: Disk + Drop>(
     generations_go_on();
     prefixes_go_on::<D>();
     log_receipts_tell::<D>();
+    kept_counts_stand_on::<D>();
     match log.flush(entries) {
         Ok(receipt) => Flushed {
             count: receipt.count,

@@ -19,9 +19,11 @@
 //!
 //! Of a list that began at the opening a log *holds* all entries below a count (`Holds`). On an honest disk each image
 //! that a crash since the opening may leave is a front of the list, and each present one stands for so many executions
-//! at least; moments before the opening keep their images. A log that wasn't halted is open on a generation that, as
-//! far as the disk tells, stands for what is kept behind these entries, and ends with them. What stands behind the lock
-//! holds, by its type, the list that the disk's note knows, up to the count that the note has posted.
+//! at least; what a crash at one moment since then could not take, a crash at no later moment takes (`stands_on`);
+//! moments before the opening keep their images. A log that wasn't halted is open on a generation that, as far as the
+//! disk tells, stands for what is kept behind these entries, and ends with them. What stands behind the lock holds, by
+//! its type, the list that the disk's note knows, up to the count that the note has posted. So a receipt stands at each
+//! moment from then on.
 //!
 //! # Promises
 //!

@@ -4,15 +4,17 @@ use Rattle.ss_model.specs.declared.catalog.Catalog.{Catalog}
 use Rattle.ss_model.specs.Database.{Database as Model}
 use Rattle.ss_model.specs.Settling.{Kept, kept}
 use Rattle.ss_disk.specs.Files.{Files}
+use Rattle.ss_disk.proofs.CallerLemmas.{stays_fewer, stays_join}
 use Rattle.ss_cmdlog.specs.Opening.{OnlyReads}
 use Rattle.ss_cmdlog.specs.Store.{IsEmpty}
-use Rattle.ss_standing.specs.Standing.{Stands, StandsForReplayed}
+use Rattle.ss_cmdlog.proofs.CallerLemmas.{reads_join}
+use Rattle.ss_standing.specs.Standing.{Stands, StandsForAtLeast, StandsForReplayed}
 use Rattle.ss_recover.specs.declared.recovered.Recovered.{Recovered}
 use Rattle.ss_recover.specs.declared.error.RecoverError.{RecoverError}
 use Rattle.ss_recover.specs.declared.error.RecoverError.TheVariants.{NoMemory, DiskFault, Foreign, OtherCatalog, Nothing}
 use Rattle.ss_recover.specs.Faults.{HasFaultAt, IsStore}
 use Rattle.ss_recover.specs.Recovering.{IsRecovered, RefusesAsSaid}
-use Rattle.ss_recover.proofs.Moments.{only_that, since, reads_since, forms_since, rose_since}
+use Rattle.ss_recover.proofs.Moments.{only_that, since, forms_since, rose_since}
 
 module _ {D : Type 0} (tells honest : Type 0) (told_by : honest → tells) (seen : D → Files) (moment : D → ℕ) (images : D → ℕ → Files → Type 0) (given : Option Catalog) (old mid : D)
     (reads : OnlyReads tells honest seen moment images old mid) where
@@ -27,6 +29,7 @@ module _ {D : Type 0} (tells honest : Type 0) (told_by : honest → tells) (seen
         was = λ told. subst (λ (d : Files). IsEmpty d ⊎ IsStore d r.catalog) (reads.same told) (is.was told);
         stood = stood;
         moments = moments;
+        stands_on = λ true' n. stays_join moment images (StandsForAtLeast r.catalog n) (moment old) mid r.log.disk _ (stays_fewer moment images (StandsForAtLeast r.catalog n) (moment old) mid (reads.fewer true')) (is.moments true') (is.stands_on true' n);
         quiet = λ true' only. only_that moment images old r.log.disk (seen old) _ only (stood (told_by true')) (moments true');
       }
 
@@ -36,10 +39,10 @@ module _ {D : Type 0} (tells honest : Type 0) (told_by : honest → tells) (seen
     refused_since DiskFault is =
         (λ true'. since moment images old mid new _ _ (reads.moments true') (λ image. forms_since given (seen old) (seen mid) image (reads.same (told_by true'))) (is.0 true'), rose_since (faults old) (faults mid) (faults new) later is.1)
     refused_since (Foreign which at) is =
-        (reads_since tells honest seen moment images old mid new reads is.0, λ told. subst (λ (d : Files). HasFaultAt d which at) (reads.same told) (is.1 told))
+        (reads_join tells honest seen moment images old mid new reads is.0, λ told. subst (λ (d : Files). HasFaultAt d which at) (reads.same told) (is.1 told))
     refused_since (OtherCatalog stored text) is =
         let other = is.1 in (
-          reads_since tells honest seen moment images old mid new reads is.0,
+          reads_join tells honest seen moment images old mid new reads is.0,
           record {
             ours = other.ours;
             is_given = other.is_given;
@@ -52,4 +55,4 @@ module _ {D : Type 0} (tells honest : Type 0) (told_by : honest → tells) (seen
             another = other.another;
           },
         )
-    refused_since Nothing is = (reads_since tells honest seen moment images old mid new reads is.0, is.1, λ told. subst IsEmpty (reads.same told) (is.2 told))
+    refused_since Nothing is = (reads_join tells honest seen moment images old mid new reads is.0, is.1, λ told. subst IsEmpty (reads.same told) (is.2 told))

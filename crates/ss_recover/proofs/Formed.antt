@@ -13,10 +13,11 @@ use Rattle.ss_shard.specs.Parts.{IsWholeShard}
 use Rattle.ss_cmdlog.specs.declared.log.CmdLog.{CmdLog}
 use Rattle.ss_cmdlog.specs.declared.log.LogError.{LogError}
 use Rattle.ss_cmdlog.specs.declared.log.LogError.TheVariants as log
-use Rattle.ss_cmdlog.specs.Formatting.{fresh}
+use Rattle.ss_cmdlog.specs.Formatting.{LeavesSome, fresh}
 use Rattle.ss_cmdlog.specs.Log.{HasCallCause, IsAddRefusal, IsOpen, present}
 use Rattle.ss_cmdlog.specs.Store.{IsEmpty, StandsFor}
 use Rattle.ss_standing.specs.Image.{empty_image_of}
+use Rattle.ss_standing.specs.Keeping.{OneThingStandsOn}
 use Rattle.ss_standing.specs.Laws.{FormingStands}
 use Rattle.ss_standing.specs.Standing.{Stands}
 use Rattle.ss_recover.specs.Errors.{forming_refusal}
@@ -42,8 +43,9 @@ module _ {D : Type 0} (tells honest : Type 0) (told_by : honest → tells) (seen
 
   pub formed : (parts : ℕ) (database : Database) (log : CmdLog D) → IsWholeShard catalog parts database.whole → HoldsModel catalog database (empty_database catalog) → IsOpen tells honest seen (present moment images) log (fresh image) → log.count ≡ 0
       → (honest → LeavesOnly moment images old log.disk (λ crashed. IsEmpty crashed ⊎ StandsFor crashed (fresh image)))
+      → (honest → LeavesSome moment images (moment old) log.disk) → OneThingStandsOn D moment images
       → IsRecovered tells honest seen moment images (Some catalog) parts old (record { database = database; catalog = catalog; first = 0; known = []; log = log }) (empty_database catalog)
-  formed parts database log dealt holds is_open count run =
+  formed parts database log dealt holds is_open count run some one =
       let stood : tells → Stands catalog (seen old) 0 (kept catalog (empty_database catalog)) = λ told. stands (seen old) (inl (empty told)) in
       record {
         own = own;
@@ -61,6 +63,7 @@ module _ {D : Type 0} (tells honest : Type 0) (told_by : honest → tells) (seen
         was = λ told. inl (empty told);
         stood = stood;
         moments = λ true'. leaves_less moment images old log.disk _ _ (run true') (λ crashed either. inr (stands crashed either));
+        stands_on = λ true'. one catalog 0 (kept catalog (empty_database catalog)) (moment old) log.disk (some true') (λ t crashed from to left. stands crashed ((run true').each t crashed from to left));
         quiet = λ true' only. leaves_less moment images old log.disk _ _ (run true') stands;
       }
 

@@ -1,5 +1,5 @@
 -- What calls leave of a disk, one run of them after another.
-use Rattle.std.proofs.Common.{◌≡◌, inl, inr, ⊎_elim, ◌∙◌, ℕ, ◌≤◌, Option, arith, subst, sym}
+use Rattle.std.proofs.Common.{◌≡◌, inl, inr, ⊎_elim, ℕ, ◌≤◌, Option, arith, subst, sym}
 use Rattle.ss_value.specs.FaultCounts.{Rose}
 use Rattle.ss_model.specs.declared.catalog.Catalog.{Catalog}
 use Rattle.ss_disk.specs.Files.{Files}
@@ -7,7 +7,6 @@ use Rattle.ss_disk.specs.Crash.{Only}
 use Rattle.ss_disk.specs.Moments.{LeavesOnly}
 use Rattle.ss_disk.proofs.CallerLemmas.{runs_join, leaves_less}
 use Rattle.ss_cmdlog.specs.Log.{present}
-use Rattle.ss_cmdlog.specs.Opening.{OnlyReads}
 use Rattle.ss_recover.specs.Recovering.{LeavesOldOr, MayForm}
 
 -- a count that rose since a later moment rose since an earlier one
@@ -34,18 +33,6 @@ module _ {D : Type 0} (moment : D → ℕ) (images : D → ℕ → Files → Typ
       runs_join moment images old mid new _ (old_or old mid Q first)
       (leaves_less moment images mid new _ _ second
       (λ image either. ⊎_elim (λ (left : present moment images mid image). inl (at_end old mid (present moment images old) first image left)) (λ (p : P image). inr (more image p)) either))
-
-  pub only_since : (old mid new : D) → LeavesOnly moment images old mid (present moment images old) → LeavesOnly moment images mid new (present moment images mid) → LeavesOnly moment images old new (present moment images old)
-  only_since old mid new first second =
-      runs_join moment images old mid new _ first (leaves_less moment images mid new _ _ second (at_end old mid (present moment images old) first))
-
--- two runs that only read
-pub reads_since : {D : Type 0} (tells honest : Type 0) (seen : D → Files) (moment : D → ℕ) (images : D → ℕ → Files → Type 0) (old mid new : D) → OnlyReads tells honest seen moment images old mid
-    → OnlyReads tells honest seen moment images mid new → OnlyReads tells honest seen moment images old new
-reads_since tells honest seen moment images old mid new first second = record {
-  same = λ told. second.same told ∙ first.same told;
-  moments = λ true'. only_since moment images old mid new (first.moments true') (second.moments true');
-}
 
 -- a store that is being made on the same files
 pub forms_since : (given : Option Catalog) (old mid image : Files) → mid ≡ old → MayForm given mid image → MayForm given old image

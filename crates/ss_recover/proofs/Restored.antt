@@ -13,6 +13,7 @@ use Rattle.ss_model.specs.WholeDatabase.{HadAtMost}
 use Rattle.ss_model_laws.proofs.CallerLemmas.{empty_whole, had_at_most, whole_after}
 use Rattle.ss_catalog.specs.Answers.{HasOneCatalog}
 use Rattle.ss_disk.specs.Files.{Files}
+use Rattle.ss_disk.proofs.CallerLemmas.{stays_fewer}
 use Rattle.ss_cmdlog.specs.declared.log.CmdLog.{CmdLog}
 use Rattle.ss_cmdlog.specs.declared.log.LogError.{LogError}
 use Rattle.ss_cmdlog.specs.declared.log.LogError.TheVariants as log
@@ -26,7 +27,7 @@ use Rattle.ss_cmdlog.proofs.CallerLemmas.{open_stands}
 use Rattle.ss_snapshot.specs.EmptyImage.{IsEmptyImage}
 use Rattle.ss_snapshot.specs.Foreign.{IsForeignAt}
 use Rattle.ss_snapshot.proofs.CallerLemmas.{of_one_text}
-use Rattle.ss_standing.specs.Standing.{Stands, StandsForReplayed}
+use Rattle.ss_standing.specs.Standing.{Stands, StandsForAtLeast, StandsForReplayed}
 use Rattle.ss_recover.specs.declared.error.RecoverError.{RecoverError}
 use Rattle.ss_recover.specs.declared.stored.Stored.{Stored}
 use Rattle.ss_recover.specs.declared.stored.StoredError.{StoredError}
@@ -152,6 +153,7 @@ module _ {D : Type 0} (tells honest : Type 0) (told_by : honest → tells) (seen
             was = λ told. inr (is_store told);
             stood = stood;
             moments = moments;
+            stands_on = λ true' n. stays_fewer moment images (StandsForAtLeast r.catalog n) (moment old) log.disk (reads.fewer true');
             quiet = λ true' only. only_that moment images old log.disk (seen old) _ only (stood (told_by true')) (moments true');
           }
 

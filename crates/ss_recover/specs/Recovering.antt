@@ -19,7 +19,7 @@ use Rattle.ss_cmdlog.specs.Log.{IsOpen, present}
 use Rattle.ss_cmdlog.specs.Opening.{OnlyReads}
 use Rattle.ss_cmdlog.specs.Store.{IsEmpty, entries_of}
 use Rattle.ss_snapshot.specs.EmptyImage.{IsReadFromItsText}
-use Rattle.ss_standing.specs.Standing.{listed_entries, IsImageAt, Replayed, Stands, StandsForReplayed}
+use Rattle.ss_standing.specs.Standing.{listed_entries, IsImageAt, Replayed, Stands, StandsForReplayed, StandsOn}
 use Rattle.ss_recover.specs.declared.recovered.Recovered.{Recovered}
 use Rattle.ss_recover.specs.declared.error.RecoverError.{RecoverError}
 use Rattle.ss_recover.specs.declared.error.RecoverError.TheVariants.{NoMemory, DiskFault, Foreign, OtherCatalog, Nothing}
@@ -67,7 +67,8 @@ LeavesOldOr moment images old new P = LeavesOnly moment images old new (λ image
 abbrev pub StandsForIt : {D : Type 0} → Recovered D → Model → Files → Type 0
 StandsForIt r db image = Stands r.catalog image r.first (kept r.catalog db)
 
--- a database was recovered from a disk, which stood for it, or made on an empty one; of the given catalogue, if there is one
+-- a database was recovered from a disk, which stood for it, or made on an empty one; of the given catalogue, if there is one. What a
+-- crash at some moment could not take, one at no later moment takes
 pub record IsRecovered {D : Type 0} (tells honest : Type 0) (seen : D → Files) (moment : D → ℕ) (images : D → ℕ → Files → Type 0)
     (given : Option Catalog) (parts : ℕ) (old : D) (r : Recovered D) (db : Model) : Type 0 where
   pub own : IsOwnCatalog r.catalog
@@ -76,6 +77,7 @@ pub record IsRecovered {D : Type 0} (tells honest : Type 0) (seen : D → Files)
   pub was : tells → IsEmpty (seen old) ⊎ IsStore (seen old) r.catalog
   pub stood : tells → StandsForIt r db (seen old)
   pub moments : honest → LeavesOldOr moment images old r.log.disk (StandsForIt r db)
+  pub stands_on : honest → StandsOn r.catalog moment images (moment old) r.log.disk
   pub quiet : honest → Only (seen old) (present moment images old) → LeavesOnly moment images old r.log.disk (StandsForIt r db)
 
 -- ---- refusals

@@ -13,7 +13,7 @@ use ss_disk::Disk;
 use ss_model::Catalog;
 use ss_shard::opening;
 use ss_snapshot::empty_image;
-use ss_standing::forming_stands;
+use ss_standing::{forming_stands, one_thing_stands_on};
 use ss_value::Seq;
 use std::alloc::Global;
 
@@ -44,6 +44,7 @@ pub(crate) fn form<D: Disk>(
     ensures later { MatchResult result (λ r. D.faults disk ≤ D.faults r.log.disk) (λ refused. D.faults disk ≤ D.faults refused.1) }
 {
     forming_stands();
+    one_thing_stands_on::<D>();
     let Ok(database) = opening(alloc, &catalog, partitions) else {
         return Err((RecoverError::NoMemory, disk));
     };

@@ -24,8 +24,9 @@
 //!
 //! - `recover` (`recovered`: `IsRecovered`): the entries, each with its outcome, replay from the image's database to
 //!   the one that is given, which is whole; the log is open on a generation that stands for the same; on an honest disk
-//!   a crash since the call began leaves what it could leave before, or what stands for this (`moments`). A refusal
-//!   carries what it says of the disk and what it leaves of it (`refused`: `RefusesAsSaid`).
+//!   a crash since the call began leaves what it could leave before, or what stands for this (`moments`), and takes
+//!   nothing that one at an earlier moment could not take (`stands_on`). A refusal carries what it says of the disk and
+//!   what it leaves of it (`refused`: `RefusesAsSaid`).
 //! - `replay`: the given entries, each with its outcome (`entries`), which replay on every database that the given one
 //!   stands for (`replayed`); or those before the first entry that doesn't replay (`foreign`).
 //! - Law `a_disk_has_one_fault`: a disk is empty, or a store of one catalogue, or has one first fault.

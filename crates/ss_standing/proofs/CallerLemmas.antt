@@ -18,3 +18,5 @@ pub use Rattle.ss_standing.proofs.Fronts.{entries_count, front_replays}
 pub use Rattle.ss_standing.proofs.Keeping.{front_goes_on, rest_replays}
 -- On one database a list that replays is told by its entries.
 pub use Rattle.ss_standing.proofs.OneThing.{entries_tell}
+-- What a log counts of a store is how many executions its files stand for, which are one thing.
+pub use Rattle.ss_standing.proofs.Keeping.{counts_executions}

@@ -16,8 +16,8 @@ use Rattle.ss_cmdlog.specs.Groups.{groups_of}
 use Rattle.ss_cmdlog.specs.Store.{StandsFor, StandsForPart, count_of, entries_of, with_groups}
 use Rattle.ss_standing.specs.Standing.{listed_entries, Replayed, Stands, Prefix}
 use Rattle.ss_standing.specs.Behind.{IsBehind}
-use Rattle.ss_standing.specs.Laws.{FrontsStand, FlushesLeaveFronts, GenerationsGoOn}
-use Rattle.ss_standing.specs.Keeping.{Keeps, KeepsOverFlush, KeepsGoOn, FlushKeeps, CountsExecutions, LogReceiptsTell}
+use Rattle.ss_standing.specs.Laws.{FrontsStand, FlushesLeaveFronts, GenerationsGoOn, StandsForOne}
+use Rattle.ss_standing.specs.Keeping.{Keeps, KeepsOverFlush, KeepsGoOn, FlushKeeps, CountsExecutions, LogReceiptsTell, KeptCountsStandOn, OneThingStandsOn}
 use Rattle.ss_standing.proofs.OneThing.{not_both}
 use Rattle.ss_standing.proofs.Fronts.{entries_count, first_entries, front_replays, groups_behind}
 
@@ -124,3 +124,23 @@ log_receipts_tell counts present = λ catalog n disk each receipted image left.
     let some = each image left in
     let log = receipted image left in
     record { count = some.count; k = some.k; stands = some.stands; enough = omega (arith, log.2, counts catalog image some.count some.k log.0 some.stands log.1) }
+
+-- what stays of a log's counts stays of executions
+pub kept_counts_stand_on : CountsExecutions → {D : Type 0} (moment : D → ℕ) (images : D → ℕ → Files → Type 0) → KeptCountsStandOn D moment images
+kept_counts_stand_on counts moment images = λ catalog from now has stand counted n t u a b c each image left.
+    let later = counted n t u a b c
+    (λ i l.
+    let here = has t i a (omega (arith, b, c)) l in
+    let least = each i l in
+    (here.0, here.1, omega (arith, least.enough, counts catalog i least.count least.k here.0 least.stands here.1)))
+    image left in
+    let is = stand u image (omega (arith, a, b)) c left in
+    record { count = is.count; k = is.k; stands = is.stands; enough = omega (arith, later.2, counts catalog image is.count is.k later.0 is.stands later.1) }
+
+-- where all stands for one thing, so does what was left at some moment, which had no more
+pub one_thing_stands_on : StandsForOne → {D : Type 0} (moment : D → ℕ) (images : D → ℕ → Files → Type 0) → OneThingStandsOn D moment images
+one_thing_stands_on one moment images = λ catalog count k from now some stand n t u a b c each image left.
+    let earlier = some t a (omega (arith, b, c)) in
+    let least = each earlier.0 earlier.1 in
+    let same = one catalog earlier.0 least.count count least.k k least.stands (stand t earlier.0 a (omega (arith, b, c)) earlier.1) in
+    record { count = count; k = k; stands = stand u image (omega (arith, a, b)) c left; enough = omega (arith, least.enough, same.0) }

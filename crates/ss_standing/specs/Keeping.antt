@@ -6,12 +6,13 @@ use Rattle.ss_model.specs.Database.{Database}
 use Rattle.ss_model.specs.Replays.{Replays, after}
 use Rattle.ss_model.specs.Settling.{Kept, kept}
 use Rattle.ss_disk.specs.Files.{Files}
-use Rattle.ss_disk.specs.Moments.{LeavesOnly}
+use Rattle.ss_disk.specs.Moments.{AnyMoment, LeavesOnly}
+use Rattle.ss_cmdlog.specs.Formatting.{LeavesSome}
 use Rattle.ss_cmdlog.specs.Generation.{Stood}
-use Rattle.ss_cmdlog.specs.Log.{IsReceipted}
+use Rattle.ss_cmdlog.specs.Log.{IsReceipted, HasAtLeast, KeepsCounts}
 use Rattle.ss_cmdlog.specs.Groups.{groups_of}
 use Rattle.ss_cmdlog.specs.Store.{StandsFor, StandsForPart, count_of, with_groups}
-use Rattle.ss_standing.specs.Standing.{listed_entries, Replayed, Stands, Prefix, StandsForAtLeast, Receipt}
+use Rattle.ss_standing.specs.Standing.{listed_entries, Replayed, Stands, Prefix, StandsForAtLeast, Receipt, StandsOn}
 use Rattle.ss_standing.specs.Behind.{IsBehind}
 
 -- the generation stands for the first entries of the list, so many, and since the start a crash leaves a front of it
@@ -68,3 +69,16 @@ abbrev pub LogReceiptsTell : (D : Type 0) → (D → Files → Type 0) → Type 
 LogReceiptsTell D present =
     (catalog : Catalog) (n : ℕ) (disk : D) → ((image : Files) → present disk image → StandsForAtLeast catalog 0 image) →
     IsReceipted present n disk → Receipt catalog present n disk
+
+-- law: where each image stands for something, a log that keeps its counts keeps what stands
+abbrev pub KeptCountsStandOn : (D : Type 0) → (D → ℕ) → (D → ℕ → Files → Type 0) → Type 0
+KeptCountsStandOn D moment images =
+    (catalog : Catalog) (from : ℕ) (now : D) → AnyMoment moment images from now (HasAtLeast 0) →
+    AnyMoment moment images from now (StandsForAtLeast catalog 0) → KeepsCounts moment images from now →
+    StandsOn catalog moment images from now
+
+-- law: where a crash at each moment leaves something, and all of it stands for one thing, what stands stays
+abbrev pub OneThingStandsOn : (D : Type 0) → (D → ℕ) → (D → ℕ → Files → Type 0) → Type 0
+OneThingStandsOn D moment images =
+    (catalog : Catalog) (count : ℕ) (k : Kept) (from : ℕ) (now : D) → LeavesSome moment images from now →
+    AnyMoment moment images from now (λ image. Stands catalog image count k) → StandsOn catalog moment images from now

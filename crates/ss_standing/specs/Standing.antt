@@ -8,6 +8,7 @@ use Rattle.ss_model.specs.Replays.{Replays, after}
 use Rattle.ss_model.specs.Settling.{Kept, kept}
 use Rattle.ss_model.specs.WholeDatabase.{WholeDatabase, HadAtMost}
 use Rattle.ss_disk.specs.Files.{Files}
+use Rattle.ss_disk.specs.Moments.{StaysFrom}
 use Rattle.ss_cmdlog.specs.Generation.{Stood}
 use Rattle.ss_cmdlog.specs.Store.{IsEmpty, StandsFor, entries_of}
 use Rattle.ss_standing.specs.Image.{image_bytes}
@@ -75,3 +76,7 @@ pub record StandsForAtLeast (catalog : Catalog) (n : ℕ) (image : Files) : Type
 -- each present image of the disk does so
 abbrev pub Receipt : {D : Type 0} → Catalog → (D → Files → Type 0) → ℕ → D → Type 0
 Receipt catalog present n disk = (image : Files) → present disk image → StandsForAtLeast catalog n image
+
+-- so many executions that a crash at some moment could not take, from this one on up to now, a crash at no later moment takes
+abbrev pub StandsOn : {D : Type 0} → Catalog → (D → ℕ) → (D → ℕ → Files → Type 0) → ℕ → D → Type 0
+StandsOn catalog moment images from now = (n : ℕ) → StaysFrom moment images from now (StandsForAtLeast catalog n)

@@ -4,7 +4,7 @@ ghost use Rattle.ss_cmdlog.specs.Log.{present};
 ghost use Rattle.ss_standing.specs.Laws.{ImageTellsKept, EntriesTellList, StandsForOne, StandsForOneText, GenerationsGoOn};
 ghost use Rattle.ss_standing.specs.Laws.{FrontsStand, FlushesLeaveFronts, FormingStands, ReceiptsBoundFronts};
 ghost use Rattle.ss_standing.specs.Behind.{BehindGoesOn};
-ghost use Rattle.ss_standing.specs.Keeping.{KeepsOverFlush, KeepsGoOn, FlushesKeep, CountsExecutions, LogReceiptsTell};
+ghost use Rattle.ss_standing.specs.Keeping.{KeepsOverFlush, KeepsGoOn, FlushesKeep, CountsExecutions, LogReceiptsTell, KeptCountsStandOn, OneThingStandsOn};
 
 use ss_cmdlog::{
     files_stand_for_one_thing, first_groups_hold_the_first_entries, groups_hold_the_entries,
@@ -118,4 +118,20 @@ pub fn log_receipts_tell<D: Disk>()
     ensures { LogReceiptsTell D (present D.moment D.images) }
 {
     counts_are_executions();
+}
+
+/// Where each image that a crash may leave stands for something, and a log keeps its counts from each moment to the later
+/// ones, so many executions as a crash at some moment could not take, a crash at no later moment takes.
+pub fn kept_counts_stand_on<D: Disk>()
+    ensures { KeptCountsStandOn D D.moment D.images }
+{
+    counts_are_executions();
+}
+
+/// Where a crash at each moment leaves something, and all that it leaves stands for one thing, so many executions as a
+/// crash at some moment could not take, a crash at no later moment takes.
+pub fn one_thing_stands_on<D: Disk>()
+    ensures { OneThingStandsOn D D.moment D.images }
+{
+    stands_for_one();
 }

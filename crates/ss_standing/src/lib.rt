@@ -20,7 +20,8 @@
 //! - What is kept of a whole database is told by its image (`an_image_tells_what_is_kept`), and a list on a database by
 //!   its entries (`entries_tell_a_list`). So an image of a disk stands for one count and for one kept
 //!   (`stands_for_one`), and for something of catalogues with one text alone (`stands_for_one_text`). The count is that
-//!   of the log, and its receipts are for executions (`counts_are_executions`, `log_receipts_tell`).
+//!   of the log, and its receipts are for executions (`counts_are_executions`, `log_receipts_tell`), and what stays from
+//!   moment to moment is executions too (`kept_counts_stand_on`, `one_thing_stands_on`).
 //! - Entries that replay, behind a generation, stand for the place after them (`generations_go_on`, `behind_goes_on`),
 //!   and the first entries of a list for that front of it (`fronts_stand`).
 //! - What a crash leaves in a format stands for the empty database (`forming_stands`), and in a flush for a front of
@@ -49,5 +50,6 @@ mod laws;
 pub use laws::{
     an_image_tells_what_is_kept, behind_goes_on, counts_are_executions, entries_tell_a_list,
     flushes_keep, flushes_leave_fronts, forming_stands, fronts_stand, generations_go_on,
-    log_receipts_tell, prefixes_go_on, receipts_bound_fronts, stands_for_one, stands_for_one_text,
+    kept_counts_stand_on, log_receipts_tell, one_thing_stands_on, prefixes_go_on,
+    receipts_bound_fronts, stands_for_one, stands_for_one_text,
 };

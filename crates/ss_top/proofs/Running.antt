@@ -145,7 +145,7 @@ module _ {D : Type 0} (tells honest : Type 0) (seen : D → Files) (moment : D �
     new = ended.log.disk
 
     closed : Closed catalog db first list (change log.disk new)
-    closed = record { replays = e.ends.run.replays; orders = e.ends.run.orders; crashes = e.crashes }
+    closed = record { replays = e.ends.run.replays; orders = e.ends.run.orders; crashes = e.crashes; receipts_stay = e.stands_on }
 
     few_of : (client : ℕ) → FewOpen (mine client first list) ended.receipted 16 → FewUnreceipted client first list ended.receipted
     few_of client f = record { receipted = f.safe; others = f.unsafe; parts = f.parts; below = f.below; few = f.few }

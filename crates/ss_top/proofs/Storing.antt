@@ -221,6 +221,7 @@ recovered_opened tells honest seen moment images faults given parts old r is lat
     whole = is.goes_on.ready.whole;
     stood = is.stood;
     crashes = is.moments;
+    receipts_stay = is.stands_on;
     settled = is.goes_on.log.only;
     faults = later;
   };

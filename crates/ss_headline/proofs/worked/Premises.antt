@@ -1,6 +1,7 @@
 -- The laws at a store that is made on an empty disk, run and closed: a client's batch goes through the workflow that splits and joins.
-use Rattle.std.proofs.Common.{◌≡◌, ◌⊎◌, ◌<◌, ◌==◌, ℕ, zero, suc, pos, codes, List, [], ◌∷◌, ◌++◌, replicate, take, true, false, cond, Some, None, ◌+◌, ◌≤◌, inl, inr, refl, sym, subst, arith, append-nil}
+use Rattle.std.proofs.Common.{◌≡◌, ◌⊎◌, ◌<◌, ◌==◌, ⊎_elim, ap, ◌∙◌, ℕ, zero, suc, pos, codes, List, [], ◌∷◌, ◌++◌, replicate, take, true, false, cond, Some, None, ◌+◌, ◌≤◌, inl, inr, refl, sym, subst, arith, append-nil}
 use Rattle.std.specs.List.{AllByRecursion, cons_option, filter_map}
+use Rattle.std.proofs.lemmas.Bool.{cases_lt}
 use Rattle.std.proofs.lemmas.List.Elements.{All-nil}
 use Rattle.ss_value.specs.declared.value.Value.TheVariants.{Int}
 use Rattle.ss_model.specs.declared.entry.Answer.{Answer}
@@ -22,15 +23,16 @@ use Rattle.ss_model_laws.proofs.CallerLemmas.{accepted, workflow, empty_whole, m
 use Rattle.ss_report_laws.specs.Replies.{mine, weave, AreAnswered}
 use Rattle.ss_report_laws.proofs.CallerLemmas.{answered_nothing, answered_request, answered_report, answered_step, pushed_one}
 use Rattle.ss_disk.specs.Files.{Files}
-use Rattle.ss_disk.specs.Moments.{LeavesOnly}
-use Rattle.ss_disk.proofs.CallerLemmas.{no_call, one_call}
+use Rattle.ss_disk.specs.Moments.{LeavesOnly, StaysFrom}
+use Rattle.ss_disk.proofs.CallerLemmas.{no_call, one_call, stays_none}
 use Rattle.ss_cmdlog.specs.Generation.{Stood, IsGroup, front_bytes}
 use Rattle.ss_cmdlog.specs.Formatting.{fresh}
 use Rattle.ss_cmdlog.specs.Log.{IsSettled, present}
 use Rattle.ss_cmdlog.specs.Store.{IsEmpty, StandsFor, entries_of}
+use Rattle.ss_cmdlog.proofs.CallerLemmas.{files_stand_for_one}
 use Rattle.ss_standing.specs.Image.{empty_image_of}
 use Rattle.ss_standing.specs.Standing.{Stands, Prefix, StandsForAtLeast}
-use Rattle.ss_standing.proofs.CallerLemmas.{forming_stands, new_image_is, nothing_stands, batch_store, batch_files, batch_files_stand, batch_prefix, batch_stands, batch_at_least}
+use Rattle.ss_standing.proofs.CallerLemmas.{counts_executions, forming_stands, new_image_is, nothing_stands, batch_store, batch_files, batch_files_stand, batch_prefix, batch_stands, batch_at_least}
 use Rattle.ss_headline.specs.Between.{CallsGoOn, GoesOnBehindAll, GoesOnBehindFront, HadList, QuietLeaves, QuietStays}
 use Rattle.ss_headline.specs.Disks.{DiskChange, disk_of, AtEachMoment, NothingRan, OnlyRead}
 use Rattle.ss_headline.specs.Sentences.{WholeSession, StoppedSession, stop_at}
@@ -99,6 +101,33 @@ next_call n P before after =
 next_call_anew : (n : ℕ) (P : Files → Type 0) → P (seen (suc n)) → AtEachMoment (change n (suc n)) P
 next_call_anew n P after true' = next_call n (λ image. (image ≡ seen n) ⊎ P image) (inl refl) (inr after)
 
+-- where no image before stands for more than each behind a call does, what stands stays
+next_stays : (disk a n : ℕ) → (StandsForAtLeast workflow n (seen disk) → n ≤ a) → StandsForAtLeast workflow a (seen (suc disk)) → StaysFrom (λ d. d) images disk (suc disk) (StandsForAtLeast workflow n)
+next_stays disk a n most least t u from le to each image is = ⊎_elim
+    (λ (later : t < u).
+    let enough = most (subst (λ (m : ℕ). StandsForAtLeast workflow n (seen m)) (first_of t u from later to) (each (seen t) refl)) in
+    subst (StandsForAtLeast workflow n) (sym (is ∙ ap seen (last_of t u from later to)))
+    (record { count = least.count; k = least.k; stands = least.stands; enough = omega (arith, enough, least.enough) }))
+    (λ (same : u ≤ t). each image (is ∙ ap seen (same_of t u le same)))
+    (cases_lt t u)
+  where
+    first_of : (t u : ℕ) → disk ≤ t → t < u → u ≤ suc disk → t ≡ disk
+    first_of t u a b c = omega arith
+
+    last_of : (t u : ℕ) → disk ≤ t → t < u → u ≤ suc disk → u ≡ suc disk
+    last_of t u a b c = omega arith
+
+    same_of : (t u : ℕ) → t ≤ u → u ≤ t → u ≡ t
+    same_of t u a b = omega arith
+
+-- an empty disk stands for none
+empty_has_none : (n : ℕ) → StandsForAtLeast workflow n (seen 0) → n ≤ 0
+empty_has_none n has = of has.count has.enough has.k has.stands
+  where
+    of : (count : ℕ) → n ≤ count → (k : _) → Stands workflow (seen 0) count k → n ≤ 0
+    of count le k (inl nothing) = omega (arith, le, nothing.none)
+    of count le k (inr stored) = let none : [] ≡ stored.stands.byte ∷ [] = stored.stands.selector in cc
+
 -- ---- the store is made
 
 new_stands : Stands workflow new_files 0 (kept workflow start)
@@ -109,6 +138,7 @@ opened = record {
   whole = empty_whole workflow accepted;
   stood = λ t. nothing_stands;
   crashes = next_call_anew 0 (λ image. Stands workflow image 0 (kept workflow start)) new_stands;
+  receipts_stay = λ q n. next_stays 0 0 n (empty_has_none n) (record { count = 0; k = kept workflow start; stands = new_stands; enough = omega arith });
   settled = λ q image is. is;
   faults = omega arith;
 }
@@ -123,6 +153,7 @@ closed = record {
   replays = whole_batch_replays;
   orders = replays_orders workflow accepted.structure.streams.wired start whole_batch matches whole_batch_replays;
   crashes = λ q. next_call 1 (Prefix workflow start 0 whole_batch) (none_stands workflow start 0 whole_batch new_files new_stands) batch_prefix;
+  receipts_stay = λ q n. next_stays 1 5 n (λ has. let same = counts_executions files_stand_for_one workflow new_files has.count has.k new_store has.stands new_files_stand in omega (arith, has.enough, same)) batch_at_least;
 }
 
 all_receipted : (image : Files) → image ≡ batch_files → StandsForAtLeast workflow 5 image
@@ -222,6 +253,7 @@ opened_again = record {
   whole = whole_after workflow accepted start whole_batch (empty_whole workflow accepted);
   stood = λ t. stood_behind;
   crashes = λ true'. stays_so (λ image. (image ≡ batch_files) ⊎ Stands workflow image 5 (kept workflow behind)) (inl refl);
+  receipts_stay = λ true' n. stays_none (λ disk. disk) images (StandsForAtLeast workflow n) 2 2 (omega arith);
   settled = λ true' image is. is;
   faults = omega arith;
 }
@@ -231,6 +263,7 @@ closed_again = record {
   replays = tt;
   orders = replays_orders workflow accepted.structure.streams.wired behind [] matches_behind tt;
   crashes = λ true'. stays_so (Prefix workflow behind 5 []) (none_stands workflow behind 5 [] batch_files stood_behind);
+  receipts_stay = λ true' n. stays_none (λ disk. disk) images (StandsForAtLeast workflow n) 2 2 (omega arith);
 }
 
 settled_again : Settled workflow behind 5 [] (change 2 2)

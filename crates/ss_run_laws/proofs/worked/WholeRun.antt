@@ -46,6 +46,7 @@ module _ (catalog : Catalog) (ok : Accepted catalog) (requests : List Request) (
         replies_and_tables = record { one_by_one = replays; report = reported };
         in_order = replays_orders catalog wired (empty_database catalog) list (matching_stays catalog wired).starts replays;
         wherever_a_crash_falls = λ honest. absurd (crashes honest);
+        receipts_stay = λ honest. absurd (crashes honest);
         all_stands = λ honest image left. absurd (crashes honest);
         at_the_end = drained;
       }

@@ -16,10 +16,10 @@ use Rattle.ss_model_laws.proofs.CallerLemmas.{whole_batch_replays}
 use Rattle.ss_record.specs.Numbers.{number_bytes}
 use Rattle.ss_record.specs.Bounds.{IsShort, IsTypedValue, IsTypedRow, IsRecordable, IsTyped}
 use Rattle.ss_disk.specs.Files.{Files}
-use Rattle.ss_disk.specs.Moments.{LeavesOnly}
+use Rattle.ss_disk.specs.Moments.{AnyMoment, LeavesOnly}
 use Rattle.ss_cmdlog.specs.Generation.{Stood, IsGroup, front_bytes}
-use Rattle.ss_cmdlog.specs.Formatting.{fresh}
-use Rattle.ss_cmdlog.specs.Log.{IsReceipted, present}
+use Rattle.ss_cmdlog.specs.Formatting.{LeavesSome, fresh}
+use Rattle.ss_cmdlog.specs.Log.{IsReceipted, HasAtLeast, KeepsCounts, present}
 use Rattle.ss_cmdlog.specs.Groups.{groups_of}
 use Rattle.ss_cmdlog.specs.Store.{StandsFor, StandsForPart}
 use Rattle.ss_standing.specs.Image.{text_bytes, empty_image_of}
@@ -164,6 +164,23 @@ receipted image is = (store, subst (λ (f : Files). StandsFor f store) (sym is) 
 
 each_stands : (image : Files) → present (λ disk. 0) images tt image → StandsForAtLeast workflow 0 image
 each_stands image is = subst (StandsForAtLeast workflow 0) (sym is) (record { count = 5; k = kept workflow (after workflow start whole_batch); stands = stands; enough = omega arith })
+
+-- and counts that are kept
+each_has : AnyMoment (λ disk. 0) images 0 tt (HasAtLeast 0)
+each_has t image from to is = (store, subst (λ (f : Files). StandsFor f store) (sym is) files_stand, omega arith)
+
+each_stands_on : AnyMoment (λ disk. 0) images 0 tt (StandsForAtLeast workflow 0)
+each_stands_on t image from to is = each_stands image is
+
+counts_kept : KeepsCounts (λ disk. 0) images 0 tt
+counts_kept n t u a b c each image left = each image left
+
+-- of which a crash at each moment leaves something, all of which stands for one thing
+some_left : LeavesSome (λ disk. 0) images 0 tt
+some_left t from to = (files, refl)
+
+each_is : AnyMoment (λ disk. 0) images 0 tt (λ image. Stands workflow image 5 (kept workflow (after workflow start whole_batch)))
+each_is t image from to is = subst (λ (f : Files). Stands workflow f 5 (kept workflow (after workflow start whole_batch))) (sym is) stands
 
 -- an empty disk stands for the empty database
 pub nothing : Stands workflow (record { selector = []; first = []; second = [] }) 0 (kept workflow start)

@@ -26,8 +26,8 @@ returns-in-Ok-clause-holds g c = λ list fault rest h.
     let adds = e.adds (h.going c.requires.going).generation open' in
     subst (λ (n : ℕ). Holds g.I.Life.catalog g.I.Life.opening g.I.Life.first g.I.Life.moment g.I.Life.faults g.I.Life.past g.D.Disk.tells g.D.Disk.honest g.D.Disk.seen g.D.Disk.moment g.D.Disk.images g.D.Disk.faults list c.flush.new.self n 0) e.count.1
     (holds_all g.I.Life.catalog g.I.Life.opening g.I.Life.first g.I.Life.moment g.I.Life.faults g.I.Life.past g.D.Disk.tells g.D.Disk.honest g.D.Disk.seen g.D.Disk.moment g.D.Disk.images g.D.Disk.faults
-    g.met.D.Disk.honest_tells goes_on c.generations_go_on.ensures c.prefixes_go_on.ensures.over_flush c.log_receipts_tell.ensures list c.args.log.now c.flush.new.self c.args.count fault c.args.entries.now rest h c.requires.going
-    adds.moments e.cause.later c.groups_hold_the_entries.ensures (e.cause.goes_on (λ failed. cc) ∙ c.requires.going) (omega (arith, e.count.0, e.count.1, h.counted c.requires.going)) (adds.done refl))
+    g.met.D.Disk.honest_tells goes_on c.generations_go_on.ensures c.prefixes_go_on.ensures.over_flush c.log_receipts_tell.ensures c.kept_counts_stand_on.ensures list c.args.log.now c.flush.new.self c.args.count fault c.args.entries.now rest h c.requires.going
+    adds.moments e.stays e.cause.later c.groups_hold_the_entries.ensures (e.cause.goes_on (λ failed. cc) ∙ c.requires.going) (omega (arith, e.count.0, e.count.1, h.counted c.requires.going)) (adds.done refl))
 
 pub returns-in-Err-NoMemory-clause-holds : goal.returns-in-Err-NoMemory-clause-holds
 returns-in-Err-NoMemory-clause-holds g c = λ list fault rest h.
@@ -37,8 +37,8 @@ returns-in-Err-NoMemory-clause-holds g c = λ list fault rest h.
     let same = h.counted c.requires.going in
     subst (λ (n : ℕ). Holds g.I.Life.catalog g.I.Life.opening g.I.Life.first g.I.Life.moment g.I.Life.faults g.I.Life.past g.D.Disk.tells g.D.Disk.honest g.D.Disk.seen g.D.Disk.moment g.D.Disk.images g.D.Disk.faults list c.flush.new.self n 0) (sym c.count.ensures)
     (holds_some g.I.Life.catalog g.I.Life.opening g.I.Life.first g.I.Life.moment g.I.Life.faults g.I.Life.past g.D.Disk.tells g.D.Disk.honest g.D.Disk.seen g.D.Disk.moment g.D.Disk.images g.D.Disk.faults
-    g.met.D.Disk.honest_tells goes_on c.generations_go_on.ensures c.prefixes_go_on.ensures.over_flush c.log_receipts_tell.ensures list c.args.log.now c.flush.new.self c.args.count fault c.args.entries.now rest h c.requires.going
-    adds.moments e.cause.later c.first_groups_hold_the_first_entries.ensures (e.cause.goes_on (λ failed. cc) ∙ c.requires.going) (omega (arith, e.between.0, same)) (omega (arith, e.between.1, same)) (adds.kept (ap Err c.in-Err-NoMemory.field-0-is)))
+    g.met.D.Disk.honest_tells goes_on c.generations_go_on.ensures c.prefixes_go_on.ensures.over_flush c.log_receipts_tell.ensures c.kept_counts_stand_on.ensures list c.args.log.now c.flush.new.self c.args.count fault c.args.entries.now rest h c.requires.going
+    adds.moments e.stays e.cause.later c.first_groups_hold_the_first_entries.ensures (e.cause.goes_on (λ failed. cc) ∙ c.requires.going) (omega (arith, e.between.0, same)) (omega (arith, e.between.1, same)) (adds.kept (ap Err c.in-Err-NoMemory.field-0-is)))
 
 pub returns-in-Some-clause-holds : goal.returns-in-Some-clause-holds
 returns-in-Some-clause-holds g c = λ list fault rest h.
@@ -48,5 +48,5 @@ returns-in-Some-clause-holds g c = λ list fault rest h.
     let failed : Err c.in-Err-DiskFault.field-0 ≡ Err DiskFault = ap Err c.in-Err-DiskFault.field-0-is in
     let halted : c.flush.new.self.halted ≡ Some c.in-Some.faults = sym c.halted.ensures ∙ c.in-Some.is in
     holds_halted g.I.Life.catalog g.I.Life.opening g.I.Life.first g.I.Life.moment g.I.Life.faults g.I.Life.past g.D.Disk.tells g.D.Disk.honest g.D.Disk.seen g.D.Disk.moment g.D.Disk.images g.D.Disk.faults
-    g.met.D.Disk.honest_tells goes_on c.generations_go_on.ensures c.prefixes_go_on.ensures.over_flush c.log_receipts_tell.ensures list c.args.log.now c.flush.new.self c.args.count fault c.args.entries.now rest h c.requires.going
-    adds.moments e.cause.later c.in-Some.faults halted (some_same _ _ (sym halted ∙ e.cause.keeps failed)) (e.cause.rose failed) (λ honest receipted. e.receipts honest c.args.count (omega (arith, h.counted c.requires.going)) receipted)
+    g.met.D.Disk.honest_tells goes_on c.generations_go_on.ensures c.prefixes_go_on.ensures.over_flush c.log_receipts_tell.ensures c.kept_counts_stand_on.ensures list c.args.log.now c.flush.new.self c.args.count fault c.args.entries.now rest h c.requires.going
+    adds.moments e.stays e.cause.later c.in-Some.faults halted (some_same _ _ (sym halted ∙ e.cause.keeps failed)) (e.cause.rose failed) (λ honest receipted. e.receipts honest c.args.count (omega (arith, h.counted c.requires.going)) receipted)

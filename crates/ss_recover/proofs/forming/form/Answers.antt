@@ -8,7 +8,7 @@ returns-in-Ok-format-clause-recovered g c =
     let spelled = c.as_slice.ensures ∙ c.in-Ok-empty_image.ensures.ok in
     rw c.new.ensures (
     formed d.tells d.honest g.met.D.Disk.honest_tells d.seen d.moment d.images c.args.catalog c.requires.own c.forming_stands.ensures c.as_slice.result.now spelled c.args.disk c.requires.empty
-    c.args.partitions c.in-Ok.database c.in-Ok-format.log c.in-Ok.ensures.is_whole c.in-Ok.ensures.stands c.in-Ok-format.ensures.open c.in-Ok-format.ensures.count c.in-Ok-format.ensures.moments)
+    c.args.partitions c.in-Ok.database c.in-Ok-format.log c.in-Ok.ensures.is_whole c.in-Ok.ensures.stands c.in-Ok-format.ensures.open c.in-Ok-format.ensures.count c.in-Ok-format.ensures.moments c.in-Ok-format.ensures.some c.one_thing_stands_on.ensures)
 
 pub returns-in-Err-clause-refused : goal.returns-in-Err-clause-refused
 returns-in-Err-clause-refused g c =

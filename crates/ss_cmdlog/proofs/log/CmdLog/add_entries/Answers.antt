@@ -1,4 +1,4 @@
-use Rattle.std.proofs.Common.{◌≡◌, ◌∙◌, List, ◌∷◌, length, take, drop, Err, refl, sym, ap, arith}
+use Rattle.std.proofs.Common.{◌≡◌, ◌∙◌, List, [], ◌∷◌, length, take, drop, Err, refl, sym, ap, arith, rules}
 use Rattle.std.proofs.lemmas.Result.{err_from_is_err_and}
 use Rattle.std.proofs.lemmas.List.{length-take-le}
 use Rattle.std.proofs.lemmas.List.Elements.{All-drop, All-same}
@@ -12,7 +12,7 @@ use Rattle.ss_cmdlog.specs.Store.{StandsForPart}
 use Rattle.ss_cmdlog.specs.Groups.{groups_of}
 use Rattle.ss_cmdlog.specs.declared.log.LogError.TheVariants.{NoMemory}
 use Rattle.ss_cmdlog.proofs.Refused.{not_both}
-use Rattle.ss_cmdlog.proofs.Adding.{begun, added, moments_more, kept_so_far, open_so_far}
+use Rattle.ss_cmdlog.proofs.Adding.{begun, added, moments_more, stays_more, kept_so_far, open_so_far, open_all}
 use Rattle.ss_cmdlog.proofs.log.CmdLog.add_entries.Goals as goal
 
 pub loop-rest-init : goal.loop-rest-init
@@ -34,6 +34,7 @@ returns-in_err-next-clause-adds g c = λ s is.
       done = λ ok. absurd (not_both c.from_residual.result p.0 p.1 ok);
       kept = λ refused. open_so_far g.D.Disk.tells g.D.Disk.honest g.D.Disk.seen g.D.Disk.moment g.D.Disk.images c.args.self.now c.loop-rest.self c.args.entries.now c.loop-rest.rest.now so_far s is;
       moments = λ honest. so_far.moments honest s is;
+      stays = λ honest. so_far.stays honest s is;
     }
 
 pub returns-in_err-write_group-clause-adds : goal.returns-in_err-write_group-clause-adds
@@ -56,6 +57,9 @@ returns-in_err-write_group-clause-adds g c = λ s is.
           kept_so_far g.D.Disk.tells g.D.Disk.honest g.D.Disk.seen g.D.Disk.moment g.D.Disk.images c.args.self.now c.loop-rest.self c.write_group.new.self c.write_group.result
           c.args.entries.now c.loop-rest.rest.now (drop c.in_ok-next.next.number c.loop-rest.rest.now) first so_far c.in_ok-next.ensures.groups adds short s is;
       moments = moments;
+      stays = λ honest.
+          stays_more g.D.Disk.tells g.D.Disk.honest g.D.Disk.seen g.D.Disk.moment g.D.Disk.images c.args.self.now c.loop-rest.self c.write_group.new.self c.write_group.result
+          c.args.entries.now c.loop-rest.rest.now (drop c.in_ok-next.next.number c.loop-rest.rest.now) first so_far c.in_ok-next.ensures.groups adds honest s is;
     }
 
 pub loop-rest-preserved : goal.loop-rest-preserved
@@ -87,3 +91,14 @@ returns-in_err-write_group-clause-nothing g c = λ none. absurd (omega (arith, a
 
 pub returns-clause-nothing : goal.returns-clause-nothing
 returns-clause-nothing g c = c.loop-rest.invariant.nothing
+
+pub returns-clause-adds : goal.returns-clause-adds
+returns-clause-adds g c = λ s is.
+    let so_far = c.loop-rest.invariant.so_far in
+    let none : c.loop-rest.rest.now ≡ [] = search rules in
+    record {
+      done = λ ok. open_all g.D.Disk.tells g.D.Disk.honest g.D.Disk.seen g.D.Disk.moment g.D.Disk.images c.args.self.now c.loop-rest.self c.args.entries.now c.loop-rest.rest.now none so_far s is;
+      kept = λ refused. cc;
+      moments = λ honest. so_far.moments honest s is;
+      stays = λ honest. so_far.stays honest s is;
+    }

@@ -13,6 +13,7 @@ returns-in_err-add_entries-clause-adds g c = λ s is.
       done = λ ok. absurd (not_both c.from_residual.result p.0 p.1 ok);
       kept = λ refused. let short : c.add_entries.result ≡ Err NoMemory = cc (p.1, p.2, c.in_err-add_entries.was) in adds.kept short;
       moments = adds.moments;
+      stays = adds.stays;
     }
 
 pub returns-in_err-add_entries-clause-receipts : goal.returns-in_err-add_entries-clause-receipts
@@ -35,3 +36,20 @@ returns-clause-receipt g c = λ honest.
     let open' = c.requires.open none in
     open_receipted g.D.Disk.tells g.D.Disk.honest g.D.Disk.seen (λ disk. g.D.Disk.images disk (g.D.Disk.moment disk)) c.add_entries.new.self _
     ((c.in_ok-add_entries.ensures.adds open'.0 open'.1).done refl) (g.met.D.Disk.honest_tells honest) honest c.add_entries.new.self.count refl
+
+pub returns-in_err-add_entries-clause-stays : goal.returns-in_err-add_entries-clause-stays
+returns-in_err-add_entries-clause-stays g c = λ honest.
+    let none : c.args.self.now.halted ≡ None = search rules in
+    let open' = c.requires.open none in
+    (c.add_entries.ensures.adds open'.0 open'.1).stays honest
+
+pub returns-clause-stays : goal.returns-clause-stays
+returns-clause-stays g c = λ honest.
+    let none : c.args.self.now.halted ≡ None = search rules in
+    let open' = c.requires.open none in
+    (c.add_entries.ensures.adds open'.0 open'.1).stays honest
+
+pub returns-clause-adds : goal.returns-clause-adds
+returns-clause-adds g c = λ s is.
+    let adds = rw c.as_slice.ensures at (c.in_ok-add_entries.ensures.adds s is) in
+    record { done = λ ok. adds.done refl; kept = λ refused. cc; moments = adds.moments; stays = adds.stays }

@@ -1,5 +1,6 @@
 use Rattle.std.proofs.Common.{◌≡◌, ◌∙◌, ◌-◌, length, refl, arith}
 use Rattle.ss_cmdlog.proofs.Formatted.{formatted, fresh_open}
+use Rattle.ss_cmdlog.proofs.LeftSome.{some_fewer, some_join}
 use Rattle.ss_cmdlog.proofs.log.CmdLog.format.Goals as goal
 
 pub returns-in-Err-write_synced-clause-moments : goal.returns-in-Err-write_synced-clause-moments
@@ -26,3 +27,9 @@ returns-clause-open g c =
       count = λ tells. refl;
       only = λ honest. c.in_default-write_synced.ensures.durable honest;
     }
+
+pub returns-clause-some : goal.returns-clause-some
+returns-clause-some g c = λ honest.
+    let run = c.write_synced.ensures.moments honest in
+    some_join g.D.Disk.moment g.D.Disk.images (g.D.Disk.moment c.args.disk) c.fill_both.new.disk c.write_synced.new.disk (c.fill_both.ensures.some honest) run.keeps
+    (some_fewer g.D.Disk.honest g.D.Disk.seen g.D.Disk.moment g.D.Disk.images g.met.D.Disk.sees_an_image honest c.fill_both.new.disk c.write_synced.new.disk run.keeps (c.write_synced.ensures.fewer honest))
