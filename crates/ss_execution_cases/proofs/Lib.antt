@@ -1,0 +1,4 @@
+pub mod Lent
+pub mod OnOne
+pub mod InOrder
+pub mod OnAll

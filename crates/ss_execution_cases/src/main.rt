@@ -2,11 +2,15 @@
 //! line names, and counts them.
 //!
 //! - `executions`: calls, pushes and steps by themselves, with the batches that they take
+//! - `joining`: the same on a database that is split and joined again behind each
+//! - `touching`: calls and pushes on the shards that they touch
 //! - `plans`: how the rows are found that a step looks for
 #![tactic(auto)]
 
 mod executions;
+mod joining;
 mod plans;
+mod touching;
 
 use ss_case_files::{Behind, BlockForm, Case, Wrong, run_files};
 use std::alloc::Global;
@@ -16,7 +20,7 @@ use std::process::ExitCode;
 fn form_of(word: &str) -> Option<BlockForm> {
     let has_rows = match word {
         "plans" | "planned" => true,
-        "executions" => false,
+        "executions" | "joined" | "touching" => false,
         _ => return None,
     };
     Some(BlockForm {
@@ -27,10 +31,13 @@ fn form_of(word: &str) -> Option<BlockForm> {
 
 /// Runs a case.
 fn check(alloc: Global, case: &Case) -> Result<(), Wrong> {
+    let (base, lines) = (case.base, case.block.lines.as_slice());
     match case.block.word.as_str() {
-        "plans" => plans::check_plan(alloc, case.base, case.row),
-        "planned" => plans::check_planned(alloc, case.base, case.row),
-        _ => executions::check_executions(alloc, case.base, case.block.lines.as_slice()),
+        "plans" => plans::check_plan(alloc, base, case.row),
+        "planned" => plans::check_planned(alloc, base, case.row),
+        "joined" => joining::check_joined(alloc, base, lines),
+        "touching" => touching::check_touching(alloc, base, lines),
+        _ => executions::check_executions(alloc, base, lines),
     }
 }
 

@@ -1,7 +1,4 @@
-//! The tests and what they share.
+//! The test and its catalogue.
 
 mod catalog;
-mod held;
-mod requests;
-mod splitting;
 mod two_threads;

@@ -8,7 +8,7 @@ mod stores;
 
 use ss_disk::MemoryDisk;
 use ss_engine::{Gate, NoGate};
-use ss_lines::{MemorySink, MemorySource};
+use ss_lines::{MemorySink, MemorySource, Source};
 use ss_top::{Status, sstore};
 use ss_value::{NoMemory, Seq};
 use std::alloc::{AllocError, Global};
@@ -24,22 +24,38 @@ const ACCOUNTS: &str =
 const DIAMOND: &str =
     r#"{"tables":[{"name":"joined","columns":[["x","int"],["side","int"]],"key":["x"],"part":0}],"streams":[{"name":"s","columns":[["x","int"]]},{"name":"l","columns":[["x","int"]]},{"name":"r","columns":[["x","int"]]},{"name":"pl","columns":[["x","int"]]},{"name":"qr","columns":[["x","int"]]}],"procedures":[{"name":"a","kind":"border","inputs":["s"],"touch":{"part":0},"body":[{"emit":"l","sql":"SELECT x FROM s"},{"emit":"r","sql":"SELECT x FROM s"}]},{"name":"p","kind":"interior","inputs":["l"],"touch":{"part":0},"body":[{"abort_if":"(SELECT COUNT(*) FROM l WHERE x = 7) > 0","code":3},{"emit":"pl","sql":"SELECT x + 10 FROM l"}]},{"name":"q","kind":"interior","inputs":["r"],"touch":{"part":1},"body":[{"emit":"qr","sql":"SELECT x + 20 FROM r"}]},{"name":"j","kind":"interior","inputs":["pl","qr"],"touch":{"part":0},"body":[{"sql":"INSERT INTO joined SELECT x, 1 FROM pl"},{"sql":"INSERT INTO joined SELECT x, 2 FROM qr"}]},{"name":"peek","kind":"call","touch":{"part":0},"body":[{"return_all":"joined"}]}]}"#;
 
-/// How a run ended, and what it wrote.
-#[derive(Drop)]
+/// How a run ended, and the sink that it wrote to.
 struct Ended {
     status: Status,
-    written: Vec<u8>,
+    sink: MemorySink,
+}
+
+// By hand, so that letting it go is one call.
+impl Drop for Ended {
+    fn drop(self) {
+        let Ended { status: _, sink: _ } = self;
+    }
 }
 
 impl Ended {
+    /// What it wrote.
+    fn written(&self) -> &[u8] {
+        self.sink.as_bytes()
+    }
+
+    /// What it wrote, as text.
+    fn text(&self) -> &str {
+        std::str::from_utf8(self.written()).unwrap_or("no UTF-8")
+    }
+
     /// Whether it ended so, and wrote this.
     fn is(&self, status: Status, written: &str) -> bool {
-        self.status == status && self.written.as_slice() == written.as_bytes()
+        self.status == status && self.written() == written.as_bytes()
     }
 
     /// Whether it ended so, and wrote this behind other lines.
     fn ends(&self, status: Status, last: &str) -> bool {
-        self.status == status && self.written.as_slice().ends_with(last.as_bytes())
+        self.status == status && self.written().ends_with(last.as_bytes())
     }
 }
 
@@ -57,6 +73,29 @@ fn words_of(alloc: Global, words: &[&str]) -> Result<Vec<String>, AllocError> {
     Ok(owned)
 }
 
+/// Runs a command line on a source, with a gate, and with a sink that has room for this many bytes.
+fn run_from<S: Source, G: Gate + Drop + Sync, R: Threads + Wait + Sync>(
+    rt: &R,
+    alloc: Global,
+    words: &[&str],
+    source: &mut S,
+    room: usize,
+    gate: G,
+) -> Result<Ended, NoMemory> {
+    let words = words_of(alloc, words)?;
+    let mut sink = MemorySink::new(alloc, room)?;
+    let (status, _) = sstore(
+        rt,
+        alloc,
+        &words,
+        source,
+        &mut sink,
+        empty_disk(alloc),
+        gate,
+    );
+    Ok(Ended { status, sink })
+}
+
 /// Runs a command line on an input, with a gate, and with a sink that has room for this many bytes.
 fn run_gated<G: Gate + Drop + Sync, R: Threads + Wait + Sync>(
     rt: &R,
@@ -66,13 +105,8 @@ fn run_gated<G: Gate + Drop + Sync, R: Threads + Wait + Sync>(
     room: usize,
     gate: G,
 ) -> Result<Ended, NoMemory> {
-    let words = words_of(alloc, words)?;
     let mut source = MemorySource::new(Seq::from_vec(input));
-    let mut sink = MemorySink::new(alloc, room)?;
-    let disk = empty_disk(alloc);
-    let (status, _) = sstore(rt, alloc, &words, &mut source, &mut sink, disk, gate);
-    let written = Vec::from_slice(alloc, sink.as_bytes())?;
-    Ok(Ended { status, written })
+    run_from(rt, alloc, words, &mut source, room, gate)
 }
 
 /// Runs the command `run` on an input, with a sink that has room for this many bytes.

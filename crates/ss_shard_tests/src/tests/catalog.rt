@@ -1,4 +1,4 @@
-//! The catalogue of the tests.
+//! The catalogue of the test.
 
 ghost use Rattle.std.specs.Prelude.{IfSome};
 ghost use Rattle.ss_model.specs.Accepted.{Accepted};
@@ -18,17 +18,5 @@ pub(crate) fn catalog(alloc: Global) -> Option<Catalog>
     ensures { IfSome result Accepted }
 {
     let value = Json::from_str(alloc, TEXT).ok()?;
-    read_catalog(alloc, &value).ok()
-}
-
-/// A table of accounts that is split by its key, calls that touch the partition of an argument, and a transfer that touches all.
-const ACCOUNTS: &str =
-    r#"{"tables":[{"name":"acct","columns":[["id","int"],["bal","int"]],"key":["id"],"by":"id"}],"procedures":[{"name":"open","kind":"call","args":[["id","int"],["bal","int"]],"touch":{"arg":"id"},"body":[{"sql":"INSERT INTO acct VALUES (:id, :bal)"}]},{"name":"move","kind":"call","args":[["a","int"],["b","int"],["n","int"]],"touch":"all","body":[{"abort_if":"(SELECT COUNT(*) FROM acct WHERE id = :a AND bal >= :n) = 0","code":1},{"abort_if":"(SELECT COUNT(*) FROM acct WHERE id = :b) = 0","code":2},{"sql":"UPDATE acct SET bal = bal - :n WHERE id = :a"},{"sql":"UPDATE acct SET bal = bal + :n WHERE id = :b"}]},{"name":"balances","kind":"call","touch":"all","body":[{"return":"SELECT bal FROM acct"}]}]}"#;
-
-/// The catalogue of accounts, or None without memory.
-pub(crate) fn accounts(alloc: Global) -> Option<Catalog>
-    ensures { IfSome result Accepted }
-{
-    let value = Json::from_str(alloc, ACCOUNTS).ok()?;
     read_catalog(alloc, &value).ok()
 }

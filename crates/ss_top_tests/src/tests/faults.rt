@@ -1,9 +1,9 @@
 //! A source that fails, and sinks that are full.
 
-use super::{ACCOUNTS, empty_disk, run_within, words_of};
+use super::{ACCOUNTS, run_from, run_within};
 use ss_engine::NoGate;
-use ss_lines::{MemorySink, Source};
-use ss_top::{Status, sstore};
+use ss_lines::Source;
+use ss_top::Status;
 use ss_value::Failed;
 use std::test::Fail;
 
@@ -28,21 +28,9 @@ impl Source for Broken {
 
 #[test]
 fn a_source_that_fails(rt: HostRuntime) -> Result<(), Fail> {
-    let words = words_of(rt.alloc(), &["run"])?;
     let mut source = Broken { faults: 0 };
-    let mut sink = MemorySink::new(rt.alloc(), 64)?;
-    let disk = empty_disk(rt.alloc());
-    let (status, _) = sstore(
-        &rt,
-        rt.alloc(),
-        &words,
-        &mut source,
-        &mut sink,
-        disk,
-        NoGate,
-    );
-    assert!(rt; status == Status::ReadFault);
-    assert!(rt; sink.as_bytes() == b"[\"read_fault\"]\n".as_slice());
+    let ended = run_from(&rt, rt.alloc(), &["run"], &mut source, 64, NoGate)?;
+    assert!(rt; ended.is(Status::ReadFault, "[\"read_fault\"]\n"));
     Ok(())
 }
 
@@ -53,8 +41,8 @@ fn sinks_that_are_full(rt: HostRuntime) -> Result<(), Fail> {
         let input = Vec::from_slice(rt.alloc(), ACCOUNTS.as_bytes())?;
         let ended = run_within(&rt, rt.alloc(), input, room)?;
         assert!(rt; ended.status == Status::WriteFault);
-        assert!(rt; whole.as_bytes().starts_with(&ended.written));
-        assert!(rt; ended.written.len() == room);
+        assert!(rt; whole.as_bytes().starts_with(ended.written()));
+        assert!(rt; ended.written().len() == room);
     }
     let input = Vec::from_slice(rt.alloc(), b"{")?;
     assert!(rt; run_within(&rt, rt.alloc(), input, 3)?.is(Status::Input, "[\"i"));

@@ -27,9 +27,8 @@ fn run_limited<R: Threads + Wait + Sync>(
     room: usize,
 ) -> Result<Ended, NoMemory> {
     let words = words_of(alloc, &["run"])?;
-    let input = with_requests(alloc, catalog, requests)?;
-    let mut source = MemorySource::new(Seq::from_vec(input));
     let mut sink = MemorySink::new(alloc, room)?;
+    let mut source = MemorySource::new(Seq::from_vec(with_requests(alloc, catalog, requests)?));
     let (status, _) = sstore_limited(
         rt,
         alloc,
@@ -40,8 +39,7 @@ fn run_limited<R: Threads + Wait + Sync>(
         NoGate,
         u64::from(limit),
     );
-    let written = Vec::from_slice(alloc, sink.as_bytes())?;
-    Ok(Ended { status, written })
+    Ok(Ended { status, sink })
 }
 
 #[test]

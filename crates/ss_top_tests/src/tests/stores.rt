@@ -15,40 +15,105 @@ use std::test::Fail;
 use std::thread::Threads;
 
 /// How a run on a disk ended, and the disk behind it.
-#[derive(Drop)]
 struct Left {
     ended: Ended,
     disk: MemoryDisk,
+}
+
+// By hand, so that letting it go is one call.
+impl Drop for Left {
+    fn drop(self) {
+        let Left { ended: _, disk: _ } = self;
+    }
+}
+
+impl Left {
+    /// The disk.
+    fn into_disk(self) -> MemoryDisk {
+        let Left { ended: _, disk } = self;
+        disk
+    }
+}
+
+/// The words of a command, the source that it reads and the sink that it writes to.
+struct Streams {
+    words: Vec<String>,
+    source: MemorySource,
+    sink: MemorySink,
+}
+
+// By hand, so that letting it go is one call.
+impl Drop for Streams {
+    fn drop(self) {
+        let Streams {
+            words: _,
+            source: _,
+            sink: _,
+        } = self;
+    }
+}
+
+impl Streams {
+    /// A command on a catalogue and requests.
+    fn new(alloc: Global, command: &str, input: Vec<u8>) -> Result<Streams, NoMemory> {
+        let words = words_of(alloc, &[command])?;
+        let sink = MemorySink::new(alloc, 4096)?;
+        let source = MemorySource::new(Seq::from_vec(input));
+        Ok(Streams {
+            words,
+            source,
+            sink,
+        })
+    }
+
+    /// Runs the command on a disk, with a list of at most `limit` entries.
+    fn run_on<R: Threads + Wait + Sync>(
+        self,
+        rt: &R,
+        alloc: Global,
+        disk: MemoryDisk,
+        limit: u16,
+    ) -> Left {
+        let Streams {
+            words,
+            mut source,
+            mut sink,
+        } = self;
+        let limit = MOST_ENTRIES.min(u64::from(limit));
+        let (status, disk) = sstore_limited(
+            rt,
+            alloc,
+            &words,
+            &mut source,
+            &mut sink,
+            disk,
+            NoGate,
+            limit,
+        );
+        Left {
+            ended: Ended { status, sink },
+            disk,
+        }
+    }
+}
+
+/// The command `run` on a catalogue and requests.
+fn running(alloc: Global, catalog: &str, requests: &str) -> Result<Streams, NoMemory> {
+    Streams::new(alloc, "run", with_requests(alloc, catalog, requests)?)
 }
 
 /// Runs a command on a disk, with a list of at most `limit` entries.
 fn run_limited<R: Threads + Wait + Sync>(
     rt: &R,
     alloc: Global,
-    command: &str,
-    input: Vec<u8>,
+    streams: Result<Streams, NoMemory>,
     disk: MemoryDisk,
     limit: u16,
 ) -> Result<Left, NoMemory> {
-    let words = words_of(alloc, &[command])?;
-    let mut source = MemorySource::new(Seq::from_vec(input));
-    let mut sink = MemorySink::new(alloc, 4096)?;
-    let limit = MOST_ENTRIES.min(u64::from(limit));
-    let (status, disk) = sstore_limited(
-        rt,
-        alloc,
-        &words,
-        &mut source,
-        &mut sink,
-        disk,
-        NoGate,
-        limit,
-    );
-    let written = Vec::from_slice(alloc, sink.as_bytes())?;
-    Ok(Left {
-        ended: Ended { status, written },
-        disk,
-    })
+    match streams {
+        Ok(streams) => Ok(streams.run_on(rt, alloc, disk, limit)),
+        Err(NoMemory) => Err(NoMemory),
+    }
 }
 
 /// Runs a catalogue and requests on a disk.
@@ -59,8 +124,8 @@ fn run_on<R: Threads + Wait + Sync>(
     requests: &str,
     disk: MemoryDisk,
 ) -> Result<Left, NoMemory> {
-    let input = with_requests(alloc, catalog, requests)?;
-    run_limited(rt, alloc, "run", input, disk, u16::MAX)
+    let streams = running(alloc, catalog, requests);
+    run_limited(rt, alloc, streams, disk, u16::MAX)
 }
 
 /// Recovers a disk, and runs nothing on it but what was pending.
@@ -69,7 +134,8 @@ fn recover<R: Threads + Wait + Sync>(
     alloc: Global,
     disk: MemoryDisk,
 ) -> Result<Left, NoMemory> {
-    run_limited(rt, alloc, "recover", Vec::new(alloc), disk, u16::MAX)
+    let streams = Streams::new(alloc, "recover", Vec::new(alloc));
+    run_limited(rt, alloc, streams, disk, u16::MAX)
 }
 
 /// A disk whose selector has this byte, and whose other files are empty.
@@ -113,10 +179,7 @@ fn is_prefix(ended: &Ended) -> bool {
     if ended.is(Status::Done, "[\"done\",0]\n") {
         return true;
     }
-    let Ok(written) = std::str::from_utf8(&ended.written) else {
-        return false;
-    };
-    let Some((_, tables)) = written.split_once("[\"table\",") else {
+    let Some((_, tables)) = ended.text().split_once("[\"table\",") else {
         return false;
     };
     let Some((tables, _)) = tables.split_once("[\"done\",") else {
@@ -130,7 +193,7 @@ fn is_prefix(ended: &Ended) -> bool {
 fn a_push_is_accepted_once_over_two_runs(rt: HostRuntime) -> Result<(), Fail> {
     let first = run_on(&rt, rt.alloc(), DIAMOND, PUSH, empty_disk(rt.alloc()))?;
     assert!(rt; first.ended.ends(Status::Done, "[\"done\",5]\n"));
-    let second = run_on(&rt, rt.alloc(), DIAMOND, PUSH, first.disk)?;
+    let second = run_on(&rt, rt.alloc(), DIAMOND, PUSH, first.into_disk())?;
     let wanted = format!(in rt.alloc();
         "[\"reply\",2,5,[\"duplicate\",1]]\n[\"push\",5,0,0,[\"duplicate\",1]]\n{JOINED}[\"done\",1]\n"
     )?;
@@ -141,15 +204,15 @@ fn a_push_is_accepted_once_over_two_runs(rt: HostRuntime) -> Result<(), Fail> {
 // The list is full behind the push and its first step, so the log has just these.
 #[test]
 fn what_was_pending_runs(rt: HostRuntime) -> Result<(), Fail> {
-    let input = with_requests(rt.alloc(), DIAMOND, PUSH)?;
-    let full = run_limited(&rt, rt.alloc(), "run", input, empty_disk(rt.alloc()), 2)?;
+    let pushes = running(rt.alloc(), DIAMOND, PUSH);
+    let full = run_limited(&rt, rt.alloc(), pushes, empty_disk(rt.alloc()), 2)?;
     assert!(rt; full.ended.ends(Status::Limit, "[\"stopped\",9,2]\n"));
-    let recovered = recover(&rt, rt.alloc(), full.disk)?;
+    let recovered = recover(&rt, rt.alloc(), full.into_disk())?;
     let wanted = format!(in rt.alloc();
         "[\"step\",2,\"p\",0,[\"done\",[]]]\n[\"step\",3,\"q\",0,[\"done\",[]]]\n[\"step\",4,\"j\",0,[\"done\",[]]]\n{JOINED}[\"done\",3]\n"
     )?;
     assert!(rt; recovered.ended.is(Status::Done, wanted.as_str()));
-    let again = recover(&rt, rt.alloc(), recovered.disk)?;
+    let again = recover(&rt, rt.alloc(), recovered.into_disk())?;
     let wanted = format!(in rt.alloc(); "{JOINED}[\"done\",0]\n")?;
     assert!(rt; again.ended.is(Status::Done, wanted.as_str()));
     Ok(())
@@ -174,7 +237,7 @@ const OTHER_TABLE: &str =
 #[test]
 fn disks_that_are_refused(rt: HostRuntime) -> Result<(), Fail> {
     let stored = run_on(&rt, rt.alloc(), ONE_TABLE, "", empty_disk(rt.alloc()))?;
-    let other = run_on(&rt, rt.alloc(), OTHER_TABLE, "", stored.disk)?;
+    let other = run_on(&rt, rt.alloc(), OTHER_TABLE, "", stored.into_disk())?;
     let stored = ONE_TABLE.replace(rt.alloc(), "\"", "\\\"")?;
     let given = OTHER_TABLE.replace(rt.alloc(), "\"", "\\\"")?;
     let wanted = format!(in rt.alloc(); "[\"other_catalog\",\"{stored}\",\"{given}\"]\n")?;
@@ -198,7 +261,7 @@ fn a_disk_that_fails_in_each_call(rt: HostRuntime) -> Result<(), Fail> {
             continue;
         }
         assert!(rt; left.ended.status == Status::Disk);
-        let recovered = recover(&rt, rt.alloc(), left.disk)?;
+        let recovered = recover(&rt, rt.alloc(), left.into_disk())?;
         assert!(rt; is_prefix(&recovered.ended));
     }
     Ok(())

@@ -1,0 +1,9 @@
+use Rattle.std.proofs.Common.{◌≡◌, length, All}
+use Rattle.ss_record.specs.Bounds.{IsRecordable}
+use Rattle.ss_cmdlog_cases.proofs.stores.three_steps.Given as goal
+
+abbrev pub invariant-loop-batch : goal.invariant-loop-batch
+invariant-loop-batch l = record {
+  recordable : All IsRecordable l.entries;
+  count : length l.entries ≡ l.batch;
+}

@@ -1,0 +1,35 @@
+//! Bytes, numbers and files from text.
+
+use ss_case_files::Wrong;
+use ss_disk::FileNo;
+use std::alloc::Global;
+
+/// The number that a word spells.
+pub fn number_of(alloc: Global, word: &str) -> Result<u64, Wrong> {
+    match word.parse::<u64>() {
+        Ok(number) => Ok(number),
+        Err(_) => Err(Wrong::text(alloc, "no number")),
+    }
+}
+
+/// The file that a word names.
+pub fn file_of(alloc: Global, word: &str) -> Result<FileNo, Wrong> {
+    match word {
+        "selector" => Ok(FileNo::Selector),
+        "first" => Ok(FileNo::First),
+        "second" => Ok(FileNo::Second),
+        _ => Err(Wrong::text(alloc, "no file")),
+    }
+}
+
+/// The bytes that hexadecimal digits spell, two a byte.
+pub fn bytes_of(alloc: Global, text: &str) -> Result<Vec<u8>, Wrong> {
+    let mut bytes = Vec::new(alloc);
+    for word in text.split_whitespace() {
+        match u8::from_str_radix(word, 16) {
+            Ok(byte) => bytes.push(byte)?,
+            Err(_) => return Err(Wrong::text(alloc, "no byte")),
+        }
+    }
+    Ok(bytes)
+}

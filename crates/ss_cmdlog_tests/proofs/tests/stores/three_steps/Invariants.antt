@@ -1,9 +1,0 @@
-use Rattle.std.proofs.Common.{◌≡◌, length, All}
-use Rattle.ss_record.specs.Bounds.{IsRecordable}
-use Rattle.ss_cmdlog_tests.proofs.tests.stores.three_steps.Given as goal
-
-abbrev pub invariant-loop-batch : goal.invariant-loop-batch
-invariant-loop-batch l = record {
-  recordable : All IsRecordable l.entries;
-  count : length l.entries ≡ l.batch;
-}

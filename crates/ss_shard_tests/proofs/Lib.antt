@@ -1,4 +1,0 @@
-pub mod Lent
-pub mod OnOne
-pub mod InOrder
-pub mod OnAll

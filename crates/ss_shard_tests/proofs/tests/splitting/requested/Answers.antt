@@ -1,8 +1,0 @@
-use Rattle.std.proofs.Common.{◌∙◌}
-use Rattle.ss_shard_tests.proofs.tests.splitting.requested.Goals as goal
-
-pub joined_again-requires-clause-whole : goal.joined_again-requires-clause-whole
-joined_again-requires-clause-whole c = record {
-  number = c.run_request.ensures.number ∙ c.requires.whole.number;
-  parts = record { committed = c.run_request.ensures.committed; dealt = c.run_request.ensures.dealt ∙ c.requires.whole.parts.dealt };
-}
