@@ -19,7 +19,7 @@ use Rattle.ss_model.specs.Report.{asked_entry, asked_entries, entries_behind, is
 use Rattle.ss_lemmas.proofs.Bools.{first_of_two, second_of_two}
 use Rattle.ss_run.specs.BySteps.{Answered, GoesOnBySteps, IsAnswered}
 use Rattle.ss_report_laws.specs.PartOf.{IsPartOf}
-use Rattle.ss_run.specs.RunAnswers.{all_fit, client_entries}
+use Rattle.ss_run.specs.RunAnswers.{AnswersInOrder, all_fit, client_entries}
 use Rattle.ss_run.specs.Stands.{with_entry}
 use Rattle.ss_run.proofs.BySteps.{client_append}
 
@@ -96,6 +96,10 @@ part_skip (x ∷ xs) (z ∷ ys) y (inr q) = inr (part_skip (x ∷ xs) ys y q)
 -- steps change nothing of what clients asked for
 steps_same : (list new : List Listed) → GoesOnBySteps list new → client_entries new ≡ client_entries list
 steps_same list new on = ap client_entries on.is ∙ client_append list on.steps ∙ ap (λ (es : List Entry). client_entries list ++ es) on.all_steps ∙ append-nil (client_entries list)
+
+-- so what they asked for stays in order
+pub in_order_on : (requests : List Request) (list new : List Listed) → GoesOnBySteps list new → AnswersInOrder requests list → AnswersInOrder requests new
+in_order_on requests list new on in_order = rw (steps_same list new on) in_order
 
 is_asked : (client index : ℕ) (what : Asked) (ls : List Entry) → cond (not (is_step (asked_entry client index what))) (asked_entry client index what ∷ ls) ls ≡ asked_entry client index what ∷ ls
 is_asked client index (CallAsked q args) ls = refl

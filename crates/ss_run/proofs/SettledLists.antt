@@ -4,14 +4,14 @@ use Rattle.ss_model.specs.declared.catalog.Catalog.{Catalog}
 use Rattle.ss_model.specs.declared.entry.Entry.{Entry}
 use Rattle.ss_model.specs.declared.entry.Entry.TheVariants.{Step as StepEntry}
 use Rattle.ss_model.specs.declared.entry.Listed.{Listed}
-use Rattle.ss_model.specs.Database.{Database, batch_count, empty_database}
+use Rattle.ss_model.specs.Database.{Database, batch_count}
 use Rattle.ss_model.specs.Replays.{after, database_after}
 use Rattle.ss_model.specs.Settled.{SettlesOn}
 use Rattle.ss_model.specs.Settling.{after_entries, next_settled}
 use Rattle.ss_model.proofs.CallerLemmas.{goes_on}
 use Rattle.ss_model_laws.proofs.CallerLemmas.{loop_settles}
 use Rattle.ss_run.specs.BySteps.{SettledBy, SettlesSoFar}
-use Rattle.ss_run.specs.Stands.{Joined, database_at}
+use Rattle.ss_run.specs.Stands.{Joined}
 
 -- the entries of a list
 abbrev entries : List Listed → List Entry
@@ -25,23 +25,23 @@ same_after : (catalog : Catalog) (db : Database) (list : List Listed) → after_
 same_after catalog db [] = refl
 same_after catalog db (l ∷ ls) = same_after catalog (database_after catalog db l.entry) ls
 
-pub none_settled : (catalog : Catalog) (list : List Listed) → SettlesSoFar catalog list list
-none_settled catalog list = record { steps = []; is = sym (append-nil list); on = tt }
+pub none_settled : (catalog : Catalog) (opening : Database) (list : List Listed) → SettlesSoFar catalog opening list list
+none_settled catalog opening list = record { steps = []; is = sym (append-nil list); on = tt }
 
-module _ (catalog : Catalog) (list new : List Listed) (far : SettlesSoFar catalog list new) where
-  at_end : after_entries catalog (database_at catalog list) (entries far.steps) ≡ database_at catalog new
-  at_end = same_after catalog (database_at catalog list) far.steps ∙ sym (goes_on catalog (empty_database catalog) list far.steps).ends ∙ ap (database_at catalog) (sym far.is)
+module _ (catalog : Catalog) (opening : Database) (list new : List Listed) (far : SettlesSoFar catalog opening list new) where
+  at_end : after_entries catalog (after catalog opening list) (entries far.steps) ≡ after catalog opening new
+  at_end = same_after catalog (after catalog opening list) far.steps ∙ sym (goes_on catalog opening list far.steps).ends ∙ ap (after catalog opening) (sym far.is)
 
-  pub one_settled : (q : ℕ) (next : List Listed) → next_settled catalog (database_at catalog new) ≡ Some q → Joined new next (StepEntry q (batch_count (database_at catalog new) q)) → SettlesSoFar catalog list next
+  pub one_settled : (q : ℕ) (next : List Listed) → next_settled catalog (after catalog opening new) ≡ Some q → Joined new next (StepEntry q (batch_count (after catalog opening new) q)) → SettlesSoFar catalog opening list next
   one_settled q next is joined =
-      let last : List Listed = record { entry = StepEntry q (batch_count (database_at catalog new) q); outcome = joined.outcome } ∷ [] in
-      let goes = (loop_settles catalog (database_at catalog list) (entries far.steps)).goes_on far.on q (ap (next_settled catalog) at_end ∙ is) in
-      let same : StepEntry q (batch_count (after_entries catalog (database_at catalog list) (entries far.steps)) q) ≡ StepEntry q (batch_count (database_at catalog new) q) = ap (λ (d : Database). StepEntry q (batch_count d q)) at_end in
+      let last : List Listed = record { entry = StepEntry q (batch_count (after catalog opening new) q); outcome = joined.outcome } ∷ [] in
+      let goes = (loop_settles catalog (after catalog opening list) (entries far.steps)).goes_on far.on q (ap (next_settled catalog) at_end ∙ is) in
+      let same : StepEntry q (batch_count (after_entries catalog (after catalog opening list) (entries far.steps)) q) ≡ StepEntry q (batch_count (after catalog opening new) q) = ap (λ (d : Database). StepEntry q (batch_count d q)) at_end in
       record {
         steps = far.steps ++ last;
         is = joined.joined ∙ ap (λ (xs : List Listed). xs ++ last) far.is ∙ append_assoc list far.steps last;
-        on = rw (entries_append far.steps last) (subst (λ (e : Entry). SettlesOn catalog (database_at catalog list) (entries far.steps ++ e ∷ [])) same goes);
+        on = rw (entries_append far.steps last) (subst (λ (e : Entry). SettlesOn catalog (after catalog opening list) (entries far.steps ++ e ∷ [])) same goes);
       }
 
-  pub all_settled : next_settled catalog (database_at catalog new) ≡ None → SettledBy catalog list new
-  all_settled none = record { steps = far.steps; is = far.is; settles = (loop_settles catalog (database_at catalog list) (entries far.steps)).ends far.on (ap (next_settled catalog) at_end ∙ none) }
+  pub all_settled : next_settled catalog (after catalog opening new) ≡ None → SettledBy catalog opening list new
+  all_settled none = record { steps = far.steps; is = far.is; settles = (loop_settles catalog (after catalog opening list) (entries far.steps)).ends far.on (ap (next_settled catalog) at_end ∙ none) }

@@ -1,28 +1,38 @@
 -- What a store between two executions stands for, and an entry that has run on it.
-use Rattle.std.specs.Prelude.{◌≡◌, ℕ, List, [], ◌∷◌, ◌++◌, length}
+use Rattle.std.specs.Prelude.{◌≡◌, ◌≤◌, ◌^◌, ℕ, List, [], ◌∷◌, ◌++◌, length}
 use Rattle.ss_model.specs.declared.catalog.Catalog.{Catalog}
 use Rattle.ss_model.specs.declared.entry.Entry.{Entry}
 use Rattle.ss_model.specs.declared.entry.Outcome.{Outcome}
 use Rattle.ss_model.specs.declared.entry.Listed.{Listed}
 use Rattle.ss_model.specs.Database.{Database as Model, empty_database}
 use Rattle.ss_model.specs.Replays.{Replays, after}
-use Rattle.ss_shard.specs.declared.database.Database.{Database}
+use Rattle.ss_model.specs.WholeDatabase.{WholeDatabase, HadAtMost}
 use Rattle.ss_shard.specs.Databases.{StandsFor}
 use Rattle.ss_shard.specs.ShardValue.{ShardValue}
 use Rattle.ss_shard.specs.Shards.{CanRollBack, IsOf, IsCommitted}
 use Rattle.ss_proc.specs.declared.runner.Executed.{Executed}
 use Rattle.ss_proc.specs.Entries.{EntryHasSource, Ran}
+use Rattle.ss_run.specs.declared.entry.Store.{Store}
 
 -- the database after a list, from the empty one on
 abbrev pub database_at : Catalog → List Listed → Model
 database_at catalog list = after catalog (empty_database catalog) list
 
--- between executions: the list replays, and the database stands for the one after it, in one shard, of partition 0, with nothing to roll back
-pub record IsAt (catalog : Catalog) (database : Database) (list : List Listed) : Type 0 where
-  pub replays : Replays catalog (empty_database catalog) list
-  pub committed : IsCommitted catalog database.whole
-  pub number : database.whole.number ≡ 0
-  pub stands : StandsFor catalog database (database_at catalog list)
+-- a list may begin on this database, at this place: it is whole, no stream of it has had more batches than there are places before
+-- the list, and no procedure has taken more
+pub record CanOpen (catalog : Catalog) (opening : Model) (first : ℕ) : Type 0 where
+  pub whole : WholeDatabase catalog opening
+  pub had : HadAtMost first opening
+  pub few : first ≤ 2 ^ 60
+
+-- between executions: the list replays from the opening on, and the database stands for the one after it, in one shard, of
+-- partition 0, with nothing to roll back
+pub record IsAt (catalog : Catalog) (opening : Model) (store : Store) : Type 0 where
+  pub opens : CanOpen catalog opening store.first
+  pub replays : Replays catalog opening store.list
+  pub committed : IsCommitted catalog store.database.whole
+  pub number : store.database.whole.number ≡ 0
+  pub stands : StandsFor catalog store.database (after catalog opening store.list)
 
 -- a list with an entry and its outcome behind it
 abbrev pub with_entry : List Listed → Entry → Outcome → List Listed
@@ -40,9 +50,9 @@ pub record Joined (list new : List Listed) (e : Entry) : Type 0 where
 -- ---- one execution
 
 -- an entry has run on the shard to which the list had led, and can be rolled back to it
-pub record CanBeListed (catalog : Catalog) (before : ShardValue) (database : Database) (list : List Listed) (e : Entry) (executed : Executed) : Type 0 where
-  pub at : IsAt catalog (record database { whole = before }) list
-  pub back : CanRollBack before database.whole
-  pub of_catalog : IsOf catalog database.whole
-  pub sourced : EntryHasSource e executed.outcome database.whole.sources
-  pub ran : Ran catalog (database_at catalog list) e executed database.whole
+pub record CanBeListed (catalog : Catalog) (opening : Model) (before : ShardValue) (store : Store) (e : Entry) (executed : Executed) : Type 0 where
+  pub at : IsAt catalog opening (record store { database = record store.database { whole = before } })
+  pub back : CanRollBack before store.database.whole
+  pub of_catalog : IsOf catalog store.database.whole
+  pub sourced : EntryHasSource e executed.outcome store.database.whole.sources
+  pub ran : Ran catalog (after catalog opening store.list) e executed store.database.whole

@@ -4,9 +4,10 @@ ghost use Rattle.std.specs.Prelude.{◌≡◌, ◌≤◌, ◌<◌, [], length};
 ghost use Rattle.std.specs.List.{AllByRecursion};
 ghost use Rattle.ss_model.specs.Accepted.{Accepted};
 ghost use Rattle.ss_run.specs.BySteps.{AreHinted, GoesOnBySteps, HintRan};
-ghost use Rattle.ss_run.specs.Stands.{IsAt, database_at};
+ghost use Rattle.ss_run.specs.Stands.{IsAt};
 
 use crate::entry::Store;
+use crate::origin::Origin;
 use crate::steps::run_step;
 use ss_model::Catalog;
 use ss_sched::ready::ready;
@@ -30,9 +31,9 @@ pub fn put_hints<J>(catalog: &Catalog, inbox: &mut Inbox<J>, procedures: &ProcSe
 }
 
 /// Puts the hint of a procedure again where it is still ready.
-fn hint_again<J>(catalog: &Catalog, store: &Store, inbox: &mut Inbox<J>, procedure: u16)
+fn hint_again<O: Origin, J>(catalog: &Catalog, store: &Store, inbox: &mut Inbox<J>, procedure: u16)
     requires accepted { Accepted catalog.now }
-    requires at { IsAt catalog.now store.now.database store.now.list }
+    requires at { IsAt catalog.now O.opening store.now }
     requires there { procedure < length catalog.now.procedures }
     requires hinted { AreHinted catalog.now inbox.old.hints }
     ensures hinted { AreHinted catalog.now inbox.new.hints }
@@ -51,7 +52,7 @@ fn hint_again<J>(catalog: &Catalog, store: &Store, inbox: &mut Inbox<J>, procedu
 
 /// Follows a hint: runs its procedure on the next batch, and puts a hint for each procedure that this wakes, and its own
 /// again where it is still ready. Where the procedure isn't ready, or at out of memory, nothing changes.
-fn run_hint<J>(
+fn run_hint<O: Origin, J>(
     alloc: Global,
     catalog: &Catalog,
     store: &mut Store,
@@ -59,11 +60,11 @@ fn run_hint<J>(
     procedure: u16,
 )
     requires accepted { Accepted catalog.now }
-    requires at { IsAt catalog.now store.old.database store.old.list }
+    requires at { IsAt catalog.now O.opening store.old }
     requires there { procedure < length catalog.now.procedures }
     requires hinted { AreHinted catalog.now inbox.old.hints }
-    ensures at { IsAt catalog.now store.new.database store.new.list }
-    ensures ran { HintRan catalog.now store.old.list store.new.list inbox.old.hints inbox.new.hints }
+    ensures at { IsAt catalog.now O.opening store.new }
+    ensures ran { HintRan catalog.now O.opening store.old.list store.new.list inbox.old.hints inbox.new.hints }
     ensures hinted { AreHinted catalog.now inbox.new.hints }
     ensures jobs { inbox.new.jobs ≡ inbox.old.jobs }
     ensures room { inbox.new.room ≡ inbox.old.room }
@@ -77,7 +78,7 @@ fn run_hint<J>(
         return;
     }
     // At out of memory the hint is dropped. It said only that the procedure may be ready, and settling finds it again.
-    let Some(place) = run_step(alloc, catalog, store, procedure) else {
+    let Some(place) = run_step::<O>(alloc, catalog, store, procedure) else {
         return;
     };
     let Some(listed) = store.list.get(place as usize) else {
@@ -85,19 +86,24 @@ fn run_hint<J>(
     };
     put_hints(catalog, inbox, &wake_list(catalog, &listed.entry));
     // Last, so that those that it woke have their turn before its next batch.
-    hint_again(catalog, store, inbox, procedure);
+    hint_again::<O, J>(catalog, store, inbox, procedure);
 }
 
 /// Runs the steps that the waiting hints name, and those that they set off, until no hint waits.
 ///
 /// Runs no more steps than are pending. Each costs what `run_step` costs, and for its hints a look at each input of each
 /// procedure.
-pub fn run_hints<J>(alloc: Global, catalog: &Catalog, store: &mut Store, inbox: &mut Inbox<J>)
+pub fn run_hints<O: Origin, J>(
+    alloc: Global,
+    catalog: &Catalog,
+    store: &mut Store,
+    inbox: &mut Inbox<J>,
+)
     requires accepted { Accepted catalog.now }
-    requires at { IsAt catalog.now store.old.database store.old.list }
+    requires at { IsAt catalog.now O.opening store.old }
     requires hinted { AreHinted catalog.now inbox.old.hints }
     requires jobs { inbox.old.jobs ≡ [] }
-    ensures at { IsAt catalog.now store.new.database store.new.list }
+    ensures at { IsAt catalog.now O.opening store.new }
     ensures by_steps { GoesOnBySteps store.old.list store.new.list }
     ensures hints { inbox.new.hints ≡ [] }
     ensures jobs { inbox.new.jobs ≡ [] }
@@ -105,7 +111,7 @@ pub fn run_hints<J>(alloc: Global, catalog: &Catalog, store: &mut Store, inbox: 
 {
     while let Some(work) = inbox.take() {
         match work {
-            Work::Hint(procedure) => run_hint(alloc, catalog, store, inbox, procedure),
+            Work::Hint(procedure) => run_hint::<O, J>(alloc, catalog, store, inbox, procedure),
             // No job waits at first, and a hint puts none.
             Work::Job(_) => unreachable!(),
         }

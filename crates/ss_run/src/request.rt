@@ -10,6 +10,7 @@ ghost use Rattle.ss_run.specs.Stands.{IsAt, JoinedAs};
 
 use crate::entry::{Store, answer_entry};
 use crate::hints::{put_hints, run_hints};
+use crate::origin::Origin;
 use ss_model::{Answer, Catalog, Outcome, Request, asked_entry};
 use ss_sched::{Inbox, Work, wake_list};
 use ss_value::{Copies, Seq};
@@ -19,7 +20,7 @@ use std::alloc::Global;
 /// place and its outcome. It copies what is asked for.
 ///
 /// None means out of memory: then list and database are as they were.
-fn run_request(
+fn run_request<O: Origin>(
     alloc: Global,
     catalog: &Catalog,
     store: &mut Store,
@@ -28,8 +29,8 @@ fn run_request(
 ) -> Option<(u64, Outcome)>
     requires accepted { Accepted catalog.now }
     requires fits { fits_entry catalog.now (asked_entry request.now.client index request.now.what) ≡ true }
-    requires at { IsAt catalog.now store.old.database store.old.list }
-    ensures at { IsAt catalog.now store.new.database store.new.list }
+    requires at { IsAt catalog.now O.opening store.old }
+    ensures at { IsAt catalog.now O.opening store.new }
     ensures some { IfSome result (JoinedAs store.old.list store.new.list (asked_entry request.now.client index request.now.what)) }
     ensures none { IfNone result (store.new.list ≡ store.old.list) }
 {
@@ -37,13 +38,13 @@ fn run_request(
         return None;
     };
     let entry = asked_entry(request.client, index, what);
-    answer_entry(alloc, catalog, store, entry)
+    answer_entry::<O>(alloc, catalog, store, entry)
 }
 
 /// Serves one request: it runs, then the steps that it sets off, and those that they set off, until no hint waits.
 ///
 /// Answers its place and its outcome, or that there was no memory for it: then list and database are as they were.
-fn serve(
+fn serve<O: Origin>(
     alloc: Global,
     catalog: &Catalog,
     store: &mut Store,
@@ -53,28 +54,28 @@ fn serve(
 ) -> Answer
     requires accepted { Accepted catalog.now }
     requires fits { fits_entry catalog.now (asked_entry request.now.client index request.now.what) ≡ true }
-    requires at { IsAt catalog.now store.old.database store.old.list }
+    requires at { IsAt catalog.now O.opening store.old }
     requires hints { inbox.old.hints ≡ [] }
     requires jobs { inbox.old.jobs ≡ [] }
-    ensures at { IsAt catalog.now store.new.database store.new.list }
+    ensures at { IsAt catalog.now O.opening store.new }
     ensures answered { IsAnswered store.old.list store.new.list (asked_entry request.now.client index request.now.what) result }
     ensures hints { inbox.new.hints ≡ [] }
     ensures jobs { inbox.new.jobs ≡ [] }
     ensures unchanged { inbox.new.room ≡ inbox.old.room }
 {
-    let Some((place, outcome)) = run_request(alloc, catalog, store, request, index) else {
+    let Some((place, outcome)) = run_request::<O>(alloc, catalog, store, request, index) else {
         return Answer::NoMemory;
     };
     let Some(listed) = store.list.get(place as usize) else {
         unreachable!()
     };
     put_hints(catalog, inbox, &wake_list(catalog, &listed.entry));
-    run_hints(alloc, catalog, store, inbox);
+    run_hints::<O, usize>(alloc, catalog, store, inbox);
     Answer::Listed { place, outcome }
 }
 
 /// Serves the request with this number, which is the one at `index` among its client's, by way of the empty inbox.
-pub fn pump(
+pub fn pump<O: Origin>(
     alloc: Global,
     catalog: &Catalog,
     store: &mut Store,
@@ -86,11 +87,11 @@ pub fn pump(
     requires accepted { Accepted catalog.now }
     requires there { number < length requests.now }
     requires fits { (r : Request) → slice_get requests.now number ≡ Some r → fits_entry catalog.now (asked_entry r.client index r.what) ≡ true }
-    requires at { IsAt catalog.now store.old.database store.old.list }
+    requires at { IsAt catalog.now O.opening store.old }
     requires hints { inbox.old.hints ≡ [] }
     requires jobs { inbox.old.jobs ≡ [] }
     requires room { 1 ≤ inbox.old.room }
-    ensures at { IsAt catalog.now store.new.database store.new.list }
+    ensures at { IsAt catalog.now O.opening store.new }
     ensures answered { AnswersRequest requests.now number index store.old.list store.new.list result }
     ensures hints { inbox.new.hints ≡ [] }
     ensures jobs { inbox.new.jobs ≡ [] }
@@ -104,5 +105,5 @@ pub fn pump(
     let Some(request) = requests.get(number) else {
         unreachable!()
     };
-    serve(alloc, catalog, store, inbox, request, index)
+    serve::<O>(alloc, catalog, store, inbox, request, index)
 }

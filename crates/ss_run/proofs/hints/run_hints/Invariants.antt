@@ -1,12 +1,13 @@
 use Rattle.std.proofs.Common.{◌≡◌, ◌*◌, ◌+◌, [], length}
+use Rattle.ss_model.specs.Replays.{after}
 use Rattle.ss_model.specs.Settling.{pending_steps}
 use Rattle.ss_run.specs.BySteps.{AreHinted, GoesOnBySteps}
-use Rattle.ss_run.specs.Stands.{IsAt, database_at}
+use Rattle.ss_run.specs.Stands.{IsAt}
 use Rattle.ss_run.proofs.hints.run_hints.Given as goal
 
 abbrev pub invariant-loop-work : goal.invariant-loop-work
 invariant-loop-work g l = record {
-  at : IsAt l.catalog l.store.database l.store.list;
+  at : IsAt l.catalog g.O.Origin.opening l.store;
   by_steps : GoesOnBySteps l.fn.store.list l.store.list;
   hinted : AreHinted l.catalog l.inbox.hints;
   jobs : l.inbox.jobs ≡ [];
@@ -14,4 +15,4 @@ invariant-loop-work g l = record {
 }
 
 abbrev pub decreases-loop-work : goal.decreases-loop-work
-decreases-loop-work g l = pending_steps l.catalog (database_at l.catalog l.store.list) * 66 + length l.inbox.hints
+decreases-loop-work g l = pending_steps l.catalog (after l.catalog g.O.Origin.opening l.store.list) * 66 + length l.inbox.hints

@@ -5,11 +5,11 @@ use Rattle.ss_report_laws.specs.PartOf.{IsPartOf}
 use Rattle.ss_run.specs.RunAnswers.{client_entries}
 use Rattle.ss_run.specs.Stands.{IsAt}
 use Rattle.ss_run.proofs.Answering.{HaveRoom}
-use Rattle.ss_run.proofs.session.run_from.Given as goal
+use Rattle.ss_run.proofs.session.serve_all.Given as goal
 
 abbrev pub invariant-loop-number : goal.invariant-loop-number
-invariant-loop-number l = record {
-  at : IsAt l.catalog l.store.database l.store.list;
+invariant-loop-number g l = record {
+  at : IsAt l.catalog g.O.Origin.opening l.store;
   in_order : IsPartOf (client_entries l.store.list) (asked_entries (take l.number l.requests));
   answered : AreAnswered (take l.number l.requests) 0 l.store.list Whole l.replies.answers;
   eight : length l.replies.answers ≡ 8;
