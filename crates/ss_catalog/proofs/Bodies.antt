@@ -2,8 +2,8 @@
 use Rattle.std.proofs.Common.{◌+◌, ℕ, List, Some, None}
 use Rattle.std.specs.Prelude.{Ok}
 use Rattle.ss_value.specs.declared.schema.Column.{Column}
-use Rattle.ss_sql_lex.specs.declared.typed.Condition.{Condition}
-use Rattle.ss_sql_lex.specs.declared.typed.Statement.{Statement}
+use Rattle.ss_sql_trees.specs.declared.typed.Condition.{Condition}
+use Rattle.ss_sql_trees.specs.declared.typed.Statement.{Statement}
 use Rattle.ss_model.specs.declared.catalog.Inner.TheVariants.{Sql as InnerSql, AbortIf as InnerAbortIf}
 use Rattle.ss_model.specs.declared.catalog.Step.TheVariants.{Sql, AbortIf, ForEach, Emit, Return}
 use Rattle.ss_catalog_outline.specs.declared.types.InnerOutline.{InnerOutline}

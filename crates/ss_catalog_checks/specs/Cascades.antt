@@ -1,10 +1,10 @@
 -- Which windows the INSERTs of a trigger lead into, and which of these lead back.
 use Rattle.std.specs.Prelude.{◌≡◌, ◌==◌, ◌&&◌, ◌||◌, nat_le, ℕ, Bool, true, false, List, [], ◌∷◌, map, Option, Some, None, slice_get}
 use Rattle.std.specs.List.{flat_map, list_any}
-use Rattle.ss_sql_lex.specs.declared.typed.Target.{Target}
-use Rattle.ss_sql_lex.specs.declared.typed.Target.TheVariants.{Table as IntoTable, Window as IntoWindow}
-use Rattle.ss_sql_lex.specs.declared.typed.Statement.{Statement}
-use Rattle.ss_sql_lex.specs.declared.typed.Statement.TheVariants.{InsertValues, InsertQuery}
+use Rattle.ss_sql_trees.specs.declared.typed.Target.{Target}
+use Rattle.ss_sql_trees.specs.declared.typed.Target.TheVariants.{Table as IntoTable, Window as IntoWindow}
+use Rattle.ss_sql_trees.specs.declared.typed.Statement.{Statement}
+use Rattle.ss_sql_trees.specs.declared.typed.Statement.TheVariants.{InsertValues, InsertQuery}
 use Rattle.ss_model.specs.declared.catalog.Catalog.{Catalog}
 use Rattle.ss_model.specs.declared.catalog.On.{On}
 use Rattle.ss_model.specs.declared.catalog.On.TheVariants.{Stream as OnStream, Window as OnWindow}

@@ -1,12 +1,12 @@
 -- Windows of a call procedure, and windows that are named by SQL which runs in another procedure than the owner.
 use Rattle.std.specs.Prelude.{◌==◌, ◌&&◌, ◌||◌, not, ℕ, Bool, false, Option, Some, None, slice_get, length}
 use Rattle.std.specs.List.{list_any, find, range_with_len}
-use Rattle.ss_sql_lex.specs.declared.typed.SourceId.{SourceId}
-use Rattle.ss_sql_lex.specs.declared.typed.SourceId.TheVariants.{Window as FromWindow}
-use Rattle.ss_sql_lex.specs.declared.typed.Joined.{Joined}
-use Rattle.ss_sql_lex.specs.declared.typed.Query.{Query}
-use Rattle.ss_sql_lex.specs.declared.typed.Statement.{Statement}
-use Rattle.ss_sql_lex.specs.declared.typed.Statement.TheVariants.{InsertValues, InsertQuery}
+use Rattle.ss_sql_trees.specs.declared.typed.SourceId.{SourceId}
+use Rattle.ss_sql_trees.specs.declared.typed.SourceId.TheVariants.{Window as FromWindow}
+use Rattle.ss_sql_trees.specs.declared.typed.Joined.{Joined}
+use Rattle.ss_sql_trees.specs.declared.typed.Query.{Query}
+use Rattle.ss_sql_trees.specs.declared.typed.Statement.{Statement}
+use Rattle.ss_sql_trees.specs.declared.typed.Statement.TheVariants.{InsertValues, InsertQuery}
 use Rattle.ss_model.specs.declared.catalog.Catalog.{Catalog}
 use Rattle.ss_model.specs.declared.catalog.Inner.{Inner}
 use Rattle.ss_model.specs.declared.catalog.Inner.TheVariants.{Sql as InnerSql, AbortIf as InnerAbortIf}

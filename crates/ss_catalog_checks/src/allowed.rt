@@ -9,7 +9,7 @@ ghost use Rattle.ss_catalog_checks.specs.Localities.{split_by, is_limited, is_ar
 
 use crate::conjuncts::{WantedConjunct, has_conjunct};
 use ss_model::{Catalog, Placement, Touch};
-use ss_sql_lex::{Expr, Item, Joined, Query, SourceId, Statement, Target};
+use ss_sql_trees::{Expr, Item, Joined, Query, SourceId, Statement, Target};
 use ss_value::Seq;
 
 /// The placement of a table, and None where there is no table of this number.

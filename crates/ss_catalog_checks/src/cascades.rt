@@ -9,7 +9,7 @@ ghost use Rattle.ss_catalog_checks.specs.Graphs.{edge, IsGraphOf};
 
 use crate::graph::{Edge, add_edge, graph_from, is_set, reached_nodes};
 use ss_model::{Catalog, On, TriggerDef};
-use ss_sql_lex::{Statement, Target};
+use ss_sql_trees::{Statement, Target};
 use ss_value::{NoMemory, Seq, Unit};
 use std::alloc::Global;
 

@@ -4,7 +4,7 @@ ghost use Rattle.std.specs.Prelude.{◌≡◌};
 ghost use Rattle.ss_model.specs.Conjuncts.{has_conjunct};
 ghost use Rattle.ss_catalog_checks.specs.Localities.{known_of};
 
-use ss_sql_lex::{BinaryOp, Cmp, Expr};
+use ss_sql_trees::{BinaryOp, Cmp, Expr};
 
 /// The conjunct `column = :argument`, with the column of this source.
 #[derive(Clone, Copy, Debug, PartialEq, Eq, Drop)]

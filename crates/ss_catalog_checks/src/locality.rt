@@ -10,7 +10,7 @@ ghost use Rattle.ss_catalog_checks.specs.Localities.{is_local_statement, is_loca
 use crate::allowed::{is_local_query, is_local_statement};
 use crate::procedures::runs_in;
 use ss_model::{Catalog, Inner, On, Step, Touch};
-use ss_sql_lex::Statement;
+use ss_sql_trees::Statement;
 use ss_value::{NoMemory, Seq};
 use std::alloc::Global;
 

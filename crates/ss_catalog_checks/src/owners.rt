@@ -8,7 +8,7 @@ ghost use Rattle.ss_catalog_checks.specs.Owners.{reads_from, joins_with, query_n
 
 use crate::procedures::runs_in;
 use ss_model::{Catalog, Inner, On, Step, TriggerDef};
-use ss_sql_lex::{Joined, Query, SourceId, Statement, Target};
+use ss_sql_trees::{Joined, Query, SourceId, Statement, Target};
 
 /// Whether a source is this window.
 fn reads_from(window: usize, source: SourceId) -> bool

@@ -13,11 +13,11 @@ use Rattle.ss_value.specs.declared.schema.ColType.{ColType}
 use Rattle.ss_value.specs.declared.schema.ColType.TheVariants.{Int as IntColumn, Text as TextColumn}
 use Rattle.ss_value.specs.declared.schema.Column.{Column}
 use Rattle.ss_value.specs.Fit.{fits_kind}
-use Rattle.ss_sql_lex.specs.declared.typed.Expr.TheFolds.{fold-roll-Expr}
-use Rattle.ss_sql_lex.specs.declared.typed.Expr.TheOpen.{Expr-F}
-use Rattle.ss_sql_lex.specs.declared.typed.Expr.TheVariants.{Lit, Col, rolls-Lit}
-use Rattle.ss_sql_lex.specs.declared.typed.SourceId.TheVariants.{Table as FromTable}
-use Rattle.ss_sql_lex.specs.WellTyped.{ExprType, Schemas, is_type, is_value_type, column_type, value_type, level_type, expr_type, item_type, is_aggregate, types_fit, query_typed}
+use Rattle.ss_sql_trees.specs.declared.typed.Expr.TheFolds.{fold-roll-Expr}
+use Rattle.ss_sql_trees.specs.declared.typed.Expr.TheOpen.{Expr-F}
+use Rattle.ss_sql_trees.specs.declared.typed.Expr.TheVariants.{Lit, Col, rolls-Lit}
+use Rattle.ss_sql_trees.specs.declared.typed.SourceId.TheVariants.{Table as FromTable}
+use Rattle.ss_sql_trees.specs.WellTyped.{ExprType, Schemas, is_type, is_value_type, column_type, value_type, level_type, expr_type, item_type, is_aggregate, types_fit, query_typed}
 use Rattle.ss_model.proofs.CallerLemmas.{param_type, source_type}
 use Rattle.ss_catalog_outline.specs.declared.types.GivenOutline.{GivenOutline}
 use Rattle.ss_catalog_outline.specs.declared.types.GivenOutline.TheVariants.{Value as GivenValue, Arg as GivenArg}

@@ -6,7 +6,7 @@ use Rattle.std.proofs.lemmas.Bool.{and_from, cond_both}
 use Rattle.std.proofs.lemmas.List.{length-map, map-id}
 use Rattle.std.proofs.lemmas.List.Sums.{sum-map}
 use Rattle.ss_value.specs.declared.schema.Column.{Column}
-use Rattle.ss_sql_lex.specs.declared.typed.Statement.{Statement}
+use Rattle.ss_sql_trees.specs.declared.typed.Statement.{Statement}
 use Rattle.ss_model.specs.declared.catalog.Catalog.{Catalog}
 use Rattle.ss_model.specs.declared.catalog.Kind.{Kind}
 use Rattle.ss_model.specs.declared.catalog.Kind.TheVariants.{Call as CallKind, Border, Interior}

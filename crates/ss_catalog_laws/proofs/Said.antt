@@ -2,10 +2,10 @@
 use Rattle.std.proofs.Common.{◌≡◌, ℕ, Bool, true, List, length, ap, ◌∙◌}
 use Rattle.std.specs.Prelude.{Ok}
 use Rattle.ss_value.specs.declared.schema.Column.{Column}
-use Rattle.ss_sql_lex.specs.declared.typed.Condition.{Condition}
-use Rattle.ss_sql_lex.specs.declared.typed.Query.{Query}
-use Rattle.ss_sql_lex.specs.declared.typed.Statement.{Statement}
-use Rattle.ss_sql_lex.specs.WellTyped.{Schemas, query_typed, condition_typed, statement_typed}
+use Rattle.ss_sql_trees.specs.declared.typed.Condition.{Condition}
+use Rattle.ss_sql_trees.specs.declared.typed.Query.{Query}
+use Rattle.ss_sql_trees.specs.declared.typed.Statement.{Statement}
+use Rattle.ss_sql_trees.specs.WellTyped.{Schemas, query_typed, condition_typed, statement_typed}
 use Rattle.ss_sql_type.specs.declared.scope.Scope.{Scope}
 use Rattle.ss_sql_type.specs.Agrees.{out_fits}
 use Rattle.ss_sql_type.proofs.CallerLemmas.{query_sound, query_out, condition_sound, statement_sound}

@@ -13,10 +13,10 @@ use Rattle.ss_sql_lex.specs.declared.tree.QueryTree.{QueryTree}
 use Rattle.ss_sql_lex.specs.declared.tree.ConditionTree.{ConditionTree}
 use Rattle.ss_sql_lex.specs.declared.tree.StatementTree.{StatementTree}
 use Rattle.ss_sql_lex.specs.declared.tree.StatementTree.TheVariants as tree
-use Rattle.ss_sql_lex.specs.declared.typed.SourceId.{SourceId}
-use Rattle.ss_sql_lex.specs.declared.typed.SourceId.TheVariants.{Table as FromTable, Window as FromWindow, Batch as FromBatch, Inserted}
-use Rattle.ss_sql_lex.specs.declared.typed.Target.{Target}
-use Rattle.ss_sql_lex.specs.declared.typed.Target.TheVariants.{Table as IntoTable, Window as IntoWindow}
+use Rattle.ss_sql_trees.specs.declared.typed.SourceId.{SourceId}
+use Rattle.ss_sql_trees.specs.declared.typed.SourceId.TheVariants.{Table as FromTable, Window as FromWindow, Batch as FromBatch, Inserted}
+use Rattle.ss_sql_trees.specs.declared.typed.Target.{Target}
+use Rattle.ss_sql_trees.specs.declared.typed.Target.TheVariants.{Table as IntoTable, Window as IntoWindow}
 use Rattle.ss_sql_type.specs.declared.scope.Named.{Named}
 use Rattle.ss_sql_type.specs.declared.scope.Scope.{Scope}
 use Rattle.ss_sql_type.specs.declared.scope.TypeError.TheVariants.{UnknownName}

@@ -1,7 +1,7 @@
 -- The names in scope of the SQL of a catalogue.
 use Rattle.std.specs.Prelude.{ℕ, List, [], ◌∷◌, ◌++◌, Option, None, slice_get, unwrap_or, option_map, codes}
 use Rattle.ss_value.specs.declared.schema.Column.{Column}
-use Rattle.ss_sql_lex.specs.declared.typed.SourceId.TheVariants.{Table as FromTable, Window as FromWindow, Batch as FromBatch, Inserted}
+use Rattle.ss_sql_trees.specs.declared.typed.SourceId.TheVariants.{Table as FromTable, Window as FromWindow, Batch as FromBatch, Inserted}
 use Rattle.ss_sql_type.specs.declared.scope.Named.{Named}
 use Rattle.ss_sql_type.specs.declared.scope.Scope.{Scope}
 use Rattle.ss_model.specs.declared.catalog.On.{On}

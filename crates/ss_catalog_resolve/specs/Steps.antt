@@ -5,14 +5,14 @@ use Rattle.ss_value.specs.declared.schema.ColType.{ColType}
 use Rattle.ss_value.specs.declared.schema.ColType.TheVariants.{Int, Text}
 use Rattle.ss_value.specs.declared.schema.Column.{Column}
 use Rattle.ss_value.specs.Fit.{fits_kind}
-use Rattle.ss_sql_lex.specs.declared.typed.Expr.{Expr}
-use Rattle.ss_sql_lex.specs.declared.typed.Expr.TheVariants.{Lit, Param, Col}
-use Rattle.ss_sql_lex.specs.declared.typed.Item.{Item}
-use Rattle.ss_sql_lex.specs.declared.typed.Item.TheVariants.{Plain}
-use Rattle.ss_sql_lex.specs.declared.typed.Query.{Query}
-use Rattle.ss_sql_lex.specs.declared.typed.SourceId.TheVariants.{Table as FromTable}
-use Rattle.ss_sql_lex.specs.declared.typed.Target.TheVariants.{Table as IntoTable}
-use Rattle.ss_sql_lex.specs.declared.typed.Statement.TheVariants.{InsertValues}
+use Rattle.ss_sql_trees.specs.declared.typed.Expr.{Expr}
+use Rattle.ss_sql_trees.specs.declared.typed.Expr.TheVariants.{Lit, Param, Col}
+use Rattle.ss_sql_trees.specs.declared.typed.Item.{Item}
+use Rattle.ss_sql_trees.specs.declared.typed.Item.TheVariants.{Plain}
+use Rattle.ss_sql_trees.specs.declared.typed.Query.{Query}
+use Rattle.ss_sql_trees.specs.declared.typed.SourceId.TheVariants.{Table as FromTable}
+use Rattle.ss_sql_trees.specs.declared.typed.Target.TheVariants.{Table as IntoTable}
+use Rattle.ss_sql_trees.specs.declared.typed.Statement.TheVariants.{InsertValues}
 use Rattle.ss_sql_type.specs.declared.scope.Scope.{Scope}
 use Rattle.ss_model.specs.declared.catalog.Inner.{Inner}
 use Rattle.ss_model.specs.declared.catalog.Inner.TheVariants.{Sql as InnerSql, AbortIf as InnerAbortIf}

@@ -15,7 +15,7 @@ use ss_catalog_json::Word;
 use ss_catalog_outline::{GivenOutline, ProcedureOutline};
 use ss_model::Step;
 use ss_names::NameIndex;
-use ss_sql_lex::{Expr, Statement, Target};
+use ss_sql_trees::{Expr, Statement, Target};
 use ss_value::{ColType, Column, NoMemory, Seq, is_of};
 use std::alloc::Global;
 

@@ -11,7 +11,7 @@ ghost use Rattle.ss_catalog_resolve.specs.Scopes.{named_table, named_window, sha
 use crate::definitions::Sections;
 use ss_catalog_outline::{Outline, StreamOutline};
 use ss_model::{On, TableDef, WindowDef};
-use ss_sql_lex::SourceId;
+use ss_sql_trees::SourceId;
 use ss_sql_type::{Named, Scope};
 use ss_value::{Copies, NoMemory, Schema, Seq, name_of};
 use std::alloc::Global;

@@ -19,7 +19,7 @@ use crate::texts::{condition_of, query_of, statement_of};
 use ss_catalog_json::Word;
 use ss_catalog_outline::{InnerOutline, StepOutline};
 use ss_model::{Inner, Step};
-use ss_sql_lex::{Expr, Item, Query, SourceId, Statement};
+use ss_sql_trees::{Expr, Item, Query, SourceId, Statement};
 use ss_sql_type::Scope;
 use ss_value::{Column, NoMemory, Seq};
 use std::alloc::Global;

@@ -17,7 +17,7 @@ use crate::texts::statement_of;
 use ss_catalog_json::Word;
 use ss_catalog_outline::TriggerOutline;
 use ss_model::{On, TriggerDef};
-use ss_sql_lex::Statement;
+use ss_sql_trees::Statement;
 use ss_sql_type::Scope;
 use ss_value::Seq;
 use std::alloc::Global;

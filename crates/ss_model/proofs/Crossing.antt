@@ -5,7 +5,7 @@ use denote.Param.SendFields.{variants_sync}
 use Rattle.std.proofs.Crossing.{crosses}
 use Rattle.ss_value.proofs.Crossing.{value_send, value_sync}
 use Rattle.ss_value.specs.contracts.seq.Seq as seq
-use Rattle.ss_sql_lex.proofs.Crossing.{condition_sync, query_sync, statement_sync}
+use Rattle.ss_sql_trees.proofs.Crossing.{condition_sync, query_sync, statement_sync}
 use Rattle.ss_model.specs.contracts.catalog.Step as step
 use Rattle.ss_model.specs.contracts.catalog.Inner as inner
 use Rattle.ss_model.specs.contracts.catalog.Procedure as procedure

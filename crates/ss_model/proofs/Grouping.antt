@@ -8,7 +8,7 @@ use Rattle.std.proofs.lemmas.List.Quantifiers.{position-Some}
 use Rattle.ss_lemmas.proofs.Bools.{some_same}
 use Rattle.ss_value.specs.Rows.{Row, Rows}
 use Rattle.ss_value.specs.Order.{row_cmp}
-use Rattle.ss_sql_lex.specs.declared.typed.ColAt.{ColAt}
+use Rattle.ss_sql_trees.specs.declared.typed.ColAt.{ColAt}
 use Rattle.ss_model.specs.Queries.{source_column, add_to_group, group_rows}
 
 abbrev pub members_of : List (Row × List Rows) → List (List Rows)

@@ -5,9 +5,9 @@ use Rattle.std.specs.Ordering.{is_gt}
 use Rattle.std.specs.declared.cmp.Ordering.{Ordering}
 use Rattle.std.specs.List.{AllByRecursion}
 use Rattle.ss_value.specs.Rows.{Row, Rows}
-use Rattle.ss_sql_lex.specs.declared.typed.Joined.{Joined}
-use Rattle.ss_sql_lex.specs.declared.typed.Query.{Query}
-use Rattle.ss_sql_lex.specs.WellTyped.{query_aggregated}
+use Rattle.ss_sql_trees.specs.declared.typed.Joined.{Joined}
+use Rattle.ss_sql_trees.specs.declared.typed.Query.{Query}
+use Rattle.ss_sql_trees.specs.WellTyped.{query_aggregated}
 use Rattle.ss_model.specs.Results.{try_map, try_filter, WhenOk}
 use Rattle.ss_model.specs.Queries.{query_result, item_value, query_groups, insert_sorted, sort_rows, take_limit, order_by_cmp, where_passes, join_rows}
 use Rattle.ss_model.proofs.WhenOk.{when_ok_then, anything, try_map_when_ok, all_of}

@@ -2,7 +2,7 @@
 use Rattle.std.specs.Prelude.{ℕ, List, [], get_or}
 use Rattle.std.specs.List.{filter}
 use Rattle.ss_value.specs.Rows.{Row, Rows}
-use Rattle.ss_sql_lex.specs.declared.typed.Statement.{Statement}
+use Rattle.ss_sql_trees.specs.declared.typed.Statement.{Statement}
 use Rattle.ss_model.specs.declared.catalog.Inner.{Inner}
 use Rattle.ss_model.specs.Results.{OrAbort, try_fold}
 use Rattle.ss_model.specs.Statements.{Context, Execution, execute_statement, stage_row, close_unit, run_triggers, cascade_to_depth, trigger_cascade, is_on_stream}

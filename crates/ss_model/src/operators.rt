@@ -2,12 +2,12 @@
 
 ghost use Rattle.std.specs.Prelude.{◌≡◌, ◌+ℤ◌, ◌-ℤ◌, ◌*ℤ◌, neg_ℤ, IfOk, IfErr, Ok};
 ghost use Rattle.ss_model.specs.Expressions.{int_of, checked_int, checked_div, checked_rem, cmp_holds, apply_binary};
-ghost use Rattle.ss_sql_lex.specs.declared.typed.BinaryOp.TheVariants.{Concat};
+ghost use Rattle.ss_sql_trees.specs.declared.typed.BinaryOp.TheVariants.{Concat};
 ghost use Rattle.ss_model.specs.Stops.{StopsAs};
 
 use crate::Reason;
 use crate::run_error::RunError;
-use ss_sql_lex::{BinaryOp, Cmp};
+use ss_sql_trees::{BinaryOp, Cmp};
 use ss_value::Value;
 use std::alloc::Global;
 use std::cmp::Ordering;

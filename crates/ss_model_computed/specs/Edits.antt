@@ -2,7 +2,7 @@
 use Rattle.std.specs.Prelude.{ℕ, List, Ok}
 use Rattle.ss_value.specs.declared.value.Value.{Value}
 use Rattle.ss_value.specs.Rows.{Row, Rows}
-use Rattle.ss_sql_lex.specs.declared.typed.SetTo.{SetTo}
+use Rattle.ss_sql_trees.specs.declared.typed.SetTo.{SetTo}
 use Rattle.ss_model.specs.Results.{OrAbort, ◌>>=◌}
 use Rattle.ss_model.specs.Expressions.{expr_value}
 use Rattle.ss_model.specs.Statements.{updated_row}

@@ -16,7 +16,7 @@ use crate::stored_rows::{put_entries, remove_entries, visible_entries};
 use crate::table::Entry;
 use ss_model::RunError;
 use ss_model_computed_sql::{evaluate, where_passes};
-use ss_sql_lex::{Expr, SetTo};
+use ss_sql_trees::{Expr, SetTo};
 use ss_value::{Copies, Row, Rows, Seq, Value};
 use std::alloc::Global;
 

@@ -15,7 +15,7 @@ use crate::queries::context_query;
 use crate::stored_rows::insert_row;
 use ss_model::{Catalog, RunError};
 use ss_model_computed_sql::evaluate;
-use ss_sql_lex::{Expr, Query, Statement, Target};
+use ss_sql_trees::{Expr, Query, Statement, Target};
 use ss_value::{NoMemory, Row, Rows, Seq};
 use std::alloc::Global;
 

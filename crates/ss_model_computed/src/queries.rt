@@ -13,7 +13,7 @@ use crate::stored_rows::{rows_of, visible_entries};
 use crate::windows::visible_rows;
 use ss_model::RunError;
 use ss_model_computed_sql::query_rows;
-use ss_sql_lex::{Joined, Query, SourceId};
+use ss_sql_trees::{Joined, Query, SourceId};
 use ss_value::{Copies, NoMemory, Row, Rows, Seq};
 use std::alloc::Global;
 

@@ -9,7 +9,7 @@ use crate::contents::{Context, Execution};
 pub use crate::queries::context_query;
 use crate::triggers::execute_to_depth;
 use ss_model::RunError;
-use ss_sql_lex::Statement;
+use ss_sql_trees::Statement;
 use ss_value::{Row, Rows};
 use std::alloc::Global;
 

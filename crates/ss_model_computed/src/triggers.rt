@@ -16,7 +16,7 @@ use crate::contents::{Context, Execution};
 use crate::effects::{Effect, one_row, statement_effect};
 use crate::windows::{append_unit, join_unit, units_count, visible_end, window_unit};
 use ss_model::{On, Reason, RunError};
-use ss_sql_lex::Statement;
+use ss_sql_trees::Statement;
 use ss_value::{Copies, Row, Rows, Seq, Unit};
 use std::alloc::Global;
 

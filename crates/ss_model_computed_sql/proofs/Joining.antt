@@ -2,7 +2,7 @@
 use Rattle.std.proofs.Common.{◌≡◌, ℕ, ◌+◌, ◌<◌, List, ◌++◌, drop, get_or, length, sym, ap, ◌∙◌, append_assoc, Some}
 use Rattle.ss_lemmas.proofs.LoopItem.{next}
 use Rattle.ss_value.specs.Rows.{Row, Rows}
-use Rattle.ss_sql_lex.specs.declared.typed.Joined.{Joined}
+use Rattle.ss_sql_trees.specs.declared.typed.Joined.{Joined}
 use Rattle.ss_model.specs.Queries.{join_rows}
 use Rattle.ss_model_computed_sql.specs.Phases.{pairs_of}
 

@@ -3,9 +3,9 @@ use Rattle.std.specs.Prelude.{List, [], ◌∷◌, map}
 use Rattle.std.specs.List.{filter}
 use Rattle.ss_value.specs.Rows.{Row, Rows}
 use Rattle.ss_value.specs.Order.{values_equal}
-use Rattle.ss_sql_lex.specs.declared.typed.Joined.{Joined}
-use Rattle.ss_sql_lex.specs.declared.typed.Query.{Query}
-use Rattle.ss_sql_lex.specs.WellTyped.{query_aggregated}
+use Rattle.ss_sql_trees.specs.declared.typed.Joined.{Joined}
+use Rattle.ss_sql_trees.specs.declared.typed.Query.{Query}
+use Rattle.ss_sql_trees.specs.WellTyped.{query_aggregated}
 use Rattle.ss_model.specs.Results.{OrAbort, try_map}
 use Rattle.ss_model.specs.Queries.{source_column, query_groups, item_value, order_by_cmp, sort_rows, take_limit}
 

@@ -8,7 +8,7 @@ ghost use Rattle.ss_value.specs.declared.value.Value.TheVariants.{Int};
 ghost use Rattle.ss_value.specs.Rows.{column_value};
 ghost use Rattle.ss_model.specs.Queries.{source_column};
 
-use ss_sql_lex::ColAt;
+use ss_sql_trees::ColAt;
 use ss_value::{NoMemory, Row, Rows, Value};
 use std::alloc::Global;
 

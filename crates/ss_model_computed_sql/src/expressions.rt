@@ -6,7 +6,7 @@ ghost use Rattle.ss_model.specs.Stops.{StopsAs};
 
 use crate::columns::{column_value, source_column};
 use ss_model::{RunError, apply_binary, cmp_holds, int_of, negation};
-use ss_sql_lex::{BinaryOp, ColAt, Expr};
+use ss_sql_trees::{BinaryOp, ColAt, Expr};
 use ss_value::{Row, Rows, Value, compare};
 use std::alloc::Global;
 

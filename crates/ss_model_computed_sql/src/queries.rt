@@ -2,7 +2,7 @@
 
 ghost use Rattle.std.specs.Prelude.{◌≡◌, IfOk, IfErr, Ok};
 ghost use Rattle.std.specs.List.{list_any};
-ghost use Rattle.ss_sql_lex.specs.WellTyped.{is_aggregate, query_aggregated};
+ghost use Rattle.ss_sql_trees.specs.WellTyped.{is_aggregate, query_aggregated};
 ghost use Rattle.ss_model.specs.Queries.{join_source, query_result};
 ghost use Rattle.ss_model.specs.Stops.{StopsAs};
 ghost use Rattle.ss_model_computed_sql.specs.Phases.{results_of, ordered_of};
@@ -25,7 +25,7 @@ use crate::queries::join::join_rows;
 use crate::queries::limit::take_limit;
 use crate::queries::sort::sort_rows;
 use ss_model::RunError;
-use ss_sql_lex::{Item, Query};
+use ss_sql_trees::{Item, Query};
 use ss_value::{NoMemory, Row, Rows, Seq};
 use std::alloc::Global;
 

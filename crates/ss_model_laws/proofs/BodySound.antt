@@ -12,9 +12,9 @@ use Rattle.ss_value.specs.declared.Unit.TheVariants.{Rows as RowsUnit, Batches a
 use Rattle.ss_value.specs.Fit.{fits_schema}
 use Rattle.ss_value.specs.Rows.{Row, Rows, column_value}
 use Rattle.ss_value.specs.Order.{value_cmp}
-use Rattle.ss_sql_lex.specs.declared.typed.Condition.{Condition}
-use Rattle.ss_sql_lex.specs.declared.typed.Statement.{Statement}
-use Rattle.ss_sql_lex.specs.WellTyped.{statement_typed}
+use Rattle.ss_sql_trees.specs.declared.typed.Condition.{Condition}
+use Rattle.ss_sql_trees.specs.declared.typed.Statement.{Statement}
+use Rattle.ss_sql_trees.specs.WellTyped.{statement_typed}
 use Rattle.ss_model.specs.declared.catalog.Catalog.{Catalog}
 use Rattle.ss_model.specs.declared.catalog.Inner.{Inner}
 use Rattle.ss_model.specs.declared.catalog.Inner.TheVariants.{Sql as InnerSql, AbortIf as InnerAbortIf}

@@ -14,19 +14,19 @@ use Rattle.ss_value.specs.declared.schema.Column.{Column}
 use Rattle.ss_value.specs.Fit.{fits_kind, fits_schema}
 use Rattle.ss_value.specs.Rows.{Row, Rows}
 use Rattle.ss_value.specs.Order.{row_cmp, value_cmp}
-use Rattle.ss_sql_lex.specs.declared.typed.ColAt.{ColAt}
-use Rattle.ss_sql_lex.specs.declared.typed.Expr.{Expr}
-use Rattle.ss_sql_lex.specs.declared.typed.SourceId.{SourceId}
-use Rattle.ss_sql_lex.specs.declared.typed.Item.{Item}
-use Rattle.ss_sql_lex.specs.declared.typed.Item.TheVariants.{Count, Sum, Min, Max, Plain}
-use Rattle.ss_sql_lex.specs.declared.typed.Joined.{Joined}
-use Rattle.ss_sql_lex.specs.declared.typed.Query.{Query}
+use Rattle.ss_sql_trees.specs.declared.typed.ColAt.{ColAt}
+use Rattle.ss_sql_trees.specs.declared.typed.Expr.{Expr}
+use Rattle.ss_sql_trees.specs.declared.typed.SourceId.{SourceId}
+use Rattle.ss_sql_trees.specs.declared.typed.Item.{Item}
+use Rattle.ss_sql_trees.specs.declared.typed.Item.TheVariants.{Count, Sum, Min, Max, Plain}
+use Rattle.ss_sql_trees.specs.declared.typed.Joined.{Joined}
+use Rattle.ss_sql_trees.specs.declared.typed.Query.{Query}
 use Rattle.ss_model.specs.declared.entry.Reason.TheVariants.{Overflow}
 use Rattle.ss_model.specs.Results.{try_map, try_filter, WhenOk}
 use Rattle.ss_model.specs.Expressions.{checked_int, fits_i64, expr_value}
 use Rattle.ss_model.specs.Queries.{join_rows, join_source, where_passes, add_to_group, group_rows, query_groups, source_column, sum_values, extreme_value, item_value, order_by_cmp, insert_sorted, sort_rows, take_limit, query_result, query_rows}
 use Rattle.ss_model.specs.Soundness.{rows_fit}
-use Rattle.ss_sql_lex.specs.WellTyped.{IntType, TextType, is_type, typed_when, column_type, expr_type, item_type, item_grouped, types_fit, Schemas, query_sources, query_types, query_typed, query_aggregated}
+use Rattle.ss_sql_trees.specs.WellTyped.{IntType, TextType, is_type, typed_when, column_type, expr_type, item_type, item_grouped, types_fit, Schemas, query_sources, query_types, query_typed, query_aggregated}
 use Rattle.ss_model.specs.SoundRuns.{FitAll, JoinFits}
 use Rattle.ss_lemmas.proofs.Bools.{first_of_two, second_of_two}
 use Rattle.ss_model.proofs.CallerLemmas.{when_ok_then, anything, try_map_when_ok, try_filter_when_ok}

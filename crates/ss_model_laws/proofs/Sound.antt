@@ -11,16 +11,16 @@ use Rattle.ss_value.specs.declared.schema.ColType.TheVariants.{Int as IntColumn,
 use Rattle.ss_value.specs.declared.schema.Column.{Column}
 use Rattle.ss_value.specs.Fit.{fits_kind, fits_schema}
 use Rattle.ss_value.specs.Rows.{Row, Rows, column_value}
-use Rattle.ss_sql_lex.specs.declared.typed.UnaryOp.TheVariants.{Not, Negate}
-use Rattle.ss_sql_lex.specs.declared.typed.BinaryOp.{BinaryOp}
-use Rattle.ss_sql_lex.specs.declared.typed.BinaryOp.TheVariants.{Or, And, Compare, Add, Sub, Concat, Mul, Div, Rem}
-use Rattle.ss_sql_lex.specs.declared.typed.Expr.{Expr, roll-Expr}
-use Rattle.ss_sql_lex.specs.declared.typed.Expr.TheFolds.{fold-roll-Expr, ind-Expr, map-Expr}
-use Rattle.ss_sql_lex.specs.declared.typed.Expr.TheOpen.{Expr-F}
+use Rattle.ss_sql_trees.specs.declared.typed.UnaryOp.TheVariants.{Not, Negate}
+use Rattle.ss_sql_trees.specs.declared.typed.BinaryOp.{BinaryOp}
+use Rattle.ss_sql_trees.specs.declared.typed.BinaryOp.TheVariants.{Or, And, Compare, Add, Sub, Concat, Mul, Div, Rem}
+use Rattle.ss_sql_trees.specs.declared.typed.Expr.{Expr, roll-Expr}
+use Rattle.ss_sql_trees.specs.declared.typed.Expr.TheFolds.{fold-roll-Expr, ind-Expr, map-Expr}
+use Rattle.ss_sql_trees.specs.declared.typed.Expr.TheOpen.{Expr-F}
 use Rattle.ss_model.specs.declared.entry.Reason.TheVariants.{Overflow, TextTooLong}
 use Rattle.ss_model.specs.Results.{OrAbort, ◌>>=◌}
 use Rattle.ss_model.specs.Expressions.{Meaning, fits_i64, checked_int, checked_div, apply_binary, int_of, level_meaning, meaning}
-use Rattle.ss_sql_lex.specs.WellTyped.{ExprType, IntType, TextType, BoolType, is_type, are_comparable, typed_when, value_type, column_type, schema_type, level_type, expr_type}
+use Rattle.ss_sql_trees.specs.WellTyped.{ExprType, IntType, TextType, BoolType, is_type, are_comparable, typed_when, value_type, column_type, schema_type, level_type, expr_type}
 use Rattle.ss_lemmas.proofs.Bools.{first_of_two, second_of_two, either_so, some_same}
 use Rattle.ss_model.specs.Soundness.{gives_int, gives_text, Asking, int_side, text_side, level_asking, asking, has_type, rows_fit, TypingIsSound}
 use Rattle.std.proofs.lemmas.Bool.{and_from, or_right, or_left}

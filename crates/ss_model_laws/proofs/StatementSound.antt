@@ -15,17 +15,17 @@ use Rattle.ss_value.specs.declared.value.Value.TheVariants.{Int}
 use Rattle.ss_value.specs.declared.schema.Column.{Column}
 use Rattle.ss_value.specs.Fit.{fits_kind, fits_schema}
 use Rattle.ss_value.specs.Rows.{Row, Rows, column_values}
-use Rattle.ss_sql_lex.specs.declared.typed.Expr.{Expr}
-use Rattle.ss_sql_lex.specs.declared.typed.Joined.{Joined}
-use Rattle.ss_sql_lex.specs.declared.typed.Query.{Query}
-use Rattle.ss_sql_lex.specs.declared.typed.SetTo.{SetTo}
-use Rattle.ss_sql_lex.specs.declared.typed.SourceId.{SourceId}
-use Rattle.ss_sql_lex.specs.declared.typed.SourceId.TheVariants.{Table as FromTable, Window as FromWindow, Batch as FromBatch, Inserted}
-use Rattle.ss_sql_lex.specs.declared.typed.Target.{Target}
-use Rattle.ss_sql_lex.specs.declared.typed.Target.TheVariants.{Table as IntoTable, Window as IntoWindow}
-use Rattle.ss_sql_lex.specs.declared.typed.Statement.{Statement}
-use Rattle.ss_sql_lex.specs.declared.typed.Statement.TheVariants.{InsertValues, InsertQuery, Update, Delete}
-use Rattle.ss_sql_lex.specs.WellTyped.{Schemas, column_type, has_type, schema_type, expr_type, types_fit, query_types, query_typed, is_among, sets_typed, statement_typed}
+use Rattle.ss_sql_trees.specs.declared.typed.Expr.{Expr}
+use Rattle.ss_sql_trees.specs.declared.typed.Joined.{Joined}
+use Rattle.ss_sql_trees.specs.declared.typed.Query.{Query}
+use Rattle.ss_sql_trees.specs.declared.typed.SetTo.{SetTo}
+use Rattle.ss_sql_trees.specs.declared.typed.SourceId.{SourceId}
+use Rattle.ss_sql_trees.specs.declared.typed.SourceId.TheVariants.{Table as FromTable, Window as FromWindow, Batch as FromBatch, Inserted}
+use Rattle.ss_sql_trees.specs.declared.typed.Target.{Target}
+use Rattle.ss_sql_trees.specs.declared.typed.Target.TheVariants.{Table as IntoTable, Window as IntoWindow}
+use Rattle.ss_sql_trees.specs.declared.typed.Statement.{Statement}
+use Rattle.ss_sql_trees.specs.declared.typed.Statement.TheVariants.{InsertValues, InsertQuery, Update, Delete}
+use Rattle.ss_sql_trees.specs.WellTyped.{Schemas, column_type, has_type, schema_type, expr_type, types_fit, query_types, query_typed, is_among, sets_typed, statement_typed}
 use Rattle.ss_model.specs.declared.catalog.Catalog.{Catalog}
 use Rattle.ss_model.specs.declared.catalog.TableDef.{TableDef}
 use Rattle.ss_model.specs.declared.catalog.WindowDef.{WindowDef}

@@ -11,17 +11,17 @@ use Rattle.ss_value.specs.declared.schema.ColType.TheVariants.{Int as IntColumn,
 use Rattle.ss_value.specs.declared.schema.Column.{Column}
 use Rattle.ss_value.specs.Fit.{fits_kind, fits_schema}
 use Rattle.ss_value.specs.Rows.{Row, Rows}
-use Rattle.ss_sql_lex.specs.declared.typed.UnaryOp.{UnaryOp}
-use Rattle.ss_sql_lex.specs.declared.typed.UnaryOp.TheVariants.{Not, Negate}
-use Rattle.ss_sql_lex.specs.declared.typed.BinaryOp.{BinaryOp}
-use Rattle.ss_sql_lex.specs.declared.typed.BinaryOp.TheVariants.{Or, And, Compare, Add, Sub, Concat, Mul, Div, Rem}
-use Rattle.ss_sql_lex.specs.declared.typed.Expr.{Expr, fold-Expr, roll-Expr}
-use Rattle.ss_sql_lex.specs.declared.typed.Expr.TheFolds.{fold-roll-Expr, ind-Expr, map-Expr}
-use Rattle.ss_sql_lex.specs.declared.typed.Expr.TheOpen.{Expr-F}
+use Rattle.ss_sql_trees.specs.declared.typed.UnaryOp.{UnaryOp}
+use Rattle.ss_sql_trees.specs.declared.typed.UnaryOp.TheVariants.{Not, Negate}
+use Rattle.ss_sql_trees.specs.declared.typed.BinaryOp.{BinaryOp}
+use Rattle.ss_sql_trees.specs.declared.typed.BinaryOp.TheVariants.{Or, And, Compare, Add, Sub, Concat, Mul, Div, Rem}
+use Rattle.ss_sql_trees.specs.declared.typed.Expr.{Expr, fold-Expr, roll-Expr}
+use Rattle.ss_sql_trees.specs.declared.typed.Expr.TheFolds.{fold-roll-Expr, ind-Expr, map-Expr}
+use Rattle.ss_sql_trees.specs.declared.typed.Expr.TheOpen.{Expr-F}
 use Rattle.ss_model.specs.Results.{OrAbort, WhenOk}
 use Rattle.ss_model.specs.Expressions.{Meaning, expr_value}
 use Rattle.ss_model.specs.Soundness.{Asking, asking, gives_int, gives_text, has_type, rows_fit}
-use Rattle.ss_sql_lex.specs.WellTyped.{ExprType, is_type, column_type, level_type, expr_type, level_grouped}
+use Rattle.ss_sql_trees.specs.WellTyped.{ExprType, is_type, column_type, level_type, expr_type, level_grouped}
 use Rattle.ss_lemmas.proofs.Bools.{first_of_two, second_of_two}
 use Rattle.ss_model_laws.proofs.Sound.{type_is, typing_is_sound}
 

@@ -4,12 +4,12 @@ use Rattle.std.specs.Prelude.{IfSome}
 use Rattle.std.specs.List.{AllByRecursion, filter}
 use Rattle.std.specs.Global.{Vec}
 use Rattle.ss_value.specs.Rows.{Row, Rows}
-use Rattle.ss_sql_lex.specs.declared.typed.Expr.{Expr}
-use Rattle.ss_sql_lex.specs.declared.typed.SourceId.{SourceId}
-use Rattle.ss_sql_lex.specs.declared.typed.Query.{Query}
+use Rattle.ss_sql_trees.specs.declared.typed.Expr.{Expr}
+use Rattle.ss_sql_trees.specs.declared.typed.SourceId.{SourceId}
+use Rattle.ss_sql_trees.specs.declared.typed.Query.{Query}
 use Rattle.ss_model.specs.Results.{OrAbort, ◌>>=◌, try_map, try_filter}
 use Rattle.ss_model.specs.Queries.{where_passes, join_source, query_result, query_rows, query_groups, item_value, take_limit, sort_rows, order_by_cmp}
-use Rattle.ss_sql_lex.specs.WellTyped.{query_aggregated}
+use Rattle.ss_sql_trees.specs.WellTyped.{query_aggregated}
 use Rattle.ss_model.specs.declared.run_error.RunError.{RunError}
 use Rattle.ss_model.specs.Stops.{StopsAs}
 use Rattle.ss_rows.specs.Sources.{Positioned, rows_in}

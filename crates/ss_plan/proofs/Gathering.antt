@@ -15,7 +15,7 @@ use Rattle.ss_value.specs.Rows.{Row, column_values}
 use Rattle.ss_value.specs.Order.{row_cmp}
 use Rattle.ss_value.specs.ValueOrder.{row_cmp_total, row_cmp-IsAntisymmetric}
 use Rattle.ss_value.proofs.CallerLemmas.{same_row, alike}
-use Rattle.ss_sql_lex.specs.declared.typed.Expr.{Expr}
+use Rattle.ss_sql_trees.specs.declared.typed.Expr.{Expr}
 use Rattle.ss_table.specs.TableValue.{LiveRows, key_of, row_at}
 use Rattle.ss_table.specs.Keyed.{StandsAtKey, SlotsDiffer}
 use Rattle.ss_table.proofs.CallerLemmas.{and_both}

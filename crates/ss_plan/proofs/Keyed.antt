@@ -9,7 +9,7 @@ use Rattle.ss_value.specs.Rows.{Row, column_value}
 use Rattle.ss_value.specs.Order.{row_cmp}
 use Rattle.ss_value.specs.ValueOrder.{row_cmp_total}
 use Rattle.ss_value.proofs.CallerLemmas.{same_row}
-use Rattle.ss_sql_lex.specs.declared.typed.Expr.{Expr}
+use Rattle.ss_sql_trees.specs.declared.typed.Expr.{Expr}
 use Rattle.ss_model.specs.declared.catalog.Catalog.{Catalog}
 use Rattle.ss_model.specs.Contents.{key_columns}
 use Rattle.ss_table.specs.TableValue.{TableValue, LiveRows, key_of, row_at}

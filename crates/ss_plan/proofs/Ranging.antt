@@ -9,7 +9,7 @@ use Rattle.ss_value.specs.declared.schema.Column.{Column}
 use Rattle.ss_value.specs.Rows.{Row, column_value, column_values}
 use Rattle.ss_value.specs.Order.{value_cmp, row_cmp}
 use Rattle.ss_value.specs.ValueOrder.{value_cmp_total}
-use Rattle.ss_sql_lex.specs.declared.typed.Expr.{Expr}
+use Rattle.ss_sql_trees.specs.declared.typed.Expr.{Expr}
 use Rattle.ss_index.specs.Pairs.{in_range}
 use Rattle.ss_plan.specs.Fronts.{meets_run}
 use Rattle.ss_plan.specs.Bounds.{bound_value}

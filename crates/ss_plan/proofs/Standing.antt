@@ -10,9 +10,9 @@ use Rattle.ss_value.specs.declared.value.Value.{Value}
 use Rattle.ss_value.specs.Rows.{Row, column_value}
 use Rattle.ss_value.specs.Order.{value_cmp}
 use Rattle.ss_value.specs.ValueOrder.{value_cmp_total}
-use Rattle.ss_sql_lex.specs.declared.typed.Cmp.{Cmp}
-use Rattle.ss_sql_lex.specs.declared.typed.Cmp.TheVariants.{Eq, Ne, Lt, Le, Gt, Ge}
-use Rattle.ss_sql_lex.specs.declared.typed.Expr.{Expr}
+use Rattle.ss_sql_trees.specs.declared.typed.Cmp.{Cmp}
+use Rattle.ss_sql_trees.specs.declared.typed.Cmp.TheVariants.{Eq, Ne, Lt, Le, Gt, Ge}
+use Rattle.ss_sql_trees.specs.declared.typed.Expr.{Expr}
 use Rattle.ss_model.specs.Expressions.{cmp_holds}
 use Rattle.ss_plan.specs.Fronts.{Operand, Literal, Parameter, Column, Comparison, operand_value, comparison_holds, run_holds, run_of, meets_run}
 use Rattle.ss_plan.specs.Bounds.{mirror, bounds_end, is_known, is_column, bound_beside, bound_in, first_of, first_bound, known_value, bound_value}

@@ -1,7 +1,7 @@
 -- What the front of a WHERE decides, and why what a plan finds is enough.
 use Rattle.std.specs.Prelude.{◌≡◌, false, [], ◌∷◌, Option, Ok}
 use Rattle.ss_value.specs.Rows.{Row}
-use Rattle.ss_sql_lex.specs.declared.typed.Expr.{Expr}
+use Rattle.ss_sql_trees.specs.declared.typed.Expr.{Expr}
 use Rattle.ss_model.specs.Queries.{where_passes}
 use Rattle.ss_rows.specs.Sources.{Positioned}
 use Rattle.ss_plan.specs.Fronts.{meets_run}

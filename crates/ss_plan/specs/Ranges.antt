@@ -5,7 +5,7 @@ use Rattle.ss_value.specs.declared.schema.Column.{Column}
 use Rattle.ss_value.specs.declared.schema.ColType.{ColType}
 use Rattle.ss_value.specs.declared.schema.ColType.TheVariants as kind
 use Rattle.ss_value.specs.Rows.{Row}
-use Rattle.ss_sql_lex.specs.declared.typed.Expr.{Expr}
+use Rattle.ss_sql_trees.specs.declared.typed.Expr.{Expr}
 use Rattle.ss_plan.specs.Fronts.{run_of}
 use Rattle.ss_plan.specs.Bounds.{first_bound, bound_value}
 use Rattle.ss_plan.specs.Keys.{is_there}

@@ -14,7 +14,7 @@ use crate::visible_rows::{ShardRows, rows_seen};
 use ss_model::{Catalog, RunError};
 use ss_rows::Frame;
 use ss_shard::Shard;
-use ss_sql_lex::Expr;
+use ss_sql_trees::Expr;
 use ss_value::{Row, Slot, Value};
 use std::alloc::Global;
 

@@ -1,7 +1,7 @@
 //! Rows that a search found.
 
 use ss_rows::RowsOf;
-use ss_sql_lex::SourceId;
+use ss_sql_trees::SourceId;
 use ss_value::{Row, Seq, Slot};
 
 /// Rows that a search found, with their slots, as the source of a query of one table.

@@ -1,7 +1,7 @@
 //! The slots of the rows that a plan finds.
 
 ghost use Rattle.std.specs.Prelude.{◌≡◌, ◌<◌, length, map, IfOk};
-ghost use Rattle.ss_sql_lex.specs.declared.typed.SourceId.TheVariants.{Table as FromTable};
+ghost use Rattle.ss_sql_trees.specs.declared.typed.SourceId.TheVariants.{Table as FromTable};
 ghost use Rattle.ss_rows.specs.Frames.{params_of};
 ghost use Rattle.ss_shard.specs.Shards.{HasTables};
 ghost use Rattle.ss_plan.specs.Found.{lent_rows};
@@ -15,7 +15,7 @@ use crate::visible_rows::{ShardRows, rows_seen};
 use ss_model::Catalog;
 use ss_rows::{Frame, RowsOf};
 use ss_shard::Shard;
-use ss_sql_lex::{Expr, SourceId};
+use ss_sql_trees::{Expr, SourceId};
 use ss_value::{NoMemory, Row, Slot, Value};
 use std::alloc::Global;
 

@@ -7,7 +7,7 @@ ghost use Rattle.ss_model.specs.Stops.{StopsAs};
 
 use ss_model::RunError;
 use ss_rows::{Tuple, evaluate};
-use ss_sql_lex::Expr;
+use ss_sql_trees::Expr;
 use ss_value::{Row, Seq};
 use std::alloc::Global;
 

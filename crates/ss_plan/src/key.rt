@@ -3,7 +3,7 @@
 ghost use Rattle.std.specs.Prelude.{◌≡◌, ◌<◌, length, IfOk, IfSome};
 ghost use Rattle.std.specs.Option.{option_map};
 ghost use Rattle.std.specs.FinMap as finite;
-ghost use Rattle.ss_sql_lex.specs.declared.typed.SourceId.TheVariants.{Table as FromTable};
+ghost use Rattle.ss_sql_trees.specs.declared.typed.SourceId.TheVariants.{Table as FromTable};
 ghost use Rattle.ss_shard.specs.Shards.{HasTables};
 ghost use Rattle.ss_plan.specs.Bounds.{operand_of, known_value, bound_value};
 ghost use Rattle.ss_plan.specs.Keys.{key_sought, lent_row, one_or_none};
@@ -15,7 +15,7 @@ use crate::found::FoundRows;
 use crate::visible::is_seen;
 use crate::visible_rows::ShardRows;
 use ss_rows::{column_in, lent_or_zero};
-use ss_sql_lex::Expr;
+use ss_sql_trees::Expr;
 use ss_table::Table;
 use ss_value::{NoMemory, Row, Seq, Slot, Value};
 use std::alloc::Global;

@@ -15,7 +15,7 @@ use crate::visible_rows::{ShardRows, rows_seen};
 use ss_model::{Catalog, RunError};
 use ss_rows::{Frame, run_query};
 use ss_shard::Shard;
-use ss_sql_lex::{Query, SourceId};
+use ss_sql_trees::{Query, SourceId};
 use ss_value::{NoMemory, Row, Rows, Value};
 use std::alloc::Global;
 

@@ -2,7 +2,7 @@
 
 ghost use Rattle.std.specs.Prelude.{◌≡◌, IfOk, Some, slice_get};
 ghost use Rattle.std.specs.Option.{option_map};
-ghost use Rattle.ss_sql_lex.specs.declared.typed.SourceId.TheVariants.{Table as FromTable};
+ghost use Rattle.ss_sql_trees.specs.declared.typed.SourceId.TheVariants.{Table as FromTable};
 ghost use Rattle.ss_shard.specs.Shards.{HasTables};
 ghost use Rattle.ss_plan.specs.Ranges.{is_int_kind, is_int_column, is_int, int_bound, range_end};
 ghost use Rattle.ss_plan.specs.Found.{lent_rows, row_seen, rows_seen_in};
@@ -16,7 +16,7 @@ use crate::ordered::in_key_order;
 use crate::visible::is_seen;
 use crate::visible_rows::ShardRows;
 use ss_index::Index;
-use ss_sql_lex::Expr;
+use ss_sql_trees::Expr;
 use ss_table::Table;
 use ss_value::{ColType, NoMemory, Row, Schema, Seq, Slot, Value};
 use std::alloc::Global;

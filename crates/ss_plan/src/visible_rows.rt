@@ -17,7 +17,7 @@ use crate::visible::{first_seen, next_seen, seen_row};
 use ss_model::Catalog;
 use ss_rows::{Frame, RowsOf, column_in};
 use ss_shard::Shard;
-use ss_sql_lex::SourceId;
+use ss_sql_trees::SourceId;
 use ss_table::Table;
 use ss_value::{Row, Value};
 use ss_window::Window;

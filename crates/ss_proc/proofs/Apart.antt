@@ -4,7 +4,7 @@ use Rattle.std.specs.List.{filter}
 use Rattle.ss_value.specs.Rows.{Row, Rows}
 use Rattle.ss_value.specs.declared.Unit.{Unit as UnitKind}
 use Rattle.ss_value.specs.declared.Unit.TheVariants.{Rows as RowsUnit, Batches as BatchesUnit}
-use Rattle.ss_sql_lex.specs.declared.typed.Statement.{Statement}
+use Rattle.ss_sql_trees.specs.declared.typed.Statement.{Statement}
 use Rattle.ss_model.specs.declared.catalog.TriggerDef.{TriggerDef}
 use Rattle.ss_model.specs.declared.entry.Reason.TheVariants.{WindowFull}
 use Rattle.ss_model.specs.Results.{OrAbort, ◌>>=◌, try_fold, abort_when}

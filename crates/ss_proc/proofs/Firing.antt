@@ -3,10 +3,10 @@ use Rattle.std.proofs.Common.{◌≡◌, ◌+◌, ◌<◌, ◌^◌, nat_le, ℕ,
 use Rattle.std.specs.List.{filter}
 use Rattle.std.proofs.lemmas.List.{at_drop_more}
 use Rattle.ss_value.specs.Rows.{Row, Rows}
-use Rattle.ss_sql_lex.specs.declared.typed.Target.{Target}
-use Rattle.ss_sql_lex.specs.declared.typed.Target.TheVariants.{Table as IntoTable, Window as IntoWindow}
-use Rattle.ss_sql_lex.specs.declared.typed.Statement.{Statement}
-use Rattle.ss_sql_lex.specs.declared.typed.Statement.TheVariants.{InsertValues, InsertQuery, Update, Delete}
+use Rattle.ss_sql_trees.specs.declared.typed.Target.{Target}
+use Rattle.ss_sql_trees.specs.declared.typed.Target.TheVariants.{Table as IntoTable, Window as IntoWindow}
+use Rattle.ss_sql_trees.specs.declared.typed.Statement.{Statement}
+use Rattle.ss_sql_trees.specs.declared.typed.Statement.TheVariants.{InsertValues, InsertQuery, Update, Delete}
 use Rattle.ss_model.specs.declared.catalog.Catalog.{Catalog}
 use Rattle.ss_model.specs.declared.catalog.TriggerDef.{TriggerDef}
 use Rattle.ss_model.specs.declared.entry.Reason.TheVariants.{WindowFull}

@@ -23,7 +23,7 @@ use ss_eetrig::firings::firings;
 use ss_model::{Catalog, RunError};
 use ss_plan::Wrote;
 use ss_shard::Shard;
-use ss_sql_lex::Statement;
+use ss_sql_trees::Statement;
 use ss_value::{NoMemory, Row, Rows, Seq, Unit};
 use std::alloc::Global;
 

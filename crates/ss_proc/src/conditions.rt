@@ -14,7 +14,7 @@ use crate::work::{Given, Work};
 use ss_model::{Reason, RunError, cmp_holds};
 use ss_rows::{Tuple, column_in, evaluate, lent_or_zero};
 use ss_shard::Shard;
-use ss_sql_lex::Condition;
+use ss_sql_trees::Condition;
 use ss_value::{Row, Rows, compare};
 use std::alloc::Global;
 

@@ -11,7 +11,7 @@ use ss_model::RunError;
 use ss_plan::{Inputs, Wrote, query_shard, run_statement};
 use ss_rows::Frame;
 use ss_shard::Shard;
-use ss_sql_lex::{Query, Statement};
+use ss_sql_trees::{Query, Statement};
 use ss_value::{Row, Rows, Seq};
 use std::alloc::Global;
 

@@ -17,7 +17,7 @@ use crate::statements::execution_query;
 use crate::work::{Given, Work};
 use ss_model::{Inner, RunError, Step};
 use ss_shard::Shard;
-use ss_sql_lex::Query;
+use ss_sql_trees::Query;
 use ss_value::Row;
 use std::alloc::Global;
 

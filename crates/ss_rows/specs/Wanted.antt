@@ -2,7 +2,7 @@
 use Rattle.std.specs.Prelude.{List, [], ◌∷◌, map, Option}
 use Rattle.std.specs.Borrow.{Bor}
 use Rattle.ss_value.specs.Rows.{Row, Rows}
-use Rattle.ss_sql_lex.specs.declared.typed.Joined.{Joined}
+use Rattle.ss_sql_trees.specs.declared.typed.Joined.{Joined}
 use Rattle.ss_model.specs.Results.{OrAbort, try_filter}
 use Rattle.ss_model.specs.Queries.{where_passes, join_rows}
 use Rattle.ss_model.specs.declared.run_error.RunError.{RunError}

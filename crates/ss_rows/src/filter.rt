@@ -19,7 +19,7 @@ use crate::rows_of::RowsOf;
 use crate::tuple::Tuple;
 use crate::walk::row_at;
 use ss_model::RunError;
-use ss_sql_lex::{Expr, Joined, Query};
+use ss_sql_trees::{Expr, Joined, Query};
 use ss_value::{NoMemory, Row};
 use std::alloc::Global;
 

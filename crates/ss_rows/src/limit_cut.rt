@@ -9,7 +9,7 @@ ghost use Rattle.ss_rows.specs.Early.{AlwaysHasItem, AlwaysHasRow, AlwaysHasAnsw
 
 use crate::never_aborts::{always_has_test, always_has_value};
 use crate::query_kind::is_aggregated;
-use ss_sql_lex::{Expr, Item, Query};
+use ss_sql_trees::{Expr, Item, Query};
 
 /// Whether an item is a literal, a parameter or a column, which have a value for each group.
 fn always_has_item(item: &Item) -> bool

@@ -3,7 +3,7 @@
 ghost use Rattle.std.specs.Prelude.{◌≡◌, true};
 ghost use Rattle.ss_rows.specs.Certainty.{AlwaysHasValue, AlwaysHasTest};
 
-use ss_sql_lex::{BinaryOp, Expr};
+use ss_sql_trees::{BinaryOp, Expr};
 
 /// Whether an expression is a literal, a parameter or a column, which have a value on every row.
 pub fn always_has_value(tree: &Expr) -> bool

@@ -2,9 +2,9 @@
 
 ghost use Rattle.std.specs.Prelude.{◌≡◌};
 ghost use Rattle.std.specs.List.{list_any};
-ghost use Rattle.ss_sql_lex.specs.WellTyped.{is_aggregate, query_aggregated};
+ghost use Rattle.ss_sql_trees.specs.WellTyped.{is_aggregate, query_aggregated};
 
-use ss_sql_lex::{Item, Query};
+use ss_sql_trees::{Item, Query};
 
 /// Whether one of these items is COUNT, SUM, MIN or MAX.
 fn has_aggregate(items: &[Item]) -> bool

@@ -3,10 +3,10 @@
 ghost use Rattle.std.specs.Prelude.{◌≡◌, true, false, None, Some};
 ghost use Rattle.std.specs.Option.{option_copied};
 ghost use Rattle.ss_value.specs.Rows.{Row};
-ghost use Rattle.ss_sql_lex.specs.declared.typed.SourceId.{SourceId};
+ghost use Rattle.ss_sql_trees.specs.declared.typed.SourceId.{SourceId};
 ghost use Rattle.ss_rows.specs.Sources.{Positioned, has_position, first_position, StandsAt};
 
-use ss_sql_lex::SourceId;
+use ss_sql_trees::SourceId;
 use ss_value::Row;
 
 /// What gives the rows of sources.

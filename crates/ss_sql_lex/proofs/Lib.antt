@@ -9,4 +9,3 @@ pub mod Spanned
 pub mod Spelled
 pub mod Stands
 pub mod Values
-pub mod Crossing

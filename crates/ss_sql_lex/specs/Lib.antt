@@ -8,4 +8,3 @@ pub mod Reading
 pub mod Spans
 pub mod Spelling
 pub mod Trees
-pub mod WellTyped

@@ -1,4 +1,4 @@
-//! The tokens of SQL texts, and the trees of SQL texts, plain and typed.
+//! The tokens of SQL texts, and their plain trees.
 //!
 //! [`lexer::tokens`] gives the tokens of a text, or its first fault. A [`token::Token`] has a kind
 //! and a span: its spelling is the bytes of the text from `from` up to `to`. Proved is that the
@@ -16,30 +16,23 @@
 //! `fails_once`), `proofs.Quotes` (`taken`, `value_of`, `spelling_utf8`) and `proofs.Spanned`
 //! (`spans`, `rises`).
 //!
-//! [`tree`] has the plain trees that a parser makes, with offsets, and [`typed`] the trees with numbers in
-//! place of names; [`tree_copies`] and [`copies`] have their exact copies.
-//!
-//! `specs/WellTyped.antt` says what it is for a typed statement, query and condition to be well typed, where the
-//! columns of the sources, of the targets and of the parameters are given. The typing calls give no other trees,
-//! and an engine that runs typed trees may take it as a premise.
+//! [`tree`] has the plain trees that a parser makes, with offsets, and [`tree_copies`] their exact copies. What a typer makes
+//! of them stands in `ss_sql_trees`.
 //!
 //! Every call that takes `alloc` may answer `NoMemory`.
 #![tactic(auto)]
 
 mod content;
-mod copies;
 mod laws;
 mod lexer;
 mod scan;
 mod token;
 mod tree;
 mod tree_copies;
-mod typed;
 
 pub use content::{
     Content, content_of, name_value, number_value, param_value, spelling, text_value,
 };
-pub use copies::{copy_expr, copy_test};
 pub use laws::{a_text_has_one_answer, faults_have_causes, quotes_are_taken};
 pub use lexer::tokens;
 pub use token::{LexError, Token, TokenKind};
@@ -48,7 +41,3 @@ pub use tree::{
     QueryTree, SetTree, StatementTree, TextTree,
 };
 pub use tree_copies::copy_expr_tree;
-pub use typed::{
-    BinaryOp, Cmp, ColAt, Condition, Expr, Item, Joined, OrderBy, Query, SetTo, SourceId,
-    Statement, Target, UnaryOp,
-};

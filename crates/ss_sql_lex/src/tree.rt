@@ -11,7 +11,7 @@
 ghost use Rattle.std.specs.Prelude.{◌≡◌};
 ghost use Rattle.ss_sql_lex.specs.Trees.{offset_of, with_offset};
 
-use crate::typed::{BinaryOp, Cmp, UnaryOp};
+use ss_sql_trees::{BinaryOp, Cmp, UnaryOp};
 use ss_value::{Boxed, Name, Seq, Text};
 
 /// A name, or the name of a parameter.

@@ -11,7 +11,7 @@ use crate::tree::{
     ColumnTree, ConditionTree, ExprTree, ItemTree, JoinTree, NameTree, NumberTree, OrderTree,
     QueryTree, SetTree, StatementTree, TextTree,
 };
-use crate::typed::{BinaryOp, UnaryOp};
+use ss_sql_trees::{BinaryOp, UnaryOp};
 use ss_value::{Boxed, Copies, NoMemory, Seq};
 use std::alloc::Global;
 

@@ -11,7 +11,7 @@ use Rattle.ss_sql_parse.specs.Sql.{Sql, sql, inner, chain}
 use Rattle.ss_sql_parse.specs.Nodes.{left_grouping, binary_tree}
 use Rattle.ss_sql_parse.specs.declared.operators.Level.{Level}
 use Rattle.ss_sql_parse.specs.Levels.{turns, chain_tree, tail, operator_rule, side_rule}
-use Rattle.ss_sql_lex.specs.declared.typed.BinaryOp.{BinaryOp}
+use Rattle.ss_sql_trees.specs.declared.typed.BinaryOp.{BinaryOp}
 
 abbrev beside : ExprTree → List (BinaryOp × ExprTree) × List Lexeme → Result ((ExprTree × List (BinaryOp × ExprTree)) × List Lexeme) ℕ
 beside left y = Ok ((left, y.0), y.1)

@@ -2,8 +2,8 @@
 use Rattle.std.proofs.Common.{◌≡◌, ℕ, true, List, Result, Ok, refl}
 use Rattle.ss_sql_parse.specs.declared.lexeme.Lexeme.{Lexeme}
 use Rattle.ss_sql_lex.specs.declared.tree.ExprTree.{ExprTree}
-use Rattle.ss_sql_lex.specs.declared.typed.Cmp.{Cmp}
-use Rattle.ss_sql_lex.specs.declared.typed.BinaryOp.TheVariants as b
+use Rattle.ss_sql_trees.specs.declared.typed.Cmp.{Cmp}
+use Rattle.ss_sql_trees.specs.declared.typed.BinaryOp.TheVariants as b
 use Rattle.ss_sql_grammar.specs.Grammar.{begins, starts, read}
 use Rattle.ss_sql_parse.specs.Terminals.{kind}
 use Rattle.ss_sql_parse.specs.declared.stop.Stop.{Stop}

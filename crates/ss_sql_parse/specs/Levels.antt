@@ -1,7 +1,7 @@
 -- The four levels of operators that repeat.
 use Rattle.std.specs.Prelude.{ℕ, List, length, Result, Ok}
 use Rattle.ss_sql_lex.specs.declared.tree.ExprTree.{ExprTree}
-use Rattle.ss_sql_lex.specs.declared.typed.BinaryOp.{BinaryOp}
+use Rattle.ss_sql_trees.specs.declared.typed.BinaryOp.{BinaryOp}
 use Rattle.ss_sql_parse.specs.declared.operators.Level.{Level}
 use Rattle.ss_sql_parse.specs.declared.operators.Level.TheVariants as level
 use Rattle.ss_sql_parse.specs.declared.lexeme.Lexeme.{Lexeme}

@@ -6,10 +6,10 @@ use Rattle.ss_sql_lex.specs.declared.tree.TextTree.{TextTree}
 use Rattle.ss_sql_lex.specs.declared.tree.ColumnTree.{ColumnTree}
 use Rattle.ss_sql_lex.specs.declared.tree.ExprTree.{ExprTree}
 use Rattle.ss_sql_lex.specs.declared.tree.ExprTree.TheVariants as e
-use Rattle.ss_sql_lex.specs.declared.typed.BinaryOp.{BinaryOp}
-use Rattle.ss_sql_lex.specs.declared.typed.BinaryOp.TheVariants as b
-use Rattle.ss_sql_lex.specs.declared.typed.UnaryOp.TheVariants as u
-use Rattle.ss_sql_lex.specs.declared.typed.Cmp.{Cmp}
+use Rattle.ss_sql_trees.specs.declared.typed.BinaryOp.{BinaryOp}
+use Rattle.ss_sql_trees.specs.declared.typed.BinaryOp.TheVariants as b
+use Rattle.ss_sql_trees.specs.declared.typed.UnaryOp.TheVariants as u
+use Rattle.ss_sql_trees.specs.declared.typed.Cmp.{Cmp}
 use Rattle.ss_sql_lex.specs.Trees.{offset_of, with_offset}
 use Rattle.ss_sql_parse.specs.declared.lexeme.Content.{Content}
 use Rattle.ss_sql_parse.specs.declared.lexeme.Content.TheVariants as c

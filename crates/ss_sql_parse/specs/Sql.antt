@@ -5,10 +5,10 @@ use Rattle.ss_sql_lex.specs.declared.tree.NumberTree.{NumberTree}
 use Rattle.ss_sql_lex.specs.declared.tree.TextTree.{TextTree}
 use Rattle.ss_sql_lex.specs.declared.tree.ColumnTree.{ColumnTree}
 use Rattle.ss_sql_lex.specs.declared.tree.ExprTree.{ExprTree}
-use Rattle.ss_sql_lex.specs.declared.typed.BinaryOp.{BinaryOp}
-use Rattle.ss_sql_lex.specs.declared.typed.BinaryOp.TheVariants as b
-use Rattle.ss_sql_lex.specs.declared.typed.Cmp.{Cmp}
-use Rattle.ss_sql_lex.specs.declared.typed.Cmp.TheVariants as c
+use Rattle.ss_sql_trees.specs.declared.typed.BinaryOp.{BinaryOp}
+use Rattle.ss_sql_trees.specs.declared.typed.BinaryOp.TheVariants as b
+use Rattle.ss_sql_trees.specs.declared.typed.Cmp.{Cmp}
+use Rattle.ss_sql_trees.specs.declared.typed.Cmp.TheVariants as c
 use Rattle.ss_sql_parse.specs.declared.lexeme.Terminal.{Terminal}
 use Rattle.ss_sql_parse.specs.declared.lexeme.Terminal.TheVariants as t
 use Rattle.ss_sql_parse.specs.declared.lexeme.Lexeme.{Lexeme}

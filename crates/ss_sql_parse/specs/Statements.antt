@@ -14,7 +14,7 @@ use Rattle.ss_sql_lex.specs.declared.tree.QueryTree.{QueryTree}
 use Rattle.ss_sql_lex.specs.declared.tree.StatementTree.{StatementTree}
 use Rattle.ss_sql_lex.specs.declared.tree.StatementTree.TheVariants as s
 use Rattle.ss_sql_lex.specs.declared.tree.ConditionTree.{ConditionTree}
-use Rattle.ss_sql_lex.specs.declared.typed.Cmp.{Cmp}
+use Rattle.ss_sql_trees.specs.declared.typed.Cmp.{Cmp}
 use Rattle.ss_sql_parse.specs.declared.lexeme.Lexeme.{Lexeme}
 use Rattle.ss_sql_parse.specs.declared.lexeme.Terminal.TheVariants as t
 use Rattle.ss_sql_grammar.specs.Grammar.{act, both, or, maybe, some}

@@ -21,7 +21,8 @@ use crate::reading::{
     token,
 };
 use crate::stop::Stop;
-use ss_sql_lex::{BinaryOp, ColumnTree, ExprTree, UnaryOp};
+use ss_sql_lex::{ColumnTree, ExprTree};
+use ss_sql_trees::{BinaryOp, UnaryOp};
 use ss_value::Boxed;
 use std::alloc::Global;
 

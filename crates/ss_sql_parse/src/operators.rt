@@ -9,7 +9,7 @@ ghost use Rattle.ss_sql_parse.specs.Levels.{operator_rule};
 
 use crate::lexeme::{Lexemes, Terminal};
 use crate::reading::{Read, begins, token};
-use ss_sql_lex::{BinaryOp, Cmp};
+use ss_sql_trees::{BinaryOp, Cmp};
 
 /// The levels of operators that may repeat and group from the left. The one that binds least comes first.
 #[derive(Clone, Copy, Debug, PartialEq, Eq)]

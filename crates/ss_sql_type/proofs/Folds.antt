@@ -4,9 +4,9 @@ use Rattle.ss_sql_lex.specs.declared.tree.ExprTree.{ExprTree}
 use Rattle.ss_sql_lex.specs.declared.tree.ExprTree.TheVariants as e
 use Rattle.ss_sql_lex.specs.declared.tree.ExprTree.TheOpen.{ExprTree-F}
 use Rattle.ss_sql_lex.specs.declared.tree.ExprTree.TheFolds.{fold-roll-ExprTree}
-use Rattle.ss_sql_lex.specs.declared.typed.BinaryOp.{BinaryOp}
-use Rattle.ss_sql_lex.specs.declared.typed.UnaryOp.{UnaryOp}
-use Rattle.ss_sql_lex.specs.declared.typed.ColAt.{ColAt}
+use Rattle.ss_sql_trees.specs.declared.typed.BinaryOp.{BinaryOp}
+use Rattle.ss_sql_trees.specs.declared.typed.UnaryOp.{UnaryOp}
+use Rattle.ss_sql_trees.specs.declared.typed.ColAt.{ColAt}
 use Rattle.ss_sql_type.specs.Names.{Reach}
 use Rattle.ss_sql_type.specs.Expressions.{Typed, level, typed_expr}
 

@@ -9,8 +9,8 @@ use Rattle.std.proofs.lemmas.Iterator.Adapters.{position_from-zero}
 use Rattle.std.proofs.lemmas.List.Folds.{list_any-append}
 use Rattle.ss_value.specs.declared.schema.Column.{Column}
 use Rattle.ss_names.specs.Names.{column_name}
-use Rattle.ss_sql_lex.specs.declared.typed.ColAt.{ColAt}
-use Rattle.ss_sql_lex.specs.WellTyped.{is_column}
+use Rattle.ss_sql_trees.specs.declared.typed.ColAt.{ColAt}
+use Rattle.ss_sql_trees.specs.WellTyped.{is_column}
 use Rattle.ss_sql_type.specs.Names.{same_name, column_named}
 
 -- the column with a name stands where its name stands, of lists that start at position i

@@ -1,7 +1,7 @@
 -- The least of several lists of faults.
 use Rattle.std.proofs.Common.{◌≡◌, refl, sym, ap, ◌∙◌, List, [], ◌∷◌, ◌++◌, Bool, Option, Result, Ok, Err, OnOk}
-use Rattle.ss_sql_lex.specs.declared.typed.BinaryOp.{BinaryOp}
-use Rattle.ss_sql_lex.specs.declared.typed.BinaryOp.TheVariants.{Compare}
+use Rattle.ss_sql_trees.specs.declared.typed.BinaryOp.{BinaryOp}
+use Rattle.ss_sql_trees.specs.declared.typed.BinaryOp.TheVariants.{Compare}
 use Rattle.ss_sql_type.specs.declared.scope.TypeError.{TypeError}
 use Rattle.ss_sql_type.specs.declared.kinds.Kind.{Kind}
 use Rattle.ss_sql_type.specs.declared.expr.TypedExpr.{TypedExpr}

@@ -2,13 +2,13 @@
 use Rattle.std.proofs.Common.{◌≡◌, ℕ, refl, List, Option, map}
 use Rattle.std.specs.Option.{option_map}
 use Rattle.ss_sql_lex.specs.declared.tree.QueryTree.{QueryTree}
-use Rattle.ss_sql_lex.specs.declared.typed.ColAt.{ColAt}
-use Rattle.ss_sql_lex.specs.declared.typed.Expr.{Expr}
-use Rattle.ss_sql_lex.specs.declared.typed.Item.{Item}
-use Rattle.ss_sql_lex.specs.declared.typed.Joined.{Joined}
-use Rattle.ss_sql_lex.specs.declared.typed.OrderBy.{OrderBy}
-use Rattle.ss_sql_lex.specs.declared.typed.Query.{Query}
-use Rattle.ss_sql_lex.specs.declared.typed.SourceId.{SourceId}
+use Rattle.ss_sql_trees.specs.declared.typed.ColAt.{ColAt}
+use Rattle.ss_sql_trees.specs.declared.typed.Expr.{Expr}
+use Rattle.ss_sql_trees.specs.declared.typed.Item.{Item}
+use Rattle.ss_sql_trees.specs.declared.typed.Joined.{Joined}
+use Rattle.ss_sql_trees.specs.declared.typed.OrderBy.{OrderBy}
+use Rattle.ss_sql_trees.specs.declared.typed.Query.{Query}
+use Rattle.ss_sql_trees.specs.declared.typed.SourceId.{SourceId}
 use Rattle.ss_sql_type.specs.Names.{Reach}
 use Rattle.ss_sql_type.specs.Items.{typed_item, typed_value, typed_groups, typed_order}
 use Rattle.ss_sql_type.specs.Queries.{source_id, typed_join, grouped_columns, limit_of, typed_within}

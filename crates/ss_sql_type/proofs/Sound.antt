@@ -7,23 +7,23 @@ use Rattle.ss_value.specs.declared.value.Value.TheVariants as value
 use Rattle.ss_value.specs.declared.schema.ColType.{ColType}
 use Rattle.ss_value.specs.declared.schema.ColType.TheVariants as column
 use Rattle.ss_value.specs.declared.schema.Column.{Column}
-use Rattle.ss_sql_lex.specs.declared.typed.ColAt.{ColAt}
-use Rattle.ss_sql_lex.specs.declared.typed.BinaryOp.{BinaryOp}
-use Rattle.ss_sql_lex.specs.declared.typed.BinaryOp.TheVariants.{Or, And, Compare, Add, Sub, Concat, Mul, Div, Rem}
-use Rattle.ss_sql_lex.specs.declared.typed.Cmp.{Cmp}
-use Rattle.ss_sql_lex.specs.declared.typed.UnaryOp.{UnaryOp}
-use Rattle.ss_sql_lex.specs.declared.typed.UnaryOp.TheVariants.{Not, Negate}
-use Rattle.ss_sql_lex.specs.declared.typed.Expr.{Expr}
-use Rattle.ss_sql_lex.specs.declared.typed.Expr.TheVariants as typed
-use Rattle.ss_sql_lex.specs.declared.typed.Expr.TheFolds.{fold-Expr, fold-roll-Expr}
-use Rattle.ss_sql_lex.specs.declared.typed.Expr.TheOpen.{Expr-F}
+use Rattle.ss_sql_trees.specs.declared.typed.ColAt.{ColAt}
+use Rattle.ss_sql_trees.specs.declared.typed.BinaryOp.{BinaryOp}
+use Rattle.ss_sql_trees.specs.declared.typed.BinaryOp.TheVariants.{Or, And, Compare, Add, Sub, Concat, Mul, Div, Rem}
+use Rattle.ss_sql_trees.specs.declared.typed.Cmp.{Cmp}
+use Rattle.ss_sql_trees.specs.declared.typed.UnaryOp.{UnaryOp}
+use Rattle.ss_sql_trees.specs.declared.typed.UnaryOp.TheVariants.{Not, Negate}
+use Rattle.ss_sql_trees.specs.declared.typed.Expr.{Expr}
+use Rattle.ss_sql_trees.specs.declared.typed.Expr.TheVariants as typed
+use Rattle.ss_sql_trees.specs.declared.typed.Expr.TheFolds.{fold-Expr, fold-roll-Expr}
+use Rattle.ss_sql_trees.specs.declared.typed.Expr.TheOpen.{Expr-F}
 use Rattle.ss_sql_lex.specs.declared.tree.NameTree.{NameTree}
 use Rattle.ss_sql_lex.specs.declared.tree.ColumnTree.{ColumnTree}
 use Rattle.ss_sql_lex.specs.declared.tree.ExprTree.{ExprTree, map-ExprTree, roll-ExprTree}
 use Rattle.ss_sql_lex.specs.declared.tree.ExprTree.TheFolds.{fold-roll-ExprTree, ind-ExprTree}
 use Rattle.ss_sql_lex.specs.declared.tree.ExprTree.TheOpen.{ExprTree-F}
-use Rattle.ss_sql_lex.specs.WellTyped.{ExprType, are_comparable, column_type, schema_type, typed_when, level_type, expr_type, level_grouped}
-use Rattle.ss_sql_lex.specs.WellTyped.ExprType.{IntType, TextType, BoolType}
+use Rattle.ss_sql_trees.specs.WellTyped.{ExprType, are_comparable, column_type, schema_type, typed_when, level_type, expr_type, level_grouped}
+use Rattle.ss_sql_trees.specs.WellTyped.ExprType.{IntType, TextType, BoolType}
 use Rattle.ss_sql_type.specs.declared.scope.TypeError.{TypeError}
 use Rattle.ss_sql_type.specs.declared.kinds.Kind.{Kind}
 use Rattle.ss_sql_type.specs.declared.kinds.Kind.TheVariants.{Int, Text, Bool as Truth}

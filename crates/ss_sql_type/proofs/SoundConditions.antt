@@ -8,9 +8,9 @@ use Rattle.ss_sql_lex.specs.declared.tree.ExprTree.TheOpen.{ExprTree-F}
 use Rattle.ss_sql_lex.specs.declared.tree.ItemTree.{ItemTree}
 use Rattle.ss_sql_lex.specs.declared.tree.ItemTree.TheVariants as tree
 use Rattle.ss_sql_lex.specs.declared.tree.ConditionTree.{ConditionTree}
-use Rattle.ss_sql_lex.specs.declared.typed.ColAt.{ColAt}
-use Rattle.ss_sql_lex.specs.WellTyped.{ExprType, Schemas, is_type, are_comparable, expr_type, item_type, typed_when, query_types, condition_typed}
-use Rattle.ss_sql_lex.specs.WellTyped.ExprType.{IntType}
+use Rattle.ss_sql_trees.specs.declared.typed.ColAt.{ColAt}
+use Rattle.ss_sql_trees.specs.WellTyped.{ExprType, Schemas, is_type, are_comparable, expr_type, item_type, typed_when, query_types, condition_typed}
+use Rattle.ss_sql_trees.specs.WellTyped.ExprType.{IntType}
 use Rattle.ss_sql_type.specs.declared.scope.Scope.{Scope}
 use Rattle.ss_sql_type.specs.declared.scope.TypeError.TheVariants.{WrongType, WrongCount}
 use Rattle.ss_sql_type.specs.declared.kinds.Needs.{Needs}

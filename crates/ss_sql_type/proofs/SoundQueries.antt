@@ -17,9 +17,9 @@ use Rattle.ss_sql_lex.specs.declared.tree.ItemTree.TheVariants as tree
 use Rattle.ss_sql_lex.specs.declared.tree.JoinTree.{JoinTree}
 use Rattle.ss_sql_lex.specs.declared.tree.OrderTree.{OrderTree}
 use Rattle.ss_sql_lex.specs.declared.tree.QueryTree.{QueryTree}
-use Rattle.ss_sql_lex.specs.declared.typed.ColAt.{ColAt}
-use Rattle.ss_sql_lex.specs.WellTyped.{ExprType, Schemas, is_type, is_value_type, are_comparable, schema_type, typed_when, expr_type, test_typed, item_type, query_aggregated, item_grouped, types_fit, query_sources, column_at, join_typed, query_types, order_typed, query_typed, column_type, is_aggregate as is_typed_aggregate}
-use Rattle.ss_sql_lex.specs.WellTyped.ExprType.{IntType, TextType, BoolType}
+use Rattle.ss_sql_trees.specs.declared.typed.ColAt.{ColAt}
+use Rattle.ss_sql_trees.specs.WellTyped.{ExprType, Schemas, is_type, is_value_type, are_comparable, schema_type, typed_when, expr_type, test_typed, item_type, query_aggregated, item_grouped, types_fit, query_sources, column_at, join_typed, query_types, order_typed, query_typed, column_type, is_aggregate as is_typed_aggregate}
+use Rattle.ss_sql_trees.specs.WellTyped.ExprType.{IntType, TextType, BoolType}
 use Rattle.ss_sql_type.specs.declared.scope.Named.{Named}
 use Rattle.ss_sql_type.specs.declared.scope.Scope.{Scope}
 use Rattle.ss_sql_type.specs.declared.scope.TypeError.{TypeError}

@@ -11,11 +11,11 @@ use Rattle.ss_sql_lex.specs.declared.tree.SetTree.{SetTree}
 use Rattle.ss_sql_lex.specs.declared.tree.QueryTree.{QueryTree}
 use Rattle.ss_sql_lex.specs.declared.tree.StatementTree.{StatementTree}
 use Rattle.ss_sql_lex.specs.declared.tree.StatementTree.TheVariants as tree
-use Rattle.ss_sql_lex.specs.declared.typed.SourceId.{SourceId}
-use Rattle.ss_sql_lex.specs.declared.typed.SourceId.TheVariants as source
-use Rattle.ss_sql_lex.specs.declared.typed.Target.{Target}
-use Rattle.ss_sql_lex.specs.declared.typed.Target.TheVariants as target
-use Rattle.ss_sql_lex.specs.WellTyped.{ExprType, Schemas, schema_type, expr_type, test_typed, types_fit, has_type, is_among, sets_typed, query_typed, query_types, statement_typed}
+use Rattle.ss_sql_trees.specs.declared.typed.SourceId.{SourceId}
+use Rattle.ss_sql_trees.specs.declared.typed.SourceId.TheVariants as source
+use Rattle.ss_sql_trees.specs.declared.typed.Target.{Target}
+use Rattle.ss_sql_trees.specs.declared.typed.Target.TheVariants as target
+use Rattle.ss_sql_trees.specs.WellTyped.{ExprType, Schemas, schema_type, expr_type, test_typed, types_fit, has_type, is_among, sets_typed, query_typed, query_types, statement_typed}
 use Rattle.ss_sql_type.specs.declared.scope.Named.{Named}
 use Rattle.ss_sql_type.specs.declared.scope.Scope.{Scope}
 use Rattle.ss_sql_type.specs.declared.scope.TypeError.TheVariants.{KeyIsSet, WrongCount}

@@ -8,7 +8,7 @@ use Rattle.ss_value.specs.declared.schema.Column.{Column}
 use Rattle.ss_sql_lex.specs.declared.tree.ExprTree.{ExprTree}
 use Rattle.ss_sql_lex.specs.declared.tree.ItemTree.{ItemTree}
 use Rattle.ss_sql_lex.specs.declared.tree.SetTree.{SetTree}
-use Rattle.ss_sql_lex.specs.declared.typed.ColAt.{ColAt}
+use Rattle.ss_sql_trees.specs.declared.typed.ColAt.{ColAt}
 use Rattle.ss_sql_type.specs.declared.scope.TypeError.{TypeError}
 use Rattle.ss_sql_type.specs.declared.scope.TypeError.TheVariants.{KeyIsSet, WrongCount}
 use Rattle.ss_sql_type.specs.declared.kinds.Needs.{Needs}

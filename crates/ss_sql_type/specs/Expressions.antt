@@ -9,12 +9,12 @@ use Rattle.ss_sql_lex.specs.declared.tree.ColumnTree.{ColumnTree}
 use Rattle.ss_sql_lex.specs.declared.tree.ExprTree.{ExprTree}
 use Rattle.ss_sql_lex.specs.declared.tree.ExprTree.TheFolds.{fold-ExprTree}
 use Rattle.ss_sql_lex.specs.declared.tree.ExprTree.TheOpen.{ExprTree-F}
-use Rattle.ss_sql_lex.specs.declared.typed.BinaryOp.{BinaryOp}
-use Rattle.ss_sql_lex.specs.declared.typed.BinaryOp.TheVariants.{Compare}
-use Rattle.ss_sql_lex.specs.declared.typed.ColAt.{ColAt}
-use Rattle.ss_sql_lex.specs.declared.typed.Expr.{Expr}
-use Rattle.ss_sql_lex.specs.declared.typed.Expr.TheVariants.{Lit, Param, Col, Unary, Binary}
-use Rattle.ss_sql_lex.specs.WellTyped.{is_column}
+use Rattle.ss_sql_trees.specs.declared.typed.BinaryOp.{BinaryOp}
+use Rattle.ss_sql_trees.specs.declared.typed.BinaryOp.TheVariants.{Compare}
+use Rattle.ss_sql_trees.specs.declared.typed.ColAt.{ColAt}
+use Rattle.ss_sql_trees.specs.declared.typed.Expr.{Expr}
+use Rattle.ss_sql_trees.specs.declared.typed.Expr.TheVariants.{Lit, Param, Col, Unary, Binary}
+use Rattle.ss_sql_trees.specs.WellTyped.{is_column}
 use Rattle.ss_sql_type.specs.declared.scope.TypeError.{TypeError}
 use Rattle.ss_sql_type.specs.declared.scope.TypeError.TheVariants.{UnknownName, WrongType, NotAggregated}
 use Rattle.ss_sql_type.specs.declared.expr.TypedExpr.{TypedExpr}

@@ -7,11 +7,11 @@ use Rattle.ss_sql_lex.specs.declared.tree.ExprTree.{ExprTree}
 use Rattle.ss_sql_lex.specs.declared.tree.ItemTree.{ItemTree}
 use Rattle.ss_sql_lex.specs.declared.tree.ItemTree.TheVariants as tree
 use Rattle.ss_sql_lex.specs.declared.tree.OrderTree.{OrderTree}
-use Rattle.ss_sql_lex.specs.declared.typed.ColAt.{ColAt}
-use Rattle.ss_sql_lex.specs.declared.typed.Expr.{Expr}
-use Rattle.ss_sql_lex.specs.declared.typed.Item.{Item}
-use Rattle.ss_sql_lex.specs.declared.typed.Item.TheVariants.{Count, Sum, Min, Max, Plain}
-use Rattle.ss_sql_lex.specs.declared.typed.OrderBy.{OrderBy}
+use Rattle.ss_sql_trees.specs.declared.typed.ColAt.{ColAt}
+use Rattle.ss_sql_trees.specs.declared.typed.Expr.{Expr}
+use Rattle.ss_sql_trees.specs.declared.typed.Item.{Item}
+use Rattle.ss_sql_trees.specs.declared.typed.Item.TheVariants.{Count, Sum, Min, Max, Plain}
+use Rattle.ss_sql_trees.specs.declared.typed.OrderBy.{OrderBy}
 use Rattle.ss_sql_lex.specs.Trees.{offset_of}
 use Rattle.ss_sql_type.specs.declared.scope.TypeError.{TypeError}
 use Rattle.ss_sql_type.specs.declared.scope.TypeError.TheVariants.{WrongType, WrongCount}

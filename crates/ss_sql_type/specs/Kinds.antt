@@ -2,10 +2,10 @@
 use Rattle.std.specs.Prelude.{◌&&◌, ◌||◌, Bool, true, false, List, [], ◌∷◌, Option, Some, None}
 use Rattle.ss_value.specs.declared.schema.ColType.{ColType}
 use Rattle.ss_value.specs.declared.schema.ColType.TheVariants as column
-use Rattle.ss_sql_lex.specs.declared.typed.UnaryOp.{UnaryOp}
-use Rattle.ss_sql_lex.specs.declared.typed.UnaryOp.TheVariants.{Not, Negate}
-use Rattle.ss_sql_lex.specs.declared.typed.BinaryOp.{BinaryOp}
-use Rattle.ss_sql_lex.specs.declared.typed.BinaryOp.TheVariants.{Or, And, Compare, Concat}
+use Rattle.ss_sql_trees.specs.declared.typed.UnaryOp.{UnaryOp}
+use Rattle.ss_sql_trees.specs.declared.typed.UnaryOp.TheVariants.{Not, Negate}
+use Rattle.ss_sql_trees.specs.declared.typed.BinaryOp.{BinaryOp}
+use Rattle.ss_sql_trees.specs.declared.typed.BinaryOp.TheVariants.{Or, And, Compare, Concat}
 use Rattle.ss_value.specs.declared.schema.Column.{Column}
 use Rattle.ss_sql_type.specs.declared.kinds.Needs.{Needs}
 use Rattle.ss_sql_type.specs.declared.kinds.Needs.TheVariants.{Value, Only}

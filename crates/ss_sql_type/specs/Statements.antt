@@ -11,14 +11,14 @@ use Rattle.ss_sql_lex.specs.declared.tree.SetTree.{SetTree}
 use Rattle.ss_sql_lex.specs.declared.tree.ConditionTree.{ConditionTree}
 use Rattle.ss_sql_lex.specs.declared.tree.StatementTree.{StatementTree}
 use Rattle.ss_sql_lex.specs.declared.tree.StatementTree.TheVariants as tree
-use Rattle.ss_sql_lex.specs.declared.typed.Condition.{Condition}
-use Rattle.ss_sql_lex.specs.declared.typed.SetTo.{SetTo}
-use Rattle.ss_sql_lex.specs.declared.typed.SourceId.{SourceId}
-use Rattle.ss_sql_lex.specs.declared.typed.SourceId.TheVariants as source
-use Rattle.ss_sql_lex.specs.declared.typed.Target.{Target}
-use Rattle.ss_sql_lex.specs.declared.typed.Target.TheVariants as target
-use Rattle.ss_sql_lex.specs.declared.typed.Statement.{Statement}
-use Rattle.ss_sql_lex.specs.declared.typed.Statement.TheVariants.{InsertValues, InsertQuery, Update, Delete}
+use Rattle.ss_sql_trees.specs.declared.typed.Condition.{Condition}
+use Rattle.ss_sql_trees.specs.declared.typed.SetTo.{SetTo}
+use Rattle.ss_sql_trees.specs.declared.typed.SourceId.{SourceId}
+use Rattle.ss_sql_trees.specs.declared.typed.SourceId.TheVariants as source
+use Rattle.ss_sql_trees.specs.declared.typed.Target.{Target}
+use Rattle.ss_sql_trees.specs.declared.typed.Target.TheVariants as target
+use Rattle.ss_sql_trees.specs.declared.typed.Statement.{Statement}
+use Rattle.ss_sql_trees.specs.declared.typed.Statement.TheVariants.{InsertValues, InsertQuery, Update, Delete}
 use Rattle.ss_sql_type.specs.declared.scope.Named.{Named}
 use Rattle.ss_sql_type.specs.declared.scope.Scope.{Scope}
 use Rattle.ss_sql_type.specs.declared.scope.TypeError.{TypeError}

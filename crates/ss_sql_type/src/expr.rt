@@ -1,7 +1,7 @@
 //! Typing of expressions.
 
 ghost use Rattle.std.specs.Prelude.{◌≡◌, IsTrue, IfOk, OnOk, Some, None};
-ghost use Rattle.ss_sql_lex.specs.declared.typed.Expr.TheVariants.{Unary, Binary};
+ghost use Rattle.ss_sql_trees.specs.declared.typed.Expr.TheVariants.{Unary, Binary};
 ghost use Rattle.ss_sql_type.specs.Kinds.{sign_kind, gives};
 ghost use Rattle.ss_sql_type.specs.Refusals.{least_of};
 ghost use Rattle.ss_sql_type.specs.Names.{is_narrow, resolve, column_named};
@@ -12,7 +12,8 @@ use crate::grouped::Grouped;
 use crate::kinds::{Kind, Needs, fits, gives, may_be, may_compare, sign_kind};
 use crate::names::{Names, column_offset, kind_at, kind_in, resolve};
 use crate::scope::TypeError;
-use ss_sql_lex::{BinaryOp, ColAt, ColumnTree, Expr, ExprTree, NameTree, UnaryOp};
+use ss_sql_lex::{ColumnTree, ExprTree, NameTree};
+use ss_sql_trees::{BinaryOp, ColAt, Expr, UnaryOp};
 use ss_value::{Boxed, Copies, NoMemory, Value};
 use std::alloc::Global;
 

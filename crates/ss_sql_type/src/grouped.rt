@@ -2,11 +2,11 @@
 
 ghost use Rattle.std.specs.Prelude.{◌≡◌, IfOk};
 ghost use Rattle.std.specs.List.{list_any};
-ghost use Rattle.ss_sql_lex.specs.WellTyped.{is_column};
+ghost use Rattle.ss_sql_trees.specs.WellTyped.{is_column};
 ghost use Rattle.ss_sql_type.specs.Hashed.{IsSetOf};
 
 use indexmap::IndexSet;
-use ss_sql_lex::ColAt;
+use ss_sql_trees::ColAt;
 use ss_value::NoMemory;
 use std::alloc::Global;
 use std::marker::Model;
@@ -20,7 +20,7 @@ pub struct Grouped<'a> {
 
 impl<'a> Model for Grouped<'a> {
     ghost use Rattle.std.specs.Prelude.{List};
-    ghost use Rattle.ss_sql_lex.specs.declared.typed.ColAt.{ColAt as Item};
+    ghost use Rattle.ss_sql_trees.specs.declared.typed.ColAt.{ColAt as Item};
 
     ghost Value = { List Item };
 

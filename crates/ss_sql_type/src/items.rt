@@ -15,7 +15,8 @@ use crate::grouped::Grouped;
 use crate::kinds::{Kind, Needs, first_needs, fits, value_kind};
 use crate::names::{Names, resolve};
 use crate::scope::TypeError;
-use ss_sql_lex::{ColAt, ColumnTree, Expr, ExprTree, Item, ItemTree, OrderBy, OrderTree};
+use ss_sql_lex::{ColumnTree, ExprTree, ItemTree, OrderTree};
+use ss_sql_trees::{ColAt, Expr, Item, OrderBy};
 use ss_value::{Column, NoMemory, Seq};
 use std::alloc::Global;
 

@@ -3,7 +3,7 @@
 ghost use Rattle.std.specs.Prelude.{◌≡◌};
 ghost use Rattle.ss_sql_type.specs.Kinds.{kind_of, may_be, may_be_value, may_compare, fits, first_needs, others, sign_kind, gives, value_kind};
 
-use ss_sql_lex::{BinaryOp, UnaryOp};
+use ss_sql_trees::{BinaryOp, UnaryOp};
 use ss_value::{ColType, Column};
 
 /// The type of an expression.

@@ -8,7 +8,8 @@ ghost use Rattle.ss_sql_type.specs.Names.{same_name, source_named, column_named,
 use crate::columns::Columns;
 use crate::kinds::{Kind, kind_of};
 use crate::scope::{Named, TypeError};
-use ss_sql_lex::{ColAt, ColumnTree, NameTree};
+use ss_sql_lex::{ColumnTree, NameTree};
+use ss_sql_trees::ColAt;
 use ss_value::{Column, Name, NoMemory};
 use std::alloc::Global;
 use std::marker::Model;

@@ -16,9 +16,8 @@ use crate::items::{
 use crate::kinds::{Kind, may_compare};
 use crate::names::{Names, column_offset, kind_at, resolve, same_name, source_named};
 use crate::scope::{Named, Scope, TypeError};
-use ss_sql_lex::{
-    ColAt, ColumnTree, Item, JoinTree, Joined, NameTree, NumberTree, Query, QueryTree, SourceId,
-};
+use ss_sql_lex::{ColumnTree, JoinTree, NameTree, NumberTree, QueryTree};
+use ss_sql_trees::{ColAt, Item, Joined, Query, SourceId};
 use ss_value::{Column, NoMemory, Seq};
 use std::alloc::Global;
 

@@ -1,6 +1,6 @@
 //! What the names of a SQL text may refer to, and why a tree is refused.
 
-use ss_sql_lex::SourceId;
+use ss_sql_trees::SourceId;
 use ss_value::{Name, NoMemory, Schema, Seq};
 
 /// The names in scope of a SQL text.

@@ -17,10 +17,8 @@ use crate::names::{Names, columns_of, kind_in, same_name};
 use crate::query::{check_count, check_known, query_names, query_of, query_within, wanted_columns};
 use crate::scope::{Named, Scope, TypeError};
 use indexmap::IndexSet;
-use ss_sql_lex::{
-    Condition, ConditionTree, Expr, ExprTree, ItemTree, NameTree, Query, QueryTree, SetTo, SetTree,
-    SourceId, Statement, StatementTree, Target,
-};
+use ss_sql_lex::{ConditionTree, ExprTree, ItemTree, NameTree, QueryTree, SetTree, StatementTree};
+use ss_sql_trees::{Condition, Expr, Query, SetTo, SourceId, Statement, Target};
 use ss_value::{Column, Name, NoMemory, Seq};
 use std::alloc::Global;
 

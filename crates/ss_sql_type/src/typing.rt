@@ -1,7 +1,7 @@
 //! The three calls: a plain tree becomes a typed tree, or its first refusal is reported.
 
 ghost use Rattle.std.specs.Prelude.{◌≡◌, [], IsTrue, IfOk, IfErr, None, Some};
-ghost use Rattle.ss_sql_lex.specs.WellTyped.{Schemas, query_typed, statement_typed, condition_typed};
+ghost use Rattle.ss_sql_trees.specs.WellTyped.{Schemas, query_typed, statement_typed, condition_typed};
 ghost use Rattle.ss_sql_type.specs.Agrees.{Agrees, out_fits};
 ghost use Rattle.ss_sql_type.specs.Refusals.{least_of, IsRefusal};
 ghost use Rattle.ss_sql_type.specs.Queries.{scope_narrow, columns_shown, query_faults, typed_query};
@@ -10,7 +10,8 @@ ghost use Rattle.ss_sql_type.specs.Statements.{statement_faults, typed_statement
 use crate::query::query_of;
 use crate::scope::{Scope, TypeError};
 use crate::statement::{condition_of, statement_of};
-use ss_sql_lex::{Condition, ConditionTree, Query, QueryTree, Statement, StatementTree};
+use ss_sql_lex::{ConditionTree, QueryTree, StatementTree};
+use ss_sql_trees::{Condition, Query, Statement};
 use ss_value::Column;
 use std::alloc::Global;
 

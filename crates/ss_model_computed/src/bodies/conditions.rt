@@ -13,7 +13,7 @@ use crate::statements::context_query;
 use ss_model::{Reason, RunError};
 use ss_model_computed_sql::evaluate;
 use ss_model_computed_sql::queries::column_value;
-use ss_sql_lex::{Cmp, Condition};
+use ss_sql_trees::{Cmp, Condition};
 use ss_value::{Row, Rows, Seq, compare};
 use std::alloc::Global;
 use std::cmp::Ordering;

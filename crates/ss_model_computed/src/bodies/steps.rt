@@ -16,7 +16,7 @@ use crate::contents::{Context, Execution};
 use crate::lists::{add_rows, copy_at};
 use crate::statements::{context_query, execute_statement};
 use ss_model::{Inner, Reason, RunError, Step};
-use ss_sql_lex::Query;
+use ss_sql_trees::Query;
 use ss_value::{Row, Rows, Seq};
 use std::alloc::Global;
 

@@ -7,7 +7,7 @@ ghost use Rattle.ss_model.specs.Stops.{StopsAs};
 
 use crate::expressions::holds;
 use ss_model::RunError;
-use ss_sql_lex::Expr;
+use ss_sql_trees::Expr;
 use ss_value::{Copies, NoMemory, Row, Rows, Seq};
 use std::alloc::Global;
 

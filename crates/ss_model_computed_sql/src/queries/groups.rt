@@ -7,7 +7,7 @@ ghost use Rattle.ss_model.specs.Queries.{source_column, add_to_group, group_rows
 
 use crate::columns::source_column;
 use crate::queries::singles::{single, singles};
-use ss_sql_lex::ColAt;
+use ss_sql_trees::ColAt;
 use ss_value::{Copies, NoMemory, Row, Rows, Seq, compare_rows};
 use std::alloc::Global;
 

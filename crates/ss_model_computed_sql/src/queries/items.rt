@@ -10,7 +10,7 @@ ghost use Rattle.ss_model.specs.Stops.{StopsAs};
 use crate::expressions::evaluate;
 use crate::queries::extreme::extreme_value;
 use ss_model::{Extreme, RunError, checked_int, int_of};
-use ss_sql_lex::{Expr, Item};
+use ss_sql_trees::{Expr, Item};
 use ss_value::{NoMemory, Row, Rows, Seq, Value};
 use std::alloc::Global;
 

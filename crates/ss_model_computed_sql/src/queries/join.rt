@@ -7,7 +7,7 @@ ghost use Rattle.ss_model_computed_sql.specs.Phases.{pairs_of};
 
 use crate::columns::source_column_or;
 use crate::queries::singles::{single, singles};
-use ss_sql_lex::Joined;
+use ss_sql_trees::Joined;
 use ss_value::{Copies, NoMemory, Row, Rows, Seq, Value, compare};
 use std::alloc::Global;
 

@@ -3,11 +3,11 @@ use Rattle.std.proofs.Common.{◌≡◌, ◌≤◌, ◌⊎◌, ◌<◌, ◌+◌,
 use Rattle.std.specs.List.{list_any}
 use Rattle.ss_value.specs.declared.value.Value.TheVariants.{Int}
 use Rattle.ss_value.specs.Rows.{Row, Rows}
-use Rattle.ss_sql_lex.specs.declared.typed.BinaryOp.TheVariants.{Add}
-use Rattle.ss_sql_lex.specs.declared.typed.Expr.{Expr}
-use Rattle.ss_sql_lex.specs.declared.typed.Expr.TheVariants.{Param, Col, Binary}
-use Rattle.ss_sql_lex.specs.declared.typed.Item.TheVariants.{Plain}
-use Rattle.ss_sql_lex.specs.declared.typed.SourceId.TheVariants.{Batch as FromBatch}
+use Rattle.ss_sql_trees.specs.declared.typed.BinaryOp.TheVariants.{Add}
+use Rattle.ss_sql_trees.specs.declared.typed.Expr.{Expr}
+use Rattle.ss_sql_trees.specs.declared.typed.Expr.TheVariants.{Param, Col, Binary}
+use Rattle.ss_sql_trees.specs.declared.typed.Item.TheVariants.{Plain}
+use Rattle.ss_sql_trees.specs.declared.typed.SourceId.TheVariants.{Batch as FromBatch}
 use Rattle.ss_model.specs.declared.entry.Entry.{Entry}
 use Rattle.ss_model.specs.declared.entry.Entry.TheVariants.{Call, Push, Step as StepEntry}
 use Rattle.ss_model.specs.declared.catalog.Step.{Step}
@@ -33,7 +33,7 @@ use Rattle.ss_model.specs.Wakes.{wakes, IsStepOf}
 use Rattle.ss_model.specs.Settled.{AtRest, NextIsReady, SettlesOnce, SettlesOn, WeakListOnce, ReplaysWithOutcomes}
 use Rattle.ss_model.specs.AcceptedBodies.{with_bodies, AcceptedBody, AcceptedBodies, AcceptedFrame, OwnBodies, BodiesMayChange}
 use Rattle.ss_model.specs.BodiesAside.{SameBodiesAside}
-use Rattle.ss_sql_lex.specs.WellTyped.{IntType, expr_type}
+use Rattle.ss_sql_trees.specs.WellTyped.{IntType, expr_type}
 use Rattle.ss_model.specs.parts.Locality.{BodyResultRelated, EntryIsLocal, RunIsLocal, UsesTouched, touched_keys, touched_windows}
 use Rattle.ss_model.specs.parts.ListLocality.{IsApart, ListIsLocal}
 use Rattle.ss_model.specs.Aborts.{AbortLeaves}

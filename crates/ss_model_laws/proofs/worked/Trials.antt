@@ -1,13 +1,13 @@
 -- A catalogue with one table, a procedure that puts a row, one that puts two and aborts where the table has more, and one
 -- that returns a sum: it is accepted.
 use Rattle.std.proofs.Common.{◌≡◌, pos, codes, [], ◌∷◌, true, refl, Some, None}
-use Rattle.ss_sql_lex.specs.declared.typed.Cmp.TheVariants.{Eq, Gt}
-use Rattle.ss_sql_lex.specs.declared.typed.BinaryOp.TheVariants.{Add}
-use Rattle.ss_sql_lex.specs.declared.typed.Expr.TheVariants.{Param, Binary}
-use Rattle.ss_sql_lex.specs.declared.typed.Item.TheVariants.{Sum}
-use Rattle.ss_sql_lex.specs.declared.typed.SourceId.TheVariants.{Table as FromTable}
-use Rattle.ss_sql_lex.specs.declared.typed.Target.TheVariants.{Table as IntoTable}
-use Rattle.ss_sql_lex.specs.declared.typed.Statement.TheVariants.{InsertValues, Delete}
+use Rattle.ss_sql_trees.specs.declared.typed.Cmp.TheVariants.{Eq, Gt}
+use Rattle.ss_sql_trees.specs.declared.typed.BinaryOp.TheVariants.{Add}
+use Rattle.ss_sql_trees.specs.declared.typed.Expr.TheVariants.{Param, Binary}
+use Rattle.ss_sql_trees.specs.declared.typed.Item.TheVariants.{Sum}
+use Rattle.ss_sql_trees.specs.declared.typed.SourceId.TheVariants.{Table as FromTable}
+use Rattle.ss_sql_trees.specs.declared.typed.Target.TheVariants.{Table as IntoTable}
+use Rattle.ss_sql_trees.specs.declared.typed.Statement.TheVariants.{InsertValues, Delete}
 use Rattle.ss_model.specs.declared.catalog.Catalog.{Catalog}
 use Rattle.ss_model.specs.declared.catalog.TableDef.{TableDef}
 use Rattle.ss_model.specs.declared.catalog.Procedure.{Procedure}

@@ -3,18 +3,18 @@
 use Rattle.std.proofs.Common.{◌≡◌, ◌==◌, ℕ, zero, suc, pos, codes, List, [], ◌∷◌, get_or, true, false, refl, ap, unwrap_or, Some, None}
 use Rattle.std.specs.List.{AllByRecursion, filter}
 use Rattle.ss_value.specs.declared.Unit.TheVariants.{Rows as RowsUnit}
-use Rattle.ss_sql_lex.specs.declared.typed.Cmp.TheVariants.{Eq, Ne, Gt}
-use Rattle.ss_sql_lex.specs.declared.typed.BinaryOp.TheVariants.{And, Add, Sub, Rem}
-use Rattle.ss_sql_lex.specs.declared.typed.Expr.{Expr}
-use Rattle.ss_sql_lex.specs.declared.typed.Expr.TheVariants.{Param, Col, Binary}
-use Rattle.ss_sql_lex.specs.declared.typed.Item.TheVariants.{Count, Plain}
-use Rattle.ss_sql_lex.specs.declared.typed.ColAt.{ColAt}
-use Rattle.ss_sql_lex.specs.declared.typed.Joined.{Joined}
-use Rattle.ss_sql_lex.specs.declared.typed.OrderBy.{OrderBy}
-use Rattle.ss_sql_lex.specs.declared.typed.Query.{Query}
-use Rattle.ss_sql_lex.specs.declared.typed.SourceId.TheVariants.{Table as FromTable, Window as FromWindow, Batch as FromBatch}
-use Rattle.ss_sql_lex.specs.declared.typed.Target.TheVariants.{Table as IntoTable, Window as IntoWindow}
-use Rattle.ss_sql_lex.specs.declared.typed.Statement.TheVariants.{InsertValues, InsertQuery, Update, Delete}
+use Rattle.ss_sql_trees.specs.declared.typed.Cmp.TheVariants.{Eq, Ne, Gt}
+use Rattle.ss_sql_trees.specs.declared.typed.BinaryOp.TheVariants.{And, Add, Sub, Rem}
+use Rattle.ss_sql_trees.specs.declared.typed.Expr.{Expr}
+use Rattle.ss_sql_trees.specs.declared.typed.Expr.TheVariants.{Param, Col, Binary}
+use Rattle.ss_sql_trees.specs.declared.typed.Item.TheVariants.{Count, Plain}
+use Rattle.ss_sql_trees.specs.declared.typed.ColAt.{ColAt}
+use Rattle.ss_sql_trees.specs.declared.typed.Joined.{Joined}
+use Rattle.ss_sql_trees.specs.declared.typed.OrderBy.{OrderBy}
+use Rattle.ss_sql_trees.specs.declared.typed.Query.{Query}
+use Rattle.ss_sql_trees.specs.declared.typed.SourceId.TheVariants.{Table as FromTable, Window as FromWindow, Batch as FromBatch}
+use Rattle.ss_sql_trees.specs.declared.typed.Target.TheVariants.{Table as IntoTable, Window as IntoWindow}
+use Rattle.ss_sql_trees.specs.declared.typed.Statement.TheVariants.{InsertValues, InsertQuery, Update, Delete}
 use Rattle.ss_model.specs.declared.catalog.Catalog.{Catalog}
 use Rattle.ss_model.specs.declared.catalog.TableDef.{TableDef}
 use Rattle.ss_model.specs.declared.catalog.StreamDef.{StreamDef}

@@ -1,12 +1,12 @@
 -- A catalogue whose workflow splits a batch in two and joins both again: it is accepted.
 use Rattle.std.proofs.Common.{◌≡◌, ℕ, pos, codes, List, [], ◌∷◌, true, refl, Some, None}
-use Rattle.ss_sql_lex.specs.declared.typed.Cmp.TheVariants.{Eq, Gt}
-use Rattle.ss_sql_lex.specs.declared.typed.BinaryOp.TheVariants.{Add}
-use Rattle.ss_sql_lex.specs.declared.typed.Expr.TheVariants.{Binary}
-use Rattle.ss_sql_lex.specs.declared.typed.Item.TheVariants.{Plain}
-use Rattle.ss_sql_lex.specs.declared.typed.SourceId.TheVariants.{Batch as FromBatch}
-use Rattle.ss_sql_lex.specs.declared.typed.Target.TheVariants.{Table as IntoTable}
-use Rattle.ss_sql_lex.specs.declared.typed.Statement.TheVariants.{InsertQuery}
+use Rattle.ss_sql_trees.specs.declared.typed.Cmp.TheVariants.{Eq, Gt}
+use Rattle.ss_sql_trees.specs.declared.typed.BinaryOp.TheVariants.{Add}
+use Rattle.ss_sql_trees.specs.declared.typed.Expr.TheVariants.{Binary}
+use Rattle.ss_sql_trees.specs.declared.typed.Item.TheVariants.{Plain}
+use Rattle.ss_sql_trees.specs.declared.typed.SourceId.TheVariants.{Batch as FromBatch}
+use Rattle.ss_sql_trees.specs.declared.typed.Target.TheVariants.{Table as IntoTable}
+use Rattle.ss_sql_trees.specs.declared.typed.Statement.TheVariants.{InsertQuery}
 use Rattle.ss_model.specs.declared.catalog.Catalog.{Catalog}
 use Rattle.ss_model.specs.declared.catalog.TableDef.{TableDef}
 use Rattle.ss_model.specs.declared.catalog.StreamDef.{StreamDef}

@@ -1,6 +1,6 @@
 use Rattle.std.proofs.Common.{◌∙◌, ap, sym, ◌++◌, ◌∷◌, [], zero-add, List}
 use Rattle.std.proofs.lemmas.List.FromFn.{map-range_with_len_more}
-use Rattle.ss_sql_lex.specs.declared.typed.Item.{Item}
+use Rattle.ss_sql_trees.specs.declared.typed.Item.{Item}
 use Rattle.ss_catalog_resolve.specs.Steps.{column_item}
 use Rattle.ss_catalog_resolve.proofs.steps.column_items.Goals as goal
 

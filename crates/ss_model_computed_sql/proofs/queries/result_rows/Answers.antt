@@ -1,7 +1,7 @@
 use Rattle.std.proofs.Common.{◌≡◌, List, IfErr, ap, ◌∙◌, subst}
 use Rattle.ss_value.specs.Rows.{Rows}
-use Rattle.ss_sql_lex.specs.declared.typed.Item.{Item}
-use Rattle.ss_sql_lex.specs.WellTyped.{query_aggregated}
+use Rattle.ss_sql_trees.specs.declared.typed.Item.{Item}
+use Rattle.ss_sql_trees.specs.WellTyped.{query_aggregated}
 use Rattle.ss_model.specs.Results.{OrAbort, try_map}
 use Rattle.ss_model.specs.Queries.{query_groups, item_value}
 use Rattle.ss_model.specs.Stops.{StopsAs}

@@ -5,7 +5,7 @@ use Rattle.ss_model.specs.Queries.{where_passes}
 use Rattle.ss_model.specs.Results.{try_filter}
 use Rattle.ss_model.specs.Statements.{matching_entries}
 use Rattle.ss_model.specs.Stops.{StopsAs}
-use Rattle.ss_sql_lex.specs.declared.typed.SourceId.TheVariants.{Table as FromTable}
+use Rattle.ss_sql_trees.specs.declared.typed.SourceId.TheVariants.{Table as FromTable}
 use Rattle.ss_rows.specs.Sources.{Positioned}
 use Rattle.ss_shard.specs.Contents.{contents_of}
 use Rattle.ss_plan.specs.Seen.{positioned_in, value_behind}

@@ -1,7 +1,7 @@
 use Rattle.std.proofs.Common.{◌≡◌, ℕ, map}
 use Rattle.std.specs.Global.{Vec}
 use Rattle.ss_lemmas.proofs.Results.{if_ok}
-use Rattle.ss_sql_lex.specs.declared.typed.SourceId.TheVariants.{Table as FromTable}
+use Rattle.ss_sql_trees.specs.declared.typed.SourceId.TheVariants.{Table as FromTable}
 use Rattle.ss_plan.specs.Plans.{seen_in, SlotsAreEnough}
 use Rattle.ss_plan.proofs.Finding.{all_found}
 use Rattle.ss_plan.proofs.found_slots.slots_by_plan.Goals as goal

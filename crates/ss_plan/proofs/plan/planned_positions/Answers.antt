@@ -1,5 +1,5 @@
 use Rattle.std.proofs.Common.{ℕ, List, Bor, subst, IfOk, IfErr}
-use Rattle.ss_sql_lex.specs.declared.typed.SourceId.TheVariants.{Table as FromTable}
+use Rattle.ss_sql_trees.specs.declared.typed.SourceId.TheVariants.{Table as FromTable}
 use Rattle.ss_value.specs.Rows.{Row}
 use Rattle.ss_model.specs.Stops.{StopsAs}
 use Rattle.ss_plan.specs.Found.{lent_rows, rows_found}

@@ -1,7 +1,7 @@
 use Rattle.std.proofs.Common.{length, ap, subst, rules}
 use Rattle.std.proofs.lemmas.List.{length-map}
 use Rattle.std.proofs.lemmas.Result.{err_from_is_err_and}
-use Rattle.ss_sql_lex.specs.declared.typed.SourceId.{SourceId}
+use Rattle.ss_sql_trees.specs.declared.typed.SourceId.{SourceId}
 use Rattle.ss_model.specs.Queries.{where_passes, join_source}
 use Rattle.ss_rows.specs.Sources.{rows_in}
 use Rattle.ss_rows.specs.Tuples.{tuple_of, tuples_of}

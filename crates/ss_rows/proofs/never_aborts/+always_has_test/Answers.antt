@@ -1,5 +1,5 @@
 use Rattle.std.proofs.Common.{sym, subst, ◌∙◌, ap}
-use Rattle.ss_sql_lex.specs.declared.typed.Expr.TheVariants.{Binary}
+use Rattle.ss_sql_trees.specs.declared.typed.Expr.TheVariants.{Binary}
 use Rattle.ss_rows.specs.Certainty.{AlwaysHasValue, AlwaysHasTest}
 use Rattle.ss_rows.proofs.AlwaysHas.{unary_has, compare_has, both_have}
 use Rattle.ss_rows.proofs.never_aborts.+always_has_test.Goals as goal

@@ -1,7 +1,7 @@
 use Rattle.std.proofs.Common.{◌≡◌, ℕ, take}
 use Rattle.std.specs.List.{list_any}
 use Rattle.indexmap.specs.IndexSet.{contains}
-use Rattle.ss_sql_lex.specs.WellTyped.{is_column}
+use Rattle.ss_sql_trees.specs.WellTyped.{is_column}
 use Rattle.ss_sql_type.specs.Hashed.{same_column}
 use Rattle.ss_sql_type.proofs.grouped.positions_of.Given as goal
 

@@ -1,6 +1,6 @@
 use Rattle.std.proofs.Common.{◌≡◌, IfOk, Bool, true, sym, ap, ◌∙◌, subst, List, Option, Some, None, map, if◌then◌else◌}
 use Rattle.ss_sql_lex.specs.declared.tree.ItemTree.{ItemTree}
-use Rattle.ss_sql_lex.specs.declared.typed.ColAt.{ColAt}
+use Rattle.ss_sql_trees.specs.declared.typed.ColAt.{ColAt}
 use Rattle.ss_sql_type.specs.Items.{typed_item, typed_groups}
 use Rattle.ss_sql_type.specs.Queries.{is_aggregated, grouped_columns}
 use Rattle.ss_sql_type.proofs.query.grouped_items.Goals as goal

@@ -1,9 +1,9 @@
 use Rattle.std.proofs.Common.{◌≡◌, ℕ, ap, ◌∙◌, None, Option, List, length}
 use Rattle.std.specs.Prelude.{◌==◌}
 use Rattle.ss_sql_lex.specs.declared.tree.ItemTree.{ItemTree}
-use Rattle.ss_sql_lex.specs.declared.typed.Condition.{Condition}
-use Rattle.ss_sql_lex.specs.declared.typed.Expr.{Expr}
-use Rattle.ss_sql_lex.specs.declared.typed.Query.{Query}
+use Rattle.ss_sql_trees.specs.declared.typed.Condition.{Condition}
+use Rattle.ss_sql_trees.specs.declared.typed.Expr.{Expr}
+use Rattle.ss_sql_trees.specs.declared.typed.Query.{Query}
 use Rattle.ss_sql_type.specs.declared.kinds.Kind.{Kind}
 use Rattle.ss_sql_type.specs.declared.scope.TypeError.TheVariants.{WrongCount}
 use Rattle.ss_sql_type.specs.Refusals.{least_of, fault_unless}

@@ -1,7 +1,7 @@
 use Rattle.std.proofs.Common.{true, ◌≡◌}
 use Rattle.ss_sql_type.specs.Statements.{condition_faults, typed_condition}
-use Rattle.ss_sql_lex.specs.declared.typed.Condition.{Condition}
-use Rattle.ss_sql_lex.specs.WellTyped.{Schemas, condition_typed}
+use Rattle.ss_sql_trees.specs.declared.typed.Condition.{Condition}
+use Rattle.ss_sql_trees.specs.WellTyped.{Schemas, condition_typed}
 use Rattle.ss_sql_type.specs.Agrees.{Agrees}
 use Rattle.ss_sql_type.proofs.Least.{answered, refused, follows}
 use Rattle.ss_sql_type.proofs.SoundConditions.{condition_sound}

@@ -2,8 +2,8 @@ use Rattle.std.proofs.Common.{true, ◌≡◌, ap, ◌∙◌, None, List, Option
 use Rattle.ss_value.specs.declared.schema.Column.{Column}
 use Rattle.ss_sql_type.specs.Refusals.{least_of}
 use Rattle.ss_sql_type.specs.Queries.{query_faults, typed_query}
-use Rattle.ss_sql_lex.specs.declared.typed.Query.{Query}
-use Rattle.ss_sql_lex.specs.WellTyped.{Schemas, query_typed}
+use Rattle.ss_sql_trees.specs.declared.typed.Query.{Query}
+use Rattle.ss_sql_trees.specs.WellTyped.{Schemas, query_typed}
 use Rattle.ss_sql_type.specs.Agrees.{Agrees, out_fits}
 use Rattle.ss_sql_type.proofs.Least.{answered, refused, follows}
 use Rattle.ss_sql_type.proofs.SoundQueries.{query_sound, query_out}

@@ -1,7 +1,7 @@
 use Rattle.std.proofs.Common.{true, ◌≡◌}
 use Rattle.ss_sql_type.specs.Statements.{statement_faults, typed_statement}
-use Rattle.ss_sql_lex.specs.declared.typed.Statement.{Statement}
-use Rattle.ss_sql_lex.specs.WellTyped.{Schemas, statement_typed}
+use Rattle.ss_sql_trees.specs.declared.typed.Statement.{Statement}
+use Rattle.ss_sql_trees.specs.WellTyped.{Schemas, statement_typed}
 use Rattle.ss_sql_type.specs.Agrees.{Agrees}
 use Rattle.ss_sql_type.proofs.Least.{answered, refused, follows}
 use Rattle.ss_sql_type.proofs.SoundStatements.{statement_sound}

@@ -1,5 +1,5 @@
 use Rattle.std.proofs.Common.{Err}
-use Rattle.ss_sql_lex.specs.declared.typed.Statement.{Statement}
+use Rattle.ss_sql_trees.specs.declared.typed.Statement.{Statement}
 use Rattle.ss_sql_type.specs.declared.scope.Scope.{Scope}
 use Rattle.ss_catalog_resolve.specs.Numbered.{sections_of, on_of}
 use Rattle.ss_catalog_resolve.specs.Scopes.{trigger_scope}

@@ -1,7 +1,7 @@
 use Rattle.std.proofs.Common.{◌∙◌, ap, List}
 use Rattle.std.specs.List.{list_any}
-use Rattle.ss_sql_lex.specs.declared.typed.ColAt.{ColAt}
-use Rattle.ss_sql_lex.specs.WellTyped.{is_column}
+use Rattle.ss_sql_trees.specs.declared.typed.ColAt.{ColAt}
+use Rattle.ss_sql_trees.specs.WellTyped.{is_column}
 use Rattle.ss_sql_type.proofs.grouped.Grouped.has.Goals as goal
 
 pub returns : goal.returns

@@ -2,11 +2,11 @@
 use denote.Param.Send.{IsSync, sendable}
 use Rattle.std.proofs.Crossing.{crosses}
 use Rattle.ss_value.proofs.Crossing.{value_sync}
-use Rattle.ss_sql_lex.proofs.typed.Expr.TheLaws.TheKnot as knot
-use Rattle.ss_sql_lex.specs.contracts.typed.Expr as expr
-use Rattle.ss_sql_lex.specs.contracts.typed.Query as query
-use Rattle.ss_sql_lex.specs.contracts.typed.Statement as statement
-use Rattle.ss_sql_lex.specs.contracts.typed.Condition as condition
+use Rattle.ss_sql_trees.proofs.typed.Expr.TheLaws.TheKnot as knot
+use Rattle.ss_sql_trees.specs.contracts.typed.Expr as expr
+use Rattle.ss_sql_trees.specs.contracts.typed.Query as query
+use Rattle.ss_sql_trees.specs.contracts.typed.Statement as statement
+use Rattle.ss_sql_trees.specs.contracts.typed.Condition as condition
 
 expr_sync : IsSync expr.the_row
 expr_sync = search (crosses, knot.crosses, sendable) depth 60 fits 20000
