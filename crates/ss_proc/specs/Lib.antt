@@ -3,3 +3,4 @@ pub mod Meanings
 pub mod Entries
 pub mod Parts
 pub mod Lending
+pub mod Waiting

@@ -15,8 +15,8 @@ use Rattle.ss_shard.specs.ShardValue.{ShardValue}
 use Rattle.ss_shard.specs.Contents.{contents_of}
 use Rattle.ss_plan.specs.Statements.{effect_of}
 use Rattle.ss_plan.specs.declared.statement.Wrote.{Wrote}
-use Rattle.ss_eetrig.specs.Waiting.{waits_for}
-use Rattle.ss_eetrig.specs.declared.firings.TriggerEvent.{TriggerEvent}
+use Rattle.ss_proc.specs.Waiting.{waits_for}
+use Rattle.ss_proc.specs.declared.firings.TriggerEvent.{TriggerEvent}
 use Rattle.ss_proc.specs.Executions.{context_of, execution_of}
 use Rattle.ss_proc.specs.declared.work.Given.{Given}
 use Rattle.ss_proc.specs.declared.work.Work.{Work}

@@ -16,10 +16,9 @@ ghost use Rattle.ss_model.specs.Depths.{close_to_depth, stage_to_depth, stage_al
 ghost use Rattle.ss_proc.specs.Meanings.{Brings, StepStops, fire_to_depth};
 ghost use Rattle.ss_model.specs.Depths.{close_and_fire, run_and_fire, fire_stream};
 
+use crate::firings::{TriggerEvent, firings};
 use crate::statements::statement_effect;
 use crate::work::{Given, Work, join_unit};
-use ss_eetrig::TriggerEvent;
-use ss_eetrig::firings::firings;
 use ss_model::{Catalog, RunError};
 use ss_plan::Wrote;
 use ss_shard::Shard;

@@ -10,7 +10,7 @@ use Rattle.ss_model.specs.Statements.{Execution, run_triggers, cascade_to_depth}
 use Rattle.ss_model.specs.Stops.{StopsAs}
 use Rattle.ss_shard.specs.Contents.{contents_of}
 use Rattle.ss_shard.specs.Windows.{unit_added}
-use Rattle.ss_eetrig.specs.Waiting.{waits_for}
+use Rattle.ss_proc.specs.Waiting.{waits_for}
 use Rattle.ss_shard.specs.ShardValue.{ShardValue}
 use Rattle.ss_shard.specs.Shards.{Changed}
 use Rattle.ss_plan.specs.Statements.{FitsTables}

@@ -1,9 +1,12 @@
-//! The triggers that an event sets off.
+//! The triggers that an event sets off: a trigger waits for a stream, and runs whenever rows are emitted to it, or for a window, and
+//! runs whenever the end of what the window shows moves.
+//!
+//! Source: the execution-engine triggers of S-Store (Meehan et al., PVLDB 8, 2015, section 3.2).
 
 ghost use Rattle.std.specs.Prelude.{◌≡◌, ◌<◌, ◌≤◌, ◌↔◌, ℕ, length, true, slice_get, Some};
 ghost use Rattle.std.specs.Int.{IsBitSet};
 ghost use Rattle.ss_model.specs.declared.catalog.TriggerDef.{TriggerDef};
-ghost use Rattle.ss_eetrig.specs.Waiting.{waits_for};
+ghost use Rattle.ss_proc.specs.Waiting.{waits_for};
 
 use ss_model::{Catalog, On};
 use ss_value::ProcSet;
@@ -18,7 +21,7 @@ pub enum TriggerEvent {
 }
 
 /// Whether a trigger on this stream or window runs at an event.
-pub fn waits_for(event: TriggerEvent, on: On) -> bool
+fn waits_for(event: TriggerEvent, on: On) -> bool
     ensures { result ≡ waits_for event on }
 {
     match (event, on) {
@@ -30,7 +33,7 @@ pub fn waits_for(event: TriggerEvent, on: On) -> bool
 
 /// The numbers of the triggers that an event sets off, which run in rising order. Linear in the triggers of the catalogue;
 /// takes no memory.
-pub fn firings(catalog: &Catalog, event: TriggerEvent) -> ProcSet
+pub(crate) fn firings(catalog: &Catalog, event: TriggerEvent) -> ProcSet
     requires { length catalog.now.triggers ≤ 64 }
     ensures those { (n : ℕ) (trigger : TriggerDef) → slice_get catalog.now.triggers n ≡ Some trigger → IsBitSet result n ↔ (waits_for event trigger.on ≡ true) }
     ensures no_other { (n : ℕ) → IsBitSet result n → n < length catalog.now.triggers }
