@@ -8,8 +8,8 @@ ghost use Rattle.ss_catalog_resolve.specs.Texts.{fault_at, parse_fault, type_ref
 use crate::fault::{SqlFault, SqlRefusal};
 use ss_catalog_json::Word;
 use ss_sql_lex::LexError;
-use ss_sql_trees::{Condition, Query, Statement};
 use ss_sql_parse::{ParseError, parse_condition, parse_query, parse_statement};
+use ss_sql_trees::{Condition, Query, Statement};
 use ss_sql_type::{Scope, TypeError, type_condition, type_query, type_statement};
 use std::alloc::Global;
 

@@ -16,7 +16,10 @@
 
 use crate::shown::{Show, Shown, ShownIfAny, ShownList};
 use crate::signs::{binary_sign, cmp_sign, unary_sign};
-use ss_sql_lex::{ColumnTree, ConditionTree, ExprTree, ItemTree, JoinTree, LexError, NameTree, NumberTree, OrderTree, QueryTree, SetTree, StatementTree};
+use ss_sql_lex::{
+    ColumnTree, ConditionTree, ExprTree, ItemTree, JoinTree, LexError, NameTree, NumberTree,
+    OrderTree, QueryTree, SetTree, StatementTree,
+};
 use ss_sql_parse::ParseError;
 use std::fmt;
 

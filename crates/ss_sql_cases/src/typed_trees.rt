@@ -14,7 +14,9 @@
 
 use crate::shown::{Show, Shown, ShownIfAny, ShownList};
 use crate::signs::{binary_sign, cmp_sign, unary_sign};
-use ss_sql_trees::{ColAt, Condition, Expr, Item, Joined, OrderBy, Query, SetTo, SourceId, Statement, Target};
+use ss_sql_trees::{
+    ColAt, Condition, Expr, Item, Joined, OrderBy, Query, SetTo, SourceId, Statement, Target,
+};
 use ss_sql_type::TypeError;
 use ss_value::Value;
 use std::fmt;

@@ -57,6 +57,14 @@ item_rule = or count_item
 abbrev pub select : Sql (Lexeme × (List ItemTree × (Lexeme × NameTree)))
 select = both (token t.Select) (both (list item_rule) (both (token t.From) name))
 
+-- a query with nothing behind its FROM
+abbrev pub plain_tree : Lexeme × (List ItemTree × (Lexeme × NameTree)) → QueryTree
+plain_tree x = record { at = x.0.from; items = x.1.0; from = x.1.1.1; joined = None; test = None; groups = []; order = []; limit = None }
+
+-- plain = SELECT item {"," item} FROM name
+abbrev pub plain : Sql QueryTree
+plain = act plain_tree select
+
 -- the joined source and the two columns
 abbrev pub join_tree : Lexeme × (NameTree × (Lexeme × (ColumnTree × (Lexeme × ColumnTree)))) → JoinTree
 join_tree x = record { name = x.1.0; left = x.1.1.1.0; right = x.1.1.1.1.1 }
@@ -91,12 +99,12 @@ abbrev pub limit : Sql NumberTree
 limit = after t.Limit number
 
 -- a query with what is optional behind its FROM
-abbrev pub query_tree : (((((Lexeme × (List ItemTree × (Lexeme × NameTree))) × Option JoinTree) × Option ExprTree) × Option (List ColumnTree)) × Option (List OrderTree)) × Option NumberTree → QueryTree
-query_tree x = record { at = x.0.0.0.0.0.0.from; items = x.0.0.0.0.0.1.0; from = x.0.0.0.0.0.1.1.1; joined = x.0.0.0.0.1; test = x.0.0.0.1; groups = or_none x.0.0.1; order = or_none x.0.1; limit = x.1 }
+abbrev pub query_tree : ((((QueryTree × Option JoinTree) × Option ExprTree) × Option (List ColumnTree)) × Option (List OrderTree)) × Option NumberTree → QueryTree
+query_tree x = record x.0.0.0.0.0 { joined = x.0.0.0.0.1; test = x.0.0.0.1; groups = or_none x.0.0.1; order = or_none x.0.1; limit = x.1 }
 
--- query = SELECT .. FROM name [JOIN ..] [WHERE ..] [GROUP BY ..] [ORDER BY ..] [LIMIT ..]
+-- query = plain [JOIN ..] [WHERE ..] [GROUP BY ..] [ORDER BY ..] [LIMIT ..]
 abbrev pub query : Sql QueryTree
-query = act query_tree (maybe (maybe (maybe (maybe (maybe select join) where_rule) groups) orders) limit)
+query = act query_tree (maybe (maybe (maybe (maybe (maybe plain join) where_rule) groups) orders) limit)
 
 -- ---- statements
 

@@ -5,7 +5,7 @@ ghost use Rattle.ss_sql_grammar.specs.Grammar.{read};
 ghost use Rattle.ss_sql_parse.specs.Gives.{Gives};
 ghost use Rattle.ss_sql_parse.specs.Lists.{maybe_read};
 ghost use Rattle.ss_sql_parse.specs.Sql.{sql, inner, column, expr};
-ghost use Rattle.ss_sql_parse.specs.Statements.{count_item, item_rule, join, groups, orders, limit, where_rule, or_none, order_item, query, in_brackets};
+ghost use Rattle.ss_sql_parse.specs.Statements.{count_item, item_rule, join, groups, orders, limit, where_rule, or_none, order_item, plain, query, in_brackets};
 
 use crate::expr::expr_of;
 use crate::lexeme::{Lexemes, Terminal};
@@ -195,35 +195,47 @@ fn or_none<E: Drop>(alloc: Global, items: Option<Seq<E>>) -> Seq<E>
     }
 }
 
-/// Reads a query from the front. Linear in its tokens and the bytes of its leaves.
-pub fn query_of<'t>(alloc: Global, tokens: Lexemes<'t>) -> Read<'t, QueryTree>
-    ensures read { Gives (λ x. (x.0, x.1.now)) result (read sql inner query tokens.now) }
+/// Reads SELECT with its items, and FROM with its name: a query with nothing behind them.
+fn plain_of<'t>(alloc: Global, tokens: Lexemes<'t>) -> Read<'t, QueryTree>
+    ensures read { Gives (λ x. (x.0, x.1.now)) result (read sql inner plain tokens.now) }
 {
     let (select, rest) = token(tokens, Terminal::Select)?;
     let at = select.from;
     let (items, rest) = list_of::<ItemTree>(alloc, rest)?;
     let (_, rest) = token(rest, Terminal::From)?;
     let (from, rest) = name_of(alloc, rest)?;
-    let (joined, rest) = maybe_join(alloc, rest)?;
-    let (test, rest) = maybe_where(alloc, rest)?;
-    let (groups, rest) = maybe_groups(alloc, rest)?;
-    let (order, rest) = maybe_orders(alloc, rest)?;
-    let (limit, rest) = maybe_limit(rest)?;
-    let groups = or_none(alloc, groups);
-    let order = or_none(alloc, order);
     Ok((
         QueryTree {
             at,
             items,
             from,
-            joined,
-            test,
-            groups,
-            order,
-            limit,
+            joined: None,
+            test: None,
+            groups: Seq::new(alloc),
+            order: Seq::new(alloc),
+            limit: None,
         },
         rest,
     ))
+}
+
+/// Reads a query from the front. Linear in its tokens and the bytes of its leaves.
+pub fn query_of<'t>(alloc: Global, tokens: Lexemes<'t>) -> Read<'t, QueryTree>
+    ensures read { Gives (λ x. (x.0, x.1.now)) result (read sql inner query tokens.now) }
+{
+    // What was read so far stands in one tree, so that each `?` lets go of one value.
+    let (mut query, rest) = plain_of(alloc, tokens)?;
+    let (joined, rest) = maybe_join(alloc, rest)?;
+    query.joined = joined;
+    let (test, rest) = maybe_where(alloc, rest)?;
+    query.test = test;
+    let (groups, rest) = maybe_groups(alloc, rest)?;
+    query.groups = or_none(alloc, groups);
+    let (order, rest) = maybe_orders(alloc, rest)?;
+    query.order = or_none(alloc, order);
+    let (limit, rest) = maybe_limit(rest)?;
+    query.limit = limit;
+    Ok((query, rest))
 }
 
 impl Element for QueryTree {
