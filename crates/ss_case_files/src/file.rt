@@ -161,6 +161,33 @@ impl<'a, R: Print + AllocGlobal> Reader<'a, R> {
         self.report(block.number, outcome)
     }
 
+    /// Reads a line of a file: it goes into the open block, closes and runs it, or opens one.
+    fn run_line<G: Fn(&str) -> Option<BlockForm>, F: Fn(&Case) -> Result<(), Wrong>>(
+        &mut self,
+        form_of: &G,
+        check: &F,
+        open: &mut Option<Block>,
+        line: &str,
+        number: u64,
+    ) -> io::Result<()>
+        requires form_of { G.IsAlwaysCallable form_of.now }
+        requires check { F.IsAlwaysCallable check.now }
+    {
+        let alloc = self.rt.alloc();
+        match open {
+            Some(block) if !line.is_empty() => add_line(alloc, block, line),
+            Some(block) => {
+                let outcome = self.run_block(form_of, check, block);
+                *open = None;
+                outcome
+            }
+            None => {
+                *open = block_opening(alloc, line, number)?;
+                Ok(())
+            }
+        }
+    }
+
     /// Reads the lines of a file and runs its blocks.
     fn run_lines<G: Fn(&str) -> Option<BlockForm>, F: Fn(&Case) -> Result<(), Wrong>>(
         &mut self,
@@ -171,28 +198,26 @@ impl<'a, R: Print + AllocGlobal> Reader<'a, R> {
         requires form_of { G.IsAlwaysCallable form_of.now }
         requires check { F.IsAlwaysCallable check.now }
     {
-        let alloc = self.rt.alloc();
         let mut open: Option<Block> = None;
         let mut number = 0u64;
         for line in text.split('\n') {
             number = number.saturating_add(1);
-            match &mut open {
-                Some(block) if !line.is_empty() => {
-                    block.lines.push(String::from_str(alloc, line)?)?;
-                }
-                Some(block) => {
-                    self.run_block(form_of, check, block)?;
-                    open = None;
-                }
-                None => open = block_opening(alloc, line, number)?,
-            }
+            self.run_line(form_of, check, &mut open, line, number)?;
         }
         // Behind the last line feed stands an empty line, which has closed the last block.
         if open.is_none() {
             return Ok(());
         }
-        self.report(number, Err(Wrong::text(alloc, "the last line has no end")))
+        let wrong = Wrong::text(self.rt.alloc(), "the last line has no end");
+        self.report(number, Err(wrong))
     }
+}
+
+/// Adds a line to a block.
+fn add_line(alloc: Global, block: &mut Block, line: &str) -> io::Result<()> {
+    let line = String::from_str(alloc, line)?;
+    block.lines.push(line)?;
+    Ok(())
 }
 
 /// The block that a line opens; None where the line is empty or a comment.
@@ -274,6 +299,35 @@ fn run_file<
     Ok(reader.count)
 }
 
+/// Runs a file, prints its line, and adds its cases to the total.
+fn add_file<
+    R: Files + Print + AllocGlobal,
+    G: Fn(&str) -> Option<BlockForm>,
+    F: Fn(&Case) -> Result<(), Wrong>,
+>(
+    rt: &R,
+    form_of: &G,
+    check: &F,
+    bases: &mut Bases,
+    total: &mut Count,
+    name: &str,
+) -> io::Result<()>
+    requires form_of { G.IsAlwaysCallable form_of.now }
+    requires check { F.IsAlwaysCallable check.now }
+{
+    let count = run_file(rt, form_of, check, bases, name)?;
+    total.add(&count);
+    let cases = count.cases;
+    println!(rt; "{name} {cases}")
+}
+
+/// Prints the line of the totals.
+fn print_total<R: Print>(rt: &R, total: &Count) -> io::Result<()> {
+    let cases = total.cases;
+    let wrong = total.wrong;
+    println!(rt; "cases {cases} wrong {wrong}")
+}
+
 /// Runs the files that the command line names, and prints a line for each and the totals.
 fn count_files<
     R: Env + Files + Print + AllocGlobal,
@@ -283,17 +337,13 @@ fn count_files<
     requires form_of { G.IsAlwaysCallable form_of.now }
     requires check { F.IsAlwaysCallable check.now }
 {
-    let mut bases = Bases::new(rt.alloc());
     let mut total = Count::new();
-    for name in env::args(rt)?.skip(1) {
-        let count = run_file(rt, form_of, check, &mut bases, name.as_str())?;
-        let cases = count.cases;
-        println!(rt; "{name} {cases}")?;
-        total.add(&count);
+    let names = env::args(rt)?;
+    let mut bases = Bases::new(rt.alloc());
+    for name in names.skip(1) {
+        add_file(rt, form_of, check, &mut bases, &mut total, name.as_str())?;
     }
-    let cases = total.cases;
-    let wrong = total.wrong;
-    println!(rt; "cases {cases} wrong {wrong}")?;
+    print_total(rt, &total)?;
     Ok(total)
 }
 
