@@ -23,7 +23,7 @@ use Rattle.ss_standing.specs.Standing.{listed_entries}
 use Rattle.ss_standing.proofs.CallerLemmas.{entries_tell}
 use Rattle.ss_recover.specs.Faults.{ReadsAs, record_place, image_place}
 use Rattle.ss_recover.specs.Laws.{EmptyHasNoFault, StoreHasNoFault, StoreHasOneCatalog, HasOneFault}
-use Rattle.ss_recover.specs.Replaying.{DoesNotReplay, StopsBehind}
+use Rattle.ss_replay.specs.Replaying.{DoesNotReplay, StopsBehind}
 
 -- ---- lists
 

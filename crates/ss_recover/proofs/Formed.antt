@@ -23,7 +23,7 @@ use Rattle.ss_standing.specs.Standing.{Stands}
 use Rattle.ss_recover.specs.Errors.{forming_refusal}
 use Rattle.ss_recover.specs.Recovering.{IsOwnCatalog, IsRecovered, LeadsTo, MayForm, RefusesAsSaid}
 use Rattle.ss_recover.proofs.Images.{empty_image_at, leads_replayed}
-use Rattle.ss_recover.proofs.Premises.{empty_had}
+use Rattle.ss_replay.proofs.CallerLemmas.{empty_had}
 
 module _ {D : Type 0} (tells honest : Type 0) (told_by : honest → tells) (seen : D → Files) (moment : D → ℕ) (images : D → ℕ → Files → Type 0) (catalog : Catalog) (own : IsOwnCatalog catalog)
     (forming : FormingStands) (image : List ℕ) (spelled : image ≡ empty_image_of catalog) (old : D) (empty : tells → IsEmpty (seen old)) where

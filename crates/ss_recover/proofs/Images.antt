@@ -11,7 +11,7 @@ use Rattle.ss_standing.specs.Image.{empty_image_of}
 use Rattle.ss_standing.specs.Standing.{IsImageAt, Replayed}
 use Rattle.ss_standing.proofs.CallerLemmas.{empty_fits}
 use Rattle.ss_recover.specs.Recovering.{LeadsTo}
-use Rattle.ss_recover.proofs.Premises.{empty_had}
+use Rattle.ss_replay.proofs.CallerLemmas.{empty_had}
 
 -- bytes that are the empty database's image are that at any place
 pub empty_image_at : (catalog : Catalog) → Accepted catalog → (first : ℕ) (bytes : List ℕ) → bytes ≡ empty_image_of catalog → IsImageAt catalog first bytes (empty_database catalog)

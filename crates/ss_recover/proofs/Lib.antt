@@ -1,8 +1,5 @@
 pub mod CallerLemmas
 pub mod Own
-pub mod Premises
-pub mod Replaying
-pub mod Valued
 pub mod Moments
 pub mod Composed
 pub mod Images

@@ -39,7 +39,7 @@ use Rattle.ss_recover.specs.Recovering.{DiffersFrom, GoesOn, IsOwnCatalog, IsRec
 use Rattle.ss_recover.proofs.Images.{empty_image_at, leads_replayed}
 use Rattle.ss_recover.proofs.Places.{placed_so}
 use Rattle.ss_recover.proofs.Moments.{old_or, only_that}
-use Rattle.ss_recover.proofs.Premises.{empty_had}
+use Rattle.ss_replay.proofs.CallerLemmas.{empty_had}
 
 -- what a generation's groups hold has records
 entries_of_groups : (groups : List (List Entry)) → All IsGroup groups → All IsRecordable (flat_map (λ (es : List Entry). es) groups)

@@ -14,7 +14,7 @@ use Rattle.ss_cmdlog.specs.Opening.{number_of, store_at}
 use Rattle.ss_snapshot.specs.EmptyImage.{IsEmptyImage}
 use Rattle.ss_snapshot.specs.Foreign.{IsForeignAt}
 use Rattle.ss_standing.specs.Standing.{listed_entries}
-use Rattle.ss_recover.specs.Replaying.{StopsBehind}
+use Rattle.ss_replay.specs.Replaying.{StopsBehind}
 
 -- in front of the image stand the magic, the first place and the image's length, of eight bytes each
 abbrev pub image_place : ℕ

@@ -1,4 +1,3 @@
-pub mod Replaying
 pub mod Faults
 pub mod Loading
 pub mod Recovering

@@ -17,7 +17,7 @@ use Rattle.ss_recover.specs.declared.stored.Stored.{Stored}
 use Rattle.ss_recover.specs.declared.stored.StoredError.{StoredError}
 use Rattle.ss_recover.specs.declared.stored.StoredError.TheVariants.{NoMemory, Foreign}
 use Rattle.ss_recover.specs.Faults.{image_place, group_head}
-use Rattle.ss_recover.specs.Replaying.{StopsBehind}
+use Rattle.ss_replay.specs.Replaying.{StopsBehind}
 
 -- the image is that of the catalogue's empty database, and the entries replay on this one, up to the last place
 pub record IsStored (loaded : Loaded) (parts : ℕ) (r : Stored) : Type 0 where

@@ -1,10 +1,8 @@
 //! Recovers a store: reads its image, and replays its entries.
 //!
-//! What a log has is what the first run listed, each step too: so an entry is run with the triggers between executions off,
-//! and no step runs but those that the log has. [`recover`] gives the database that a disk stands for, with the log that goes on
-//! behind its entries, and makes a store on an empty disk; [`replay`] is the part of it that runs entries. An entry replays
-//! exactly where it has a value on the database so far, and a place: what it names is in the catalogue and what it carries fits,
-//! and a step is the next one of its procedure, with a batch on each of its inputs.
+//! What a log has is what the first run listed, each step too: so its entries are replayed with the triggers between
+//! executions off (`ss_replay`), and no step runs but those that the log has. [`recover`] gives the database that a disk
+//! stands for, with the log that goes on behind its entries, and makes a store on an empty disk.
 //!
 //! Source: strong recovery of S-Store, which replays every execution with the triggers between procedures off (Meehan et
 //! al., PVLDB 8, 2015, section 2.4).
@@ -12,13 +10,10 @@
 //! - `recovery`: the call; `recovered`: what it gives; `error`: why it gives nothing
 //! - `restoring`: an old store; `forming`: a new one; `stored`: what a store's contents come to;
 //!   `place`: where a record stands in its file
-//! - `entries`: the entries of a log, one after another; `entry`: one of them on a database
 //! - `laws`: a disk is empty, a store, or has one first fault
-//! - `values`: whether an entry replays on a database; `fitting`: whether it fits a catalogue
 //!
-//! The definitions are `specs/Recovering`: what recovery gives, and what it leaves of the disk; `specs/Faults`: the first fault
-//! of a disk that holds no store; and `specs/Replaying`: what a replay begins on, and where one stops. `proofs/Premises` meets
-//! the premises.
+//! The definitions are `specs/Recovering`: what recovery gives, and what it leaves of the disk; and `specs/Faults`: the first
+//! fault of a disk that holds no store. A catalogue that was read meets the premise (`proofs/Own`).
 //!
 //! # Promises
 //!
@@ -27,14 +22,10 @@
 //!   a crash since the call began leaves what it could leave before, or what stands for this (`moments`), and takes
 //!   nothing that one at an earlier moment could not take (`stands_on`). A refusal carries what it says of the disk and
 //!   what it leaves of it (`refused`: `RefusesAsSaid`).
-//! - `replay`: the given entries, each with its outcome (`entries`), which replay on every database that the given one
-//!   stands for (`replayed`); or those before the first entry that doesn't replay (`foreign`).
 //! - Law `a_disk_has_one_fault`: a disk is empty, or a store of one catalogue, or has one first fault.
 //!
 //! # Choices
 //!
-//! - What is said of a replay is said of every database that the given one stands for (`IsOnAt`), instead of one that
-//!   is named, because a program's database has no list of all batches and all units.
 //! - What a crash may leave is what it could leave before, or what stands for what is recovered (`moments`), instead of
 //!   the second alone for a disk with nothing unsynced, because it needs no premise. The second follows (`quiet`).
 //! - A refusal leaves the disk as it was, but where a store was being made. A disk that holds something else isn't
@@ -43,10 +34,7 @@
 //!   come.
 #![tactic(auto)]
 
-mod entries;
-mod entry;
 mod error;
-mod fitting;
 mod forming;
 mod laws;
 mod place;
@@ -54,12 +42,8 @@ mod recovered;
 mod recovery;
 mod restoring;
 mod stored;
-mod values;
 
-pub use entries::{ReplayError, Replayed, replay};
 pub use error::RecoverError;
-pub use fitting::entry_fits;
 pub use laws::a_disk_has_one_fault;
 pub use recovered::Recovered;
 pub use recovery::recover;
-pub use values::has_value;

@@ -6,11 +6,11 @@ ghost use Rattle.ss_record.specs.Bounds.{IsRecordable};
 ghost use Rattle.ss_snapshot.specs.EmptyImage.{IsEmptyImage};
 ghost use Rattle.ss_recover.specs.Loading.{IsStored, RefusesImage, RefusesLoaded};
 
-use crate::entries::{ReplayError, Replayed, replay};
 use crate::place::{image_byte, place_behind};
 use ss_cmdlog::Loaded;
 use ss_model::{Catalog, Listed};
 use ss_proc::Runner;
+use ss_replay::{ReplayError, Replayed, replay};
 use ss_shard::{Database, opening};
 use ss_snapshot::{ImageError, read_empty_image};
 use ss_value::{NoMemory, Seq};

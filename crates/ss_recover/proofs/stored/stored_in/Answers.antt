@@ -8,8 +8,8 @@ use Rattle.ss_record.specs.Bounds.{IsRecordable}
 use Rattle.ss_snapshot.specs.EmptyImage.{IsEmptyImage}
 use Rattle.ss_standing.specs.Standing.{listed_entries}
 use Rattle.ss_recover.specs.Loading.{place_behind}
-use Rattle.ss_recover.specs.Replaying.{StopsAsSaid}
-use Rattle.ss_recover.proofs.Premises.{opening_takes}
+use Rattle.ss_replay.specs.Replaying.{StopsAsSaid}
+use Rattle.ss_replay.proofs.CallerLemmas.{opening_takes}
 use Rattle.ss_recover.proofs.stored.stored_in.Goals as goal
 
 pub replay-requires-clause-whole : goal.replay-requires-clause-whole

@@ -1,12 +1,11 @@
-//! All entries of a log.
+//! A list of entries, one after another.
 
-ghost use Rattle.std.specs.Prelude.{◌≡◌, ◌≤◌, ◌+◌, ◌^◌, length, map, IfOk, IfErr};
+ghost use Rattle.std.specs.Prelude.{◌≡◌, ◌≤◌, ◌+◌, ◌^◌, length, map, IfOk, OnOk, IfErr};
 ghost use Rattle.ss_model.specs.Accepted.{Accepted};
 ghost use Rattle.ss_model.specs.Database.{Database as Model};
 ghost use Rattle.ss_shard.specs.Databases.{IsWhole};
 ghost use Rattle.ss_shard.specs.Parts.{dealing_of};
-ghost use Rattle.ss_standing.specs.Standing.{listed_entries};
-ghost use Rattle.ss_recover.specs.Replaying.{IsOnAt, IsReplayed, StopsAsSaid};
+ghost use Rattle.ss_replay.specs.Replaying.{IsOnAt, IsReplayed, StopsAsSaid};
 
 use crate::entry::replay_entry;
 use crate::values::replays;
@@ -37,6 +36,47 @@ pub enum ReplayError {
     Foreign { before: Seq<Listed> },
 }
 
+/// Runs these entries in their order on a database, from a place on, and gives the list of them.
+///
+/// The database is lent, and not taken as by `replay`, so that a refusal lets it go in one place and not in each.
+fn replay_on<N: Runner>(
+    alloc: Global,
+    catalog: &Catalog,
+    runner: &N,
+    database: &mut Database,
+    first: u64,
+    entries: Seq<Entry>,
+) -> Result<Seq<Listed>, ReplayError>
+    requires accepted { Accepted catalog.now }
+    requires whole { IsWhole catalog.now database.old }
+    requires first { first ≤ 2 ^ 60 }
+    requires on { (d : Model) × IsOnAt catalog.now database.old first d }
+    ensures entries { IfOk result (λ list. map (λ l. l.entry) list ≡ entries) }
+    ensures placed { IfOk result (λ list. first + length list ≤ 2 ^ 60) }
+    ensures replayed { IfOk result (λ list. (d : Model) → IsOnAt catalog.now database.old first d → IsReplayed catalog.now d list database.new) }
+    ensures whole { OnOk result (IsWhole catalog.now database.new) }
+    ensures dealt { OnOk result (map dealing_of database.new.whole.tables ≡ map dealing_of database.old.whole.tables) }
+    ensures foreign { IfErr result (λ e. (d : Model) → IsOnAt catalog.now database.old first d → StopsAsSaid catalog.now d first entries e) }
+{
+    let mut list = Reserved::new(alloc);
+    // Their number is known. So an entry is committed where it stands, and moves into the list behind that.
+    let Ok(()) = list.reserve(entries.len()) else {
+        return Err(ReplayError::NoMemory);
+    };
+    for entry in entries.into_vec() {
+        if !replays(catalog, database, first + list.len() as u64, &entry) {
+            return Err(ReplayError::Foreign {
+                before: list.into_seq(),
+            });
+        }
+        let Ok(outcome) = replay_entry(alloc, catalog, runner, database, &entry) else {
+            return Err(ReplayError::NoMemory);
+        };
+        list.add(Listed { entry, outcome });
+    }
+    Ok(list.into_seq())
+}
+
 /// Runs these entries in their order on a database, from a place on, with the triggers between executions off: a step runs
 /// only where it is an entry. Gives the list and the database behind it.
 ///
@@ -58,7 +98,7 @@ pub fn replay<N: Runner>(
     requires whole { IsWhole catalog.now database }
     requires first { first ≤ 2 ^ 60 }
     requires on { (d : Model) × IsOnAt catalog.now database first d }
-    ensures entries { IfOk result (λ r. listed_entries r.list ≡ entries) }
+    ensures entries { IfOk result (λ r. map (λ l. l.entry) r.list ≡ entries) }
     ensures placed { IfOk result (λ r. first + length r.list ≤ 2 ^ 60) }
     ensures replayed { IfOk result (λ r. (d : Model) → IsOnAt catalog.now database first d → IsReplayed catalog.now d r.list r.database) }
     ensures whole { IfOk result (λ r. IsWhole catalog.now r.database) }
@@ -66,24 +106,6 @@ pub fn replay<N: Runner>(
     ensures foreign { IfErr result (λ e. (d : Model) → IsOnAt catalog.now database first d → StopsAsSaid catalog.now d first entries e) }
 {
     let mut database = database;
-    let mut list = Reserved::new(alloc);
-    // Their number is known. So an entry is committed where it stands, and moves into the list behind that.
-    let Ok(()) = list.reserve(entries.len()) else {
-        return Err(ReplayError::NoMemory);
-    };
-    for entry in entries.into_vec() {
-        if !replays(catalog, &database, first + list.len() as u64, &entry) {
-            return Err(ReplayError::Foreign {
-                before: list.into_seq(),
-            });
-        }
-        let Ok(outcome) = replay_entry(alloc, catalog, runner, &mut database, &entry) else {
-            return Err(ReplayError::NoMemory);
-        };
-        list.add(Listed { entry, outcome });
-    }
-    Ok(Replayed {
-        list: list.into_seq(),
-        database,
-    })
+    let list = replay_on(alloc, catalog, runner, &mut database, first, entries)?;
+    Ok(Replayed { list, database })
 }

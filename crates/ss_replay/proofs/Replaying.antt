@@ -1,5 +1,5 @@
 -- One entry more behind those that have replayed.
-use Rattle.std.proofs.Common.{◌≡◌, ◌<◌, ◌≤◌, ◌+◌, ◌^◌, ◌∙◌, ℕ, List, [], ◌∷◌, ◌++◌, Some, length, take, slice_get, unwrap_or, ap, refl, sym, subst, take_at}
+use Rattle.std.proofs.Common.{◌≡◌, ◌<◌, ◌≤◌, ◌+◌, ◌^◌, ◌∙◌, ℕ, List, [], ◌∷◌, ◌++◌, Some, length, map, take, slice_get, unwrap_or, ap, refl, sym, subst, take_at}
 use Rattle.std.proofs.lemmas.List.{length-map, map-append, append_assoc}
 use Rattle.std.specs.declared.option.Option.{Option}
 use Rattle.std.specs.Option.{option_map}
@@ -14,14 +14,13 @@ use Rattle.ss_model.proofs.CallerLemmas.{goes_on}
 use Rattle.ss_model_laws.proofs.CallerLemmas.{had_at_most, whole_after}
 use Rattle.ss_shard.specs.declared.database.Database.{Database}
 use Rattle.ss_shard.specs.Databases.{StandsFor}
-use Rattle.ss_standing.specs.Standing.{listed_entries}
-use Rattle.ss_recover.specs.Replaying.{IsOnAt, CanTake, IsReplayed, StopsBehind, DoesNotReplay}
+use Rattle.ss_replay.specs.Replaying.{IsOnAt, CanTake, IsReplayed, StopsBehind, DoesNotReplay}
 
 -- ---- the entries that are left
 
 -- the next one replays, and is left no more
-pub one_replayed : (list : List Listed) (l : Listed) (rest entries : List Entry) → listed_entries list ++ (l.entry ∷ rest) ≡ entries → listed_entries (list ++ l ∷ []) ++ rest ≡ entries
-one_replayed list l rest entries is = ap (λ (es : List Entry). es ++ rest) (map-append (λ (l : Listed). l.entry) list (l ∷ [])) ∙ append_assoc (listed_entries list) (l.entry ∷ []) rest ∙ is
+pub one_replayed : (list : List Listed) (l : Listed) (rest entries : List Entry) → map (λ (l : Listed). l.entry) list ++ (l.entry ∷ rest) ≡ entries → map (λ (l : Listed). l.entry) (list ++ l ∷ []) ++ rest ≡ entries
+one_replayed list l rest entries is = ap (λ (es : List Entry). es ++ rest) (map-append (λ (l : Listed). l.entry) list (l ∷ [])) ∙ append_assoc (map (λ (l : Listed). l.entry) list) (l.entry ∷ []) rest ∙ is
 
 -- the entry behind a list
 behind : (es : List Entry) (e : Entry) (rest : List Entry) → slice_get (es ++ (e ∷ rest)) (length es) ≡ Some e
@@ -52,16 +51,16 @@ module _ (catalog : Catalog) (accepted : Accepted catalog) where
       record { replays = on.joins replayed.replays (is, tt); stands = subst (StandsFor catalog new) (sym on.ends) stands }
 
   -- the entry that is next doesn't replay
-  pub stops_next : (d : Model) (first : ℕ) (list : List Listed) (e : Entry) (rest entries : List Entry) (database : Database) → IsReplayed catalog d list database → listed_entries list ++ (e ∷ rest) ≡ entries
+  pub stops_next : (d : Model) (first : ℕ) (list : List Listed) (e : Entry) (rest entries : List Entry) (database : Database) → IsReplayed catalog d list database → map (λ (l : Listed). l.entry) list ++ (e ∷ rest) ≡ entries
       → first + length list ≤ 2 ^ 60 → DoesNotReplay catalog (after catalog d list) (first + length list) e → StopsBehind catalog d first entries list
   stops_next d first list e rest entries database replayed is few stops =
-      let many : length list ≡ length (listed_entries list) = sym (length-map list (λ (l : Listed). l.entry)) in
+      let many : length list ≡ length (map (λ (l : Listed). l.entry) list) = sym (length-map list (λ (l : Listed). l.entry)) in
       record {
-        before = sym (ap (take (length list)) (sym is) ∙ take_at (listed_entries list) (e ∷ rest) (length list) (sym many));
+        before = sym (ap (take (length list)) (sym is) ∙ take_at (map (λ (l : Listed). l.entry) list) (e ∷ rest) (length list) (sym many));
         replays = replayed.replays;
         few = few;
         entry = e;
-        there = ap (λ (es : List Entry). slice_get es (length list)) (sym is) ∙ ap (slice_get (listed_entries list ++ (e ∷ rest))) many ∙ behind (listed_entries list) e rest;
+        there = ap (λ (es : List Entry). slice_get es (length list)) (sym is) ∙ ap (slice_get (map (λ (l : Listed). l.entry) list ++ (e ∷ rest))) many ∙ behind (map (λ (l : Listed). l.entry) list) e rest;
         stops = stops;
       }
 

@@ -4,7 +4,7 @@ ghost use Rattle.std.specs.Prelude.{◌≡◌, ◌<◌, ◌≤◌, ◌^◌, true
 ghost use Rattle.ss_model.specs.declared.entry.Entry.TheVariants.{Step as StepEntry};
 ghost use Rattle.ss_model.specs.Accepted.{Accepted};
 ghost use Rattle.ss_model.specs.Database.{Database as Model, apply, is_ready_entry};
-ghost use Rattle.ss_recover.specs.Replaying.{IsOn, DoesNotReplay};
+ghost use Rattle.ss_replay.specs.Replaying.{IsOn, DoesNotReplay};
 
 use crate::fitting::entry_fits;
 use ss_model::{Catalog, Entry};

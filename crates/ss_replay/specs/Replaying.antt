@@ -1,5 +1,5 @@
 -- What a replay begins on, and what comes of it.
-use Rattle.std.specs.Prelude.{◌≡◌, ◌⊎◌, ◌+◌, ◌<◌, ◌≤◌, ◌^◌, ℕ, List, length, take, slice_get, Some, None}
+use Rattle.std.specs.Prelude.{◌≡◌, ◌⊎◌, ◌+◌, ◌<◌, ◌≤◌, ◌^◌, ℕ, List, length, map, take, slice_get, Some, None}
 use Rattle.ss_model.specs.declared.catalog.Catalog.{Catalog}
 use Rattle.ss_model.specs.declared.entry.Entry.{Entry}
 use Rattle.ss_model.specs.declared.entry.Listed.{Listed}
@@ -8,9 +8,8 @@ use Rattle.ss_model.specs.Replays.{Replays, after}
 use Rattle.ss_model.specs.WholeDatabase.{WholeDatabase, HadAtMost}
 use Rattle.ss_shard.specs.declared.database.Database.{Database}
 use Rattle.ss_shard.specs.Databases.{StandsFor}
-use Rattle.ss_standing.specs.Standing.{listed_entries}
-use Rattle.ss_recover.specs.declared.entries.ReplayError.{ReplayError}
-use Rattle.ss_recover.specs.declared.entries.ReplayError.TheVariants.{NoMemory, Foreign}
+use Rattle.ss_replay.specs.declared.entries.ReplayError.{ReplayError}
+use Rattle.ss_replay.specs.declared.entries.ReplayError.TheVariants.{NoMemory, Foreign}
 
 -- the program's database stands for this one, which is whole
 pub record IsOn (catalog : Catalog) (database : Database) (d : Model) : Type 0 where
@@ -40,7 +39,7 @@ DoesNotReplay catalog d place entry = (place ≡ 2 ^ 60) ⊎ (apply catalog d en
 
 -- the first entries replay from this place on, as this list, and the one behind them doesn't
 pub record StopsBehind (catalog : Catalog) (d : Model) (first : ℕ) (entries : List Entry) (list : List Listed) : Type 0 where
-  pub before : listed_entries list ≡ take (length list) entries
+  pub before : map (λ (l : Listed). l.entry) list ≡ take (length list) entries
   pub replays : Replays catalog d list
   pub few : first + length list ≤ 2 ^ 60
   pub entry : Entry

@@ -1,0 +1,4 @@
+pub mod CallerLemmas
+pub mod Premises
+pub mod Replaying
+pub mod Valued
