@@ -7,12 +7,12 @@ use Rattle.ss_cmdlog.specs.Store.{IsEmpty}
 use Rattle.ss_headline.specs.Disks.{DiskChange}
 use Rattle.ss_recover.specs.Faults.{HasFaultAt, IsStore}
 use Rattle.ss_recover.specs.Laws.{EmptyHasNoFault, StoreHasNoFault, StoreHasOneCatalog}
+use Rattle.ss_refusals.specs.declared.status.Status.{Status}
+use Rattle.ss_refusals.specs.declared.status.Status.TheVariants.{Done, Usage, Input, ReadFault, WriteFault, Disk, NoMemory, Foreign, OtherCatalog, Limit}
+use Rattle.ss_refusals.specs.Sinks.{SinkChange, SinkHeld}
 use Rattle.ss_top.specs.declared.session.Printing.{Printing}
 use Rattle.ss_top.specs.declared.session.Printing.TheVariants.{InFull, Summary}
-use Rattle.ss_top.specs.declared.status.Status.{Status}
-use Rattle.ss_top.specs.declared.status.Status.TheVariants.{Done, Usage, Input, ReadFault, WriteFault, Disk, NoMemory, Foreign, OtherCatalog, Limit}
 use Rattle.ss_top.specs.Complete.{HasRoom, IsDoneOrShort}
-use Rattle.ss_top.specs.Sinks.{SinkChange, SinkHeld}
 use Rattle.ss_catalog.specs.Answers.{HasOneCatalog}
 use Rattle.ss_catalog.specs.Reads.{Reads}
 use Rattle.ss_words.specs.declared.names.Show.{Show}

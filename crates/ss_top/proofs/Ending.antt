@@ -6,7 +6,6 @@ use Rattle.std.specs.Io.KnownBytes.{IsAtEnd}
 use Rattle.std.proofs.lemmas.Bool.{false≢true}
 use Rattle.std.proofs.lemmas.Option.{IfSome_then}
 use Rattle.ss_lines.specs.declared.line.LineError.TheVariants as cause
-use Rattle.ss_value.specs.FaultCounts.{Rose}
 use Rattle.ss_lines.specs.Causes.{TakesAtMost}
 use Rattle.ss_lines.specs.Lines.{max_input}
 use Rattle.ss_model.specs.declared.catalog.Catalog.{Catalog}
@@ -24,24 +23,23 @@ use Rattle.ss_words.specs.Words.{IsCommand, AsksFor, words_of}
 use Rattle.ss_words.proofs.CallerLemmas.{asks_is_command, asks_for_one}
 use Rattle.ss_headline.specs.Disks.{DiskChange}
 use Rattle.ss_recover.specs.Laws.{EmptyHasNoFault, StoreHasNoFault, StoreHasOneCatalog}
-use Rattle.ss_top.specs.declared.input.ReadError.{ReadError}
-use Rattle.ss_top.specs.declared.input.ReadError.TheVariants.{Line as OfLine, NoCatalog, Catalog as OfCatalog, Request as OfRequest}
+use Rattle.ss_refusals.specs.declared.input.ReadError.{ReadError}
+use Rattle.ss_refusals.specs.declared.input.ReadError.TheVariants.{Line as OfLine, NoCatalog, Catalog as OfCatalog, Request as OfRequest}
+use Rattle.ss_refusals.specs.declared.status.Status.{Status}
+use Rattle.ss_refusals.specs.declared.status.Status.TheVariants.{Done, Usage, Input, ReadFault, WriteFault, Disk, NoMemory, Foreign, OtherCatalog, Limit}
+use Rattle.ss_refusals.specs.Inputs.{HasOneStart, StartsOrRefused, HasOneRefusal, ExitsAsRefused, ExitsAsStarted, DidNotRise, OfStarted}
+use Rattle.ss_refusals.specs.Refused.{IsRefusedBy}
+use Rattle.ss_refusals.proofs.CallerLemmas.{OfRefusal, refusals_have, never, memory_text_is, read_fault_text_is, fault_rose, refused_ends_refused, refused_ends_started}
+use Rattle.ss_refusals.specs.Sinks.{SourceChange, SinkChange, Writes, ExitsRefused, LeavesOfRefusedSource, SinkHeld}
+use Rattle.ss_refusals.specs.Starts.{Starts}
+use Rattle.ss_refusals.specs.Statuses.{refusal_status, refusal_text, usage_text, no_memory_text}
 use Rattle.ss_top.specs.declared.session.Printing.TheVariants.{InFull, Summary}
-use Rattle.ss_top.specs.declared.status.Status.{Status}
-use Rattle.ss_top.specs.declared.status.Status.TheVariants.{Done, Usage, Input, ReadFault, WriteFault, Disk, NoMemory, Foreign, OtherCatalog, Limit}
 use Rattle.ss_top.specs.Complete.{HasRoom, IsDoneOrShort}
-use Rattle.ss_top.specs.Inputs.{HasOneStart, StartsOrRefused, HasOneRefusal, ExitsAsRefused, ExitsAsStarted, DidNotRise, OfStarted}
-use Rattle.ss_top.specs.Refused.{IsRefusedBy}
-use Rattle.ss_top.specs.Sinks.{SourceChange, SinkChange, Writes, ExitsRefused, LeavesOfRefusedSource, SinkHeld}
-use Rattle.ss_top.specs.Starts.{Starts}
-use Rattle.ss_top.specs.Statuses.{refusal_status, refusal_text, usage_text, no_memory_text}
 use Rattle.ss_top.specs.Stores.{CameTo, RecoveredTo}
 use Rattle.ss_top.specs.Serving.{ComesToShow, RecoversTo, HasStoreCause}
 use Rattle.ss_top.specs.Shows.{ShowEnds}
 use Rattle.ss_top.specs.Top.{Ends, EndsVoter, RunEndsSo, RunEnds, RanInput, HasCause, IsComplete, WritesOnly, LeavesOfSource, DiskHeld}
 use Rattle.ss_top.proofs.Completing.{came_complete, recovered_complete, show_complete}
-use Rattle.ss_top.proofs.TopAnswers.{refused_ends_refused, refused_ends_started}
-use Rattle.ss_top.proofs.TopRefusals.{read_fault_text_is}
 
 -- what holds of each holds of one that may be there
 always : {A : Type 0} {Q : A → Type 0} (o : Option A) → ((x : A) → Q x) → IfSome o Q
@@ -54,32 +52,7 @@ takes_nothing n None now same = ([], tt, omega arith)
 takes_nothing n (Some xs) None same = let no : ⊥ = cc in absurd no
 takes_nothing n (Some xs) (Some ys) same = let is : xs ≡ ys = cc in ([], is, omega arith)
 
--- ---- statuses of refusals
-
--- whether a refusal may have this status
-abbrev OfRefusal : Status → Type 0
-OfRefusal Input = Unit {0}
-OfRefusal ReadFault = Unit {0}
-OfRefusal NoMemory = Unit {0}
-OfRefusal Done = ⊥
-OfRefusal Usage = ⊥
-OfRefusal WriteFault = ⊥
-OfRefusal Disk = ⊥
-OfRefusal Foreign = ⊥
-OfRefusal OtherCatalog = ⊥
-OfRefusal Limit = ⊥
-
-refusals_have : (e : ReadError) → OfRefusal (refusal_status e)
-refusals_have (OfLine cause.NoMemory) = tt
-refusals_have (OfLine cause.ReadFault) = tt
-refusals_have (OfLine (cause.LineTooLong n)) = tt
-refusals_have (OfLine cause.InputTooLong) = tt
-refusals_have (OfLine (cause.NotJson n)) = tt
-refusals_have NoCatalog = tt
-refusals_have (OfCatalog n of_catalog.NoMemory) = tt
-refusals_have (OfCatalog n e) = tt
-refusals_have (OfRequest of_request.NoMemory) = tt
-refusals_have (OfRequest e) = tt
+-- ---- a refusal
 
 -- of those that an input has that starts this is out of memory alone
 short : (status : Status) → OfRefusal status → OfStarted status → IsDoneOrShort status
@@ -93,36 +66,6 @@ short Disk of started = absurd of
 short Foreign of started = absurd of
 short OtherCatalog of started = absurd of
 short Limit of started = absurd of
-
--- so it has none of the others
-never : {P : Type 0} (e : ReadError) (other : Status) → refusal_status e ≡ other → (OfRefusal other → ⊥) → P
-never e other is none = absurd (none (subst OfRefusal is (refusals_have e)))
-
--- only out of memory has its status, and so its text
-memory_text_is : (e : ReadError) → refusal_status e ≡ NoMemory → refusal_text e ≡ no_memory_text
-memory_text_is (OfLine cause.NoMemory) is = refl
-memory_text_is (OfLine cause.ReadFault) is = cc
-memory_text_is (OfLine (cause.LineTooLong line)) is = cc
-memory_text_is (OfLine cause.InputTooLong) is = cc
-memory_text_is (OfLine (cause.NotJson line)) is = cc
-memory_text_is NoCatalog is = cc
-memory_text_is (OfCatalog line of_catalog.NoMemory) is = refl
-memory_text_is (OfCatalog line e) is = cc
-memory_text_is (OfRequest of_request.NoMemory) is = refl
-memory_text_is (OfRequest e) is = cc
-
--- only where a fault of the source was counted is it refused for one
-fault_rose : (e : ReadError) (faults now : ℕ) (before left : Option (List ℕ)) → LeavesOfRefusedSource e faults now before left → refusal_status e ≡ ReadFault → Rose faults now
-fault_rose (OfLine cause.ReadFault) faults now before left leaves is = leaves
-fault_rose (OfLine cause.NoMemory) faults now before left leaves is = let no : ⊥ = cc in absurd no
-fault_rose (OfLine (cause.LineTooLong line)) faults now before left leaves is = let no : ⊥ = cc in absurd no
-fault_rose (OfLine cause.InputTooLong) faults now before left leaves is = let no : ⊥ = cc in absurd no
-fault_rose (OfLine (cause.NotJson line)) faults now before left leaves is = let no : ⊥ = cc in absurd no
-fault_rose NoCatalog faults now before left leaves is = let no : ⊥ = cc in absurd no
-fault_rose (OfCatalog line of_catalog.NoMemory) faults now before left leaves is = let no : ⊥ = cc in absurd no
-fault_rose (OfCatalog line e) faults now before left leaves is = let no : ⊥ = cc in absurd no
-fault_rose (OfRequest of_request.NoMemory) faults now before left leaves is = let no : ⊥ = cc in absurd no
-fault_rose (OfRequest e) faults now before left leaves is = let no : ⊥ = cc in absurd no
 
 -- what is left of the source where its lines were there
 at_end : (before left : Option (List ℕ)) → IsAtEnd left → IfSome before (λ (input : List ℕ). length input ≤ max_input → IsAtEnd left)

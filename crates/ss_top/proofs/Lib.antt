@@ -1,9 +1,3 @@
-pub mod InputDepth
-pub mod InputRequests
-pub mod TopRefusals
-pub mod OneInput
-pub mod TopAnswers
-pub mod InputPremises
 pub mod Outside
 pub mod Unreported
 pub mod Running

@@ -46,12 +46,12 @@ use Rattle.ss_engine.specs.Clients.{AreListedOr, IsUnlisted}
 use Rattle.ss_engine.specs.Closings.{EndedWith, SomeReady}
 use Rattle.ss_engine.specs.Dues.{FewOpen}
 use Rattle.ss_engine.specs.Sessions.{EndsOnDisk, IsLeftOver}
+use Rattle.ss_refusals.specs.declared.status.Status.{Status}
+use Rattle.ss_refusals.specs.declared.status.Status.TheVariants.{Done, Usage, Input, ReadFault, WriteFault, Disk, NoMemory, Foreign, OtherCatalog, Limit}
+use Rattle.ss_refusals.specs.Statuses.{status_number}
 use Rattle.ss_top.specs.declared.session.Printing.{Printing}
 use Rattle.ss_top.specs.declared.session.Printing.TheVariants.{InFull, Summary}
-use Rattle.ss_top.specs.declared.status.Status.{Status}
-use Rattle.ss_top.specs.declared.status.Status.TheVariants.{Done, Usage, Input, ReadFault, WriteFault, Disk, NoMemory, Foreign, OtherCatalog, Limit}
 use Rattle.ss_top.specs.Runs.{settled_status, session_status, end_for, Reports}
-use Rattle.ss_top.specs.Statuses.{status_number}
 use Rattle.ss_top.specs.Told.{say_full, some_say_full}
 use Rattle.ss_top.specs.Stores.{IsPrinted, WholeRun, StoppedRun, FullRun, RanAs}
 use Rattle.ss_top.proofs.Outside.{outside_by_one}

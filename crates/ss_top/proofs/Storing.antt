@@ -17,22 +17,22 @@ use Rattle.ss_recover.specs.declared.error.RecoverError.TheVariants as recovery
 use Rattle.ss_recover.specs.declared.recovered.Recovered.{Recovered}
 use Rattle.ss_recover.specs.Faults.{IsStore}
 use Rattle.ss_recover.specs.Recovering.{IsOwnCatalog, IsRecovered, LeavesOldOr, MayForm, RefusesAsSaid, recovered_database}
+use Rattle.ss_refusals.specs.declared.status.Status.{Status}
+use Rattle.ss_refusals.specs.declared.status.Status.TheVariants.{Done, Usage, Input, ReadFault, WriteFault, Disk, NoMemory, Foreign, OtherCatalog, Limit}
+use Rattle.ss_refusals.specs.Sinks.{SinkChange, Writes}
+use Rattle.ss_refusals.specs.Statuses.{no_memory_text, nothing_text, other_catalog_text}
+use Rattle.ss_refusals.specs.StoreRefusals.{TellsRefusal, WritesWhole, HasTexts}
 use Rattle.ss_top.specs.declared.session.Printing.{Printing}
 use Rattle.ss_top.specs.declared.session.Printing.TheVariants.{InFull, Summary}
-use Rattle.ss_top.specs.declared.status.Status.{Status}
-use Rattle.ss_top.specs.declared.status.Status.TheVariants.{Done, Usage, Input, ReadFault, WriteFault, Disk, NoMemory, Foreign, OtherCatalog, Limit}
 use Rattle.ss_engine.specs.declared.settling.Settling.{Settling}
 use Rattle.ss_engine.specs.declared.settling.Settling.TheVariants as settling
-use Rattle.ss_top.specs.Runs.{settled_status, session_status, Reports}
+use Rattle.ss_top.specs.Runs.{settled_status, session_status, Reports, TellsReport}
 use Rattle.ss_top.specs.Told.{some_say_full}
-use Rattle.ss_top.specs.Sinks.{SinkChange, Writes}
-use Rattle.ss_top.specs.Statuses.{no_memory_text, other_catalog_text}
-use Rattle.ss_top.specs.StoreRefusals.{TellsReport, TellsRefusal, WritesWhole, HasTexts}
 use Rattle.ss_voter.specs.VoterCatalog.{IsVoter}
 use Rattle.ss_words.specs.declared.names.Show.{Show}
 use Rattle.ss_top.specs.Shows.{RanShow, ShowEnds, show_requests}
 use Rattle.ss_top.specs.Serving.{ComesTo, ComesToShow, RecoversTo, IsOpenedFor}
-use Rattle.ss_top.specs.Stores.{CameTo, RecoveredTo, Ran, RanAs, WasOf, nothing_text}
+use Rattle.ss_top.specs.Stores.{CameTo, RecoveredTo, Ran, RanAs, WasOf}
 
 -- ---- a session was reported
 
@@ -257,10 +257,6 @@ store_recovered limit catalog disk w accepted stored ended own requests none cam
 -- what was recovered is of the given catalogue
 pub of_given : {limit : ℕ} {printing : Printing} {stored given : Catalog} {requests : List Request} {ended : Status} {w : SinkChange} {disk : DiskChange} → stored ≡ given → ComesTo limit printing stored requests ended w disk → ComesTo limit printing given requests ended w disk
 of_given {limit} {printing} {stored} {given} {requests} {ended} {w} {disk} same came = subst (λ catalog. ComesTo limit printing catalog requests ended w disk) same came
-
--- an empty disk was told
-pub told_nothing : (w : SinkChange) (error : RecoverError) (ended : Status) (text : List ℕ) → error ≡ recovery.Nothing → text ≡ nothing_text → WritesWhole ended text w → TellsRefusal error ended w
-told_nothing w error ended text is same wrote = subst (λ e. TellsRefusal e ended w) (sym is) (subst (λ t. WritesWhole ended t w) same wrote)
 
 -- ---- a show ran
 

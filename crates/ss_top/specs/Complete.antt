@@ -11,8 +11,8 @@ use Rattle.ss_headline.specs.Disks.{DiskChange}
 use Rattle.ss_headline.specs.Owed.{owed}
 use Rattle.ss_headline.specs.Sentences.{room_from}
 use Rattle.ss_recover.specs.Faults.{IsStore}
-use Rattle.ss_top.specs.declared.status.Status.{Status}
-use Rattle.ss_top.specs.declared.status.Status.TheVariants.{Done, NoMemory}
+use Rattle.ss_refusals.specs.declared.status.Status.{Status}
+use Rattle.ss_refusals.specs.declared.status.Status.TheVariants.{Done, NoMemory}
 
 -- The disk tells that it is empty or a store of this catalogue; and behind what it stands for there is room for what the requests owe,
 -- with the steps that are pending there.

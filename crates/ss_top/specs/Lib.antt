@@ -1,11 +1,5 @@
-pub mod Statuses
-pub mod Starts
-pub mod Refused
-pub mod Inputs
-pub mod Sinks
 pub mod Told
 pub mod Stores
-pub mod StoreRefusals
 pub mod Complete
 pub mod Shows
 pub mod Serving

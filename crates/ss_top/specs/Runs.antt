@@ -1,5 +1,5 @@
--- How a session ended, by the answers and the ways in which settling and the last flush ended; and its report.
-use Rattle.std.specs.Prelude.{◌≡◌, ◌≤◌, ◌^◌, ℕ, Bool, cond, List, Option, Some, IfSome, IfNone}
+-- How a session ended, by the answers and the ways in which settling and the last flush ended; its report, and how that is told.
+use Rattle.std.specs.Prelude.{◌≡◌, ◌≤◌, ◌^◌, ℕ, Bool, cond, List, Option, Some, None, IfSome, IfNone}
 use Rattle.ss_value.specs.FaultCounts.{Rose}
 use Rattle.ss_model.specs.declared.catalog.Catalog.{Catalog}
 use Rattle.ss_model.specs.declared.entry.Answer.{Answer}
@@ -19,12 +19,14 @@ use Rattle.ss_engine.specs.declared.settling.Settling.TheVariants as settling
 use Rattle.ss_engine.specs.Sessions.{EndsOnDisk}
 use Rattle.ss_report.specs.declared.run_end.End.{End}
 use Rattle.ss_report.specs.declared.run_end.End.TheVariants as report
+use Rattle.ss_refusals.specs.declared.status.Status.{Status}
+use Rattle.ss_refusals.specs.declared.status.Status.TheVariants.{Done, Disk, NoMemory, Limit}
+use Rattle.ss_refusals.specs.Sinks.{SinkChange, ExitsAs}
+use Rattle.ss_refusals.specs.Statuses.{no_memory_text, status_number}
+use Rattle.ss_refusals.specs.StoreRefusals.{WritesWhole}
 use Rattle.ss_top.specs.declared.session.Printing.{Printing}
 use Rattle.ss_top.specs.declared.session.Printing.TheVariants.{InFull, Summary}
 use Rattle.ss_top.specs.declared.session.Reported.{Reported}
-use Rattle.ss_top.specs.declared.status.Status.{Status}
-use Rattle.ss_top.specs.declared.status.Status.TheVariants.{Done, Disk, NoMemory, Limit}
-use Rattle.ss_top.specs.Statuses.{status_number}
 use Rattle.ss_top.specs.Stores.{RanAs}
 use Rattle.ss_top.specs.Told.{some_say_full}
 
@@ -51,6 +53,12 @@ pub record Reports (limit : ℕ) (printing : Printing) (catalog : Catalog) (requ
   pub written : IfSome text (λ some. some ≡ whole)
   pub unwritten : IfNone text (status ≡ NoMemory)
   pub rose : status ≡ Disk → Rose disk.faults_before disk.faults_now
+
+-- how a session with this status is told, by its report, or by a line where there was no memory for one
+abbrev pub TellsReport : Status → Option (List ℕ) → Status → SinkChange → Type 0
+TellsReport status None ended w = ExitsAs NoMemory ended no_memory_text w
+TellsReport Done (Some text) ended w = WritesWhole ended text w
+TellsReport status (Some text) ended w = ExitsAs status ended text w
 
 -- the report of a finished session, wherever it began: the status and the text are those of its run on the disk that was opened for it
 abbrev pub ReportsFinished : {D : Type 0} → Type 0 → Type 0 → (D → Files) → (D → ℕ) → (D → ℕ → Files → Type 0) → (D → ℕ) → Printing → List Request → ℕ → Finished D → Reported D → Type 0

@@ -9,10 +9,10 @@ use Rattle.ss_headline.specs.Layers.{Opened}
 use Rattle.ss_recover.specs.declared.recovered.Recovered.{Recovered}
 use Rattle.ss_recover.specs.Recovering.{recovered_database}
 use Rattle.ss_words.specs.declared.names.Show.{Show}
+use Rattle.ss_refusals.specs.declared.status.Status.{Status}
+use Rattle.ss_refusals.specs.declared.status.Status.TheVariants.{WriteFault, Disk}
+use Rattle.ss_refusals.specs.Sinks.{SinkChange}
 use Rattle.ss_top.specs.declared.session.Printing.{Printing}
-use Rattle.ss_top.specs.declared.status.Status.{Status}
-use Rattle.ss_top.specs.declared.status.Status.TheVariants.{WriteFault, Disk}
-use Rattle.ss_top.specs.Sinks.{SinkChange}
 use Rattle.ss_top.specs.Shows.{ShowEnds}
 use Rattle.ss_top.specs.Stores.{CameTo, RecoveredTo, WasOf}
 

@@ -7,12 +7,12 @@ use Rattle.ss_voter.specs.Script.{vote_requests}
 use Rattle.ss_voter.specs.VoterCatalog.{IsVoter}
 use Rattle.ss_words.specs.declared.names.Show.{Show}
 use Rattle.ss_headline.specs.Disks.{DiskChange}
+use Rattle.ss_refusals.specs.declared.status.Status.{Status}
+use Rattle.ss_refusals.specs.declared.status.Status.TheVariants.{NoMemory}
+use Rattle.ss_refusals.specs.Sinks.{SinkChange}
+use Rattle.ss_refusals.specs.Statuses.{no_memory_text}
 use Rattle.ss_top.specs.declared.session.Printing.TheVariants.{Summary}
-use Rattle.ss_top.specs.declared.status.Status.{Status}
-use Rattle.ss_top.specs.declared.status.Status.TheVariants.{NoMemory}
 use Rattle.ss_top.specs.Complete.{HasRoom, IsDoneOrShort}
-use Rattle.ss_top.specs.Sinks.{SinkChange}
-use Rattle.ss_top.specs.Statuses.{no_memory_text}
 use Rattle.ss_top.specs.Stores.{CameTo, EndsUncalled}
 
 -- the requests of a show

@@ -1,5 +1,5 @@
 -- What running requests on a store comes to, by the status with which the program ends.
-use Rattle.std.specs.Prelude.{◌≡◌, ◌≢◌, ◌⊎◌, ◌<◌, ℕ, true, List, [], length, codes}
+use Rattle.std.specs.Prelude.{◌≡◌, ◌≢◌, ◌⊎◌, ◌<◌, ℕ, true, List, [], length}
 use Rattle.ss_model.specs.declared.catalog.Catalog.{Catalog}
 use Rattle.ss_model.specs.declared.entry.Answer.{Answer}
 use Rattle.ss_model.specs.declared.entry.Listed.{Listed}
@@ -16,13 +16,13 @@ use Rattle.ss_headline.specs.Sentences.{room_from, stop_at}
 use Rattle.ss_headline.specs.Runs.{IsWholeRun, IsStoppedRun}
 use Rattle.ss_recover.specs.Faults.{HasFaultAt, IsStore}
 use Rattle.ss_engine.specs.Closings.{SomeReady}
+use Rattle.ss_refusals.specs.declared.status.Status.{Status}
+use Rattle.ss_refusals.specs.declared.status.Status.TheVariants.{Done, WriteFault, Disk, NoMemory, Foreign, OtherCatalog, Limit}
+use Rattle.ss_refusals.specs.Sinks.{SinkChange, Writes, WritesAll, WritesPrefix}
+use Rattle.ss_refusals.specs.Statuses.{status_number, disk_fault_text, foreign_text, no_memory_text, nothing_text, other_catalog_text}
 use Rattle.ss_top.specs.declared.session.Printing.{Printing}
 use Rattle.ss_top.specs.declared.session.Printing.TheVariants.{InFull, Summary}
-use Rattle.ss_top.specs.declared.status.Status.{Status}
-use Rattle.ss_top.specs.declared.status.Status.TheVariants.{Done, WriteFault, Disk, NoMemory, Foreign, OtherCatalog, Limit}
-use Rattle.ss_top.specs.Sinks.{SinkChange, Writes, WritesAll, WritesPrefix}
 use Rattle.ss_top.specs.Told.{WereTold, some_say_full}
-use Rattle.ss_top.specs.Statuses.{status_number, disk_fault_text, foreign_text, no_memory_text, other_catalog_text}
 
 -- ---- before the clients start
 
@@ -141,10 +141,6 @@ CameTo limit printing catalog requests Limit w disk = Ran limit printing catalog
 CameTo limit printing catalog requests Foreign w disk = IsForeign w disk
 CameTo limit printing catalog requests OtherCatalog w disk = IsOther catalog.text w disk
 CameTo limit printing catalog requests _ w disk = ⊥
-
--- the report on an empty disk: there were no executions
-abbrev pub nothing_text : List ℕ
-nothing_text = codes "[\"done\",0]\n"
 
 -- an empty disk was recovered: there is no execution, and the disk was read alone
 pub record RecoversNothing (told : List ℕ → Type 0) (disk : DiskChange) : Type 0 where

@@ -9,15 +9,15 @@ use Rattle.ss_model.specs.declared.catalog.Catalog.{Catalog}
 use Rattle.ss_model.specs.declared.entry.Request.{Request}
 use Rattle.ss_model.specs.Accepted.{Accepted}
 use Rattle.ss_headline.specs.Disks.{DiskChange}
+use Rattle.ss_refusals.specs.declared.status.Status.{Status}
+use Rattle.ss_refusals.specs.declared.status.Status.TheVariants.{Usage, Input, ReadFault, WriteFault, Disk, NoMemory}
+use Rattle.ss_refusals.specs.Inputs.{ExitsAsRefused, ExitsAsStarted, DidNotRise}
+use Rattle.ss_refusals.specs.Sinks.{SinkChange, SinkHeld, SourceChange, SourceHeld, Writes, IsRefused}
+use Rattle.ss_refusals.specs.Starts.{Starts}
+use Rattle.ss_refusals.specs.Statuses.{usage_text, read_fault_text, no_memory_text}
 use Rattle.ss_top.specs.declared.session.Printing.TheVariants.{InFull}
-use Rattle.ss_top.specs.declared.status.Status.{Status}
-use Rattle.ss_top.specs.declared.status.Status.TheVariants.{Usage, Input, ReadFault, WriteFault, Disk, NoMemory}
 use Rattle.ss_top.specs.Complete.{HasRoom, IsDoneOrShort}
-use Rattle.ss_top.specs.Inputs.{ExitsAsRefused, ExitsAsStarted, DidNotRise}
 use Rattle.ss_top.specs.Shows.{ShowEnds, IsCompleteShow}
-use Rattle.ss_top.specs.Sinks.{SinkChange, SinkHeld, SourceChange, SourceHeld, Writes, IsRefused}
-use Rattle.ss_top.specs.Starts.{Starts}
-use Rattle.ss_top.specs.Statuses.{usage_text, read_fault_text, no_memory_text}
 use Rattle.ss_top.specs.Stores.{CameTo, EndsUncalled, RecoveredTo}
 use Rattle.ss_words.specs.declared.names.Command.TheVariants.{Run, Recover, Voter}
 use Rattle.ss_words.specs.declared.command.Options.{Options}

@@ -6,12 +6,10 @@
 //!
 //! - `top`: the call `sstore`, and the same with a limit of its list
 //! - `store`: the store is opened or made, and serves a session; `session`: its requests run, and are reported
-//! - `input`: the lines of an input, read as a catalogue and requests, or their first refusal
 //! - `voter`: the catalogue and the script of the benchmark, in place of an input
-//! - `refusals`: what is written of an input that is refused, and with which status; `store_refusals`: the same of a disk
-//! - `status`: how a run ends
-//! - `command_line`: what is written where the words of the command line can't be had
-//! - `laws`: an input has one answer
+//!
+//! How an input is read, and what is written of it, of the words and of the disk where they are refused, `ss_refusals` says, with
+//! the statuses.
 //!
 //! Every call that takes `alloc` may find itself out of memory, which is then its error or its status.
 //!
@@ -21,7 +19,6 @@
 //! - Inside it `run_on_store` and `recover_store` (`came`) say what running requests on a store has come to, by status
 //!   (`ComesTo`, `RecoversTo`), and `run_and_report` (`reported`) that the status and the text of a session are those
 //!   of a whole run or a stopped one (`Reports`).
-//! - Law `an_input_has_one_answer`: an input starts with one catalogue and one list of requests, or has one refusal.
 //!
 //! # What a run is put together from
 //!
@@ -35,21 +32,13 @@
 //! - The laws `whole_runs` and `stopped_runs` take `Opened` of the disk up to the session, `Closed` with `Settled`, or
 //!   with `Receipted` and `LogEndsAsStopped`, of the disk from there on, and the answers to the clients. So a run
 //!   (`RanAs`) speaks of the disk that the program was given and of the one that it leaves.
-//! - `TellsReport` and `TellsRefusal` say which of the text was written, and with which status the program ends.
+//! - `TellsReport`, and `TellsRefusal` of `ss_refusals`, say which of the text was written, and with which status the program ends.
 #![tactic(auto)]
 
-mod command_line;
-mod input;
-mod laws;
-mod refusals;
 mod session;
-mod status;
 mod store;
-mod store_refusals;
 mod top;
 mod voter;
 
-pub use command_line::refuse_words;
-pub use laws::an_input_has_one_answer;
-pub use status::Status;
+pub use ss_refusals::{Status, refuse_words};
 pub use top::{MOST_ENTRIES, sstore, sstore_limited};

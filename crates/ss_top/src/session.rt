@@ -15,7 +15,6 @@ ghost use Rattle.ss_engine.specs.Sessions.{AreOfClients, IsLeftOver};
 ghost use Rattle.ss_top.specs.Runs.{settled_status, session_status, end_for, Reports, ReportsFinished};
 ghost use Rattle.ss_top.specs.Told.{says_full, say_full, some_say_full};
 
-use crate::status::Status;
 use ss_commitlog::Opening;
 use ss_disk::Disk;
 use ss_engine::{Closed, Finished, Gate, Settling, run_session};
@@ -23,6 +22,7 @@ use ss_headline::{full_lists_have_all, stopped_runs, whole_runs};
 use ss_model::{Answer, Request};
 use ss_proc::PlainRunner;
 use ss_recover::Recovered;
+use ss_refusals::Status;
 use ss_report::{End, write_report};
 use ss_shard::Database;
 use ss_value::Seq;

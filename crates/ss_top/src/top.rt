@@ -1,30 +1,24 @@
 //! The program's one call: from the bytes of a source to the bytes of a sink, on a disk.
 
-ghost use Rattle.std.specs.Prelude.{◌≡◌, ◌≤◌, ◌+◌, ◌^◌, IfOk, IfErr, OnOk, IfSome};
-ghost use Rattle.std.specs.Io.KnownBytes.{IsAtEnd};
+ghost use Rattle.std.specs.Prelude.{◌≤◌, ◌+◌};
 ghost use Rattle.ss_lines.specs.Causes.{TakesAtMost};
 ghost use Rattle.ss_lines.specs.Lines.{max_input};
-ghost use Rattle.ss_engine.specs.Clients.{AllFit};
 ghost use Rattle.ss_headline.specs.Disks.{disk_of};
-ghost use Rattle.ss_recover.specs.Recovering.{IsOwnCatalog};
-ghost use Rattle.ss_top.specs.Refused.{IsRefusedBy};
-ghost use Rattle.ss_top.specs.Sinks.{source_of, sink_of, LeavesOfRefusedSource};
+ghost use Rattle.ss_refusals.specs.Sinks.{source_of, sink_of};
 ghost use Rattle.ss_top.specs.Serving.{ComesToShow};
-ghost use Rattle.ss_top.specs.Starts.{Starts};
 ghost use Rattle.ss_top.specs.Top.{Ends, RunEndsSo, most_entries};
 
-use crate::input::{ParsedInput, ReadError, parse_input};
-use crate::laws::an_input_has_one_answer;
-use crate::refusals::{NO_MEMORY, USAGE, refuse, write_line};
 use crate::session::Printing;
-use crate::status::Status;
 use crate::store::{recover_store, run_on_store};
 use crate::voter::show_input;
 use ss_catalog::a_value_has_one_answer;
 use ss_disk::Disk;
 use ss_engine::Gate;
-use ss_lines::{Sink, Source, read_lines};
+use ss_lines::{Sink, Source};
 use ss_recover::a_disk_has_one_fault;
+use ss_refusals::{
+    NO_MEMORY, ParsedInput, Status, USAGE, an_input_has_one_answer, read_input, refuse, write_line,
+};
 use ss_words::{Command, CommandLine, Show, command_line};
 use std::alloc::Global;
 use std::sync::Wait;
@@ -32,24 +26,6 @@ use std::thread::Threads;
 
 /// The most entries that the list of a run may have.
 pub const MOST_ENTRIES: u64 = 1_000_000;
-
-/// Reads a source to its end, and answers what its bytes ask for. The lines are freed when it returns, before the run.
-fn read_input<S: Source>(alloc: Global, source: &mut S) -> Result<ParsedInput, ReadError>
-    ensures taken { TakesAtMost (max_input + 1) (S.left source.old) (S.left source.new) }
-    ensures counts { S.faults source.old ≤ S.faults source.new }
-    ensures end { OnOk result (IsAtEnd (S.left source.new)) }
-    ensures ok { IfOk result (λ p. IfSome (S.left source.old) (λ input. Starts input p.catalog p.requests)) }
-    ensures own { IfOk result (λ p. IsOwnCatalog p.catalog) }
-    ensures fit { IfOk result (λ p. AllFit p.catalog p.requests) }
-    ensures refused { IfErr result (λ e. IfSome (S.left source.old) (λ input. IsRefusedBy input e)) }
-    ensures leaves { IfErr result (λ e. LeavesOfRefusedSource e (S.faults source.old) (S.faults source.new) (S.left source.old) (S.left source.new)) }
-{
-    let lines = match read_lines(alloc, source) {
-        Ok(lines) => lines,
-        Err(e) => return Err(ReadError::Line(e)),
-    };
-    parse_input(alloc, lines.as_slice())
-}
 
 /// The command `run`: reads an input, runs what it asks for on the store, and reports.
 fn run<S: Source, K: Sink, D: Disk + Drop + Send, G: Gate + Drop + Sync, R: Threads + Wait + Sync>(

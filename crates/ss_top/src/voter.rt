@@ -6,10 +6,10 @@ ghost use Rattle.ss_recover.specs.Recovering.{IsOwnCatalog};
 ghost use Rattle.ss_voter.specs.VoterCatalog.{IsVoter};
 ghost use Rattle.ss_top.specs.Shows.{show_requests};
 
-use crate::input::ParsedInput;
 use serde_json::Value;
 use ss_catalog::read_catalog;
 use ss_model::Catalog;
+use ss_refusals::ParsedInput;
 use ss_value::NoMemory;
 use ss_voter::{voter_catalog, votes};
 use ss_words::Show;

@@ -4,7 +4,7 @@ use Rattle.ss_model.specs.declared.entry.Answer.{Answer}
 use Rattle.ss_report.specs.declared.run_end.End.{End}
 use Rattle.ss_report.specs.Reported.{IsReportOf, HasEndTables}
 use Rattle.ss_headline.specs.Disks.{disk_of}
-use Rattle.ss_top.specs.declared.status.Status.TheVariants.{NoMemory}
+use Rattle.ss_refusals.specs.declared.status.Status.TheVariants.{NoMemory}
 use Rattle.ss_top.specs.Runs.{session_status, end_for, Reports}
 use Rattle.ss_top.proofs.Running.{reported, unreported, end_tables, small_at}
 use Rattle.ss_top.proofs.Storing.{session_own}

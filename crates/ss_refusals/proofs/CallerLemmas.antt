@@ -1,0 +1,6 @@
+-- What crates above may rely on: the lemmas of this crate that they cite.
+
+-- A refusal of an input has one of three statuses; at two of them it has one text, and one of these comes only where a fault was counted.
+pub use Rattle.ss_refusals.proofs.RefusalStatuses.{OfRefusal, refusals_have, never, memory_text_is, read_fault_text_is, fault_rose}
+-- How the program ends where reading its input was refused.
+pub use Rattle.ss_refusals.proofs.RefusedEnds.{refused_ends_refused, refused_ends_started}

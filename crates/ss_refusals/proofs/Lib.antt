@@ -1,0 +1,7 @@
+pub mod CallerLemmas
+pub mod InputDepth
+pub mod InputRequests
+pub mod OneInput
+pub mod InputPremises
+pub mod RefusalStatuses
+pub mod RefusedEnds

@@ -1,0 +1,61 @@
+-- How the program ends where reading its input was refused.
+use Rattle.std.proofs.Common.{◌≡◌, ◌⊎◌, ◌∙◌, ℕ, Bool, true, false, List, Option, refl, sym, ap, subst, inl, inr}
+use Rattle.std.specs.Prelude.{IfSome}
+use Rattle.std.proofs.lemmas.Bool.{false≢true}
+use Rattle.std.proofs.lemmas.Option.{IfSome_then}
+use Rattle.ss_lines.specs.declared.line.LineError.TheVariants as cause
+use Rattle.ss_catalog.specs.declared.error.CatalogError.TheVariants as catalog
+use Rattle.ss_catalog_requests.specs.declared.request.RequestError.TheVariants as request
+use Rattle.ss_refusals.specs.declared.input.ReadError.{ReadError}
+use Rattle.ss_refusals.specs.declared.input.ReadError.TheVariants.{Line as OfLine, NoCatalog, Catalog as OfCatalog, Request as OfRequest}
+use Rattle.ss_refusals.specs.declared.status.Status.{Status}
+use Rattle.ss_refusals.specs.declared.status.Status.TheVariants.{NoMemory}
+use Rattle.ss_refusals.specs.Refused.{IsRefusedBy}
+use Rattle.ss_refusals.specs.Statuses.{refusal_status}
+use Rattle.ss_refusals.specs.Sinks.{SinkChange, ExitsRefused, LeavesOfRefusedSource}
+use Rattle.ss_refusals.specs.Inputs.{says_nothing, StartsOrRefused, HasOneRefusal, DidNotRise, ExitsAsRefused, ExitsAsStarted, OfStarted}
+
+-- a refusal that says nothing ends as out of memory, unless the source failed
+silent_ends : (e : ReadError) (faults now : ℕ) (left rest : Option (List ℕ)) → says_nothing e ≡ true → LeavesOfRefusedSource e faults now left rest → DidNotRise faults now → refusal_status e ≡ NoMemory
+silent_ends (OfLine cause.NoMemory) faults now left rest says leaves stayed = refl
+silent_ends (OfLine cause.ReadFault) faults now left rest says leaves stayed = absurd (stayed leaves)
+silent_ends (OfLine (cause.LineTooLong n)) faults now left rest says leaves stayed = absurd (false≢true says)
+silent_ends (OfLine cause.InputTooLong) faults now left rest says leaves stayed = absurd (false≢true says)
+silent_ends (OfLine (cause.NotJson n)) faults now left rest says leaves stayed = absurd (false≢true says)
+silent_ends NoCatalog faults now left rest says leaves stayed = absurd (false≢true says)
+silent_ends (OfCatalog n catalog.NoMemory) faults now left rest says leaves stayed = refl
+silent_ends (OfCatalog n e) faults now left rest says leaves stayed = absurd (false≢true says)
+silent_ends (OfRequest request.NoMemory) faults now left rest says leaves stayed = refl
+silent_ends (OfRequest e) faults now left rest says leaves stayed = absurd (false≢true says)
+
+-- the refusal says something and has this status, or the end is out of memory
+abbrev EndsSo : ReadError → Status → Type 0
+EndsSo e ended = ((says_nothing e ≡ false) × (ended ≡ refusal_status e)) ⊎ (ended ≡ NoMemory)
+
+ends_by_saying : (b : Bool) (e : ReadError) (ended : Status) (faults now : ℕ) (left rest : Option (List ℕ)) → says_nothing e ≡ b → LeavesOfRefusedSource e faults now left rest → DidNotRise faults now → ended ≡ refusal_status e → EndsSo e ended
+ends_by_saying true e ended faults now left rest says leaves stayed is = inr (is ∙ silent_ends e faults now left rest says leaves stayed)
+ends_by_saying false e ended faults now left rest says leaves stayed is = inl (says, is)
+
+ends_so : (e : ReadError) (ended : Status) (w : SinkChange) (faults now : ℕ) (left rest : Option (List ℕ)) → LeavesOfRefusedSource e faults now left rest → DidNotRise faults now → ExitsRefused e ended w → EndsSo e ended
+ends_so e ended w faults now left rest leaves stayed (inl reported) = ends_by_saying (says_nothing e) e ended faults now left rest refl leaves stayed reported.is
+ends_so e ended w faults now left rest leaves stayed (inr reported) = inr reported.is
+
+ends_as_refused : HasOneRefusal → (input : List ℕ) (e : ReadError) (ended : Status) → IsRefusedBy input e → EndsSo e ended → ExitsAsRefused input ended
+ends_as_refused one input e ended first (inl so) f other = inl (so.1 ∙ ap refusal_status (one input e f (record { first = first; says = so.0 }) other))
+ends_as_refused one input e ended first (inr memory) f other = inr memory
+
+ends_as_started : StartsOrRefused → (input : List ℕ) (e : ReadError) (ended : Status) → IsRefusedBy input e → EndsSo e ended → ExitsAsStarted input ended
+ends_as_started either input e ended first (inl so) c rs start = absurd (false≢true (sym so.0 ∙ either input c rs e start first))
+ends_as_started either input e ended first (inr memory) c rs start = subst OfStarted (sym memory) tt
+
+-- a refusal that is reported is the input's
+pub refused_ends_refused : HasOneRefusal → (left rest : Option (List ℕ)) (e : ReadError) (ended : Status) (w : SinkChange) (faults now : ℕ)
+    → IfSome left (λ input. IsRefusedBy input e) → LeavesOfRefusedSource e faults now left rest → ExitsRefused e ended w → DidNotRise faults now → IfSome left (λ input. ExitsAsRefused input ended)
+refused_ends_refused one left rest e ended w faults now refused leaves ends stayed =
+    IfSome_then left refused (λ input first. ends_as_refused one input e ended first (ends_so e ended w faults now left rest leaves stayed ends))
+
+-- and then the input doesn't start
+pub refused_ends_started : StartsOrRefused → (left rest : Option (List ℕ)) (e : ReadError) (ended : Status) (w : SinkChange) (faults now : ℕ)
+    → IfSome left (λ input. IsRefusedBy input e) → LeavesOfRefusedSource e faults now left rest → ExitsRefused e ended w → DidNotRise faults now → IfSome left (λ input. ExitsAsStarted input ended)
+refused_ends_started either left rest e ended w faults now refused leaves ends stayed =
+    IfSome_then left refused (λ input first. ends_as_started either input e ended first (ends_so e ended w faults now left rest leaves stayed ends))

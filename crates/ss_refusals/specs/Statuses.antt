@@ -1,0 +1,156 @@
+-- The numbers of statuses, and what is written at each.
+use Rattle.std.specs.Prelude.{ℕ, List, [], ◌∷◌, ◌++◌, codes, decimal}
+use Rattle.std.specs.declared.io.ErrorKind.{ErrorKind}
+use Rattle.std.specs.declared.io.ErrorKind.TheVariants.{OutOfMemory}
+use Rattle.serde_json.specs.Data.{Data, string}
+use Rattle.ss_lines.specs.declared.line.LineError.{LineError}
+use Rattle.ss_lines.specs.declared.line.LineError.TheVariants as cause
+use Rattle.ss_model.specs.ReportLines.{array_of, count, line_text}
+use Rattle.ss_catalog_outline.specs.declared.limits.Counted.{Counted}
+use Rattle.ss_catalog_outline.specs.declared.limits.Counted.TheVariants.{Tables, Streams, Windows, Triggers, Procedures, Columns, Inputs, Statements, Steps}
+use Rattle.ss_catalog.specs.declared.error.CatalogError.{CatalogError}
+use Rattle.ss_catalog.specs.declared.error.CatalogError.TheVariants as catalog
+use Rattle.ss_catalog_requests.specs.declared.request.RequestError.{RequestError}
+use Rattle.ss_catalog_requests.specs.declared.request.RequestError.TheVariants as request
+use Rattle.ss_refusals.specs.declared.input.ReadError.{ReadError}
+use Rattle.ss_refusals.specs.declared.input.ReadError.TheVariants.{Line as OfLine, NoCatalog, Catalog as OfCatalog, Request as OfRequest}
+use Rattle.ss_refusals.specs.declared.status.Status.{Status}
+use Rattle.ss_refusals.specs.declared.status.Status.TheVariants.{Done, Usage, Input, ReadFault, WriteFault, Disk, NoMemory, Foreign, OtherCatalog, Limit}
+
+-- the program's exit status
+abbrev pub status_number : Status → ℕ
+status_number Done = 0
+status_number Usage = 1
+status_number Input = 2
+status_number ReadFault = 3
+status_number WriteFault = 4
+status_number Disk = 5
+status_number NoMemory = 6
+status_number Foreign = 7
+status_number OtherCatalog = 8
+status_number Limit = 9
+
+-- ---- texts
+
+-- the bytes at status 0 where an empty disk is recovered: there were no executions
+abbrev pub nothing_text : List ℕ
+nothing_text = codes "[\"done\",0]\n"
+
+-- the bytes at status 1
+abbrev pub usage_text : List ℕ
+usage_text = codes "[\"usage\"]\n"
+
+-- the bytes at status 3
+abbrev pub read_fault_text : List ℕ
+read_fault_text = codes "[\"read_fault\"]\n"
+
+-- the bytes at status 5 where no client had started
+abbrev pub disk_fault_text : List ℕ
+disk_fault_text = codes "[\"disk_fault\"]\n"
+
+-- the bytes at status 6
+abbrev pub no_memory_text : List ℕ
+no_memory_text = codes "[\"no_memory\"]\n"
+
+-- the bytes at status 7: the file that is no store's, and its first byte that can't be
+abbrev pub foreign_text : ℕ → ℕ → List ℕ
+foreign_text file at = line_text (array_of (string (codes "foreign") ∷ count file ∷ count at ∷ []))
+
+-- the bytes at status 8: the text of the stored catalogue and that of the given one
+abbrev pub other_catalog_text : List ℕ → List ℕ → List ℕ
+other_catalog_text stored given = line_text (array_of (string (codes "other_catalog") ∷ string stored ∷ string given ∷ []))
+
+-- a refused line with its code, and what it is refused for
+abbrev pub input_text : ℕ → List ℕ → List Data → List ℕ
+input_text line code about = line_text (array_of (string (codes "input") ∷ count line ∷ string code ∷ about))
+
+-- what a fault of a SQL text is refused for
+abbrev pub sql_fault : List ℕ → ℕ → List ℕ → ℕ → List Data
+sql_fault name step code at = string name ∷ count step ∷ string code ∷ count at ∷ []
+
+-- ---- the texts of refusals
+
+-- the code of a fault of a SQL text
+abbrev pub fault_code : ℕ → List ℕ
+fault_code code = codes "S" ++ decimal code
+
+-- the word for what there are too many of
+abbrev pub counted_word : Counted → List ℕ
+counted_word Tables = codes "tables"
+counted_word Streams = codes "streams"
+counted_word Windows = codes "windows"
+counted_word Triggers = codes "triggers"
+counted_word Procedures = codes "procedures"
+counted_word Columns = codes "columns"
+counted_word Inputs = codes "inputs"
+counted_word Statements = codes "statements"
+counted_word Steps = codes "steps"
+
+-- the bytes of a refusal of one line's bytes, or of all bytes
+abbrev pub bytes_refusal : LineError → List ℕ
+bytes_refusal cause.NoMemory = no_memory_text
+bytes_refusal cause.ReadFault = read_fault_text
+bytes_refusal (cause.LineTooLong line) = input_text line (codes "L2") []
+bytes_refusal cause.InputTooLong = input_text 0 (codes "L3") []
+bytes_refusal (cause.NotJson line) = input_text line (codes "L4") []
+
+-- the bytes of a refusal of the catalogue on this line
+abbrev pub catalog_refusal : ℕ → CatalogError → List ℕ
+catalog_refusal line catalog.NoMemory = no_memory_text
+catalog_refusal line (catalog.Shape path) = input_text line (codes "C1") (string path ∷ [])
+catalog_refusal line (catalog.Twice name) = input_text line (codes "C2") (string name ∷ [])
+catalog_refusal line (catalog.Unknown name) = input_text line (codes "C3") (string name ∷ [])
+catalog_refusal line (catalog.SqlFault name step fault) = input_text line (codes "C4") (string name ∷ count step ∷ string (fault_code fault.code) ∷ count fault.at ∷ [])
+catalog_refusal line (catalog.WorkflowCycle name) = input_text line (codes "C5") (string name ∷ [])
+catalog_refusal line (catalog.TriggerCycle name) = input_text line (codes "C6") (string name ∷ [])
+catalog_refusal line (catalog.LocalityBroken name step) = input_text line (codes "C7") (string name ∷ count step ∷ [])
+catalog_refusal line (catalog.StreamEnds name) = input_text line (codes "C8") (string name ∷ [])
+catalog_refusal line (catalog.WindowOwner name) = input_text line (codes "C9") (string name ∷ [])
+catalog_refusal line (catalog.Limit counted) = input_text line (codes "C10") (string (counted_word counted) ∷ [])
+
+-- the bytes of a refusal of a request
+abbrev pub request_refusal : RequestError → List ℕ
+request_refusal request.NoMemory = no_memory_text
+request_refusal (request.Shape line) = input_text line (codes "C11") []
+request_refusal (request.UnknownTarget line) = input_text line (codes "C12") []
+request_refusal (request.Arguments line) = input_text line (codes "C13") []
+request_refusal (request.TooManyRows line) = input_text line (codes "C14") []
+
+-- the bytes of a refusal; where there is no catalogue, that is refused as a whole, on line 1
+abbrev pub refusal_text : ReadError → List ℕ
+refusal_text (OfLine e) = bytes_refusal e
+refusal_text NoCatalog = input_text 1 (codes "C1") (string (codes "$") ∷ [])
+refusal_text (OfCatalog line e) = catalog_refusal line e
+refusal_text (OfRequest e) = request_refusal e
+
+-- ---- the statuses of refusals
+
+-- the status of a refusal of one line's bytes, or of all bytes
+abbrev pub bytes_status : LineError → Status
+bytes_status cause.NoMemory = NoMemory
+bytes_status cause.ReadFault = ReadFault
+bytes_status _ = Input
+
+-- the status of a refusal of the catalogue
+abbrev pub catalog_status : CatalogError → Status
+catalog_status catalog.NoMemory = NoMemory
+catalog_status _ = Input
+
+-- the status of a refusal of a request
+abbrev pub request_status : RequestError → Status
+request_status request.NoMemory = NoMemory
+request_status _ = Input
+
+-- the status of a refusal
+abbrev pub refusal_status : ReadError → Status
+refusal_status (OfLine e) = bytes_status e
+refusal_status NoCatalog = Input
+refusal_status (OfCatalog line e) = catalog_status e
+refusal_status (OfRequest e) = request_status e
+
+-- ---- the words of the command line
+
+-- the status where the words can't be had: out of memory, or a faulty command line
+abbrev pub words_status : ErrorKind → Status
+words_status OutOfMemory = NoMemory
+words_status _ = Usage

@@ -1,0 +1,138 @@
+//! An input: a catalogue on its first line, and then a request on each line.
+
+ghost use Rattle.std.specs.Prelude.{◌≡◌, ◌≤◌, ◌+◌, IfOk, IfErr, IfSome, OnOk, true};
+ghost use Rattle.std.specs.List.{list_all};
+ghost use Rattle.std.specs.Io.KnownBytes.{IsAtEnd};
+ghost use Rattle.ss_lines.specs.Causes.{TakesAtMost};
+ghost use Rattle.ss_lines.specs.Lines.{max_input};
+ghost use Rattle.ss_model.specs.Database.{fits_entry};
+ghost use Rattle.ss_model.specs.Report.{asked_entries, asked_entry};
+ghost use Rattle.ss_recover.specs.Recovering.{IsOwnCatalog};
+ghost use Rattle.ss_refusals.specs.Starts.{SaysCatalog, AsksFor, AskInOrder, StartLines, Starts};
+ghost use Rattle.ss_refusals.specs.Refused.{RefusesFirst, RefusesLater, RefusesAmong, RefusesLines, ComesOfLines, IsRefusedBy};
+ghost use Rattle.ss_refusals.specs.Sinks.{LeavesOfRefusedSource};
+
+use ss_catalog::{CatalogError, read_catalog};
+use ss_catalog_requests::{RequestError, request_of};
+use ss_lines::{Line, LineError, Source, line_value, read_lines};
+use ss_model::{Catalog, Request};
+use ss_value::Seq;
+use std::alloc::Global;
+
+/// Why an input isn't read.
+#[derive(Drop)]
+pub enum ReadError {
+    /// A line, or the whole input, is refused before a value is looked at; or the source failed; or out of memory.
+    Line(LineError),
+    /// There is no line, and so no catalogue.
+    NoCatalog,
+    /// The value of the first line isn't a catalogue; or out of memory.
+    Catalog {
+        /// The line's number.
+        line: u64,
+        error: CatalogError,
+    },
+    /// The value of a later line isn't a request of the catalogue; or out of memory.
+    Request(RequestError),
+}
+
+/// What an input asks for: a catalogue, and requests in order.
+#[derive(Drop)]
+pub struct ParsedInput {
+    pub catalog: Catalog,
+    pub requests: Seq<Request>,
+}
+
+/// The catalogue of the first line, or the line's first refusal.
+fn catalog_at(alloc: Global, line: &Line) -> Result<Catalog, ReadError>
+    ensures ok { IfOk result (SaysCatalog line.now) }
+    ensures own { IfOk result IsOwnCatalog }
+    ensures refused { IfErr result (RefusesFirst line.now) }
+    ensures others { IfErr result ComesOfLines }
+{
+    let value = match line_value(alloc, line) {
+        Ok(value) => value,
+        Err(error) => return Err(ReadError::Line(error)),
+    };
+    read_catalog(alloc, &value).map_err(|error| ReadError::Catalog {
+        line: line.number,
+        error,
+    })
+}
+
+/// The request that a later line asks for, or the line's first refusal.
+fn request_at(alloc: Global, catalog: &Catalog, line: &Line) -> Result<Request, ReadError>
+    ensures ok { IfOk result (AsksFor catalog.now line.now) }
+    ensures fits { IfOk result (λ r. fits_entry catalog.now (asked_entry r.client 0 r.what) ≡ true) }
+    ensures refused { IfErr result (RefusesLater catalog.now line.now) }
+    ensures others { IfErr result ComesOfLines }
+{
+    let value = match line_value(alloc, line) {
+        Ok(value) => value,
+        Err(error) => return Err(ReadError::Line(error)),
+    };
+    request_of(alloc, catalog, line.number, &value).map_err(ReadError::Request)
+}
+
+/// The requests of all later lines, or the first refusal.
+fn requests_at(alloc: Global, catalog: &Catalog, lines: &[Line]) -> Result<Seq<Request>, ReadError>
+    ensures ok { IfOk result (AskInOrder catalog.now lines.now) }
+    ensures fit { IfOk result (λ requests. list_all (fits_entry catalog.now) (asked_entries requests) ≡ true) }
+    ensures refused { IfErr result (RefusesAmong catalog.now lines.now) }
+    ensures others { IfErr result ComesOfLines }
+{
+    let mut requests = Seq::new(alloc);
+    for line in lines {
+        let request = request_at(alloc, catalog, line)?;
+        // Out of memory is reported alike by each kind of `ReadError` that has it.
+        if requests.push(request).is_err() {
+            return Err(ReadError::Line(LineError::NoMemory));
+        }
+    }
+    Ok(requests)
+}
+
+/// What the lines ask for.
+///
+/// The lines are read in order: the first is the catalogue's, each other a request's. The first refusal of all is the
+/// answer. Of one line it is that it is too long, then that it is no JSON, then that its value is refused as a
+/// catalogue or a request; nothing is said of a later line. The lines are there already, so neither a fault of the source
+/// nor an input that is too long is answered here.
+///
+/// Costs what `read_catalog` and `request_of` cost, and time linear in the bytes of the lines.
+fn parse_input(alloc: Global, lines: &[Line]) -> Result<ParsedInput, ReadError>
+    ensures ok { IfOk result (λ p. StartLines lines.now p.catalog p.requests) }
+    ensures own { IfOk result (λ p. IsOwnCatalog p.catalog) }
+    ensures fit { IfOk result (λ p. list_all (fits_entry p.catalog) (asked_entries p.requests) ≡ true) }
+    ensures refused { IfErr result (RefusesLines lines.now) }
+    ensures others { IfErr result ComesOfLines }
+{
+    let Some((first, rest)) = lines.split_first() else {
+        return Err(ReadError::NoCatalog);
+    };
+    let catalog = catalog_at(alloc, first)?;
+    let requests = requests_at(alloc, &catalog, rest)?;
+    Ok(ParsedInput { catalog, requests })
+}
+
+/// Reads a source to its end, and answers what its bytes ask for, or their first refusal.
+///
+/// A fault of the source and an input that is too long come before anything is said of a line. The lines are freed when it
+/// returns, before the run. Takes their memory and that of the values. Costs what `read_catalog` and
+/// `request_of` cost, and time linear in the bytes.
+pub fn read_input<S: Source>(alloc: Global, source: &mut S) -> Result<ParsedInput, ReadError>
+    ensures taken { TakesAtMost (max_input + 1) (S.left source.old) (S.left source.new) }
+    ensures counts { S.faults source.old ≤ S.faults source.new }
+    ensures end { OnOk result (IsAtEnd (S.left source.new)) }
+    ensures ok { IfOk result (λ p. IfSome (S.left source.old) (λ input. Starts input p.catalog p.requests)) }
+    ensures own { IfOk result (λ p. IsOwnCatalog p.catalog) }
+    ensures fit { IfOk result (λ p. list_all (fits_entry p.catalog) (asked_entries p.requests) ≡ true) }
+    ensures refused { IfErr result (λ e. IfSome (S.left source.old) (λ input. IsRefusedBy input e)) }
+    ensures leaves { IfErr result (λ e. LeavesOfRefusedSource e (S.faults source.old) (S.faults source.new) (S.left source.old) (S.left source.new)) }
+{
+    let lines = match read_lines(alloc, source) {
+        Ok(lines) => lines,
+        Err(e) => return Err(ReadError::Line(e)),
+    };
+    parse_input(alloc, lines.as_slice())
+}

@@ -1,7 +1,0 @@
-use Rattle.std.proofs.Common.{take}
-use Rattle.ss_top.specs.Starts.{AskInOrder}
-use Rattle.ss_top.proofs.InputRequests.{EachFits}
-use Rattle.ss_top.proofs.input.requests_at.Given as goal
-
-abbrev pub invariant-loop-line : goal.invariant-loop-line
-invariant-loop-line l = record { asked : AskInOrder l.catalog (take l.line-index l.lines) l.requests; fits : EachFits l.catalog l.requests }
