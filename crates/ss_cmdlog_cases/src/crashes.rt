@@ -4,7 +4,7 @@ ghost use Rattle.std.specs.Prelude.{◌<◌};
 ghost use Rattle.ss_disk.specs.Calls.{memory_calls};
 
 use crate::stores::{answer_of as read_of, store_of_steps};
-use crate::words::number_of;
+use crate::words::{number_of, said};
 use ss_case_files::Wrong;
 use ss_disk::{MemoryDisk, Torn};
 use std::alloc::Global;
@@ -45,11 +45,11 @@ pub fn crashes_from(alloc: Global, disk: &MemoryDisk, from: u64) -> Result<Strin
 }
 
 /// What a crash in a call leaves of a disk, if it was called so often.
-fn left_of(alloc: Global, disk: MemoryDisk, call: u64) -> Result<String, Wrong> {
+fn left_of(alloc: Global, disk: &MemoryDisk, call: u64) -> Result<String, Wrong> {
     if call < disk.calls() {
-        crash_in(alloc, &disk, call)
+        crash_in(alloc, disk, call)
     } else {
-        Ok(String::from_str(alloc, "no such call")?)
+        said(alloc, "no such call")
     }
 }
 
@@ -57,5 +57,5 @@ fn left_of(alloc: Global, disk: MemoryDisk, call: u64) -> Result<String, Wrong> 
 pub fn answer_of(alloc: Global, given: &str) -> Result<String, Wrong> {
     let call = number_of(alloc, given)?;
     let disk = store_of_steps(alloc)?;
-    left_of(alloc, disk, call)
+    left_of(alloc, &disk, call)
 }

@@ -1,11 +1,15 @@
 //! A disk that fails in one call.
 
+ghost use Rattle.std.specs.Prelude.{◌≡◌, length, All};
+ghost use Rattle.ss_record.specs.Bounds.{IsRecordable};
+
 use crate::crashes::crashes_from;
 use crate::stores::{answer_of, three_steps};
-use crate::words::number_of;
+use crate::words::{number_of, said};
 use ss_case_files::Wrong;
 use ss_cmdlog::{CmdLog, LogError, Receipt};
 use ss_disk::{Disk, MemoryDisk};
+use ss_model::Entry;
 use ss_value::{NoMemory, Seq};
 use std::alloc::Global;
 
@@ -13,7 +17,7 @@ use std::alloc::Global;
 fn refusal_of(alloc: Global, refused: LogError) -> Result<String, Wrong> {
     match refused {
         LogError::NoMemory => Err(Wrong::NoMemory),
-        LogError::DiskFault => Ok(String::from_str(alloc, "disk fault")?),
+        LogError::DiskFault => said(alloc, "disk fault"),
         LogError::Foreign { file, at } => Ok(format!(in alloc; "{file}@{at}")?),
         LogError::Halted { faults } => Ok(format!(in alloc; "halted at {faults}")?),
     }
@@ -65,24 +69,33 @@ fn one_call(alloc: Global, call: u64) -> Result<Seq<u64>, NoMemory> {
     Ok(calls)
 }
 
-/// A store of three steps on a disk that fails at one call: what a flush of three more answers, and the disk behind that.
-pub fn flushes_failing_at(alloc: Global, given: &str) -> Result<String, Wrong> {
-    let entries = three_steps(alloc)?;
-    let fails = one_call(alloc, number_of(alloc, given)?)?;
+/// A store of these entries on a disk that fails at one call: what a flush of them again answers, and the disk behind that.
+fn flushes_of(alloc: Global, entries: &Seq<Entry>, call: u64) -> Result<String, Wrong>
+    requires recordable { All IsRecordable entries.now }
+    requires three { length entries.now ≡ 3 }
+{
+    let fails = one_call(alloc, call)?;
     let Ok(mut log) = CmdLog::format(alloc, MemoryDisk::new(alloc, fails), &[7, 8]) else {
         return Err(Wrong::text(alloc, "no store"));
     };
-    if log.flush(&entries).is_err() {
+    if log.flush(entries).is_err() {
         return Err(Wrong::text(alloc, "not flushed"));
     }
-    let answer = log.flush(&entries);
+    let answer = log.flush(entries);
     let later = match answer {
-        Err(LogError::DiskFault) => Some(log.flush(&entries)),
+        Err(LogError::DiskFault) => Some(log.flush(entries)),
         _ => None,
     };
     let disk = disk_after(alloc, log.into_disk(), 11)?;
     let answer = words_of_both(alloc, answer, later)?;
     Ok(format!(in alloc; "{answer}, {disk}")?)
+}
+
+/// A store of three steps on a disk that fails at one call: what a flush of three more answers, and the disk behind that.
+pub fn flushes_failing_at(alloc: Global, given: &str) -> Result<String, Wrong> {
+    let call = number_of(alloc, given)?;
+    let entries = three_steps(alloc)?;
+    flushes_of(alloc, &entries, call)
 }
 
 /// Why a store is not made or not opened, and the disk behind that.
@@ -107,7 +120,7 @@ pub fn opening_failing_at(alloc: Global, given: &str) -> Result<String, Wrong> {
         Err((refused, disk)) => return not_so(alloc, "not made", refused, disk, call),
     };
     match CmdLog::open(alloc, log.into_disk()) {
-        Ok(_) => Ok(String::from_str(alloc, "opened")?),
+        Ok(_) => said(alloc, "opened"),
         Err((refused, disk)) => not_so(alloc, "not opened", refused, disk, call),
     }
 }

@@ -19,7 +19,7 @@
 //! crash has three answers: where each unsynced range holds its old bytes, its new ones, and dashes. In a STORY they stand
 //! behind their call, for each call from the first that matters.
 //!
-//! - `words`: bytes, numbers and files from text
+//! - `words`: bytes, numbers and files from text, and text as an answer
 //! - `records`: records at their bounds
 //! - `stores`: stores on a disk in memory, and what is read of one
 //! - `files`: the bytes of one, as docs/FORMATS.md shows them; `damage`: bytes that can't be

@@ -2,7 +2,7 @@
 
 ghost use Rattle.ss_record.specs.Bounds.{IsRecordable};
 
-use crate::words::bytes_of;
+use crate::words::{bytes_of, said};
 use ss_case_files::Wrong;
 use ss_model::Entry;
 use ss_record::{RecordError, read_record, write_record};
@@ -48,5 +48,5 @@ pub fn answer_of(alloc: Global, given: &str) -> Result<String, Wrong> {
         Err(RecordError::BadKind) => "bad kind",
         Err(RecordError::BadField) => "bad field",
     };
-    Ok(String::from_str(alloc, refused)?)
+    said(alloc, refused)
 }

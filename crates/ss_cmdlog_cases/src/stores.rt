@@ -5,6 +5,7 @@
 ghost use Rattle.std.specs.Prelude.{◌≡◌, ◌≤◌, ◌^◌, length, All, IfOk};
 ghost use Rattle.ss_record.specs.Bounds.{IsRecordable};
 
+use crate::words::said;
 use ss_case_files::Wrong;
 use ss_cmdlog::{CmdLog, Loaded, LogError};
 use ss_disk::{Disk, FileNo, MemoryDisk};
@@ -66,13 +67,36 @@ fn words_of(
     }
 }
 
+/// A disk.
+struct Kept {
+    disk: MemoryDisk,
+}
+
+// By hand, so that letting it go is one call.
+impl Drop for Kept {
+    fn drop(self) {
+        let Kept { disk: _ } = self;
+    }
+}
+
+impl Kept {
+    /// The disk itself.
+    fn into_disk(self) -> MemoryDisk
+        ensures { result ≡ self.disk }
+    {
+        let Kept { disk } = self;
+        disk
+    }
+}
+
 /// What is read of a disk.
-pub fn answer_of(alloc: Global, mut disk: MemoryDisk) -> Result<String, Wrong> {
-    match disk.len(FileNo::Selector) {
-        Ok(0) => return Ok(String::from_str(alloc, "empty")?),
+pub fn answer_of(alloc: Global, disk: MemoryDisk) -> Result<String, Wrong> {
+    let mut kept = Kept { disk };
+    match kept.disk.len(FileNo::Selector) {
+        Ok(0) => return said(alloc, "empty"),
         Ok(_) => {}
         Err(_) => return Err(Wrong::text(alloc, "no length")),
     }
-    let opened = CmdLog::open(alloc, disk);
+    let opened = CmdLog::open(alloc, kept.into_disk());
     words_of(alloc, &opened)
 }

@@ -1,4 +1,4 @@
-//! Bytes, numbers and files from text.
+//! Bytes, numbers and files from text, and text as an answer.
 
 use ss_case_files::Wrong;
 use ss_disk::FileNo;
@@ -10,6 +10,11 @@ pub fn number_of(alloc: Global, word: &str) -> Result<u64, Wrong> {
         Ok(number) => Ok(number),
         Err(_) => Err(Wrong::text(alloc, "no number")),
     }
+}
+
+/// These words, as an answer.
+pub fn said(alloc: Global, words: &str) -> Result<String, Wrong> {
+    Ok(String::from_str(alloc, words)?)
 }
 
 /// The file that a word names.

@@ -1,3 +1,3 @@
 pub mod Lives
-pub mod Popped
+pub mod Marks
 pub mod Rightly

@@ -1,5 +1,5 @@
 -- The names under which the tests open a log.
-use Rattle.std.specs.Prelude.{◌≡◌, ◌≤◌, ℕ, List, [], ◌∷◌, ◌++◌}
+use Rattle.std.specs.Prelude.{◌≡◌, ◌≤◌, ℕ, List, [], ◌∷◌}
 use Rattle.ss_model.specs.declared.catalog.Catalog.{Catalog}
 use Rattle.ss_model.specs.Database.{Database, empty_database}
 use Rattle.ss_commitlog.specs.declared.role.Role.TheVariants.{Part, Client, Disk}
@@ -17,7 +17,3 @@ pair_of n first = known (Part n) [] first 0 ∷ known (Client n) [] first 0 ∷ 
 -- what the thread of client 1 begins with: its marks and the disk's note at the opening, and the opening's number, which is small
 abbrev pub BeginsAt : ℕ → List Known → Known → ℕ → Type 0
 BeginsAt opened marks note first = (marks ≡ pair_of 1 opened) × (note ≡ known Disk [] opened 0) × (first ≡ opened) × (first ≤ 100)
-
--- these are the last two tokens of a list
-abbrev pub EndsWith : List Known → Known → Known → Type 0
-EndsWith tokens x y = (l m : List Known) × (tokens ≡ l ++ y ∷ []) × (l ≡ m ++ x ∷ [])

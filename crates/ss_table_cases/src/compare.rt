@@ -116,24 +116,18 @@ pub fn live_below(table: &Table, slots: usize) -> usize {
         .count()
 }
 
-/// What a table and a map differ in, asked for these keys and among as many slots. The empty text where they hold the same.
-pub fn difference(
-    alloc: Global,
-    table: &Table,
-    map: &Rows,
-    keys: &[Row],
-) -> Result<&'static str, Wrong> {
-    if !walk_alike(table, map) {
-        return Ok("the walk differs");
-    }
-    if !near_alike(table, map) {
-        return Ok("the walk by hints differs");
-    }
-    if !gets_alike(alloc, table, map, keys)? {
-        return Ok("a key is found otherwise");
-    }
-    if live_below(table, keys.len()) != map.len() {
-        return Ok("another slot is live");
-    }
-    Ok("")
+/// A table and a map have to hold the same, asked for these keys and among as many slots.
+pub fn hold_the_same(alloc: Global, table: &Table, map: &Rows, keys: &[Row]) -> Result<(), Wrong> {
+    let difference = if !walk_alike(table, map) {
+        "the walk differs"
+    } else if !near_alike(table, map) {
+        "the walk by hints differs"
+    } else if !gets_alike(alloc, table, map, keys)? {
+        "a key is found otherwise"
+    } else if live_below(table, keys.len()) != map.len() {
+        "another slot is live"
+    } else {
+        return Ok(());
+    };
+    Err(Wrong::text(alloc, difference))
 }

@@ -1,6 +1,6 @@
 //! Runs the calls of a row on tables and on plain maps side by side.
 
-use crate::compare::{difference, live_below};
+use crate::compare::{hold_the_same, live_below};
 use crate::plain::{Plain, key_of};
 use crate::real::Real;
 use crate::words::{columns_of, first_word, number_of, numbered_row, row_of};
@@ -83,43 +83,34 @@ impl Sides {
 
     // ---- calls
 
-    /// Inserts a row on both sides, and answers whether both refuse it for this reason, or neither where there is
-    /// none.
-    fn insert(
-        &mut self,
-        alloc: Global,
-        row: &Row,
-        want: Option<TableError>,
-    ) -> Result<bool, Wrong> {
+    /// Inserts a row on both sides, which both have to refuse for this reason, or neither where there is none.
+    fn insert(&mut self, alloc: Global, row: &Row, want: Option<TableError>) -> Result<(), Wrong> {
         let key = key_of(alloc, self.key.as_slice(), row)?;
         let limit = self.limit;
         let plain = self.plain_here().insert(alloc, limit, &key, row)?;
         self.keys.push(key)?;
         let real = self.real.insert(alloc, self.at, row)?;
-        Ok(plain == want && real == want)
+        answered(alloc, plain == want && real == want)
     }
 
     /// Inserts `count` rows on both sides, with numbers below `count` for `#`: from 0 on, each `skip` further than the last,
-    /// and around at the end. Answers whether none is refused.
-    fn fill(&mut self, alloc: Global, count: usize, given: &str) -> Result<bool, Wrong> {
+    /// and around at the end. None may be refused.
+    fn fill(&mut self, alloc: Global, count: usize, given: &str) -> Result<(), Wrong> {
         let (skip, words) = first_word(given);
         let skip = number_of(alloc, skip)?;
         let mut number = 0usize;
         for _ in 0..count {
-            let row = numbered_row(alloc, words, number)?;
-            if !self.insert(alloc, &row, None)? {
-                return Ok(false);
-            }
+            self.insert(alloc, &numbered_row(alloc, words, number)?, None)?;
             number = number.wrapping_add(skip).checked_rem(count).unwrap_or(0);
         }
-        Ok(true)
+        Ok(())
     }
 
-    /// Deletes the row of a key on both sides, and answers whether both had one.
-    fn delete(&mut self, alloc: Global, key: &Row) -> Result<bool, Wrong> {
+    /// Deletes the row of a key on both sides, which both have to have, or neither.
+    fn delete(&mut self, alloc: Global, key: &Row, want: bool) -> Result<(), Wrong> {
         let plain = self.plain_here().delete(key);
         let real = self.real.delete(alloc, self.at, key)?;
-        Ok(plain && real)
+        answered(alloc, plain == want && real == want)
     }
 
     /// The keys of every `step`th row, from the first on, in the order of the keys.
@@ -133,99 +124,92 @@ impl Sides {
         Ok(keys)
     }
 
-    /// Deletes every `step`th row on both sides, and answers whether both had them.
-    fn thin(&mut self, alloc: Global, step: usize) -> Result<bool, Wrong> {
+    /// Deletes every `step`th row on both sides.
+    fn thin(&mut self, alloc: Global, step: usize) -> Result<(), Wrong> {
         for key in self.each(alloc, step)?.as_slice() {
-            if !self.delete(alloc, key)? {
-                return Ok(false);
-            }
+            self.delete(alloc, key, true)?;
         }
-        Ok(true)
+        Ok(())
     }
 
-    /// Puts a row in place of the one with its key on both sides, and answers whether both had one.
-    fn replace(&mut self, alloc: Global, row: &Row) -> Result<bool, Wrong> {
+    /// Puts a row in place of the one with its key on both sides, which both have to have.
+    fn replace(&mut self, alloc: Global, row: &Row) -> Result<(), Wrong> {
         let key = key_of(alloc, self.key.as_slice(), row)?;
         let plain = self.plain_here().replace(alloc, &key, row)?;
         let real = self.real.replace(alloc, self.at, &key, row)?;
-        Ok(plain && real)
+        answered(alloc, plain && real)
     }
 
     /// Deletes the row with a row's key and inserts the row, `count` times, on both sides.
-    fn again(&mut self, alloc: Global, count: usize, row: &Row) -> Result<bool, Wrong> {
+    fn again(&mut self, alloc: Global, count: usize, row: &Row) -> Result<(), Wrong> {
         let key = key_of(alloc, self.key.as_slice(), row)?;
         for _ in 0..count {
-            if !self.delete(alloc, &key)? || !self.insert(alloc, row, None)? {
-                return Ok(false);
-            }
+            self.delete(alloc, &key, true)?;
+            self.insert(alloc, row, None)?;
         }
-        Ok(true)
+        Ok(())
     }
 
-    /// Whether no row has a key.
-    fn is_absent(&mut self, alloc: Global, key: &Row) -> Result<bool, Wrong> {
+    /// Asks both sides for a key that neither may have.
+    fn absent(&mut self, alloc: Global, key: &Row) -> Result<(), Wrong> {
         self.keys.push(copy_row(alloc, key)?)?;
-        let plain = self.plain_here().delete(key);
-        let real = self.real.delete(alloc, self.at, key)?;
-        Ok(!plain && !real)
+        self.delete(alloc, key, false)
     }
 
-    /// Whether all rows stand in the first slots.
-    fn stands_below(&self, alloc: Global, slots: usize) -> Result<bool, Wrong> {
+    /// All rows have to stand in the first slots.
+    fn stand_below(&self, alloc: Global, slots: usize) -> Result<(), Wrong> {
         let live = live_below(self.real.table(alloc, self.at)?, slots);
-        Ok(live == self.plain(self.at).rows().len())
+        answered(alloc, live == self.plain(self.at).rows().len())
     }
 
     /// Commits all changes on both sides.
-    fn commit(&mut self, alloc: Global) -> Result<bool, Wrong> {
+    fn commit(&mut self, alloc: Global) -> Result<(), Wrong> {
         self.real.commit(alloc);
         self.first.commit(alloc)?;
-        self.second.commit(alloc)?;
-        Ok(true)
+        self.second.commit(alloc)
     }
 
     /// Rolls all changes back on both sides.
-    fn rollback(&mut self, alloc: Global) -> Result<bool, Wrong> {
+    fn rollback(&mut self, alloc: Global) -> Result<(), Wrong> {
         self.real.rollback(alloc);
         self.first.rollback(alloc)?;
-        self.second.rollback(alloc)?;
-        Ok(true)
+        self.second.rollback(alloc)
     }
 
     // ---- calls by their words
 
-    /// Makes a call that is given a row or a key, and answers whether both sides answer as it says.
-    fn call_on_row(&mut self, alloc: Global, name: &str, row: &Row) -> Result<bool, Wrong> {
+    /// Makes a call that is given a row or a key.
+    fn call_on_row(&mut self, alloc: Global, name: &str, row: &Row) -> Result<(), Wrong> {
         match name {
             "insert" => self.insert(alloc, row, None),
             "taken" => self.insert(alloc, row, Some(TableError::KeyTaken)),
             "full" => self.insert(alloc, row, Some(TableError::Full)),
-            "delete" => self.delete(alloc, row),
-            "absent" => self.is_absent(alloc, row),
+            "delete" => self.delete(alloc, row, true),
+            "absent" => self.absent(alloc, row),
             "replace" => self.replace(alloc, row),
             _ => Err(Wrong::text(alloc, "no such call")),
         }
     }
 
-    /// Makes a call that is given a count, and answers whether both sides answer as it says.
-    fn call_counted(&mut self, alloc: Global, name: &str, given: &str) -> Result<bool, Wrong> {
+    /// Makes a call that is given a count.
+    fn call_counted(&mut self, alloc: Global, name: &str, given: &str) -> Result<(), Wrong> {
         let (count, given) = first_word(given);
         let count = number_of(alloc, count)?;
         match name {
             "fill" => self.fill(alloc, count, given),
             "again" => self.again(alloc, count, &row_of(alloc, given)?),
             "thin" => self.thin(alloc, count),
-            _ => self.stands_below(alloc, count),
+            _ => self.stand_below(alloc, count),
         }
     }
 
-    /// Makes a call, and answers whether both sides answer as it says.
-    fn call(&mut self, alloc: Global, call: &str) -> Result<bool, Wrong> {
+    /// Makes a call, which both sides have to answer as it says.
+    fn call(&mut self, alloc: Global, call: &str) -> Result<(), Wrong> {
         let (name, given) = first_word(call);
         match name {
             "on" => {
                 self.at = u16::from(given != "0");
-                Ok(true)
+                Ok(())
             }
             "commit" => self.commit(alloc),
             "rollback" => self.rollback(alloc),
@@ -236,40 +220,42 @@ impl Sides {
 
     // ---- what is wrong behind them
 
-    /// What the sides differ in, in one of their tables; the empty text where they hold the same.
-    fn difference(&self, alloc: Global, at: u16) -> Result<&'static str, Wrong> {
+    /// Both sides have to hold the same in one of their tables.
+    fn hold_the_same(&self, alloc: Global, at: u16) -> Result<(), Wrong> {
         let table = self.real.table(alloc, at)?;
-        difference(alloc, table, self.plain(at).rows(), self.keys.as_slice())
+        hold_the_same(alloc, table, self.plain(at).rows(), self.keys.as_slice())
     }
 
-    /// Makes a call, and answers what is wrong behind it; the empty text where nothing is.
-    fn wrong_after(&mut self, alloc: Global, call: &str) -> Result<&'static str, Wrong> {
-        if !self.call(alloc, call)? {
-            return Ok("it is answered otherwise");
-        }
-        let first = self.difference(alloc, 0)?;
-        if !first.is_empty() {
-            return Ok(first);
-        }
-        self.difference(alloc, 1)
+    /// Makes a call, and compares both tables behind it.
+    fn call_and_compare(&mut self, alloc: Global, call: &str) -> Result<(), Wrong> {
+        self.call(alloc, call)?;
+        self.hold_the_same(alloc, 0)?;
+        self.hold_the_same(alloc, 1)
     }
+}
 
-    /// Makes a call, behind which nothing is wrong.
-    fn check_call(&mut self, alloc: Global, call: &str) -> Result<(), Wrong> {
-        let wrong = self.wrong_after(alloc, call)?;
-        if wrong.is_empty() {
-            return Ok(());
-        }
-        let words = format!(in alloc; "{call}: {wrong}")?;
-        Err(Wrong::Text(words))
+/// Whether both sides answered as a call says.
+fn answered(alloc: Global, so: bool) -> Result<(), Wrong> {
+    if so {
+        return Ok(());
     }
+    Err(Wrong::text(alloc, "it is answered otherwise"))
+}
+
+/// What is wrong, behind the call that shows it.
+fn wrong_of(alloc: Global, call: &str, wrong: &Wrong) -> Result<(), Wrong> {
+    let why = wrong.as_str();
+    let words = format!(in alloc; "{call}: {why}")?;
+    Err(Wrong::Text(words))
 }
 
 /// A row of `calls`: they are made one behind the other on tables of the key and the limit that its block names.
 pub fn check_calls(alloc: Global, shape: &str, row: &str) -> Result<(), Wrong> {
     let mut sides = Sides::empty(alloc, shape)?;
     for call in row.split(", ") {
-        sides.check_call(alloc, call)?;
+        if let Err(wrong) = sides.call_and_compare(alloc, call) {
+            return wrong_of(alloc, call, &wrong);
+        }
     }
     Ok(())
 }

@@ -9,7 +9,7 @@ mod stores;
 use ss_disk::MemoryDisk;
 use ss_engine::{Gate, NoGate};
 use ss_lines::{MemorySink, MemorySource, Source};
-use ss_top::{Status, sstore};
+use ss_top::{MOST_ENTRIES, Status, sstore, sstore_limited};
 use ss_value::{NoMemory, Seq};
 use std::alloc::{AllocError, Global};
 use std::sync::Wait;
@@ -73,6 +73,89 @@ fn words_of(alloc: Global, words: &[&str]) -> Result<Vec<String>, AllocError> {
     Ok(owned)
 }
 
+/// How a run on a disk ended, and the disk behind it.
+struct Left {
+    ended: Ended,
+    disk: MemoryDisk,
+}
+
+// By hand, so that letting it go is one call.
+impl Drop for Left {
+    fn drop(self) {
+        let Left { ended: _, disk: _ } = self;
+    }
+}
+
+impl Left {
+    /// The disk.
+    fn into_disk(self) -> MemoryDisk {
+        let Left { ended: _, disk } = self;
+        disk
+    }
+}
+
+/// The words of a command, the source that it reads and the sink that it writes to.
+struct Streams {
+    words: Vec<String>,
+    source: MemorySource,
+    sink: MemorySink,
+}
+
+// By hand, so that letting it go is one call.
+impl Drop for Streams {
+    fn drop(self) {
+        let Streams {
+            words: _,
+            source: _,
+            sink: _,
+        } = self;
+    }
+}
+
+impl Streams {
+    /// A command on an input, and a sink that has room for this many bytes.
+    fn new(alloc: Global, command: &str, input: Vec<u8>, room: usize) -> Result<Streams, NoMemory> {
+        let words = words_of(alloc, &[command])?;
+        let sink = MemorySink::new(alloc, room)?;
+        let source = MemorySource::new(Seq::from_vec(input));
+        Ok(Streams {
+            words,
+            source,
+            sink,
+        })
+    }
+
+    /// Runs the command on a disk, with a list of at most `limit` entries.
+    fn run_on<R: Threads + Wait + Sync>(
+        self,
+        rt: &R,
+        alloc: Global,
+        disk: MemoryDisk,
+        limit: u16,
+    ) -> Left {
+        let Streams {
+            words,
+            mut source,
+            mut sink,
+        } = self;
+        let limit = MOST_ENTRIES.min(u64::from(limit));
+        let (status, disk) = sstore_limited(
+            rt,
+            alloc,
+            &words,
+            &mut source,
+            &mut sink,
+            disk,
+            NoGate,
+            limit,
+        );
+        Left {
+            ended: Ended { status, sink },
+            disk,
+        }
+    }
+}
+
 /// Runs a command line on a source, with a gate, and with a sink that has room for this many bytes.
 fn run_from<S: Source, G: Gate + Drop + Sync, R: Threads + Wait + Sync>(
     rt: &R,
@@ -94,29 +177,6 @@ fn run_from<S: Source, G: Gate + Drop + Sync, R: Threads + Wait + Sync>(
         gate,
     );
     Ok(Ended { status, sink })
-}
-
-/// Runs a command line on an input, with a gate, and with a sink that has room for this many bytes.
-fn run_gated<G: Gate + Drop + Sync, R: Threads + Wait + Sync>(
-    rt: &R,
-    alloc: Global,
-    words: &[&str],
-    input: Vec<u8>,
-    room: usize,
-    gate: G,
-) -> Result<Ended, NoMemory> {
-    let mut source = MemorySource::new(Seq::from_vec(input));
-    run_from(rt, alloc, words, &mut source, room, gate)
-}
-
-/// Runs the command `run` on an input, with a sink that has room for this many bytes.
-fn run_within<R: Threads + Wait + Sync>(
-    rt: &R,
-    alloc: Global,
-    input: Vec<u8>,
-    room: usize,
-) -> Result<Ended, NoMemory> {
-    run_gated(rt, alloc, &["run"], input, room, NoGate)
 }
 
 /// A catalogue with lines of requests behind it.

@@ -3,11 +3,21 @@
 ghost use Rattle.std.specs.Prelude.{◌<◌};
 ghost use Rattle.ss_disk.specs.Calls.{memory_calls};
 
-use crate::tests::steps::{Step, files_of, take_step};
+use crate::tests::steps::{Step, files_of, take_steps};
 use ss_disk::{Disk, FileNo, MemoryDisk, Torn};
 use ss_value::Seq;
 use std::alloc::Global;
 use std::test::Fail;
+
+/// What a crash in a call leaves, which tears each unsynced range in one way.
+fn left_by(alloc: Global, disk: &MemoryDisk, call: u64, torn: Torn) -> Result<String, Fail>
+    requires { call < memory_calls disk.now }
+{
+    match disk.crash(alloc, call, torn) {
+        Ok(mut crashed) => files_of(alloc, &mut crashed),
+        Err(_) => Err("no memory".into()),
+    }
+}
 
 /// What a crash in a call leaves, where each unsynced range holds its old bytes, its new ones, or dashes.
 fn crash_in(alloc: Global, disk: &MemoryDisk, call: u64) -> Result<String, Fail>
@@ -15,31 +25,36 @@ fn crash_in(alloc: Global, disk: &MemoryDisk, call: u64) -> Result<String, Fail>
 {
     let mut text = format!(in alloc; "{call}:")?;
     for torn in [Torn::Nothing, Torn::Whole, Torn::Fill(b'-')] {
-        let Ok(mut crashed) = disk.crash(alloc, call, torn) else {
-            return Err("no memory".into());
-        };
-        let files = files_of(alloc, &mut crashed)?;
+        let files = left_by(alloc, disk, call, torn)?;
         text = format!(in alloc; "{text} {files}")?;
     }
     Ok(text)
 }
 
-/// How the steps went, the faults, what a read then gives, and what a crash in each call leaves.
-fn story_of(alloc: Global, fails: &[u64], steps: &[Step]) -> Result<String, Fail> {
-    let mut disk = MemoryDisk::new(alloc, Seq::from_vec(Vec::from_slice(alloc, fails)?));
+/// What a crash in each call leaves, each on a line of its own.
+fn crashes_of(alloc: Global, disk: &MemoryDisk) -> Result<String, Fail> {
     let mut text = String::new(alloc);
-    for step in steps {
-        let answer = take_step(&mut disk, step);
-        text = format!(in alloc; "{text}{answer}, ")?;
-    }
-    let mut crashes = String::new(alloc);
     for call in 0..disk.calls() {
-        let crash = crash_in(alloc, &disk, call)?;
-        crashes = format!(in alloc; "{crashes}\n{crash}")?;
+        let crash = crash_in(alloc, disk, call)?;
+        text = format!(in alloc; "{text}\n{crash}")?;
     }
+    Ok(text)
+}
+
+/// How the steps go on a disk, its faults, what a read then gives, and what a crash in each call leaves.
+fn story_on(alloc: Global, disk: &mut MemoryDisk, steps: &[Step]) -> Result<String, Fail> {
+    let taken = take_steps(alloc, disk, steps)?;
+    let crashes = crashes_of(alloc, disk)?;
     let faults = disk.faults();
-    let files = files_of(alloc, &mut disk)?;
-    Ok(format!(in alloc; "{text}{faults} faults, {files}{crashes}")?)
+    let files = files_of(alloc, disk)?;
+    Ok(format!(in alloc; "{taken}{faults} faults, {files}{crashes}")?)
+}
+
+/// The same on a new disk, on which these calls fail.
+fn story_of(alloc: Global, fails: &[u64], steps: &[Step]) -> Result<String, Fail> {
+    let fails = Vec::from_slice(alloc, fails)?;
+    let mut disk = MemoryDisk::new(alloc, Seq::from_vec(fails));
+    story_on(alloc, &mut disk, steps)
 }
 
 /// The calls that are to fail, the steps, and what then stands. A crash stands under its call's number, with what it leaves

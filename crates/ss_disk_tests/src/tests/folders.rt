@@ -1,6 +1,6 @@
 //! A disk in a folder of the file system, in a folder that the test makes and takes away.
 
-use crate::tests::steps::{Step, files_of, take_step};
+use crate::tests::steps::{Step, files_of, take_steps};
 use ss_disk::{Disk, FileNo, FolderDisk};
 use std::alloc::Global;
 use std::test::Fail;
@@ -35,22 +35,34 @@ fn disk_in<'a>(rt: &'a HostRuntime, folder: &str) -> Result<FolderDisk<&'a HostR
     }
 }
 
-/// How the steps went on a disk in this folder, its faults, and what a second one on the same folder reads, which opens the
-/// files again.
-fn story_of(rt: &HostRuntime, folder: &str) -> Result<String, Fail> {
-    let alloc = rt.alloc();
-    let mut disk = disk_in(rt, folder)?;
-    let mut text = String::new(alloc);
-    for step in STEPS.iter() {
-        let answer = take_step(&mut disk, step);
-        text = format!(in alloc; "{text}{answer}, ")?;
-    }
+/// How the steps went on a disk, and its faults.
+fn taken_on<D: Disk>(alloc: Global, disk: &mut D) -> Result<String, Fail> {
+    let taken = take_steps(alloc, disk, &STEPS)?;
     let faults = disk.faults();
-    if faults > 0 {
-        return Ok(format!(in alloc; "{text}{faults} faults")?);
+    Ok(format!(in alloc; "{taken}{faults} faults")?)
+}
+
+/// What a disk in this folder reads, which opens its files.
+fn files_in(rt: &HostRuntime, folder: &str) -> Result<String, Fail> {
+    let mut disk = disk_in(rt, folder)?;
+    files_of(rt.alloc(), &mut disk)
+}
+
+/// How the steps went on a disk in this folder, its faults, and what a second one on the same folder reads, which opens the
+/// files again, where there were none.
+fn story_on<D: Disk>(rt: &HostRuntime, folder: &str, disk: &mut D) -> Result<String, Fail> {
+    let taken = taken_on(rt.alloc(), disk)?;
+    if disk.faults() > 0 {
+        return Ok(taken);
     }
-    let files = files_of(alloc, &mut disk_in(rt, folder)?)?;
-    Ok(format!(in alloc; "{text}0 faults, {files}")?)
+    let files = files_in(rt, folder)?;
+    Ok(format!(in rt.alloc(); "{taken}, {files}")?)
+}
+
+/// The same on a new disk there.
+fn story_of(rt: &HostRuntime, folder: &str) -> Result<String, Fail> {
+    let mut disk = disk_in(rt, folder)?;
+    story_on(rt, folder, &mut disk)
 }
 
 #[test]

@@ -7,6 +7,7 @@ ghost use Rattle.ss_disk.specs.Moments.{LeavesOnly};
 use crate::tests::steps::files_of;
 use ss_disk::{Claim, Disk, DiskError, FileNo, MemoryDisk, runs_compose, write_synced};
 use ss_value::Seq;
+use std::alloc::Global;
 use std::test::Fail;
 
 /// That the selector is empty.
@@ -28,11 +29,17 @@ fn write_both<D: Disk>(disk: &mut D) -> Result<(), DiskError>
     write_synced(disk, FileNo::Second, 0, b"cd")
 }
 
+/// What a new disk has behind both writes.
+fn files_written(alloc: Global) -> Result<String, Fail> {
+    let mut disk = MemoryDisk::new(alloc, Seq::new(alloc));
+    match write_both(&mut disk) {
+        Ok(()) => files_of(alloc, &mut disk),
+        Err(_) => Err("not written".into()),
+    }
+}
+
 #[test]
 fn two_writes(rt: HostRuntime) -> Result<(), Fail> {
-    let alloc = rt.alloc();
-    let mut disk = MemoryDisk::new(alloc, Seq::new(alloc));
-    assert!(rt; write_both(&mut disk).is_ok());
-    assert_eq!(rt; files_of(alloc, &mut disk)?.as_str(), "|ab|cd");
+    assert_eq!(rt; files_written(rt.alloc())?.as_str(), "|ab|cd");
     Ok(())
 }

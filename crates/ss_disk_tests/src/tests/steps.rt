@@ -1,4 +1,6 @@
 //! Steps on a disk, and what is in its files.
+//!
+//! A disk has many lists, which are let go wherever a call may fail while it is there. So what may fail borrows it.
 
 use ss_disk::{Disk, DiskError, FileNo};
 use ss_value::Failed;
@@ -23,7 +25,7 @@ fn answer_of(called: Result<(), DiskError>) -> &'static str {
 }
 
 /// Takes a step, unless it would be past the end, and tells how it went.
-pub fn take_step<D: Disk>(disk: &mut D, step: &Step) -> &'static str {
+fn take_step<D: Disk>(disk: &mut D, step: &Step) -> &'static str {
     match step {
         Step::Write(which, at, text) => match disk.len(*which) {
             Ok(len) if *at <= len => answer_of(disk.write_at(*which, *at, text.as_bytes())),
@@ -40,6 +42,16 @@ pub fn take_step<D: Disk>(disk: &mut D, step: &Step) -> &'static str {
             Err(Failed) => "failed",
         },
     }
+}
+
+/// Takes steps one after another, and tells how each went.
+pub fn take_steps<D: Disk>(alloc: Global, disk: &mut D, steps: &[Step]) -> Result<String, Fail> {
+    let mut text = String::new(alloc);
+    for step in steps {
+        let answer = take_step(disk, step);
+        text = format!(in alloc; "{text}{answer}, ")?;
+    }
+    Ok(text)
 }
 
 /// The bytes of a file, in two calls.

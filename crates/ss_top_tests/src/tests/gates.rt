@@ -4,11 +4,12 @@
 //! A pair of calls of two clients has its executions on partitions of their own, and so has the pair of steps of one batch.
 //! Each pair runs twice, so that each of the two is held once.
 
-use super::{DIAMOND, Ended, run_gated, with_requests};
+use super::{DIAMOND, Ended, run_from, with_requests};
 use ss_engine::Gate;
+use ss_lines::MemorySource;
 use ss_model::Entry;
 use ss_top::Status;
-use ss_value::NoMemory;
+use ss_value::{NoMemory, Seq};
 use std::alloc::Global;
 use std::sync::Wait;
 use std::sync::atomic::{AtomicBool, Ordering};
@@ -39,7 +40,7 @@ const JOINED: &str =
 const LOOKS: u32 = 1_000_000_000;
 
 /// The executions that a gate knows.
-#[derive(Clone, Copy, Debug, PartialEq, Eq, Drop)]
+#[derive(Clone, Copy, Drop)]
 enum Known {
     CallOf(u8),
     StepOf(u16),
@@ -123,60 +124,74 @@ fn run_held<R: Threads + Wait + Sync>(
     held: Known,
     until: Known,
 ) -> Result<HeldRun, NoMemory> {
-    let gate = Holding::new(held, until);
     let input = with_requests(alloc, catalog, requests)?;
+    let mut source = MemorySource::new(Seq::from_vec(input));
+    let gate = Holding::new(held, until);
     let words = ["run", "--partitions", "2"];
-    let ended = run_gated(rt, alloc, &words, input, 1024, &gate)?;
+    let ended = run_from(rt, alloc, &words, &mut source, 1024, &gate)?;
     let saw = gate.saw.load(Ordering::SeqCst);
     Ok(HeldRun { ended, saw })
+}
+
+/// Whether a call that is held until another one is over sees that, and the run then writes this list, and both rows.
+fn calls_are_listed<R: Threads + Wait + Sync>(
+    rt: &R,
+    alloc: Global,
+    held: Known,
+    until: Known,
+    list: &str,
+) -> Result<bool, NoMemory> {
+    let run = run_held(rt, alloc, SPLIT, CALLS, held, until)?;
+    let is_done = run.saw && run.ended.status == Status::Done;
+    Ok(is_done && run.ended.text().strip_prefix(list) == Some(OPENED))
 }
 
 #[test]
 fn the_first_call_is_held(rt: HostRuntime) -> Result<(), Fail> {
     let (held, until) = (Known::CallOf(0), Known::CallOf(1));
-    let run = run_held(&rt, rt.alloc(), SPLIT, CALLS, held, until)?;
     let list =
         "[\"reply\",2,1,[\"done\",[]]]\n[\"reply\",3,0,[\"done\",[]]]\n[\"call\",0,1,0,[\"done\",[]]]\n[\"call\",1,0,0,[\"done\",[]]]\n";
-    let report = format!(in rt.alloc(); "{list}{OPENED}")?;
-    assert!(rt; run.saw);
-    assert!(rt; run.ended.is(Status::Done, report.as_str()));
+    assert!(rt; calls_are_listed(&rt, rt.alloc(), held, until, list)?);
     Ok(())
 }
 
 #[test]
 fn the_second_call_is_held(rt: HostRuntime) -> Result<(), Fail> {
     let (held, until) = (Known::CallOf(1), Known::CallOf(0));
-    let run = run_held(&rt, rt.alloc(), SPLIT, CALLS, held, until)?;
     let list =
         "[\"reply\",2,0,[\"done\",[]]]\n[\"reply\",3,1,[\"done\",[]]]\n[\"call\",0,0,0,[\"done\",[]]]\n[\"call\",1,1,0,[\"done\",[]]]\n";
-    let report = format!(in rt.alloc(); "{list}{OPENED}")?;
-    assert!(rt; run.saw);
-    assert!(rt; run.ended.is(Status::Done, report.as_str()));
+    assert!(rt; calls_are_listed(&rt, rt.alloc(), held, until, list)?);
     Ok(())
+}
+
+/// Whether a step that is held until another one is over sees that, and the run then writes these two texts, the second one
+/// somewhere behind the first, and the rows.
+fn steps_are_listed<R: Threads + Wait + Sync>(
+    rt: &R,
+    alloc: Global,
+    held: Known,
+    until: Known,
+    first: &str,
+    second: &str,
+) -> Result<bool, NoMemory> {
+    let run = run_held(rt, alloc, DIAMOND, PUSH, held, until)?;
+    let Some((_, behind)) = run.ended.text().split_once(first) else {
+        return Ok(false);
+    };
+    Ok(run.saw && behind.contains(second) && run.ended.ends(Status::Done, JOINED))
 }
 
 #[test]
 fn a_step_is_held_for_that_of_a_higher_number(rt: HostRuntime) -> Result<(), Fail> {
-    let run = run_held(&rt, rt.alloc(), DIAMOND, PUSH, P, Q)?;
-    let written = run.ended.text();
-    assert!(rt; run.saw);
-    assert!(rt;
-        written.contains("[\"step\",2,\"q\",0,[\"done\",[]]]\n[\"step\",3,\"p\",0,[\"done\",[]]]\n")
-    );
-    assert!(rt; run.ended.ends(Status::Done, JOINED));
+    let both = "[\"step\",2,\"q\",0,[\"done\",[]]]\n[\"step\",3,\"p\",0,[\"done\",[]]]\n";
+    assert!(rt; steps_are_listed(&rt, rt.alloc(), P, Q, both, JOINED)?);
     Ok(())
 }
 
+// What stands behind the line of `p` in the list has the line of `q`.
 #[test]
 fn a_step_is_held_for_that_of_a_lower_number(rt: HostRuntime) -> Result<(), Fail> {
-    let run = run_held(&rt, rt.alloc(), DIAMOND, PUSH, Q, P)?;
-    let written = run.ended.text();
-    assert!(rt; run.saw);
-    // What stands behind the line of `p` in the list has the line of `q`.
-    let (_, behind) = written
-        .split_once(",\"p\",0,[\"done\",[]]]\n")
-        .ok_or("no step of p")?;
-    assert!(rt; behind.contains(",\"q\",0,[\"done\",[]]]\n"));
-    assert!(rt; run.ended.ends(Status::Done, JOINED));
+    let (p, q) = (",\"p\",0,[\"done\",[]]]\n", ",\"q\",0,[\"done\",[]]]\n");
+    assert!(rt; steps_are_listed(&rt, rt.alloc(), Q, P, p, q)?);
     Ok(())
 }

@@ -3,103 +3,21 @@
 ghost use Rattle.std.specs.Prelude.{◌<◌};
 ghost use Rattle.ss_disk.specs.Calls.{memory_calls};
 
-use super::{ACCOUNTS, DIAMOND, Ended, empty_disk, with_requests, words_of};
+use super::{ACCOUNTS, DIAMOND, Ended, Left, Streams, empty_disk, with_requests};
 use ss_disk::{Disk, FileNo, MemoryDisk, Torn};
-use ss_engine::NoGate;
-use ss_lines::{MemorySink, MemorySource};
-use ss_top::{MOST_ENTRIES, Status, sstore_limited};
+use ss_top::Status;
 use ss_value::{NoMemory, Seq};
 use std::alloc::Global;
 use std::sync::Wait;
 use std::test::Fail;
 use std::thread::Threads;
 
-/// How a run on a disk ended, and the disk behind it.
-struct Left {
-    ended: Ended,
-    disk: MemoryDisk,
-}
-
-// By hand, so that letting it go is one call.
-impl Drop for Left {
-    fn drop(self) {
-        let Left { ended: _, disk: _ } = self;
-    }
-}
-
-impl Left {
-    /// The disk.
-    fn into_disk(self) -> MemoryDisk {
-        let Left { ended: _, disk } = self;
-        disk
-    }
-}
-
-/// The words of a command, the source that it reads and the sink that it writes to.
-struct Streams {
-    words: Vec<String>,
-    source: MemorySource,
-    sink: MemorySink,
-}
-
-// By hand, so that letting it go is one call.
-impl Drop for Streams {
-    fn drop(self) {
-        let Streams {
-            words: _,
-            source: _,
-            sink: _,
-        } = self;
-    }
-}
-
-impl Streams {
-    /// A command on a catalogue and requests.
-    fn new(alloc: Global, command: &str, input: Vec<u8>) -> Result<Streams, NoMemory> {
-        let words = words_of(alloc, &[command])?;
-        let sink = MemorySink::new(alloc, 4096)?;
-        let source = MemorySource::new(Seq::from_vec(input));
-        Ok(Streams {
-            words,
-            source,
-            sink,
-        })
-    }
-
-    /// Runs the command on a disk, with a list of at most `limit` entries.
-    fn run_on<R: Threads + Wait + Sync>(
-        self,
-        rt: &R,
-        alloc: Global,
-        disk: MemoryDisk,
-        limit: u16,
-    ) -> Left {
-        let Streams {
-            words,
-            mut source,
-            mut sink,
-        } = self;
-        let limit = MOST_ENTRIES.min(u64::from(limit));
-        let (status, disk) = sstore_limited(
-            rt,
-            alloc,
-            &words,
-            &mut source,
-            &mut sink,
-            disk,
-            NoGate,
-            limit,
-        );
-        Left {
-            ended: Ended { status, sink },
-            disk,
-        }
-    }
-}
+/// How many bytes a sink has room for.
+const ROOM: usize = 4096;
 
 /// The command `run` on a catalogue and requests.
 fn running(alloc: Global, catalog: &str, requests: &str) -> Result<Streams, NoMemory> {
-    Streams::new(alloc, "run", with_requests(alloc, catalog, requests)?)
+    Streams::new(alloc, "run", with_requests(alloc, catalog, requests)?, ROOM)
 }
 
 /// Runs a command on a disk, with a list of at most `limit` entries.
@@ -134,7 +52,7 @@ fn recover<R: Threads + Wait + Sync>(
     alloc: Global,
     disk: MemoryDisk,
 ) -> Result<Left, NoMemory> {
-    let streams = Streams::new(alloc, "recover", Vec::new(alloc));
+    let streams = Streams::new(alloc, "recover", Vec::new(alloc), ROOM);
     run_limited(rt, alloc, streams, disk, u16::MAX)
 }
 
@@ -163,6 +81,14 @@ const PUSH: &str = "{\"push\":\"s\",\"source\":\"a\",\"seq\":0,\"rows\":[[1]]}\n
 const JOINED: &str =
     "[\"table\",\"joined\",2]\n[\"row\",\"joined\",[11,1]]\n[\"row\",\"joined\",[21,2]]\n";
 
+/// What a recovery writes where the push and its first step had run.
+const PENDING_RAN: &str =
+    "[\"step\",2,\"p\",0,[\"done\",[]]]\n[\"step\",3,\"q\",0,[\"done\",[]]]\n[\"step\",4,\"j\",0,[\"done\",[]]]\n[\"table\",\"joined\",2]\n[\"row\",\"joined\",[11,1]]\n[\"row\",\"joined\",[21,2]]\n[\"done\",3]\n";
+
+/// What one writes where nothing was pending.
+const NOTHING_RAN: &str =
+    "[\"table\",\"joined\",2]\n[\"row\",\"joined\",[11,1]]\n[\"row\",\"joined\",[21,2]]\n[\"done\",0]\n";
+
 /// Two batches, one of them pushed twice, and one too early.
 const PUSHES: &str =
     "{\"push\":\"s\",\"source\":\"a\",\"seq\":0,\"rows\":[[1]]}\n{\"push\":\"s\",\"source\":\"a\",\"seq\":0,\"rows\":[[1]]}\n{\"push\":\"s\",\"source\":\"a\",\"seq\":2,\"rows\":[[2]]}\n{\"push\":\"s\",\"source\":\"a\",\"seq\":1,\"rows\":[[2]]}\n";
@@ -189,18 +115,6 @@ fn is_prefix(ended: &Ended) -> bool {
         && TABLES.iter().any(|wanted| wanted.strip_prefix("[\"table\",") == Some(tables))
 }
 
-#[test]
-fn a_push_is_accepted_once_over_two_runs(rt: HostRuntime) -> Result<(), Fail> {
-    let first = run_on(&rt, rt.alloc(), DIAMOND, PUSH, empty_disk(rt.alloc()))?;
-    assert!(rt; first.ended.ends(Status::Done, "[\"done\",5]\n"));
-    let second = run_on(&rt, rt.alloc(), DIAMOND, PUSH, first.into_disk())?;
-    let wanted = format!(in rt.alloc();
-        "[\"reply\",2,5,[\"duplicate\",1]]\n[\"push\",5,0,0,[\"duplicate\",1]]\n{JOINED}[\"done\",1]\n"
-    )?;
-    assert!(rt; second.ended.is(Status::Done, wanted.as_str()));
-    Ok(())
-}
-
 // The list is full behind the push and its first step, so the log has just these.
 #[test]
 fn what_was_pending_runs(rt: HostRuntime) -> Result<(), Fail> {
@@ -208,61 +122,61 @@ fn what_was_pending_runs(rt: HostRuntime) -> Result<(), Fail> {
     let full = run_limited(&rt, rt.alloc(), pushes, empty_disk(rt.alloc()), 2)?;
     assert!(rt; full.ended.ends(Status::Limit, "[\"stopped\",9,2]\n"));
     let recovered = recover(&rt, rt.alloc(), full.into_disk())?;
-    let wanted = format!(in rt.alloc();
-        "[\"step\",2,\"p\",0,[\"done\",[]]]\n[\"step\",3,\"q\",0,[\"done\",[]]]\n[\"step\",4,\"j\",0,[\"done\",[]]]\n{JOINED}[\"done\",3]\n"
-    )?;
-    assert!(rt; recovered.ended.is(Status::Done, wanted.as_str()));
+    assert!(rt; recovered.ended.is(Status::Done, PENDING_RAN));
     let again = recover(&rt, rt.alloc(), recovered.into_disk())?;
-    let wanted = format!(in rt.alloc(); "{JOINED}[\"done\",0]\n")?;
-    assert!(rt; again.ended.is(Status::Done, wanted.as_str()));
+    assert!(rt; again.ended.is(Status::Done, NOTHING_RAN));
     Ok(())
+}
+
+/// Whether no bytes are in a disk's selector and in its first file.
+fn is_empty(mut disk: MemoryDisk) -> bool {
+    disk.len(FileNo::Selector) == Ok(0) && disk.len(FileNo::First) == Ok(0)
 }
 
 #[test]
 fn an_empty_disk_stays_so(rt: HostRuntime) -> Result<(), Fail> {
-    let mut left = recover(&rt, rt.alloc(), empty_disk(rt.alloc()))?;
+    let left = recover(&rt, rt.alloc(), empty_disk(rt.alloc()))?;
     assert!(rt; left.ended.is(Status::Done, "[\"done\",0]\n"));
-    assert!(rt; left.disk.len(FileNo::Selector) == Ok(0));
-    assert!(rt; left.disk.len(FileNo::First) == Ok(0));
+    assert!(rt; is_empty(left.into_disk()));
     Ok(())
 }
 
-/// Two catalogues in the compact text that a store keeps, whose names stand in their order.
-const ONE_TABLE: &str =
-    r#"{"procedures":[],"tables":[{"columns":[["x","int"]],"key":["x"],"name":"one","part":0}]}"#;
-
-const OTHER_TABLE: &str =
-    r#"{"procedures":[],"tables":[{"columns":[["x","int"]],"key":["x"],"name":"two","part":0}]}"#;
+/// Whether a run ended so, and wrote this.
+fn ends_so(left: Result<Left, NoMemory>, status: Status, written: &str) -> Result<bool, NoMemory> {
+    Ok(left?.ended.is(status, written))
+}
 
 #[test]
 fn disks_that_are_refused(rt: HostRuntime) -> Result<(), Fail> {
-    let stored = run_on(&rt, rt.alloc(), ONE_TABLE, "", empty_disk(rt.alloc()))?;
-    let other = run_on(&rt, rt.alloc(), OTHER_TABLE, "", stored.into_disk())?;
-    let stored = ONE_TABLE.replace(rt.alloc(), "\"", "\\\"")?;
-    let given = OTHER_TABLE.replace(rt.alloc(), "\"", "\\\"")?;
-    let wanted = format!(in rt.alloc(); "[\"other_catalog\",\"{stored}\",\"{given}\"]\n")?;
-    assert!(rt; other.ended.is(Status::OtherCatalog, wanted.as_str()));
-    let foreign = run_on(&rt, rt.alloc(), ACCOUNTS, "", selected(rt.alloc(), 0)?)?;
-    assert!(rt; foreign.ended.is(Status::Foreign, "[\"foreign\",1,0]\n"));
-    let foreign = recover(&rt, rt.alloc(), selected(rt.alloc(), 1)?)?;
-    assert!(rt; foreign.ended.is(Status::Foreign, "[\"foreign\",2,0]\n"));
-    let broken = run_on(&rt, rt.alloc(), ACCOUNTS, "", failing(rt.alloc(), 0)?)?;
-    assert!(rt; broken.ended.is(Status::Disk, "[\"disk_fault\"]\n"));
+    let foreign = run_on(&rt, rt.alloc(), ACCOUNTS, "", selected(rt.alloc(), 0)?);
+    assert!(rt; ends_so(foreign, Status::Foreign, "[\"foreign\",1,0]\n")?);
+    let foreign = recover(&rt, rt.alloc(), selected(rt.alloc(), 1)?);
+    assert!(rt; ends_so(foreign, Status::Foreign, "[\"foreign\",2,0]\n")?);
+    let broken = run_on(&rt, rt.alloc(), ACCOUNTS, "", failing(rt.alloc(), 0)?);
+    assert!(rt; ends_so(broken, Status::Disk, "[\"disk_fault\"]\n")?);
     Ok(())
 }
 
-// How many calls a run makes depends on which entries share a flush, so some of the last fail in no call.
+/// Whether a run whose disk fails in this call leaves tables of a prefix of the batches, which are recovered where the disk
+/// failed. How many calls a run makes depends on which entries share a flush, so some of the last fail in no call.
+fn leaves_a_prefix<R: Threads + Wait + Sync>(
+    rt: &R,
+    alloc: Global,
+    call: u64,
+) -> Result<bool, NoMemory> {
+    let left = run_on(rt, alloc, DIAMOND, PUSHES, failing(alloc, call)?)?;
+    if left.disk.faults() == 0 {
+        return Ok(is_prefix(&left.ended));
+    }
+    let is_told = left.ended.status == Status::Disk;
+    let recovered = recover(rt, alloc, left.into_disk())?;
+    Ok(is_told && is_prefix(&recovered.ended))
+}
+
 #[test]
 fn a_disk_that_fails_in_each_call(rt: HostRuntime) -> Result<(), Fail> {
     for call in 0..30 {
-        let left = run_on(&rt, rt.alloc(), DIAMOND, PUSHES, failing(rt.alloc(), call)?)?;
-        if left.disk.faults() == 0 {
-            assert!(rt; is_prefix(&left.ended));
-            continue;
-        }
-        assert!(rt; left.ended.status == Status::Disk);
-        let recovered = recover(&rt, rt.alloc(), left.into_disk())?;
-        assert!(rt; is_prefix(&recovered.ended));
+        assert!(rt; leaves_a_prefix(&rt, rt.alloc(), call)?, "call {call}");
     }
     Ok(())
 }

@@ -1,7 +1,7 @@
 use Rattle.ss_model.specs.Database.{empty_database}
 use Rattle.ss_model.specs.Lives.{any_past}
 use Rattle.ss_commitlog_tests.specs.Workflow.{workflow}
-use Rattle.ss_commitlog_tests.proofs.threads.day.Given as goal
+use Rattle.ss_commitlog_tests.proofs.tests.two_threads.day.Given as goal
 
 abbrev pub ghosts-incarnation : goal.ghosts-incarnation
 ghosts-incarnation g a = record {

@@ -1,7 +1,7 @@
 use Rattle.ss_commitlog.specs.Committing.{IsOpening}
 use Rattle.ss_commitlog_tests.proofs.Lives.{at_life}
 use Rattle.ss_commitlog_tests.proofs.Rightly.{opening}
-use Rattle.ss_commitlog_tests.proofs.threads.incarnation.Goals as goal
+use Rattle.ss_commitlog_tests.proofs.tests.two_threads.incarnation.Goals as goal
 
 pub open-requires-clause-opening : goal.open-requires-clause-opening
 open-requires-clause-opening g c =

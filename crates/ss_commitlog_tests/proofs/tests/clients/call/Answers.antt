@@ -10,7 +10,7 @@ use Rattle.ss_commitlog_tests.specs.Lives.{pair_of}
 use Rattle.ss_commitlog_tests.specs.Workflow.{workflow, call}
 use Rattle.ss_commitlog_tests.proofs.Lives.{at_life}
 use Rattle.ss_commitlog_tests.proofs.Rightly.{call_covers, call_right}
-use Rattle.ss_commitlog_tests.proofs.threads.call.Goals as goal
+use Rattle.ss_commitlog_tests.proofs.tests.clients.call.Goals as goal
 
 pub commit-requires-clause-covers : goal.commit-requires-clause-covers
 commit-requires-clause-covers g c =

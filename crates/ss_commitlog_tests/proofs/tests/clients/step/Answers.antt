@@ -13,7 +13,7 @@ use Rattle.ss_commitlog.specs.Tokens.{Covers, Known, roles_of}
 use Rattle.ss_commitlog_tests.specs.Workflow.{workflow, step}
 use Rattle.ss_commitlog_tests.proofs.Lives.{at_life}
 use Rattle.ss_commitlog_tests.proofs.Rightly.{step_covers, step_right}
-use Rattle.ss_commitlog_tests.proofs.threads.step.Goals as goal
+use Rattle.ss_commitlog_tests.proofs.tests.clients.step.Goals as goal
 
 pub commit-requires-clause-covers : goal.commit-requires-clause-covers
 commit-requires-clause-covers g c =
