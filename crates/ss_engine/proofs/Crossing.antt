@@ -16,10 +16,10 @@ use Rattle.std.specs.contracts.sync.atomic.AtomicBool as flag
 use Rattle.atomic_table.proofs.shared.Shared.TheSendSync as table
 use Rattle.atomic_table.proofs.send_lease.SendLease.TheSendSync as lease
 use Rattle.atomic_table.specs.contracts.owned.Table as owned
-use Rattle.ss_commitlog.proofs.Crossing.{log_sync, note_send}
+use Rattle.ss_commitlog.proofs.Crossing.{note_send}
 use Rattle.ss_commitlog.specs.contracts.token.Token as token
 use Rattle.ss_hand.proofs.Crossing.{partition_send}
-use Rattle.ss_lanes.proofs.Crossing.{inbox_sync, slot_sync}
+use Rattle.ss_lanes.proofs.Crossing.{hub_sync}
 use Rattle.ss_model.proofs.Crossing.{catalog_sync, request_sync}
 use Rattle.ss_model.specs.contracts.entry.Request as request
 use Rattle.ss_model.specs.declared.life.Life.{Ghosts}
@@ -33,16 +33,8 @@ use Rattle.ss_party.specs.contracts.bays.Bays.TheInside as bays_inside
 use Rattle.ss_party.specs.contracts.rule.BayRule as bay_rule
 use Rattle.ss_engine.specs.contracts.engine.Engine as engine
 use Rattle.ss_engine.specs.contracts.engine.Engine.TheInside as inside
-use Rattle.ss_engine.specs.contracts.hub.Hub as hub
 
 module _ (I : RattleType) (life : Ghosts I.Denot) where
-  hub_sync : IsSend I → IsSync I → IsSync (hub.the_row I life)
-  hub_sync s y =
-      let l = log_sync I life s y in
-      let b = slot_sync I life s y in
-      let i = inbox_sync I life s y in
-      declared_sync (hub.the_type I life) (search (crosses, sendable) depth 40, (search (crosses, sendable) depth 40, (search (crosses, sendable) depth 40, (search (crosses, sendable) depth 40, tt))))
-
   parts_send : IsSend I → IsSend (option.the_row (partition.the_row I life))
   parts_send s = let b = partition_send I life s in variants_send (option.enum (partition.the_row I life)) (tt, ((search (sendable, crosses) depth 20, tt), tt))
 
@@ -66,7 +58,7 @@ module _ (I : RattleType) (life : Ghosts I.Denot) where
 
   pub engine_sync : (N G : RattleType) → IsSend I → IsSync I → IsSync N → IsSync G → IsSync (engine.the_row I N G life)
   engine_sync N G s y n g =
-      let a = hub_sync s y in
+      let a = hub_sync I life s y in
       let b = bays_sync s in
       let c = catalog_sync in
       view_sync (inside.the_row I N G life) _ _ _ _ (declared_sync (inside.the_type I N G life) (

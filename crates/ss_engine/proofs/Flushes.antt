@@ -21,8 +21,7 @@ use Rattle.ss_engine.specs.declared.closing.Closed.{Closed}
 use Rattle.ss_engine.specs.declared.session.Finished.{Finished}
 use Rattle.ss_engine.specs.Sessions.{Ends, EndsOnDisk, IsFlushed, IsRun}
 use Rattle.ss_lanes.proofs.CallerLemmas.{few_open_on}
-use Rattle.ss_engine.proofs.FewBehind.{few_from}
-use Rattle.ss_engine.proofs.Making.{still_unlisted}
+use Rattle.ss_lanes.proofs.CallerLemmas.{few_from, still_unlisted}
 
 -- more may have receipts, and faults that were told go on being those that were
 pub run_on : (catalog : Catalog) (db : Database) (first limit clients : ℕ) (requests : List Request) (count more faults later : ℕ) (closed : Closed) → count ≤ more → (faults ≡ 0) ⊎ (faults ≡ later)

@@ -3,11 +3,9 @@
 -- The log's list goes on from what the marks of all lanes and of all partitions knew. So it has no other entry of a lane's client than
 -- the lane knew; and no entry behind what a partition's mark knew touches that partition, so the shard in hand, which had each part as
 -- its mark's list leaves it, has it as the whole list leaves it.
-use Rattle.std.proofs.Common.{◌≡◌, ◌≤◌, ◌<◌, inl, inr, ⊎_elim, ℕ, zero, suc, Bool, true, false, ◌⊎◌, List, [], ◌∷◌, ◌++◌, map, length, slice_get, Some, None, IfSome, IfNone, refl, sym, ap, ◌∙◌, subst, arith, append-nil, length-append}
+use Rattle.std.proofs.Common.{◌≡◌, ◌≤◌, ◌<◌, ⊎_elim, ℕ, zero, suc, Bool, true, false, ◌⊎◌, List, [], ◌∷◌, ◌++◌, map, length, slice_get, Some, None, IfSome, IfNone, refl, sym, ap, ◌∙◌, subst, arith, append-nil}
 use Rattle.std.proofs.lemmas.List.{length-map}
 use Rattle.std.proofs.lemmas.List.FromFn.{length-map-range_with_len}
-use Rattle.std.proofs.lemmas.Option.{slice_get-map}
-use Rattle.std.specs.Option.{option_map}
 use Rattle.std.specs.List.{range_with_len}
 use Rattle.ss_model.specs.declared.catalog.Catalog.{Catalog}
 use Rattle.ss_model.specs.declared.entry.Answer.{Answer}
@@ -29,78 +27,25 @@ use Rattle.ss_shard.specs.Windows.{HoldsDatabase}
 use Rattle.ss_shard.proofs.AllPartitions.{among_all}
 use Rattle.ss_shard.proofs.Blanks.{nothing_blank}
 use Rattle.ss_commitlog.specs.declared.role.Role.{Role}
-use Rattle.ss_commitlog.specs.declared.role.Role.TheVariants.{Part, Client}
+use Rattle.ss_commitlog.specs.declared.role.Role.TheVariants.{Part}
 use Rattle.ss_commitlog.specs.declared.rule.Item.{Item}
 use Rattle.ss_commitlog.specs.Meaning.{listed_of, HaveClientsBelow}
-use Rattle.ss_commitlog.specs.Roles.{In}
 use Rattle.ss_commitlog.specs.Tokens.{Known, AllContinue, AllSaw, Continues, role_of, roles_of}
-use Rattle.ss_commitlog.proofs.CallerLemmas.{in_left, in_right, length-listed_of, listed_of-append}
+use Rattle.ss_commitlog.proofs.CallerLemmas.{in_right, length-listed_of, listed_of-append}
 use Rattle.ss_hand.specs.Hands.{IsInHand}
 use Rattle.ss_hand.specs.declared.hand.Hand.{Hand}
 use Rattle.ss_engine.specs.declared.closing.Closed.{Closed}
-use Rattle.ss_lanes.specs.declared.due.Due.{Due}
 use Rattle.ss_engine.specs.declared.settling.Settling.{Settling}
 use Rattle.ss_engine.specs.declared.settling.Settling.TheVariants.{Done, NoMemory, ListFull}
-use Rattle.ss_engine.specs.Closings.{AreMarksOf, AreOfClients, EachTouches, EndedWith, IsClosed, IsLeft, IsMarkOf, IsOfLane, MayBeWhole, SettledTo}
-use Rattle.ss_lanes.specs.Dues.{FewOpen}
-use Rattle.ss_lanes.specs.Lanes.{LaneView, HasSeen}
-use Rattle.ss_lanes.specs.Mines.{Placed, mine_in}
-use Rattle.ss_report_laws.specs.Replies.{mine}
+use Rattle.ss_engine.specs.Closings.{EachTouches, EndedWith, IsClosed, IsLeft, MayBeWhole, SettledTo}
+use Rattle.ss_lanes.specs.Apart.{AreMarksOf, AreOfClients, IsOfLane}
+use Rattle.ss_lanes.specs.Lanes.{LaneView}
 use Rattle.ss_engine.specs.Pumped.{NoneReady}
-use Rattle.ss_lanes.proofs.CallerLemmas.{all_still_halted, few_open_on, mine_own}
+use Rattle.ss_lanes.proofs.CallerLemmas.{of_lane}
 use Rattle.ss_turns.proofs.CallerLemmas.{holds_behind}
 use Rattle.ss_engine.proofs.Touching.{some_touched}
 
--- ---- lanes
-
--- the mark of a lane among those of all
-mark_at : (first : ℕ) (lanes : List LaneView) (ms : List Known) → AreMarksOf first lanes ms → (k : ℕ) (lane : LaneView) → slice_get lanes k ≡ Some lane → (m : Known) × In m ms × IsMarkOf first lane m
-mark_at first [] ms are k lane is = absurd (cc)
-mark_at first (x ∷ xs) [] are k lane is = absurd are
-mark_at first (x ∷ xs) (m ∷ ms) are zero lane is =
-    let same : x ≡ lane = cc in
-    (m, inl refl, subst (λ (l : LaneView). IsMarkOf first l m) same are.0)
-mark_at first (x ∷ xs) (m ∷ ms) are (suc k) lane is = let (y, there, of) = mark_at first xs ms are.1 k lane is in (y, inr there, of)
-
--- what a lane has seen, the disk's token holds
-seen_by_disk : (count : ℕ) (due : Due) (m disk : Known) → HasSeen count due m → (m.count ≤ disk.count) × ((m.faults ≡ 0) ⊎ (m.faults ≡ disk.faults)) → HasSeen count due disk
-seen_by_disk count due m disk seen saw = record {
-  count_is = (let a = seen.count_is in let b = saw.0 in omega arith);
-  faults_are = ⊎_elim (λ (none : due.faults ≡ 0). inl none)
-      (λ (same : due.faults ≡ m.faults). ⊎_elim (λ (none : m.faults ≡ 0). inl (same ∙ none)) (λ (posted : m.faults ≡ disk.faults). inr (same ∙ posted)) saw.1) seen.faults_are;
-}
-
--- a list that all marks of lanes are at the beginning of
-of_lane : (catalog : Catalog) (n first : ℕ) (disk : Known) (lanes : List LaneView) (ms rest : List Known) (list : List Item) (answers : List (List Answer)) → AreMarksOf first lanes ms → AllContinue catalog n list (ms ++ rest) → AllSaw disk (ms ++ rest)
-    → answers ≡ map (λ (l : LaneView). l.answers) lanes → (k : ℕ) (lane : LaneView) → slice_get lanes k ≡ Some lane → lane.client ≡ k → IsOfLane first k disk lane (listed_of list) answers
-of_lane catalog n first disk lanes ms rest list answers are on saw is k lane there client =
-    let (m, in_ms, of) = mark_at first lanes ms are k lane there in
-    let among = in_left m ms rest in_ms in
-    let b = on m among in
-    let whole : list ≡ lane.list ++ b.rest = b.is ∙ ap (λ (l : List Item). l ++ b.rest) of.list_is in
-    let seen = seen_by_disk lane.count lane.due m disk of.seen (saw m among) in
-    let own : mine k first (listed_of list) ≡ mine_in k first lane.list = mine_own catalog n k first list m b (of.role ∙ ap Client client) ∙ ap (mine_in k first) of.list_is in
-    let entries : mine_in lane.client first lane.list ≡ mine k first (listed_of list) = ap (λ c. mine_in c first lane.list) client ∙ sym own in
-    record {
-      rest = listed_of b.rest;
-      begins = ap listed_of whole ∙ listed_of-append lane.list b.rest;
-      longer = (let a = ap (λ (l : List Item). length l) whole in let d = length-append lane.list b.rest in let e = length-listed_of list in omega arith);
-      own = own;
-      answers_are = ap (λ (xs : List (List Answer)). slice_get xs k) is ∙ (slice_get-map (λ (l : LaneView). l.answers) lanes k ∙ ap (option_map (λ (l : LaneView). l.answers)) there);
-      seen = seen;
-      few_open = few_open_on (mine k first (listed_of list)) lane.count disk.count lane.due.pending 16 seen.count_is of.due_is.few
-          (subst (λ (ps : List Placed). FewOpen ps lane.count lane.due.pending) entries of.due_is.few_open);
-      halted = all_still_halted lane.due.faults disk.faults seen.faults_are lane.answers of.due_is.halted;
-    }
-
--- as many marks as lanes
-pub lane_marks : (first : ℕ) (lanes : List LaneView) (ms : List Known) → AreMarksOf first lanes ms → length ms ≡ length lanes
-lane_marks first [] [] are = refl
-lane_marks first [] (m ∷ ms) are = absurd are
-lane_marks first (x ∷ xs) [] are = absurd are
-lane_marks first (x ∷ xs) (m ∷ ms) are = ap suc (lane_marks first xs ms are.1)
-
--- and as partitions
+-- as many marks as partitions
 pub part_marks : (n : ℕ) (ks : List Known) → roles_of ks ≡ map Part (all_partitions n) → length ks ≡ n
 part_marks n ks roles = sym (length-map ks role_of) ∙ ap (λ (rs : List Role). length rs) roles ∙ length-map-range_with_len Part 0 n
 

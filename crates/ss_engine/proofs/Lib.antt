@@ -6,15 +6,11 @@ pub mod OwnEntries
 pub mod Trying
 pub mod SmallSets
 pub mod Serves
-pub mod Making
-pub mod ByClient
 pub mod Sessions
-pub mod FewBehind
 pub mod Flushes
 pub mod Fresh
 pub mod Looks
 pub mod Ranked
 pub mod WholeList
-pub mod LanesApart
 pub mod HandedOver
 pub mod Crossing

@@ -17,16 +17,14 @@ use Rattle.ss_commitlog.specs.Meaning.{HasClientBelow, HaveClientsBelow}
 use Rattle.ss_commitlog.specs.Tokens.{Known}
 use Rattle.ss_shard.specs.declared.database.Database as shard
 use Rattle.ss_engine.specs.declared.closing.Closed.{Closed}
-use Rattle.ss_engine.specs.Clients.{AreListedOr, EachAt, HasMade}
+use Rattle.ss_lanes.specs.Clients.{AreListedOr, EachAt, HasMade}
 use Rattle.ss_engine.specs.Closings.{IsClosed, IsLeft}
-use Rattle.ss_engine.specs.Closings as lanes_of_clients
+use Rattle.ss_lanes.specs.Apart as lanes_of_clients
 use Rattle.ss_lanes.specs.Dues.{FewOpen}
-use Rattle.ss_engine.specs.Openings.{AreFresh}
-use Rattle.ss_lanes.specs.Lanes.{LaneView, IsFresh}
+use Rattle.ss_lanes.specs.Lanes.{LaneView, AreFresh, IsFresh}
 use Rattle.ss_lanes.specs.Mines.{Placed, mine_in}
 use Rattle.ss_engine.specs.Sessions.{AreOfClients, IsLeftOver, IsRun}
-use Rattle.ss_lanes.proofs.CallerLemmas.{few_open_on, none_open}
-use Rattle.ss_engine.proofs.Making.{still_unlisted}
+use Rattle.ss_lanes.proofs.CallerLemmas.{few_open_on, none_open, still_unlisted}
 
 -- ---- clients that are not there
 

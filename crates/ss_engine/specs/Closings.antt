@@ -1,8 +1,7 @@
 -- The close of an engine: settling with all partitions in hand, and what is handed over.
-use Rattle.std.specs.Prelude.{◌≡◌, ◌+◌, ◌<◌, ◌≤◌, ℕ, true, List, [], ◌∷◌, ◌++◌, length, slice_get, Some, IfSome, IfNone, Result, Ok, Err}
+use Rattle.std.specs.Prelude.{◌≡◌, ◌+◌, ◌<◌, ◌≤◌, ℕ, true, List, ◌++◌, length, slice_get, Some, IfSome, IfNone, Result, Ok, Err}
 use Rattle.std.specs.List.{AllByRecursion}
 use Rattle.ss_model.specs.declared.catalog.Catalog.{Catalog}
-use Rattle.ss_model.specs.declared.entry.Answer.{Answer}
 use Rattle.ss_model.specs.declared.entry.Listed.{Listed}
 use Rattle.ss_model.specs.declared.entry.Entry.TheVariants.{Step as StepEntry}
 use Rattle.ss_model.specs.Database.{Database, fits_entry}
@@ -12,11 +11,9 @@ use Rattle.ss_model.specs.Partitions.{touches}
 use Rattle.ss_model.specs.Replays.{Replays, after}
 use Rattle.ss_model.specs.Settled as model
 use Rattle.ss_model.specs.Settling.{Drained, is_ready_now}
-use Rattle.ss_report_laws.specs.Replies.{mine}
 use Rattle.ss_shard.specs.Databases.{StandsFor}
 use Rattle.ss_shard.specs.declared.database.Database as shard
 use Rattle.ss_shard.specs.Parts.{IsWholeShard}
-use Rattle.ss_commitlog.specs.declared.role.Role.TheVariants.{Client}
 use Rattle.ss_commitlog.specs.declared.rule.Item.{Item}
 use Rattle.ss_commitlog.specs.Meaning.{listed_of, HaveClientsBelow}
 use Rattle.ss_commitlog.specs.Right.{known_database}
@@ -28,9 +25,8 @@ use Rattle.ss_turns.specs.declared.execution.Stepped.TheVariants as stepped
 use Rattle.ss_engine.specs.declared.settling.Settling.{Settling}
 use Rattle.ss_engine.specs.declared.settling.Settling.TheVariants.{Done, NoMemory, ListFull}
 use Rattle.ss_lanes.specs.Growing.{GoesOn}
-use Rattle.ss_lanes.specs.Dues.{AreHaltedAt, FewOpen, IsDue}
-use Rattle.ss_lanes.specs.Lanes.{LaneView, HasSeen}
-use Rattle.ss_lanes.specs.Mines.{mine_in}
+use Rattle.ss_lanes.specs.Apart.{IsOfLane}
+use Rattle.ss_lanes.specs.Lanes.{LaneView}
 use Rattle.ss_engine.specs.Pumped.{NoneReady}
 
 -- ---- settling
@@ -88,39 +84,6 @@ settling_of (stepped.Ran place l) = Ok tt
 settling_of stepped.NotReady = Ok tt
 settling_of stepped.NoMemory = Err NoMemory
 settling_of (stepped.ListFull count) = Err (ListFull count)
-
--- ---- lanes
-
--- the mark of a lane, which knows the lane's list and has seen no less than the lane, with what waits for a receipt
-pub record IsMarkOf (first : ℕ) (lane : LaneView) (k : Known) : Type 0 where
-  pub role : k.role ≡ Client lane.client
-  pub list_is : k.list ≡ lane.list
-  pub seen : HasSeen lane.count lane.due k
-  pub due_is : IsDue (mine_in lane.client first lane.list) (first + length lane.list) lane.count lane.due lane.answers
-
--- those of these lanes
-abbrev pub AreMarksOf : ℕ → List LaneView → List Known → Type 0
-AreMarksOf first [] [] = Unit {0}
-AreMarksOf first (lane ∷ lanes) (k ∷ ks) = IsMarkOf first lane k × AreMarksOf first lanes ks
-AreMarksOf first _ _ = ⊥
-
--- as many lanes as clients, each that of the client of its number
-pub record AreOfClients (clients : ℕ) (lanes : List LaneView) : Type 0 where
-  pub many : length lanes ≡ clients
-  pub each : (k : ℕ) (lane : LaneView) → slice_get lanes k ≡ Some lane → lane.client ≡ k
-
--- a list begins with what a lane knew, so it is no shorter, and has no other entry of the lane's client than that; and these are its
--- answers. The disk's token has these numbers, so all of the client's entries but 16 at most stand below its count, and each answer that
--- the disk has failed carries its faults
-pub record IsOfLane (first k : ℕ) (disk : Known) (lane : LaneView) (list : List Listed) (answers : List (List Answer)) : Type 0 where
-  pub rest : List Listed
-  pub begins : list ≡ listed_of lane.list ++ rest
-  pub longer : length lane.list ≤ length list
-  pub own : mine k first list ≡ mine_in k first lane.list
-  pub answers_are : slice_get answers k ≡ Some lane.answers
-  pub seen : HasSeen lane.count lane.due disk
-  pub few_open : FewOpen (mine k first list) disk.count 16
-  pub halted : AreHaltedAt disk.faults lane.answers
 
 -- ---- what is handed over
 

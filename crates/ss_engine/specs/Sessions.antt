@@ -24,7 +24,7 @@ use Rattle.ss_receipts.specs.Past.{past_of}
 use Rattle.ss_engine.specs.declared.closing.Closed.{Closed}
 use Rattle.ss_engine.specs.declared.session.Finished.{Finished}
 use Rattle.ss_engine.specs.declared.settling.Settling.TheVariants.{NoMemory}
-use Rattle.ss_engine.specs.Clients.{AreListedOr}
+use Rattle.ss_lanes.specs.Clients.{AreListedOr}
 use Rattle.ss_engine.specs.Closings.{EndedWith}
 use Rattle.ss_lanes.specs.Dues.{FewOpen, entries_from}
 

@@ -1,20 +1,15 @@
 //! Receipts for lanes.
 
-ghost use Rattle.std.specs.Prelude.{◌≡◌, ◌≢◌};
 ghost use Rattle.ss_engine.specs.Assured.{AsksForReceipt};
-ghost use Rattle.ss_lanes.specs.Dues.{failed_at};
-ghost use Rattle.ss_lanes.specs.Lanes.{IsLane, lane_view};
 
 use crate::engine::Engine;
 use crate::gate::Gate;
 use ss_cmdlog::Receipt;
-use ss_commitlog::{CommitLog, Mark, Note};
 use ss_disk::Disk;
-use ss_lanes::{Due, Lane, Ticket};
-use ss_model::{Answer, Life};
+use ss_lanes::{Lane, failed, lane_of};
+use ss_model::Life;
 use ss_proc::Runner;
 use ss_receipts::{DurableError, Receipts};
-use ss_value::Reserved;
 use std::alloc::Global;
 use std::sync::Wait;
 
@@ -73,44 +68,4 @@ impl<I: Life, N: Runner + Drop, G: Gate + Drop> Engine<I, N, G> {
             }
         }
     }
-}
-
-/// The lane of its parts. Takes no memory.
-fn lane_of<I: Life>(
-    ticket: Ticket,
-    due: Due,
-    mark: Mark<I>,
-    note: Note<I>,
-    answers: Reserved<Answer>,
-) -> Lane<I>
-    requires { IsLane I.clients I.first ticket due mark note answers.items }
-    ensures { result ≡ lane_view ticket due note answers }
-{
-    Lane {
-        ticket,
-        due,
-        mark,
-        note,
-        answers,
-    }
-}
-
-/// The lane that is told at which faults the disk has failed, with these. Takes no lock and no memory.
-fn failed<I: Life>(
-    log: &CommitLog<I>,
-    ticket: Ticket,
-    due: Due,
-    mark: Mark<I>,
-    note: Note<I>,
-    answers: Reserved<Answer>,
-) -> (Lane<I>, u64)
-    requires lane { IsLane I.clients I.first ticket due mark note answers.items }
-    requires going { due.faults ≡ 0 }
-    requires failed { mark.faults ≢ 0 }
-    ensures some { result.1 ≢ 0 }
-    ensures lane { result.0 ≡ lane_view ticket (failed_at result.1 due) note answers }
-{
-    let (mark, _, faults) = log.see(mark);
-    let due = due.failed_at(faults);
-    (lane_of(ticket, due, mark, note, answers), faults)
 }

@@ -1,80 +1,22 @@
 //! Clients that make their requests in threads of their own, beside executors of the partitions.
 
-ghost use Rattle.std.specs.Prelude.{◌≡◌, ◌<◌, ◌≤◌, [], map, length, vec_capacity, IfOk};
-ghost use Rattle.ss_report_laws.specs.Replies.{requests_of};
-ghost use Rattle.ss_engine.specs.Clients.{AllFit, AllThere, EachAt, EachHasLane, HasLane, HasMade, MayBegin, lane_of, some_lane};
-ghost use Rattle.ss_lanes.specs.Lanes.{IsFresh};
+ghost use Rattle.std.specs.Prelude.{◌≡◌, ◌<◌, length};
+ghost use Rattle.ss_lanes.specs.Clients.{AllFit, EachAt, EachHasLane, HasLane, HasMade, MayBegin};
 
 use crate::engine::Engine;
 use crate::gate::Gate;
 use crate::requesting::make_requests;
 use ss_commitlog::{Note, Notes};
 use ss_disk::Disk;
-use ss_lanes::Lane;
+use ss_lanes::{Client, Lane, Ready, lanes_of};
 use ss_model::{Life, Request};
 use ss_proc::Runner;
 use ss_receipts::Receipts;
-use ss_value::NoMemory;
 use std::alloc::Global;
 use std::sync::Wait;
 use std::sync::atomic::{AtomicBool, Ordering};
 use std::thread;
 use std::thread::Threads;
-
-/// A client, whose lane is away only while it makes its requests.
-///
-/// The lane goes into the client's thread in here and comes back here, instead of being returned by the thread, because
-/// `for_each_mut` lends each thread one item of a list and gives nothing back. So what is known of each lane is known
-/// of the list by number (`EachHasLane`).
-#[derive(Drop)]
-pub(crate) struct Client<I: Life> {
-    pub(crate) lane: Option<Lane<I>>,
-}
-
-/// How many of these requests are a client's. Looks at each.
-fn count_requests(requests: &[Request], client: usize) -> usize
-    ensures { result ≡ length (requests_of client requests.now) }
-{
-    let mut count = 0;
-    for request in requests {
-        if usize::from(request.client) == client {
-            count += 1;
-        }
-    }
-    count
-}
-
-/// A client for each lane, with room for the answers to all its requests, because an answer may not be lost once its
-/// entry is listed. Looks at each request once for each client.
-fn clients_of<I: Life>(
-    alloc: Global,
-    lanes: Vec<Lane<I>>,
-    requests: &[Request],
-) -> Result<Vec<Client<I>>, NoMemory>
-    requires { EachAt (IsFresh I.first) lanes.items }
-    ensures { IfOk result (λ clients. EachHasLane (length lanes.items) (MayBegin I.first requests.now) clients.items) }
-{
-    let mut clients = Vec::with_capacity(alloc, lanes.len())?;
-    for mut lane in lanes {
-        lane.reserve(count_requests(requests, clients.len()))?;
-        clients.push_reserved(Client { lane: Some(lane) });
-    }
-    Ok(clients)
-}
-
-/// The clients' lanes, in their order, in a list that has room for them. Takes no memory.
-fn lanes_of<I: Life>(clients: Vec<Client<I>>, mut lanes: Vec<Lane<I>>) -> Vec<Lane<I>>
-    requires room { (lanes.items ≡ []) × (length clients.items ≤ vec_capacity lanes) }
-    requires there { AllThere clients.items }
-    ensures { map some_lane result.items ≡ map lane_of clients.items }
-{
-    for client in clients {
-        let Client { lane } = client;
-        let Some(lane) = lane else { unreachable!() };
-        lanes.push_reserved(lane);
-    }
-    lanes
-}
 
 /// Makes a client's requests with its lane, which it has again behind the last answer.
 fn serve_client<I: Life, N: Runner + Drop, G: Gate + Drop, R: Wait, D: Disk + Drop>(
@@ -208,30 +150,6 @@ fn serve_beside_executors<
             clients
         },
     )
-}
-
-/// The clients before their first request, with a list that has room for their lanes.
-#[derive(Drop)]
-pub(crate) struct Ready<I: Life> {
-    clients: Vec<Client<I>>,
-    again: Vec<Lane<I>>,
-    ghost none: { again.items ≡ [] },
-    ghost room: { length clients.items ≤ vec_capacity again },
-}
-
-/// Makes room for all that the clients' requests take on their side, before the first of them. Looks at each request once for
-/// each client.
-pub(crate) fn with_room<I: Life>(
-    alloc: Global,
-    lanes: Vec<Lane<I>>,
-    requests: &[Request],
-) -> Result<Ready<I>, NoMemory>
-    requires { EachAt (IsFresh I.first) lanes.items }
-    ensures { IfOk result (λ ready. EachHasLane (length lanes.items) (MayBegin I.first requests.now) ready.clients.items) }
-{
-    let again = Vec::with_capacity(alloc, lanes.len())?;
-    let clients = clients_of(alloc, lanes, requests)?;
-    Ok(Ready { clients, again })
 }
 
 /// Makes the requests of all clients, those of each in order and one after another, and those of different clients at the same

@@ -1,18 +1,16 @@
 //! The close of an engine: all partitions in one hand, the last steps, and what is handed over.
 
-ghost use Rattle.std.specs.Prelude.{◌≡◌, ◌≤◌, ◌+◌, ◌++◌, [], map, length, vec_capacity};
+ghost use Rattle.std.specs.Prelude.{◌≡◌, ◌≤◌, ◌+◌};
 ghost use Rattle.ss_commitlog.specs.declared.role.Role.TheVariants.{Disk};
-ghost use Rattle.ss_engine.specs.Closings.{AreMarksOf, AreOfClients, IsClosed};
-ghost use Rattle.ss_lanes.specs.Lanes.{LaneView};
+ghost use Rattle.ss_engine.specs.Closings.{IsClosed};
+ghost use Rattle.ss_lanes.specs.Apart.{AreOfClients};
 
 use crate::engine::Engine;
 use crate::gate::Gate;
-use crate::hub::Hub;
-use crate::room::Room;
 use crate::settling::{Settling, settle};
-use ss_commitlog::{Mark, Marks, Note};
+use ss_commitlog::Note;
 use ss_hand::{Hand, in_one_hand};
-use ss_lanes::Lane;
+use ss_lanes::{Lane, Room, take_apart, with_parts};
 use ss_model::{Answer, Catalog, Life, Listed};
 use ss_proc::Runner;
 use ss_shard::Database;
@@ -62,9 +60,9 @@ impl<I: Life, N: Runner + Drop, G: Gate + Drop> Engine<I, N, G> {
             runner,
             gate,
         } = self;
-        let Hub { log, .. } = hub;
+        let log = hub.into_log();
         let Room { marks, answers } = room;
-        let (marks, answers, note) = apart(lanes, marks, answers);
+        let (marks, answers, note) = take_apart(lanes, marks, answers);
         let partitions = bays.close(rt);
         let (_note, gathered) = in_one_hand(rt, alloc, &log, &catalog, parts, partitions, note);
         let Ok(hand) = gathered else {
@@ -94,43 +92,4 @@ impl<I: Life, N: Runner + Drop, G: Gate + Drop> Engine<I, N, G> {
             end,
         }
     }
-}
-
-/// The marks and the answers of lanes, into lists that have room for them, and the note of the last lane. Takes no memory.
-fn apart<I: Life>(
-    lanes: Vec<Lane<I>>,
-    mut marks: Vec<Mark<I>>,
-    mut answers: Vec<Seq<Answer>>,
-) -> (Vec<Mark<I>>, Vec<Seq<Answer>>, Note<I>)
-    requires some { 1 ≤ length lanes.items }
-    requires marks { (marks.items ≡ []) × (length lanes.items ≤ vec_capacity marks) }
-    requires answers { (answers.items ≡ []) × (length lanes.items ≤ vec_capacity answers) }
-    ensures marks { AreMarksOf I.first lanes.items result.0.items × (vec_capacity result.0 ≡ vec_capacity marks) }
-    ensures answers { result.1.items ≡ map (λ (lane : LaneView). lane.answers) lanes.items }
-{
-    let mut last = None;
-    for lane in lanes {
-        let Lane {
-            mark,
-            note,
-            answers: replies,
-            ..
-        } = lane;
-        marks.push_reserved(mark);
-        answers.push_reserved(replies.into_seq());
-        last = Some(note);
-    }
-    let Some(note) = last else { unreachable!() };
-    (marks, answers, note)
-}
-
-/// The marks of partitions behind others, in a list that has room for them. Takes no memory.
-fn with_parts<I: Life>(mut marks: Vec<Mark<I>>, parts: Marks<I>) -> Marks<I>
-    requires { length marks.items + length parts ≤ vec_capacity marks }
-    ensures { result ≡ marks.items ++ parts }
-{
-    for mark in parts.into_vec() {
-        marks.push_reserved(mark);
-    }
-    Seq::from_vec(marks)
 }

@@ -1,8 +1,8 @@
 //! The engine that threads share.
 
 use crate::gate::Gate;
-use crate::hub::Hub;
 use ss_hand::Partition;
+use ss_lanes::Hub;
 use ss_model::{Catalog, Life};
 use ss_party::Bays;
 use ss_proc::Runner;

@@ -1,15 +1,15 @@
 //! The engine: clients in lanes, whose requests wait as jobs in the inboxes of partitions and come back as replies.
 //!
 //! Requests go out from lanes (`ss_lanes`) as jobs to the inbox of a partition, with the client's mark in the commit log, and come
-//! back as replies. Who runs the work of an inbox takes the partitions of an entry out of their bays (`ss_hand`), runs and
-//! commits it (`ss_turns`), and puts them back.
+//! back as replies; they wait in the hub of `ss_lanes`, which calls nobody. Who runs the work of an inbox takes the partitions of
+//! an entry out of their bays (`ss_hand`), runs and commits it (`ss_turns`), and puts them back.
 //!
 //! Source: S-Store's clients and partition engines, whose triggered work goes ahead of client work (Meehan et al., PVLDB 8,
 //! 2015, section 3).
 //!
-//! - `engine`: what threads share; `opening`: one with an empty list, and a lane for each client; `closing`: what it leaves, in the `room` for it
-//! - `hub`: the calls of clients, and of those who run their requests
-//! - `submitting`: its calls for clients; `assuring`: receipts for them; `pumping`: it runs the work of its inboxes
+//! - `engine`: what threads share; `opening`: one with an empty list, and a lane for each client; `closing`: what it leaves
+//! - `submitting`: its calls for clients, which `awaiting` has answered; `assuring`: receipts for them
+//! - `pumping`: it runs the work of its inboxes
 //! - `settling`: its own last steps; `ranking`: in which order
 //! - `requesting`: a client's requests; `clients`: clients and executors in threads; `session`: a whole run
 //! - `serving`: a job; `hints`: a procedure that may be ready; `waking`: hints of what an entry may have made ready
@@ -57,20 +57,19 @@
 #![tactic(auto)]
 
 mod assuring;
+mod awaiting;
 mod clients;
 mod closing;
 mod engine;
 mod gate;
 mod hints;
 mod holding;
-mod hub;
 mod least;
 mod opening;
 mod pump;
 mod pumping;
 mod ranking;
 mod requesting;
-mod room;
 mod serving;
 mod session;
 mod settling;
@@ -80,10 +79,8 @@ mod waking;
 pub use closing::Closed;
 pub use engine::Engine;
 pub use gate::{Gate, NoGate};
-pub use hub::Hub;
 pub use opening::Opened;
 pub use pump::Pumped;
-pub use room::Room;
 pub use session::{Finished, run_session};
 pub use settling::Settling;
-pub use ss_lanes::{Due, Lane, lanes_serve};
+pub use ss_lanes::{Due, Hub, Lane, Room, lanes_serve};

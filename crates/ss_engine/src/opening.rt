@@ -1,6 +1,6 @@
 //! The opening of an engine, with a lane for each client.
 
-ghost use Rattle.std.specs.Prelude.{◌≡◌, ◌≤◌, ◌+◌, ◌^◌, ℕ, [], length, IfOk, OnOk};
+ghost use Rattle.std.specs.Prelude.{◌≡◌, ◌≤◌, ◌+◌, ◌^◌, ℕ, [], length, IfOk};
 ghost use Rattle.ss_model.specs.Database.{stream_batches};
 ghost use Rattle.ss_stream.specs.OfDatabase.{AreStreamsOf};
 ghost use Rattle.ss_partition.specs.Homes.{homes_of};
@@ -13,15 +13,14 @@ ghost use Rattle.ss_commitlog.specs.Committing.{IsOpening};
 ghost use Rattle.ss_commitlog.specs.Rule.{numbered, reader};
 ghost use Rattle.ss_commitlog.specs.Tokens.{known, at_opening};
 ghost use Rattle.ss_hand.specs.Partitions.{PartitionView};
-ghost use Rattle.ss_engine.specs.Openings.{AreFresh, ArePartitionsFrom};
+ghost use Rattle.ss_lanes.specs.Lanes.{AreFresh};
+ghost use Rattle.ss_engine.specs.Openings.{ArePartitionsFrom};
 
 use crate::engine::Engine;
 use crate::gate::Gate;
-use crate::hub::Hub;
-use crate::room::Room;
 use ss_commitlog::{Blank, CommitLog, Marks, Note, Notes, Opening};
 use ss_hand::Partition;
-use ss_lanes::Lane;
+use ss_lanes::{Hub, Lane, Room, fresh_lanes};
 use ss_model::{Catalog, Life};
 use ss_partition::homes;
 use ss_party::Bays;
@@ -259,31 +258,4 @@ fn partitions<I: Life>(
         made.push_reserved(Partition::new(shard, mark));
     }
     Ok(Seq::from_vec(made))
-}
-
-/// A lane for each client, with its mark and one of the last notes.
-fn fresh_lanes<I: Life>(
-    alloc: Global,
-    clients: u8,
-    marks: Marks<I>,
-    notes: &mut Notes<I>,
-) -> Result<Vec<Lane<I>>, NoMemory>
-    requires clients { clients ≡ I.clients }
-    requires marks { marks ≡ at_opening I.first (numbered Client 0 I.clients []) }
-    requires notes { notes.old ≡ at_opening I.first (numbered reader 0 (I.parts + I.clients) []) }
-    ensures lanes { IfOk result (λ lanes. AreFresh I.first I.clients lanes.items) }
-    ensures notes { OnOk result (notes.new ≡ at_opening I.first (numbered reader 0 I.parts [])) }
-{
-    let mut lanes = Vec::with_capacity(alloc, usize::from(clients))?;
-    let mut left = marks.into_vec().into_iter();
-    for client in 0..clients {
-        let Some(mark) = left.next() else {
-            unreachable!()
-        };
-        let Some(note) = notes.pop() else {
-            unreachable!()
-        };
-        lanes.push_reserved(Lane::new(alloc, client, mark, note));
-    }
-    Ok(lanes)
 }

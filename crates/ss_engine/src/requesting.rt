@@ -3,8 +3,8 @@
 ghost use Rattle.std.specs.Prelude.{◌≡◌, ◌≤◌, true, length};
 ghost use Rattle.ss_model.specs.Database.{fits_entry};
 ghost use Rattle.ss_model.specs.Report.{asked_entry};
-ghost use Rattle.ss_engine.specs.Assured.{HasRequested};
-ghost use Rattle.ss_engine.specs.Clients.{AllFit, HasMade, MayBegin};
+ghost use Rattle.ss_lanes.specs.Between.{HasRequested};
+ghost use Rattle.ss_lanes.specs.Clients.{AllFit, HasMade, MayBegin};
 
 use crate::engine::Engine;
 use crate::gate::Gate;

@@ -13,7 +13,7 @@ ghost use Rattle.ss_receipts.specs.Holding.{Holds};
 ghost use Rattle.ss_engine.specs.Clients.{AllFit};
 ghost use Rattle.ss_engine.specs.Sessions.{AreOfClients, Ends, EndsOnDisk, IsFlushed, OpensOn};
 
-use crate::clients::{run_clients, with_room};
+use crate::clients::run_clients;
 use crate::closing::Closed;
 use crate::engine::Engine;
 use crate::gate::Gate;
@@ -21,6 +21,7 @@ use crate::opening::Opened;
 use ss_cmdlog::{CmdLog, Receipt};
 use ss_commitlog::{Blank, Opening};
 use ss_disk::Disk;
+use ss_lanes::with_room;
 use ss_model::{Catalog, Life, Request};
 use ss_proc::Runner;
 use ss_receipts::{DurableError, Receipts, all_stands, finish, held_fronts_stand, holds_go_on};

@@ -44,8 +44,7 @@ impl<I: Life, N: Runner + Drop, G: Gate + Drop> Engine<I, N, G> {
         };
         let entry = asked_entry(request.client, lane.answers().len() as u64, what);
         let (p, _) = self.touched(&entry);
-        self.hub
-            .submit(rt, alloc, self, lane, p, entry, &request.what)
+        self.send(rt, alloc, lane, p, entry, &request.what)
     }
 
     /// Waits while the inbox of a partition is empty and `stop` wasn't called. Takes no memory.

@@ -2,13 +2,19 @@
 
 -- A lane whose mark came back with a reply of its own: it is answered, and the request submitted.
 pub use Rattle.ss_lanes.proofs.Coming.{came_back, submitted}
--- What waits for a receipt, once a list has gone on, or a receipt is there, or the disk has failed.
-pub use Rattle.ss_lanes.proofs.Dues.{all_below_on, all_still_halted, due_failed, due_on, due_receipted, few_open_on, last_too, none_open}
+-- All but a few of a client's entries stand below a count.
+pub use Rattle.ss_lanes.proofs.Dues.{few_open_on, none_open}
 -- Tokens that go on.
 pub use Rattle.ss_lanes.proofs.Growing.{follows_on, on_and_on, on_itself, on_longer}
 -- The entries of a client in lists that go on.
-pub use Rattle.ss_lanes.proofs.Mines.{mine-append, mine_from, mine_in-append, mine_own, mine_shorter}
--- The law of lanes.
-pub use Rattle.ss_lanes.proofs.ServedLanes.{lanes_serve}
--- Faults that a lane was told of stay.
-pub use Rattle.ss_lanes.proofs.Telling.{same_faults}
+pub use Rattle.ss_lanes.proofs.Mines.{mine_in-append, mine_own, mine_shorter}
+-- A lane that asks for a receipt, once its mark has met the disk's note and its own, and what a request needs then.
+pub use Rattle.ss_lanes.proofs.Meeting.{covers_all, fits_on, keeps_itself, keeps_met, lane_met, lane_receipted, receipt_seen, requested_at_once}
+-- The requests of a client, one after another.
+pub use Rattle.ss_lanes.proofs.Making.{made_kept, made_none, made_requested, made_same, other_left, other_more, own_left, own_more, request_fits, room_requested, still_unlisted}
+-- Clients in a list, each with its lane.
+pub use Rattle.ss_lanes.proofs.ByClient.{all_there, many_lanes, of_lanes, of_slice}
+-- What a list that goes on from the marks of lanes has of each.
+pub use Rattle.ss_lanes.proofs.LanesApart.{lane_marks, of_lane}
+-- How few entries of a client stand from a count on.
+pub use Rattle.ss_lanes.proofs.FewBehind.{few_from}

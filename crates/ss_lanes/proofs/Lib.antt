@@ -5,5 +5,11 @@ pub mod Telling
 pub mod Coming
 pub mod Same
 pub mod ServedLanes
+pub mod Meeting
+pub mod Making
+pub mod ByClient
+pub mod FreshLanes
+pub mod LanesApart
+pub mod FewBehind
 pub mod Crossing
 pub mod CallerLemmas

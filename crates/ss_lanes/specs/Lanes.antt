@@ -1,5 +1,5 @@
 -- What contracts see of a lane, and what a request adds to it.
-use Rattle.std.specs.Prelude.{◌≡◌, ◌≢◌, ◌⊎◌, ℕ, ◌+◌, ◌<◌, ◌≤◌, List, [], ◌∷◌, ◌++◌, length}
+use Rattle.std.specs.Prelude.{◌≡◌, ◌≢◌, ◌⊎◌, ℕ, ◌+◌, ◌<◌, ◌≤◌, List, [], ◌∷◌, ◌++◌, length, slice_get, Some}
 use Rattle.ss_value.specs.Reserved.{ReservedList}
 use Rattle.ss_model.specs.declared.entry.Answer.{Answer}
 use Rattle.ss_model.specs.declared.entry.Answer.TheVariants.{Listed as ListedAnswer, NoMemory, ListFull, Halted}
@@ -87,3 +87,8 @@ pub record IsFresh (first client : ℕ) (lane : LaneView) : Type 0 where
   pub seen : lane.count ≡ first
   pub nothing_due : lane.due ≡ no_due
   pub none : lane.answers ≡ []
+
+-- as many lanes as clients, each that of the client of its number, before the client's first request
+pub record AreFresh (first clients : ℕ) (lanes : List LaneView) : Type 0 where
+  pub many : length lanes ≡ clients
+  pub each : (k : ℕ) (lane : LaneView) → slice_get lanes k ≡ Some lane → IsFresh first k lane

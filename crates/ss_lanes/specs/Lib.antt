@@ -7,3 +7,6 @@ pub mod Replies
 pub mod Owning
 pub mod Answered
 pub mod Served
+pub mod Between
+pub mod Clients
+pub mod Apart

@@ -9,15 +9,18 @@
 //!
 //! That marks travel with requests is this project's own rule.
 //!
-//! Nothing here runs an entry: `ss_engine` takes jobs out of inboxes, and says what may be replied.
+//! Nothing here runs an entry, or calls whoever does: `ss_engine` takes jobs out of inboxes, and says what may be replied.
 //!
-//! - `lane`: a client's side, with its law in `laws`; `due`: what of its answers waits for a receipt
+//! - `lane`: a client's side, with its law in `laws`; `due`: what of its answers waits for a receipt; `told`: a lane that is told what
+//!   became of the disk
+//! - `fresh`: a lane for each client before the first request; `client`: lanes beside the requests that are to be made
 //! - `ticket`, `job`, `reply`: what travels; `own`: whether a reply is the one that is waited for
-//! - `inbox`, `slot`: where it waits; `signal`: that it does
+//! - `inbox`, `slot`: where it waits; `signal`: that it does; `hub`: those of all partitions and clients, with the commit log
 //! - `patience`: how long it pays to look for a signal before a sleep; `lookers`: how many threads look at the same time
+//! - `apart`: lanes taken apart at the end, into the `room` that was made for that before the first request
 //!
 //! In `specs/`: `Mines` and `Told` (the entries of a client, and what answers tell of them), `Dues`, `Lanes`, `Replies`, `Owning`,
-//! `Answered`, `Served`, `Growing` (tokens whose lists go on).
+//! `Answered`, `Served`, `Growing` (tokens whose lists go on), `Between` (a lane between two requests), `Clients`, `Apart`.
 //!
 //! # Promises
 //!
@@ -27,13 +30,20 @@
 //!   never sent (`IsSubmitted`).
 //! - `Slot::take` gives a reply exactly where it is the client's own (`IsOwn`); `reply_of` makes one of what may be said
 //!   (`MaySay`).
+//! - `Hub::take_reply` promises the same of all slots, and `put_job` gives a job back as it was where it has no room for it.
+//! - `fresh_lanes` gives each client its lane (`AreFresh`), and `take_apart` takes them apart: each mark knows its lane's list
+//!   (`AreMarksOf`), and the answers are those of the lanes.
 //! - From a fresh lane on, with each request that is submitted, the list that it knows has of its client just the entries that its
 //!   answers report (law `lanes_serve`).
 //!
 //! No clause says that an answer ever comes: what stands behind a lock is in sight of none.
 #![tactic(auto)]
 
+mod apart;
+mod client;
 mod due;
+mod fresh;
+mod hub;
 mod inbox;
 mod job;
 mod lane;
@@ -42,16 +52,21 @@ mod lookers;
 mod own;
 mod patience;
 mod reply;
+mod room;
 mod signal;
 mod slot;
 mod ticket;
+mod told;
 
+pub use apart::{take_apart, with_parts};
+pub use client::{Client, Ready, lanes_of, with_room};
 pub use due::{Due, MOST_PENDING};
-pub use inbox::SharedInbox;
+pub use fresh::fresh_lanes;
+pub use hub::Hub;
 pub use job::Job;
 pub use lane::{Lane, answered, halted, unsent};
 pub use laws::lanes_serve;
-pub use lookers::Lookers;
-pub use reply::{Reply, Said, reply_of};
-pub use slot::Slot;
+pub use reply::{Reply, Said};
+pub use room::Room;
 pub use ticket::Ticket;
+pub use told::{failed, lane_of};

@@ -1,7 +1,7 @@
 use mir.Syntax.{erased}
 use Rattle.std.proofs.Common.{rules, ◌≡◌, length, subst}
-use Rattle.ss_engine.specs.Clients.{HasLane, HasMade}
-use Rattle.ss_engine.proofs.ByClient.{of_slice}
+use Rattle.ss_lanes.specs.Clients.{HasLane, HasMade}
+use Rattle.ss_lanes.proofs.CallerLemmas.{of_slice}
 use Rattle.ss_engine.proofs.Crossing.{clients_sync}
 use Rattle.ss_engine.proofs.clients.serve_clients.Goals as goal
 

@@ -1,4 +1,4 @@
-use Rattle.ss_engine.proofs.LanesAssured.{fits_on, requested_at_once}
+use Rattle.ss_lanes.proofs.CallerLemmas.{fits_on, requested_at_once}
 use Rattle.ss_engine.proofs.requesting.make_request.Goals as goal
 
 pub returns-then-pending-lt-MOST_PENDING : goal.returns-then-pending-lt-MOST_PENDING

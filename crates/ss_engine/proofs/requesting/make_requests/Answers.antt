@@ -3,9 +3,9 @@ use Rattle.std.proofs.lemmas.List.{take_all}
 use Rattle.ss_lemmas.proofs.Numbers.{eqb_apart, eqb_self}
 use Rattle.ss_model.specs.declared.entry.Request.{Request}
 use Rattle.ss_report_laws.specs.Replies.{requests_of}
-use Rattle.ss_engine.specs.Clients.{HasMade}
+use Rattle.ss_lanes.specs.Clients.{HasMade}
 use Rattle.ss_lanes.specs.Lanes.{LaneView}
-use Rattle.ss_engine.proofs.Making.{made_kept, made_none, made_requested, made_same, other_left, other_more, own_left, own_more, request_fits, room_requested}
+use Rattle.ss_lanes.proofs.CallerLemmas.{made_kept, made_none, made_requested, made_same, other_left, other_more, own_left, own_more, request_fits, room_requested}
 use Rattle.ss_engine.proofs.requesting.make_requests.Goals as goal
 use Rattle.ss_engine.proofs.requesting.make_requests.Goals.{then-from-number, else-from-number}
 

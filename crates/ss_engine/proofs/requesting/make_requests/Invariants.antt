@@ -1,6 +1,6 @@
 use Rattle.std.proofs.Common.{◌≤◌, length, take, drop}
 use Rattle.ss_report_laws.specs.Replies.{requests_of}
-use Rattle.ss_engine.specs.Clients.{HasMade}
+use Rattle.ss_lanes.specs.Clients.{HasMade}
 use Rattle.ss_engine.proofs.requesting.make_requests.Given as goal
 
 -- the requests so far are made, and there is room for the answers to the others

@@ -1,6 +1,6 @@
 use Rattle.std.proofs.Common.{◌∙◌, List, subst}
 use Rattle.ss_model.specs.declared.entry.Request.{Request}
-use Rattle.ss_engine.specs.Clients.{EachAt, HasMade}
+use Rattle.ss_lanes.specs.Clients.{EachAt, HasMade}
 use Rattle.ss_engine.proofs.Flushes.{holds_looked, run_ends, run_looked}
 use Rattle.ss_engine.proofs.Sessions.{made_lanes, is_run}
 use Rattle.ss_engine.proofs.session.incarnation.Goals as goal

@@ -5,7 +5,8 @@ use Rattle.ss_lanes.specs.declared.due.Due.{Due}
 use Rattle.ss_engine.specs.Assured.{AsksForReceipt}
 use Rattle.ss_lanes.specs.Dues.{failed_at}
 use Rattle.ss_lanes.specs.Lanes.{LaneView, IsLane}
-use Rattle.ss_engine.proofs.LanesAssured.{asks_again, asks_met, covers_all, lane_met, lane_receipted, receipt_seen}
+use Rattle.ss_lanes.proofs.CallerLemmas.{covers_all, lane_met, lane_receipted, receipt_seen}
+use Rattle.ss_engine.proofs.LanesAssured.{asks_again, asks_met}
 use Rattle.ss_engine.proofs.engine.Engine.ensure_durable.Goals as goal
 
 pub returns-then-faults-ne0 : goal.returns-then-faults-ne0

@@ -4,8 +4,8 @@ use Rattle.ss_engine.proofs.engine.Engine.submit.Goals as goal
 pub returns-in_default : goal.returns-in_default
 returns-in_default g c = c.unsent.ensures g.I.Life.limit c.args.request.now.what
 
-pub submit-requires-clause-part : goal.submit-requires-clause-part
-submit-requires-clause-part g c = touched_run g.I.Life.catalog g.I.Life.parts c.self.invariant.some c.asked_entry-entry.result c.touched-p.result.0 c.touched-p.ensures.least.0
+pub send-requires-clause-part : goal.send-requires-clause-part
+send-requires-clause-part g c = touched_run g.I.Life.catalog g.I.Life.parts c.self.invariant.some c.asked_entry-entry.result c.touched-p.result.0 c.touched-p.ensures.least.0
 
 pub returns-then-faults-ne0 : goal.returns-then-faults-ne0
 returns-then-faults-ne0 g c = c.halted.ensures g.I.Life.limit c.args.request.now.what
