@@ -39,6 +39,7 @@ run_on catalog db first limit clients requests count more faults later closed up
   lost = run.lost;
   catalog_is = run.catalog_is;
   end = run.end;
+  settled = run.settled;
 }
 
 -- a front that ends at a place at least, ends so at each place before it

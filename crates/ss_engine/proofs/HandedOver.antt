@@ -37,12 +37,13 @@ use Rattle.ss_hand.specs.declared.hand.Hand.{Hand}
 use Rattle.ss_engine.specs.declared.closing.Closed.{Closed}
 use Rattle.ss_engine.specs.declared.settling.Settling.{Settling}
 use Rattle.ss_engine.specs.declared.settling.Settling.TheVariants.{Done, NoMemory, ListFull}
-use Rattle.ss_engine.specs.Closings.{EachTouches, EndedWith, IsClosed, IsLeft, MayBeWhole, SettledTo}
+use Rattle.ss_engine.specs.Closings.{EachTouches, EndedWith, IsClosed, IsLeft, MayBeWhole, SettledInOrder, SettledTo, SettlesFrom}
 use Rattle.ss_lanes.specs.Apart.{AreMarksOf, AreOfClients, IsOfLane}
 use Rattle.ss_lanes.specs.Lanes.{LaneView}
 use Rattle.ss_engine.specs.Pumped.{NoneReady}
 use Rattle.ss_lanes.proofs.CallerLemmas.{of_lane}
 use Rattle.ss_turns.proofs.CallerLemmas.{holds_behind}
+use Rattle.ss_engine.proofs.SettledLists.{ended_in_order}
 use Rattle.ss_engine.proofs.Touching.{some_touched}
 
 -- as many marks as partitions
@@ -96,8 +97,8 @@ module _ (catalog : Catalog) (accepted : Accepted catalog) (n : ℕ) (some : 1 �
       → list ≡ listed_of items → AllContinue catalog n items (ms ++ rest) → Continues catalog n items disk → AllSaw disk (ms ++ rest)
       → Replays catalog db list × Orders catalog db list → HaveClientsBelow clients list × (length list ≤ limit) → closed.catalog ≡ catalog
       → IfSome closed.database (IsLeft catalog n (after catalog db closed.list)) → IfNone closed.database (closed.end ≡ NoMemory) → EndedWith catalog db limit closed.list closed.end
-      → IsClosed catalog n clients first limit db disk lanes closed
-  list_closes clients first limit db lanes ms rest disk list items closed of are answers_are is eq on on_disk saw legal short same left lost end =
+      → SettledInOrder catalog db closed.list closed.settled closed.end → IsClosed catalog n clients first limit db disk lanes closed
+  list_closes clients first limit db lanes ms rest disk list items closed of are answers_are is eq on on_disk saw legal short same left lost end settled =
       let back : list ≡ closed.list = sym is in
       record {
         replays = subst (λ (l : List Listed). Replays catalog db l) back legal.0;
@@ -112,19 +113,22 @@ module _ (catalog : Catalog) (accepted : Accepted catalog) (n : ℕ) (some : 1 �
         lost = lost;
         catalog_is = same;
         end = end;
+        settled = settled;
       }
 
   -- what is handed over where all partitions are in hand: beside the list, what is in hand
-  pub closes : {I : Type 0} (clients first limit : ℕ) (db : Database) (lanes : List LaneView) (ms : List Known) (hand : Hand I) (disk : Known) (end : Settling) (list : List Listed) (streams : ReservedStreams)
+  pub closes : {I : Type 0} (clients first limit : ℕ) (db : Database) (lanes : List LaneView) (ms old : List Known) (hand : Hand I) (disk : Known) (end : Settling) (ran : ℕ) (list : List Listed) (streams : ReservedStreams)
       (answers : List (List Answer)) (c : Catalog) → AreOfClients clients lanes → AreMarksOf first lanes ms → answers ≡ map (λ (l : LaneView). l.answers) lanes
-      → IsInHand catalog n db (all_partitions n) hand → ((whole : List Item) → MayBeWhole catalog n whole hand.marks → SettledTo catalog n db limit whole end)
+      → IsInHand catalog n db (all_partitions n) hand → ((whole : List Item) → MayBeWhole catalog n db whole hand.marks → SettledTo catalog n db limit whole end) → SettlesFrom catalog n db old hand.marks ran
       → ((items : List Item) × (list ≡ listed_of items) × AllContinue catalog n items (ms ++ hand.marks) × Continues catalog n items disk) → AllSaw disk (ms ++ hand.marks)
       → Replays catalog db list × Orders catalog db list → HaveClientsBelow clients list × (length list ≤ limit) → AreStreamsOf catalog (after catalog db list) streams.streams → c ≡ catalog
-      → IsClosed catalog n clients first limit db disk lanes (record { list = list; database = Some (record { whole = hand.whole; streams = streams }); catalog = c; answers = answers; end = end })
-  closes clients first limit db lanes ms hand disk end list streams answers c of are answers_are in_hand settled (items, eq, on, on_disk) saw legal short streams_are same =
+      → IsClosed catalog n clients first limit db disk lanes (record { list = list; database = Some (record { whole = hand.whole; streams = streams }); catalog = c; answers = answers; end = end; settled = ran })
+  closes clients first limit db lanes ms old hand disk end ran list streams answers c of are answers_are in_hand settled in_order (items, eq, on, on_disk) saw legal short streams_are same =
       let replayed : Replays catalog db (listed_of items) = subst (λ (l : List Listed). Replays catalog db l) eq legal.0 in
       let in_all : AllContinue catalog n items hand.marks = λ k there. on k (in_right k ms hand.marks there) in
-      list_closes clients first limit db lanes ms hand.marks disk list items (record { list = list; database = Some (record { whole = hand.whole; streams = streams }); catalog = c; answers = answers; end = end })
+      let may : MayBeWhole catalog n db items hand.marks = record { touch = each_touches db items replayed; replays = replayed; on = in_all } in
+      let ends = ended db limit items end (settled items may) in
+      list_closes clients first limit db lanes ms hand.marks disk list items (record { list = list; database = Some (record { whole = hand.whole; streams = streams }); catalog = c; answers = answers; end = end; settled = ran })
       of are answers_are refl eq on on_disk saw legal short same (
         is_whole catalog n db some hand in_hand,
         record {
@@ -133,15 +137,17 @@ module _ (catalog : Catalog) (accepted : Accepted catalog) (n : ℕ) (some : 1 �
         },
       )
       tt
-      (subst (λ (l : List Listed). EndedWith catalog db limit l end) (sym eq) (ended db limit items end (settled items (record { touch = each_touches db items replayed; on = in_all }))))
+      (subst (λ (l : List Listed). EndedWith catalog db limit l end) (sym eq) ends)
+      (subst (λ (l : List Listed). SettledInOrder catalog db l ran end) (sym eq) (ended_in_order catalog n db old ran items (in_order items may) end (λ done. (subst (EndedWith catalog db limit (listed_of items)) done ends).0)))
 
   -- and where there was no memory for that: the list alone
   pub closes_apart : (clients first limit : ℕ) (db : Database) (lanes : List LaneView) (ms : List Known) (disk : Known) (list : List Listed) (answers : List (List Answer)) (c : Catalog)
       → AreOfClients clients lanes → AreMarksOf first lanes ms → answers ≡ map (λ (l : LaneView). l.answers) lanes
       → ((items : List Item) × (list ≡ listed_of items) × AllContinue catalog n items ms × Continues catalog n items disk) → AllSaw disk ms
       → Replays catalog db list × Orders catalog db list → HaveClientsBelow clients list × (length list ≤ limit) → c ≡ catalog
-      → IsClosed catalog n clients first limit db disk lanes (record { list = list; database = None; catalog = c; answers = answers; end = NoMemory })
+      → IsClosed catalog n clients first limit db disk lanes (record { list = list; database = None; catalog = c; answers = answers; end = NoMemory; settled = 0 })
   closes_apart clients first limit db lanes ms disk list answers c of are answers_are (items, eq, on, on_disk) saw legal short same =
       let alone : ms ≡ ms ++ [] = sym (append-nil ms) in
-      list_closes clients first limit db lanes ms [] disk list items (record { list = list; database = None; catalog = c; answers = answers; end = NoMemory })
+      list_closes clients first limit db lanes ms [] disk list items (record { list = list; database = None; catalog = c; answers = answers; end = NoMemory; settled = 0 })
       of are answers_are refl eq (subst (λ (ks : List Known). AllContinue catalog n items ks) alone on) on_disk (subst (λ (ks : List Known). AllSaw disk ks) alone saw) legal short same tt refl tt
+      (record { before = list; steps = []; splits = sym (append-nil list); many = refl; in_order = tt })

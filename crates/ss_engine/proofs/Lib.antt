@@ -11,6 +11,9 @@ pub mod Flushes
 pub mod Fresh
 pub mod Looks
 pub mod Ranked
+pub mod FirstIsNext
 pub mod WholeList
+pub mod SettledLists
 pub mod HandedOver
 pub mod Crossing
+pub mod worked

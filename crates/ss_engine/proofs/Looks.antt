@@ -9,11 +9,11 @@ use Rattle.ss_model.specs.Database.{Database, fits_entry}
 use Rattle.ss_commitlog.specs.Reading.{IsReadyAt}
 use Rattle.ss_commitlog.specs.Right.{known_database}
 use Rattle.ss_commitlog.specs.Tokens.{Known}
-use Rattle.ss_engine.specs.Closings.{StepsWhenFound, WasIdle}
+use Rattle.ss_engine.specs.Closings.{StepsWhenFound, WasFirst, WasIdle}
 use Rattle.ss_lanes.specs.Growing.{GoesOn}
 use Rattle.ss_engine.specs.Least.{NoneBelow}
 use Rattle.ss_engine.specs.Pumped.{NoneReady}
-use Rattle.ss_engine.specs.Ranking.{IsFirstRanked}
+use Rattle.ss_engine.specs.Ranking.{IsFirstRanked, settling_place}
 use Rattle.ss_lanes.proofs.CallerLemmas.{on_and_on, on_itself}
 use Rattle.ss_engine.proofs.Trying.{ready_below, ready_steps}
 
@@ -50,6 +50,34 @@ module _ (catalog : Catalog) (n : ℕ) (db : Database) (p : ℕ) (mark : Known) 
   idle_still accepted old mid on next found was (Some q) none = tt
   idle_still accepted old mid on next found was None none = idle_so_far accepted none.0 old mid on next (subst (λ (o : Option ℕ). IfNone o ((r : ℕ) → r < p → WasIdle catalog n db r old mid)) none.1 was)
 
+  -- what is first of it and of what was found before stands before all that were ready at each partition so far
+  pub first_still : Accepted catalog → (ranks : List ℕ) (old mid : Known) → GoesOn catalog n old mid → GoesOn catalog n mid mark → (found : Option ℕ) → IfSome found (λ b. (r : ℕ) → r < p → WasFirst catalog n db ranks r old mid b)
+      → IfNone found ((r : ℕ) → r < p → WasIdle catalog n db r old mid) → (first : Option ℕ) → IfSome first (IsFirstRanked ranks 64 set found) → IfSome first (λ q. (r : ℕ) → r < p + 1 → WasFirst catalog n db ranks r old mark q)
+  first_still accepted ranks old mid on next found was idle None is = tt
+  first_still accepted ranks old mid on next found was idle (Some q) is =
+      below_more (λ r. WasFirst catalog n db ranks r old mark q) p (earlier found was idle is.before_found) here
+    where
+      here : WasFirst catalog n db ranks p old mark q
+      here = record {
+        between = mark;
+        since = on_and_on catalog n old mid mark on next;
+        till = on_itself catalog n mark;
+        first = λ x ready. is.before_set x (ready_below catalog accepted n (known_database catalog db mark) p x ready) ((tells x).1 ready);
+      }
+
+      earlier : (o : Option ℕ) → IfSome o (λ b. (r : ℕ) → r < p → WasFirst catalog n db ranks r old mid b) → IfNone o ((r : ℕ) → r < p → WasIdle catalog n db r old mid) → IfSome o (λ b. settling_place ranks q ≤ settling_place ranks b)
+          → (r : ℕ) → r < p → WasFirst catalog n db ranks r old mark q
+      earlier None was idle before r low =
+          let w = idle r low in record { between = w.between; since = w.since; till = on_and_on catalog n w.between mid mark w.till next; first = λ x ready. absurd (w.idle x ready) }
+      earlier (Some b) was idle before r low =
+          let w = was r low in
+          record {
+            between = w.between;
+            since = w.since;
+            till = on_and_on catalog n w.between mid mark w.till next;
+            first = λ x ready. (let nearer : settling_place ranks q ≤ settling_place ranks b = before in let far : settling_place ranks b ≤ settling_place ranks x = w.first x ready in omega (arith, nearer, far));
+          }
+
 -- what is first is below 64
 pub first_low : (ranks : List ℕ) (set : ℕ) (found first : Option ℕ) → IfSome first (IsFirstRanked ranks 64 set found) → IfSome first (λ q. q < 64)
 first_low ranks set found None is = tt
@@ -59,3 +87,7 @@ first_low ranks set found (Some q) is = is.low
 pub idle_to : (catalog : Catalog) (n : ℕ) (db : Database) (old new : Known) (p : ℕ) → n ≤ p → (found : Option ℕ) → IfNone found ((r : ℕ) → r < p → WasIdle catalog n db r old new) → IfNone found ((r : ℕ) → r < n → WasIdle catalog n db r old new)
 idle_to catalog n db old new p all (Some q) was = tt
 idle_to catalog n db old new p all None was = λ r low. was r (omega (arith, low, all))
+
+pub first_to : (catalog : Catalog) (n : ℕ) (db : Database) (ranks : List ℕ) (old new : Known) (p : ℕ) → n ≤ p → (found : Option ℕ) → IfSome found (λ q. (r : ℕ) → r < p → WasFirst catalog n db ranks r old new q) → IfSome found (λ q. (r : ℕ) → r < n → WasFirst catalog n db ranks r old new q)
+first_to catalog n db ranks old new p all None was = tt
+first_to catalog n db ranks old new p all (Some q) was = λ r low. was r (omega (arith, low, all))

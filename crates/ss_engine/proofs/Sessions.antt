@@ -103,6 +103,7 @@ module _ (catalog : Catalog) (n : ℕ) (db : Database) (first limit clients : �
     lost = end.lost;
     catalog_is = end.catalog_is;
     end = end.end;
+    settled = end.settled;
   }
     where
       left_over : (d : Database) (o : Option shard.Database) → IfSome o (IsLeft catalog n d) → IfSome o (IsLeftOver catalog d)

@@ -25,7 +25,7 @@ use Rattle.ss_engine.specs.declared.closing.Closed.{Closed}
 use Rattle.ss_engine.specs.declared.session.Finished.{Finished}
 use Rattle.ss_engine.specs.declared.settling.Settling.TheVariants.{NoMemory}
 use Rattle.ss_lanes.specs.Clients.{AreListedOr}
-use Rattle.ss_engine.specs.Closings.{EndedWith}
+use Rattle.ss_engine.specs.Closings.{EndedWith, SettledInOrder}
 use Rattle.ss_lanes.specs.Dues.{FewOpen, entries_from}
 
 -- each request is of one of so many clients
@@ -56,6 +56,8 @@ pub record IsRun (catalog : Catalog) (db : Database) (first limit clients : ℕ)
   pub lost : IfNone closed.database (closed.end ≡ NoMemory)
   pub catalog_is : closed.catalog ≡ catalog
   pub end : EndedWith catalog db limit closed.list closed.end
+  -- its last entries are the steps by which the database before them settles, in the model's order
+  pub settled : SettledInOrder catalog db closed.list closed.settled closed.end
 
 -- ---- with a disk
 

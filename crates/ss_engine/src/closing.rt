@@ -31,10 +31,14 @@ pub struct Closed {
     pub answers: Seq<Seq<Answer>>,
     /// How the engine's own steps ended.
     pub end: Settling,
+    /// How many of the list's last entries these steps are. Each is the next one of settling: of the ready procedures that of
+    /// least rank, then of least number.
+    pub settled: u64,
 }
 
 impl<I: Life, N: Runner + Drop, G: Gate + Drop> Engine<I, N, G> {
-    /// Takes all partitions in one hand, runs steps until none is ready, and hands over the list with all that it leaves.
+    /// Takes all partitions in one hand, runs steps in the order of settling until none is ready, and hands over the list with all
+    /// that it leaves.
     ///
     /// Waits for each partition that is out. Where there is no memory to take all partitions in one hand, no step is run, and the
     /// list is handed over without the database; what a step finds of it is in the end. No row is moved.
@@ -73,9 +77,10 @@ impl<I: Life, N: Runner + Drop, G: Gate + Drop> Engine<I, N, G> {
                 catalog,
                 answers: Seq::from_vec(answers),
                 end: Settling::NoMemory,
+                settled: 0,
             };
         };
-        let (hand, end) = settle(
+        let (hand, end, settled) = settle(
             rt, alloc, &log, &catalog, &runner, &gate, &homes, parts, hand,
         );
         let Hand {
@@ -90,6 +95,7 @@ impl<I: Life, N: Runner + Drop, G: Gate + Drop> Engine<I, N, G> {
             catalog,
             answers: Seq::from_vec(answers),
             end,
+            settled,
         }
     }
 }

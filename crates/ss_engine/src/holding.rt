@@ -33,6 +33,7 @@ impl<I: Life, N: Runner + Drop, G: Gate + Drop> Engine<I, N, G> {
         requires { fits_entry I.catalog entry.now ≡ true }
         ensures least { IsLeastOf I.catalog I.parts entry.now result.0 }
         ensures set { HasJust result.1 (touches I.catalog I.parts entry.now) }
+        ensures below { result.0 < I.parts }
     {
         let set = touch_set(&self.catalog, entry, self.parts);
         let Some(least) = least_of(set, self.parts) else {

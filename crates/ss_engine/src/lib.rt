@@ -37,10 +37,11 @@
 //!   waiting, or the lane is told of the disk's faults. By the lane's type all but 16 at most of its client's entries
 //!   stand below the count that it has seen (`IsDue`); `submit` needs that fewer than 16 wait.
 //! - `run_session` (`ok`: `EndsOnDisk`), from any database that the log's generation stands for (`OpensOn`): a list
-//!   that replays and has its orders, with just the entries of each client that its answers report, and how settling
-//!   ended on it (`IsRun`); a crash at any moment leaves a prefix of it, and takes nothing that one at an earlier moment
-//!   could not take; and one now leaves a front that ends at the receipted count at least, or all of it where the last
-//!   flush went well. An error hands the log back as it was (`err`).
+//!   that replays and has its orders, with just the entries of each client that its answers report, how settling ended
+//!   on it, and which of its last entries are the steps of settling, in the model's order (`IsRun`); a crash at any
+//!   moment leaves a prefix of it, and takes nothing that one at an earlier moment could not take; and one now leaves a
+//!   front that ends at the receipted count at least, or all of it where the last flush went well. An error hands the
+//!   log back as it was (`err`).
 //!
 //! No clause says that an answer ever comes, or that an inbox had no job when a pump found none.
 //!
@@ -48,6 +49,8 @@
 //!
 //! - What a run comes to is said of every client by number (`IsRun`), of those too that never asked, instead of by
 //!   lanes, because a report asks for the answers of any client that a request names.
+//! - The close counts the steps that it runs, instead of leaving open where they begin: no token that a caller has knows
+//!   the list behind which they stand.
 //! - What a run leaves is said twice, under the name of the opening (`Ends`) and of two disks (`EndsOnDisk`), because
 //!   whoever called has no name, and the lock of `ss_receipts` speaks of the past that the name has.
 //! - The order of the input is kept for each client alone. Threads that run at the same time have none between them,

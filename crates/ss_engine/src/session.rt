@@ -164,10 +164,10 @@ fn flushed_at_last<I: Life, D: Disk + Drop>(
 /// how many entries there may be, how many partitions run and how many clients ask. Shard and streams stand for a database `db`
 /// that is in step, at which the log's disk stands.
 ///
-/// Whatever the threads do, all executions are one list, whose outcomes are those that they have one after another. A request for
-/// which there is no memory, or no place in the list, or no disk any more, has no entry and changes nothing. Wherever a crash
-/// falls, it leaves a front of the list, which has all places below the count that is told; of each client at most 16 entries
-/// stand behind that.
+/// Whatever the threads do, all executions are one list, whose outcomes are those that they have one after another. The last of
+/// them are the steps of settling, in the model's order. A request for which there is no memory, or no place in the list, or no
+/// disk any more, has no entry and changes nothing. Wherever a crash falls, it leaves a front of the list, which has all places
+/// below the count that is told; of each client at most 16 entries stand behind that.
 ///
 /// The run fails only where there is no memory to open the engine, or for the answers before the first request; then the log is
 /// handed back as it was.

@@ -8,8 +8,9 @@ ghost use Rattle.ss_model.specs.Database.{fits_entry};
 ghost use Rattle.ss_shard.specs.Parts.{all_partitions};
 ghost use Rattle.ss_commitlog.specs.declared.rule.Item.{Item};
 ghost use Rattle.ss_hand.specs.Hands.{IsInHand};
-ghost use Rattle.ss_engine.specs.Closings.{FoundReady, MayBeWhole, NoneReadyBehind, SettledTo, StepsWhenFound, WasIdle, settling_of};
+ghost use Rattle.ss_engine.specs.Closings.{FoundNext, MayBeWhole, NoneReadyBehind, SettledTo, SettlesFrom, StepsWhenFound, WasFirst, WasIdle, settling_of};
 ghost use Rattle.ss_lanes.specs.Growing.{GoesOn};
+ghost use Rattle.ss_sched.specs.Ranks.{AreRanks};
 ghost use Rattle.ss_turns.specs.Stepping.{AllGoOn};
 
 use crate::gate::Gate;
@@ -36,7 +37,7 @@ pub enum Settling {
 }
 
 /// Of the procedures that are ready after lists that the mark knew meanwhile the one of least rank, then of least number; None
-/// where none is. Which of the ready ones it is no clause says. Takes the log's lock once for each partition, and no memory.
+/// where none is. Takes the log's lock once for each partition, and no memory.
 fn next_ready<I: Life, R: Wait>(
     rt: &R,
     log: &CommitLog<I>,
@@ -50,6 +51,7 @@ fn next_ready<I: Life, R: Wait>(
     requires parts { parts ≡ I.parts }
     ensures mark { GoesOn I.catalog I.parts mark result.0 }
     ensures some { IfSome result.1 (StepsWhenFound I.catalog I.parts I.opening mark result.0) }
+    ensures first { IfSome result.1 (λ q. (p : ℕ) → p < I.parts → WasFirst I.catalog I.parts I.opening ranks.now p mark result.0 q) }
     ensures none { IfNone result.1 ((p : ℕ) → p < I.parts → WasIdle I.catalog I.parts I.opening p mark result.0) }
 {
     let mut found = None;
@@ -77,11 +79,13 @@ fn ready_in_hand<I: Life, R: Wait>(
     requires catalog { catalog.now ≡ I.catalog }
     requires accepted { Accepted I.catalog }
     requires parts { (parts ≡ I.parts) × (1 ≤ parts) }
+    requires ranks { AreRanks I.catalog ranks.now }
     requires in_hand { IsInHand I.catalog I.parts I.opening (all_partitions I.parts) hand }
     ensures in_hand { IsInHand I.catalog I.parts I.opening (all_partitions I.parts) result.0 }
     ensures marks { AllGoOn I.catalog I.parts hand.marks result.0.marks }
-    ensures some { IfSome result.1 (FoundReady I.catalog I.parts I.opening result.0.marks) }
-    ensures none { IfNone result.1 ((list : List Item) → MayBeWhole I.catalog I.parts list result.0.marks → NoneReadyBehind I.catalog I.parts I.opening list) }
+    ensures some { IfSome result.1 (FoundNext I.catalog I.parts I.opening result.0.marks) }
+    ensures none { IfNone result.1 ((list : List Item) → MayBeWhole I.catalog I.parts I.opening list result.0.marks
+        → NoneReadyBehind I.catalog I.parts I.opening list) }
 {
     let Hand {
         whole,
@@ -134,25 +138,27 @@ fn step_told<I: Life, N: Runner, G: Gate, R: Wait>(
     (hand, stepped)
 }
 
-/// Whether settling goes on behind a step that was tried; or else how it ended. Takes no memory.
-fn settling_of(stepped: Stepped) -> Result<(), Settling>
+/// How many steps ran where one was tried and settling goes on; or else how it ended. Takes no memory.
+fn settling_of(stepped: Stepped) -> Result<u64, Settling>
     ensures { result ≡ settling_of stepped }
 {
     match stepped {
-        Stepped::Ran { .. } | Stepped::NotReady => Ok(()),
+        Stepped::Ran { .. } => Ok(1),
+        Stepped::NotReady => Ok(0),
         Stepped::NoMemory => Err(Settling::NoMemory),
         Stepped::ListFull { count } => Err(Settling::ListFull { count }),
     }
 }
 
 /// Runs the next step of the ready procedure of least rank, then of least number, until none is ready, with all partitions in hand.
-/// `parts` is how many these are, and `homes` has each procedure's home.
+/// `parts` is how many these are, and `homes` has each procedure's home. Tells how it ended, and how many steps it ran.
 ///
 /// Each entry touches some partition, so nobody else can add to the list meanwhile, and what is ready at a look is so when its
 /// step runs. Each step costs what `execute_step` costs, and takes the log's lock once for each partition and once for all.
 ///
 /// It isn't told which list is whole, and says what holds of every list that may be (`MayBeWhole`), because only the
-/// log's close hands the whole list over, and that comes behind. So it doesn't say how many steps it ran either.
+/// log's close hands the whole list over, and that comes behind: such a list is the one that was whole before, of which
+/// there is one at most, and behind it these steps, each of them the next one of the model's settling at its place.
 pub(crate) fn settle<I: Life, N: Runner, G: Gate, R: Wait>(
     rt: &R,
     alloc: Global,
@@ -163,26 +169,32 @@ pub(crate) fn settle<I: Life, N: Runner, G: Gate, R: Wait>(
     homes: &Seq<u8>,
     parts: u8,
     mut hand: Hand<I>,
-) -> (Hand<I>, Settling)
+) -> (Hand<I>, Settling, u64)
     requires catalog { catalog.now ≡ I.catalog }
     requires accepted { Accepted I.catalog }
     requires parts { (parts ≡ I.parts) × (1 ≤ parts) }
     requires in_hand { IsInHand I.catalog I.parts I.opening (all_partitions I.parts) hand }
     ensures in_hand { IsInHand I.catalog I.parts I.opening (all_partitions I.parts) result.0 }
-    ensures settled { (list : List Item) → MayBeWhole I.catalog I.parts list result.0.marks → SettledTo I.catalog I.parts I.opening I.limit list result.1 }
+    ensures settled { (list : List Item) → MayBeWhole I.catalog I.parts I.opening list result.0.marks
+        → SettledTo I.catalog I.parts I.opening I.limit list result.1 }
+    ensures in_order { SettlesFrom I.catalog I.parts I.opening hand.marks result.0.marks result.2 }
 {
     let ranks = Ranks::of(catalog);
+    let mut ran = 0;
     for _ in rt.forever() {
         let (kept, ready) = ready_in_hand(rt, log, catalog, &ranks, parts, hand);
         let Some(procedure) = ready else {
-            return (kept, Settling::Done);
+            return (kept, Settling::Done, ran);
         };
         let (kept, stepped) = step_told(
             rt, alloc, log, catalog, runner, gate, homes, kept, procedure,
         );
         match settling_of(stepped) {
-            Ok(()) => hand = kept,
-            Err(end) => return (kept, end),
+            Ok(steps) => {
+                hand = kept;
+                ran += steps;
+            }
+            Err(end) => return (kept, end, ran),
         }
     }
     unreachable!()

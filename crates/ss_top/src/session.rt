@@ -186,6 +186,7 @@ fn report_session<D: Disk + Drop>(
         catalog,
         answers,
         end,
+        ..
     } = closed;
     let halted = log.halted();
     let status = session_status(halted.is_some(), answers.as_slice(), &end, flushed.is_ok());

@@ -25,7 +25,7 @@ pub returns-clause-some : goal.returns-clause-some
 returns-clause-some g c =
     let some : 1 ≤ g.I.Life.parts = subst (λ (n : ℕ). 1 ≤ n) c.requires.parts.0 c.requires.parts.1 in
     some_found g.I.Life.catalog g.I.Life.parts g.I.Life.limit c.args.hand.marks c.meet_all-met.result c.into_seq.result c.pop.new.self.items c.in-Some.mark c.next_ready-mark.result.0 c.meet_all-met.ensures
-    (sym c.from_seq-marks.ensures ∙ c.in-Some.ensures.some.0) (c.into_seq.ensures ∙ c.add.ensures.items) c.next_ready-mark.ensures.mark some c.requires.in_hand.roles g.I.Life.opening c.next_ready-mark.result.1 c.next_ready-mark.ensures.some
+    (sym c.from_seq-marks.ensures ∙ c.in-Some.ensures.some.0) (c.into_seq.ensures ∙ c.add.ensures.items) c.next_ready-mark.ensures.mark some c.requires.in_hand.roles c.requires.accepted c.args.ranks.now c.requires.ranks g.I.Life.opening c.next_ready-mark.result.1 c.next_ready-mark.ensures.some c.next_ready-mark.ensures.first
 
 pub returns-clause-none : goal.returns-clause-none
 returns-clause-none g c =

@@ -20,10 +20,10 @@ with_parts-requires g c =
 pub returns : goal.returns
 returns g c =
     let joined : List Known → Type 0 = λ ks. (items : List Item) × (c.close-list-2.result.0 ≡ listed_of items) × AllContinue g.I.Life.catalog g.I.Life.parts items ks × Continues g.I.Life.catalog g.I.Life.parts items c.args.disk in
-    closes g.I.Life.catalog c.self.invariant.accepted g.I.Life.parts c.self.invariant.some g.I.Life.clients g.I.Life.first g.I.Life.limit g.I.Life.opening c.args.lanes.items c.take_apart-marks.result.0.items c.settle-hand.result.0
-    c.args.disk c.settle-hand.result.1 c.close-list-2.result.0 c.close-list-2.result.1 c.from_vec-2.result c.self.inside.catalog
+    closes g.I.Life.catalog c.self.invariant.accepted g.I.Life.parts c.self.invariant.some g.I.Life.clients g.I.Life.first g.I.Life.limit g.I.Life.opening c.args.lanes.items c.take_apart-marks.result.0.items c.in-Ok.hand.marks c.settle-hand.result.0
+    c.args.disk c.settle-hand.result.1 c.settle-hand.result.2 c.close-list-2.result.0 c.close-list-2.result.1 c.from_vec-2.result c.self.inside.catalog
     c.requires.lanes c.take_apart-marks.ensures.marks.0 (c.from_vec-2.ensures ∙ c.take_apart-marks.ensures.answers) c.settle-hand.ensures.in_hand
-    c.settle-hand.ensures.settled
+    c.settle-hand.ensures.settled c.settle-hand.ensures.in_order
     (subst joined c.with_parts.ensures c.close-list-2.ensures.list) (subst (λ (ks : List Known). AllSaw c.args.disk ks) c.with_parts.ensures c.close-list-2.ensures.seen) c.close-list-2.ensures.legal c.close-list-2.ensures.clients c.close-list-2.ensures.streams c.self.invariant.catalog_is
 
 pub returns-in_default : goal.returns-in_default

@@ -13,4 +13,4 @@ pub returns : goal.returns
 returns g c =
     let just = just_here g.I.Life.catalog c.self.inside.catalog g.I.Life.parts c.self.inside.parts c.args.entry.now c.touch_set-set.result c.self.invariant.catalog_is c.self.invariant.parts_are c.touch_set-set.ensures in
     let found = subst (λ (o : Option ℕ). IfSome o (λ p. (p < c.self.inside.parts) × IsLeastIn c.touch_set-set.result p)) c.in-Some.is c.least_of.ensures.some in
-    record { least = least_is g.I.Life.catalog g.I.Life.parts c.args.entry.now c.touch_set-set.result just c.in-Some.least found.1; set = just }
+    record { least = least_is g.I.Life.catalog g.I.Life.parts c.args.entry.now c.touch_set-set.result just c.in-Some.least found.1; set = just; below = subst (λ (n : ℕ). c.in-Some.least < n) c.self.invariant.parts_are found.0 }
