@@ -18,5 +18,5 @@ mod rows;
 pub use catalogs::catalog_of;
 pub use entries::{Asker, entry_of, number_of};
 pub use names::{procedure_number, stream_number, table_number, window_number};
-pub use replay::replayed;
+pub use replay::{outcome_words, replayed};
 pub use rows::{batches_in, json_of};

@@ -22,13 +22,13 @@ use crate::rows::json_of;
 use serde_json::Value as Json;
 use ss_case_files::{Wrong, compare, text_of};
 use ss_case_texts::{Listing, check_report, outcome_of};
-use ss_catalog_outline::{is_too_many_to_number, read_outline};
+use ss_catalog_outline::{Outline, is_too_many_to_number, read_outline};
 use ss_catalog_resolve::resolve::resolve;
-use ss_model::Catalog;
-use ss_model_computed::entries::database::Database;
+use ss_model::{Catalog, Outcome};
+use ss_model_computed::entries::database::{Applied, Database};
 use ss_model_computed::{Table, apply, visible_rows};
 use ss_report::{outcome_json, row_json, rows_json};
-use ss_value::{NoMemory, Rows, Seq};
+use ss_value::{NoMemory, Row, Rows, Seq};
 use std::alloc::Global;
 use std::collections::BTreeMap;
 
@@ -39,25 +39,40 @@ const LONG: usize = 32;
 const NONE: &str = "none";
 
 /// A list so far, and the database behind it.
-#[derive(Drop)]
 struct Replay {
     catalog: Catalog,
     database: Database,
     listing: Listing,
 }
 
+// By hand, so that letting it go is one call and not one for each of its parts.
+impl Drop for Replay {
+    fn drop(self) {
+        let Replay {
+            catalog: _,
+            database: _,
+            listing: _,
+        } = self;
+    }
+}
+
+/// The catalogue of an outline, without the checks behind its SQL.
+fn resolved(alloc: Global, outline: &Outline) -> Result<Catalog, Wrong> {
+    if is_too_many_to_number(outline) {
+        return Err(Wrong::text(alloc, "the base has too many definitions"));
+    }
+    match resolve(alloc, outline, Seq::new(alloc)) {
+        Ok(catalog) => Ok(catalog),
+        Err(_) => Err(Wrong::text(alloc, "the base has faulty SQL")),
+    }
+}
+
 /// The catalogue of a base, without the checks behind its SQL.
 fn unchecked_catalog(alloc: Global, base: &str) -> Result<Catalog, Wrong> {
     let value = json_of(alloc, base)?;
-    let Ok(outline) = read_outline(alloc, &value) else {
-        return Err(Wrong::text(alloc, "the base is no catalogue"));
-    };
-    if is_too_many_to_number(&outline) {
-        return Err(Wrong::text(alloc, "the base has too many definitions"));
-    }
-    match resolve(alloc, &outline, Seq::new(alloc)) {
-        Ok(catalog) => Ok(catalog),
-        Err(_) => Err(Wrong::text(alloc, "the base has faulty SQL")),
+    match read_outline(alloc, &value) {
+        Ok(outline) => resolved(alloc, &outline),
+        Err(_) => Err(Wrong::text(alloc, "the base is no catalogue")),
     }
 }
 
@@ -76,16 +91,27 @@ fn lists_text(alloc: Global, lists: &[Rows]) -> Result<String, Wrong> {
     Ok(Json::Array(items).to_string(alloc)?)
 }
 
-/// The lines of a table, as the report prints them.
-fn table_text(alloc: Global, name: &str, table: &Table) -> Result<String, Wrong> {
-    let mut text = format!(in alloc; "[\"table\",\"{name}\",{}]\n", table.len())?;
+/// Adds the line of a row, as the report prints it.
+fn add_row(alloc: Global, text: &mut String, name: &str, row: &Row) -> Result<(), Wrong> {
+    let row = row_json(alloc, row.as_slice())?.to_string(alloc)?;
+    write!(text, "[\"row\",\"{name}\",{row}]\n")?;
+    Ok(())
+}
+
+/// Adds the lines of a table, as the report prints them.
+fn add_table(alloc: Global, text: &mut String, name: &str, table: &Table) -> Result<(), Wrong> {
+    write!(text, "[\"table\",\"{name}\",{}]\n", table.len())?;
     let entries = table.entries(alloc)?;
     for (_, row) in entries.as_slice() {
-        let row = row_json(alloc, row.as_slice())?.to_string(alloc)?;
-        let line = format!(in alloc; "[\"row\",\"{name}\",{row}]\n")?;
-        text.push_str(line.as_str())?;
+        add_row(alloc, text, name, row)?;
     }
-    Ok(text)
+    Ok(())
+}
+
+/// The words of an outcome, as the report prints it.
+pub fn outcome_words(alloc: Global, catalog: &Catalog, outcome: &Outcome) -> Result<String, Wrong> {
+    let outcome = outcome_json(alloc, catalog, outcome)?;
+    Ok(outcome.to_string(alloc)?)
 }
 
 /// The tables by their names.
@@ -122,8 +148,7 @@ impl Replay {
         )?;
         let mut text = String::new(alloc);
         for (name, table) in tables.iter() {
-            let lines = table_text(alloc, name, table)?;
-            text.push_str(lines.as_str())?;
+            add_table(alloc, &mut text, name, table)?;
         }
         Ok(text)
     }
@@ -153,19 +178,24 @@ impl Replay {
         }
     }
 
-    /// Applies an entry: its outcome, as the report prints it.
-    fn outcome_text(&mut self, alloc: Global, asked: &str) -> Result<String, Wrong> {
+    /// Applies an entry. None where it has no value.
+    fn applied(&mut self, alloc: Global, asked: &str) -> Result<Option<Applied>, Wrong> {
         // A database doesn't know one request of a client from another.
         let asker = Asker {
             client: 0,
             index: 0,
         };
         let entry = entry_of(alloc, &self.catalog, asker, asked)?;
-        match apply(alloc, &self.catalog, &mut self.database, &entry)? {
-            Some(applied) => {
-                let outcome = outcome_json(alloc, &self.catalog, &applied.outcome)?;
-                Ok(outcome.to_string(alloc)?)
-            }
+        match apply(alloc, &self.catalog, &mut self.database, &entry) {
+            Ok(applied) => Ok(applied),
+            Err(NoMemory) => Err(Wrong::NoMemory),
+        }
+    }
+
+    /// Applies an entry: its outcome, as the report prints it.
+    fn outcome_text(&mut self, alloc: Global, asked: &str) -> Result<String, Wrong> {
+        match self.applied(alloc, asked)? {
+            Some(applied) => outcome_words(alloc, &self.catalog, &applied.outcome),
             None => Ok(String::from_str(alloc, NONE)?),
         }
     }
@@ -184,7 +214,7 @@ impl Replay {
     /// Compares what a line comes to; one of a table is noted.
     fn add_line(&mut self, alloc: Global, line: &str) -> Result<(), Wrong> {
         let Some((asked, want)) = line.split_once(" -> ") else {
-            return Ok(self.listing.add_row(alloc, line)?);
+            return Ok(self.listing.add_row(line)?);
         };
         let came = self.answer(alloc, asked)?;
         if want == NONE || want.starts_with('[') {
@@ -194,19 +224,33 @@ impl Replay {
         self.listing.add_entry(alloc, asked, outcome.as_str())?;
         compare(alloc, asked, outcome.as_str(), came.as_str())
     }
+
+    /// Compares the tables that are left with those that lines said.
+    fn check_tables(&self, alloc: Global) -> Result<(), Wrong> {
+        let tables = self.tables_text(alloc)?;
+        check_report(alloc, tables.as_str(), self.listing.tables().as_bytes())
+    }
+
+    /// The list alone.
+    fn into_listing(self) -> Listing {
+        let Replay {
+            catalog: _,
+            database: _,
+            listing,
+        } = self;
+        listing
+    }
 }
 
 /// The list of a block, whose lines came to what they say on the definitions: its requests, and the report on them. Wrong at
 /// the first line that came to anything else, and where the tables that are left differ. The base has no marks any more. An
 /// entry costs what `apply` does, which copies what it needs.
 pub fn replayed(alloc: Global, base: &str, lines: &[String]) -> Result<Listing, Wrong> {
-    let mut replay = Replay::new(alloc, base)?;
     let text = text_of(alloc, lines.join(alloc, "␤")?.as_str())?;
+    let mut replay = Replay::new(alloc, base)?;
     for line in text.split('\n') {
         replay.add_line(alloc, line)?;
     }
-    let tables = replay.tables_text(alloc)?;
-    check_report(alloc, tables.as_str(), replay.listing.tables().as_bytes())?;
-    let Replay { listing, .. } = replay;
-    Ok(listing)
+    replay.check_tables(alloc)?;
+    Ok(replay.into_listing())
 }

@@ -51,6 +51,15 @@ fn rows_of(alloc: Global, value: &Json) -> Result<Rows, Wrong> {
     Ok(rows)
 }
 
+/// The batches that stand in JSON.
+fn batches_of(alloc: Global, value: &Json) -> Result<Seq<Rows>, Wrong> {
+    let mut batches = Seq::new(alloc);
+    for item in items_of(value) {
+        batches.push(rows_of(alloc, item)?)?;
+    }
+    Ok(batches)
+}
+
 /// The row of a JSON text; empty where it is no array.
 pub fn row_in(alloc: Global, text: &str) -> Result<Row, Wrong> {
     let value = json_of(alloc, text)?;
@@ -66,9 +75,5 @@ pub fn rows_in(alloc: Global, text: &str) -> Result<Rows, Wrong> {
 /// The batches of a JSON text: arrays of rows, in an array. What is no array there has no items.
 pub fn batches_in(alloc: Global, text: &str) -> Result<Seq<Rows>, Wrong> {
     let value = json_of(alloc, text)?;
-    let mut batches = Seq::new(alloc);
-    for item in items_of(&value) {
-        batches.push(rows_of(alloc, item)?)?;
-    }
-    Ok(batches)
+    batches_of(alloc, &value)
 }

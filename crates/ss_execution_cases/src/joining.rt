@@ -172,11 +172,18 @@ fn check_on(alloc: Global, catalog: &Catalog, parts: u8, lines: &[String]) -> Re
     Ok(())
 }
 
+/// Runs the lines on databases of 1 to 8 partitions.
+fn check_on_each(alloc: Global, catalog: &Catalog, lines: &[String]) -> Result<(), Wrong>
+    requires accepted { Accepted catalog.now }
+{
+    for parts in 1..9 {
+        check_on(alloc, catalog, parts, lines)?;
+    }
+    Ok(())
+}
+
 /// A block `joined`, on 1 to 8 partitions.
 pub fn check_joined(alloc: Global, base: &str, lines: &[String]) -> Result<(), Wrong> {
     let catalog = catalog_of(alloc, base)?;
-    for parts in 1..9 {
-        check_on(alloc, &catalog, parts, lines)?;
-    }
-    Ok(())
+    check_on_each(alloc, &catalog, lines)
 }

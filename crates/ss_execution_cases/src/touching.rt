@@ -13,9 +13,9 @@ ghost use Rattle.ss_shard.specs.ShardValue.{ShardValue};
 ghost use Rattle.ss_proc.specs.Entries.{IsNext, IsCountable};
 ghost use Rattle.ss_execution_cases.specs.Held.{AreOfOne, TakesNone, TouchesOnly};
 
-use crate::executions::{outcome_words, request_in};
+use crate::executions::request_in;
 use ss_case_files::{Wrong, compare};
-use ss_case_lists::catalog_of;
+use ss_case_lists::{catalog_of, outcome_words};
 use ss_case_texts::outcome_of;
 use ss_model::{Catalog, Entry, Outcome};
 use ss_model_laws::{touched_run, untouched_stay};
@@ -242,11 +242,18 @@ fn check_on(alloc: Global, catalog: &Catalog, parts: u8, lines: &[String]) -> Re
     Ok(())
 }
 
+/// Runs the lines on the shards of 1 to 8 partitions.
+fn check_on_each(alloc: Global, catalog: &Catalog, lines: &[String]) -> Result<(), Wrong>
+    requires accepted { Accepted catalog.now }
+{
+    for parts in 1..9 {
+        check_on(alloc, catalog, parts, lines)?;
+    }
+    Ok(())
+}
+
 /// A block `touching`, on 1 to 8 partitions.
 pub fn check_touching(alloc: Global, base: &str, lines: &[String]) -> Result<(), Wrong> {
     let catalog = catalog_of(alloc, base)?;
-    for parts in 1..9 {
-        check_on(alloc, &catalog, parts, lines)?;
-    }
-    Ok(())
+    check_on_each(alloc, &catalog, lines)
 }

@@ -99,13 +99,23 @@ fn typed_text_in(alloc: Global, scope: &Scope, form: Form, text: &str) -> Result
     }
 }
 
+/// The same, where the scope is one that texts can be typed in.
+fn typed_text_if_narrow(
+    alloc: Global,
+    scope: &Scope,
+    form: Form,
+    text: &str,
+) -> Result<String, Wrong> {
+    if !is_narrow(scope) {
+        return Err(Wrong::text(alloc, "too many columns"));
+    }
+    Ok(typed_text_in(alloc, scope, form, text)?)
+}
+
 /// The printed typed tree of a text in the scope of all rows, or its refusal.
 fn typed_text(alloc: Global, form: Form, text: &str) -> Result<String, Wrong> {
     let scope = scope_of(alloc, form == Form::Emit)?;
-    if !is_narrow(&scope) {
-        return Err(Wrong::text(alloc, "too many columns"));
-    }
-    Ok(typed_text_in(alloc, &scope, form, text)?)
+    typed_text_if_narrow(alloc, &scope, form, text)
 }
 
 // ---- rows
