@@ -1,3 +1,4 @@
+pub mod CallerLemmas
 pub mod Json
 pub mod Splits
 pub mod SoFar

@@ -9,11 +9,13 @@
 //! - `memory`: both in memory; `std_io`: both over std's readers and writers
 //! - `read`: the lines of a source; `split`: lines out of pieces of the input, as they come
 //! - `line`: a line and its JSON value
+//! - `fields`: lines to write, each an array of its kind's word and its fields
 //! - `write`: bytes to a sink
 //!
 //! Every call that takes `alloc` may answer `NoMemory`.
 #![tactic(auto)]
 
+mod fields;
 mod line;
 mod memory;
 mod read;
@@ -22,6 +24,7 @@ mod split;
 mod std_io;
 mod write;
 
+pub use fields::{Field, line_json, line_json_with};
 pub use line::{Line, LineError, MAX_INPUT, MAX_LINE, line_value};
 pub use memory::{MemorySink, MemorySource};
 pub use read::read_lines;

@@ -8,10 +8,11 @@ use Rattle.serde_json.specs.Data.{Data}
 use Rattle.ss_model.specs.declared.catalog.Catalog.{Catalog}
 use Rattle.ss_model.specs.declared.entry.Answer.{Answer}
 use Rattle.ss_model.specs.declared.entry.Request.{Request}
-use Rattle.ss_model.specs.ReportLines.{reply_line, line_text, lines_text}
+use Rattle.ss_model.specs.ReportLines.{reply_line}
 use Rattle.ss_model.specs.Report.{asked_entry, entries_behind, reply_lines}
-use Rattle.ss_report.proofs.Steps.{reported_next}
+use Rattle.ss_report.proofs.Steps.{IsUnderWay, lines_more}
 use Rattle.ss_report.specs.Lent.{lists_behind}
+use Rattle.ss_report.specs.Readable.{AddsLines}
 use Rattle.ss_report_laws.specs.Replies.{answers_of, answer_to}
 use Rattle.ss_report_laws.proofs.CallerLemmas.{before, count_here, same_before, answer_asked}
 
@@ -61,24 +62,25 @@ replies_behind catalog missing answers earlier rs = reply_lines catalog rs (map 
 pub one_more : {A : Type 0} (xs : List A) (k : ℕ) (x : A) → k < length xs → x ≡ get_or xs k x → take (k + 1) xs ≡ take k xs ++ x ∷ []
 one_more xs k x h e = ap (λ n. take n xs) (add-one k) ∙ take-suc xs k x h ∙ ap (λ y. take k xs ++ y ∷ []) (sym e)
 
--- what is written so far, and what is left to write
-abbrev pub IsReportedSoFar : Catalog → Answer → List (List Answer) → List Request → List Request → List (List Answer) → List ℕ → List ℕ → Type 0
-IsReportedSoFar catalog missing answers earlier rs left now all = (now ++ lines_text (replies_behind catalog missing answers earlier rs) ≡ all) × AreLeft answers earlier left
+-- what is written so far, and what is left to write of all
+abbrev pub IsReportedSoFar : Catalog → Answer → List (List Answer) → List Request → List Request → List (List Answer) → List ℕ → List ℕ → List Data → Type 0
+IsReportedSoFar catalog missing answers earlier rs left old now all = IsUnderWay old now (replies_behind catalog missing answers earlier rs) all × AreLeft answers earlier left
 
 -- and one reply more
-pub reply_more : (catalog : Catalog) (missing : Answer) (answers left next : List (List Answer)) (requests : List Request) (i : ℕ) (r : Request) (a : Answer) (v : Data) (now new all : List ℕ) → i < length requests
-    → r ≡ get_or requests i r → a ≡ get_or (answers_of left r.client) 0 missing → next ≡ slice_set left r.client (drop 1 (answers_of left r.client)) → v ≡ reply_line catalog r.line a → new ≡ now ++ line_text v
-    → IsReportedSoFar catalog missing answers (take i requests) (drop i requests) left now all → IsReportedSoFar catalog missing answers (take (i + 1) requests) (drop (i + 1) requests) next new all
-reply_more catalog missing answers left next requests i r a v now new all h e is rest line goes_on t =
+pub reply_more : (catalog : Catalog) (missing : Answer) (answers left next : List (List Answer)) (requests : List Request) (i : ℕ) (r : Request) (a : Answer) (old now new : List ℕ) (all : List Data) → i < length requests
+    → r ≡ get_or requests i r → a ≡ get_or (answers_of left r.client) 0 missing → next ≡ slice_set left r.client (drop 1 (answers_of left r.client)) → AddsLines now new (reply_line catalog r.line a ∷ [])
+    → IsReportedSoFar catalog missing answers (take i requests) (drop i requests) left old now all → IsReportedSoFar catalog missing answers (take (i + 1) requests) (drop (i + 1) requests) next old new all
+reply_more catalog missing answers left next requests i r a old now new all h e is rest added t =
     let earlier = take i requests in
     let later = drop (i + 1) requests in
     let here = next_item requests i r h e in
-    let reported : now ++ lines_text (replies_behind catalog missing answers earlier (r ∷ later)) ≡ all = ap (λ rs. now ++ lines_text (replies_behind catalog missing answers earlier rs)) (sym here) ∙ t.0 in
+    let under_way : IsUnderWay old now (replies_behind catalog missing answers earlier (r ∷ later)) all = subst (λ rs. IsUnderWay old now (replies_behind catalog missing answers earlier rs) all) here t.0 in
     let own : a ≡ answer_to missing answers (asked_entry r.client (before r.client earlier) r.what) = next_is missing answers left earlier r a t.1 is in
-    let more : new ++ lines_text (replies_behind catalog missing answers (earlier ++ r ∷ []) later) ≡ all =
-    reported_next now new all v (reply_line catalog r.line (answer_to missing answers (asked_entry r.client (before r.client earlier) r.what))) (replies_behind catalog missing answers (earlier ++ r ∷ []) later) goes_on
-    (line ∙ ap (reply_line catalog r.line) own) reported in
-    subst (λ rs. IsReportedSoFar catalog missing answers rs later next new all) (sym (one_more requests i r h e)) (more, are_left_next answers left next earlier r t.1 rest)
+    let line : AddsLines now new (reply_line catalog r.line (answer_to missing answers (asked_entry r.client (before r.client earlier) r.what)) ∷ []) =
+    subst (λ x. AddsLines now new (reply_line catalog r.line x ∷ [])) own added in
+    let more : IsUnderWay old new (replies_behind catalog missing answers (earlier ++ r ∷ []) later) all =
+    lines_more old now new (reply_line catalog r.line (answer_to missing answers (asked_entry r.client (before r.client earlier) r.what)) ∷ []) (replies_behind catalog missing answers (earlier ++ r ∷ []) later) all line under_way in
+    subst (λ rs. IsReportedSoFar catalog missing answers rs later next old new all) (sym (one_more requests i r h e)) (more, are_left_next answers left next earlier r t.1 rest)
 
 -- ---- lists that are lent
 
