@@ -3,7 +3,7 @@
 -- The log's list goes on from what the marks of all lanes and of all partitions knew. So it has no other entry of a lane's client than
 -- the lane knew; and no entry behind what a partition's mark knew touches that partition, so the shard in hand, which had each part as
 -- its mark's list leaves it, has it as the whole list leaves it.
-use Rattle.std.proofs.Common.{◌≡◌, ◌≤◌, ◌<◌, ⊎_elim, ℕ, zero, suc, Bool, true, false, ◌⊎◌, List, [], ◌∷◌, ◌++◌, map, length, slice_get, Some, None, IfSome, IfNone, refl, sym, ap, ◌∙◌, subst, arith, append-nil}
+use Rattle.std.proofs.Common.{◌≡◌, ◌≤◌, ⊎_elim, ℕ, zero, suc, true, ◌⊎◌, List, [], ◌∷◌, ◌++◌, map, length, Some, IfSome, IfNone, refl, sym, ap, ◌∙◌, subst, arith, append-nil}
 use Rattle.std.proofs.lemmas.List.{length-map}
 use Rattle.std.proofs.lemmas.List.FromFn.{length-map-range_with_len}
 use Rattle.std.specs.List.{range_with_len}
@@ -13,12 +13,9 @@ use Rattle.ss_model.specs.declared.entry.Listed.{Listed}
 use Rattle.ss_model.specs.Accepted.{Accepted}
 use Rattle.ss_model.specs.Database.{Database}
 use Rattle.ss_model.specs.Orders.{Orders}
-use Rattle.ss_model.specs.Partitions.{home_of, touches}
+use Rattle.ss_model.specs.Partitions.{touches}
 use Rattle.ss_model.specs.Replays.{Replays, after, database_after}
-use Rattle.ss_model.specs.Settled as model
-use Rattle.ss_model.specs.Settling.{is_ready_now}
-use Rattle.ss_model.proofs.CallerLemmas.{applied_fits, home_below}
-use Rattle.ss_model_laws.proofs.CallerLemmas.{at_rest, in_step_after}
+use Rattle.ss_model.proofs.CallerLemmas.{applied_fits}
 use Rattle.ss_report_laws.proofs.CallerLemmas.{applied_of}
 use Rattle.ss_stream.specs.OfDatabase.{AreStreamsOf}
 use Rattle.ss_stream.specs.Streams.{ReservedStreams}
@@ -31,19 +28,20 @@ use Rattle.ss_commitlog.specs.declared.role.Role.TheVariants.{Part}
 use Rattle.ss_commitlog.specs.declared.rule.Item.{Item}
 use Rattle.ss_commitlog.specs.Meaning.{listed_of, HaveClientsBelow}
 use Rattle.ss_commitlog.specs.Tokens.{Known, AllContinue, AllSaw, Continues, role_of, roles_of}
-use Rattle.ss_commitlog.proofs.CallerLemmas.{in_right, length-listed_of, listed_of-append}
+use Rattle.ss_commitlog.proofs.CallerLemmas.{in_right, listed_of-append}
 use Rattle.ss_hand.specs.Hands.{IsInHand}
 use Rattle.ss_hand.specs.declared.hand.Hand.{Hand}
 use Rattle.ss_engine.specs.declared.closing.Closed.{Closed}
-use Rattle.ss_engine.specs.declared.settling.Settling.{Settling}
-use Rattle.ss_engine.specs.declared.settling.Settling.TheVariants.{Done, NoMemory, ListFull}
-use Rattle.ss_engine.specs.Closings.{EachTouches, EndedWith, IsClosed, IsLeft, MayBeWhole, SettledInOrder, SettledTo, SettlesFrom}
+use Rattle.ss_engine.specs.Closings.{IsClosed, IsLeft, list_alone}
 use Rattle.ss_lanes.specs.Apart.{AreMarksOf, AreOfClients, IsOfLane}
 use Rattle.ss_lanes.specs.Lanes.{LaneView}
-use Rattle.ss_engine.specs.Pumped.{NoneReady}
 use Rattle.ss_lanes.proofs.CallerLemmas.{of_lane}
 use Rattle.ss_turns.proofs.CallerLemmas.{holds_behind}
-use Rattle.ss_engine.proofs.SettledLists.{ended_in_order}
+use Rattle.ss_settle.specs.declared.settling.Settling.{Settling}
+use Rattle.ss_settle.specs.declared.settling.Settling.TheVariants.{NoMemory}
+use Rattle.ss_settle.specs.Settlings.{EndedWith, SettledInOrder, SettledTo, SettlesFrom}
+use Rattle.ss_settle.specs.Wholes.{EachTouches, MayBeWhole}
+use Rattle.ss_settle.proofs.CallerLemmas.{ended, ended_in_order}
 use Rattle.ss_engine.proofs.Touching.{some_touched}
 
 -- as many marks as partitions
@@ -73,23 +71,6 @@ module _ (catalog : Catalog) (accepted : Accepted catalog) (n : ℕ) (some : 1 �
   whole_holds db hand list in_hand on =
       subst (HoldsDatabase catalog hand.whole) (nothing_blank catalog n (is_among (all_partitions n)) some (λ p low. among_all n p low) (after catalog db (listed_of list)))
       (holds_behind catalog accepted n some db (all_partitions n) hand in_hand list on)
-
-  -- no procedure is ready where none is at its home
-  none_at_home : (d : Database) → ((p : ℕ) → p < n → NoneReady catalog n d p) → model.NoneReady catalog d
-  none_at_home d none q = by (is_ready_now catalog d q) refl
-    where
-      by : (b : Bool) → is_ready_now catalog d q ≡ b → is_ready_now catalog d q ≡ false
-      by true ready = absurd (none (home_of catalog n q) (home_below n (slice_get catalog.procedures q) some) q (refl, ready))
-      by false not_ready = not_ready
-
-  -- how it ended
-  ended : (db : Database) (limit : ℕ) (list : List Item) (end : Settling) → SettledTo catalog n db limit list end → EndedWith catalog db limit (listed_of list) end
-  ended db limit list Done settled =
-      let d = after catalog db (listed_of list) in
-      let none = none_at_home d settled in
-      (none, λ in_step. (at_rest catalog accepted d (in_step_after catalog accepted.structure.streams.wired db (listed_of list) in_step)).drained.1 none)
-  ended db limit list NoMemory settled = tt
-  ended db limit list (ListFull count) settled = (length-listed_of list ∙ settled.0, settled.1, settled.2)
 
   -- the log's list, which goes on from what the marks of all lanes know
   list_closes : (clients first limit : ℕ) (db : Database) (lanes : List LaneView) (ms rest : List Known) (disk : Known) (list : List Listed) (items : List Item) (closed : Closed)
@@ -127,7 +108,7 @@ module _ (catalog : Catalog) (accepted : Accepted catalog) (n : ℕ) (some : 1 �
       let replayed : Replays catalog db (listed_of items) = subst (λ (l : List Listed). Replays catalog db l) eq legal.0 in
       let in_all : AllContinue catalog n items hand.marks = λ k there. on k (in_right k ms hand.marks there) in
       let may : MayBeWhole catalog n db items hand.marks = record { touch = each_touches db items replayed; replays = replayed; on = in_all } in
-      let ends = ended db limit items end (settled items may) in
+      let ends = ended catalog accepted n some db limit items end (settled items may) in
       list_closes clients first limit db lanes ms hand.marks disk list items (record { list = list; database = Some (record { whole = hand.whole; streams = streams }); catalog = c; answers = answers; end = end; settled = ran })
       of are answers_are refl eq on on_disk saw legal short same (
         is_whole catalog n db some hand in_hand,
@@ -145,9 +126,9 @@ module _ (catalog : Catalog) (accepted : Accepted catalog) (n : ℕ) (some : 1 �
       → AreOfClients clients lanes → AreMarksOf first lanes ms → answers ≡ map (λ (l : LaneView). l.answers) lanes
       → ((items : List Item) × (list ≡ listed_of items) × AllContinue catalog n items ms × Continues catalog n items disk) → AllSaw disk ms
       → Replays catalog db list × Orders catalog db list → HaveClientsBelow clients list × (length list ≤ limit) → c ≡ catalog
-      → IsClosed catalog n clients first limit db disk lanes (record { list = list; database = None; catalog = c; answers = answers; end = NoMemory; settled = 0 })
+      → IsClosed catalog n clients first limit db disk lanes (list_alone list c answers)
   closes_apart clients first limit db lanes ms disk list answers c of are answers_are (items, eq, on, on_disk) saw legal short same =
       let alone : ms ≡ ms ++ [] = sym (append-nil ms) in
-      list_closes clients first limit db lanes ms [] disk list items (record { list = list; database = None; catalog = c; answers = answers; end = NoMemory; settled = 0 })
+      list_closes clients first limit db lanes ms [] disk list items (list_alone list c answers)
       of are answers_are refl eq (subst (λ (ks : List Known). AllContinue catalog n items ks) alone on) on_disk (subst (λ (ks : List Known). AllSaw disk ks) alone saw) legal short same tt refl tt
       (record { before = list; steps = []; splits = sym (append-nil list); many = refl; in_order = tt })

@@ -8,12 +8,5 @@ pub mod SmallSets
 pub mod Serves
 pub mod Sessions
 pub mod Flushes
-pub mod Fresh
-pub mod Looks
-pub mod Ranked
-pub mod FirstIsNext
-pub mod WholeList
-pub mod SettledLists
 pub mod HandedOver
 pub mod Crossing
-pub mod worked

@@ -1,15 +1,13 @@
 -- The next step of a procedure, which is tried.
 use Rattle.std.proofs.Common.{⊎_elim, ◌≡◌, ℕ, ◌≤◌, ◌<◌, true, slice_get, Result, Ok, IfOk, List, [], ◌∷◌, ◌++◌, length, sym, ap, ◌∙◌, subst, arith, append_assoc, IfSome, Some, None}
 use Rattle.std.specs.declared.option.Option.{Option}
-use Rattle.ss_lemmas.proofs.Bools.{first_of_two}
 use Rattle.ss_model.specs.declared.catalog.Catalog.{Catalog}
 use Rattle.ss_model.specs.declared.catalog.Procedure.{Procedure}
 use Rattle.ss_model.specs.declared.entry.Entry.{Entry}
 use Rattle.ss_model.specs.declared.entry.Entry.TheVariants.{Step as StepEntry}
-use Rattle.ss_model.specs.Database.{Database, batch_count, has_step, is_ready, is_streaming}
+use Rattle.ss_model.specs.Database.{Database, has_step, is_streaming}
 use Rattle.ss_model.specs.Orders.{procedure_has}
 use Rattle.ss_model.proofs.CallerLemmas.{few_procedures, home_below, procedure_there}
-use Rattle.ss_model_laws.proofs.CallerLemmas.{named}
 use Rattle.ss_model.specs.Accepted.{Accepted}
 use Rattle.ss_commitlog.specs.declared.role.Role.TheVariants.{Log}
 use Rattle.ss_commitlog.specs.declared.rule.Item.{Item}
@@ -25,18 +23,12 @@ use Rattle.ss_lanes.specs.Growing.{GoesOn}
 use Rattle.ss_engine.specs.Pumped.{IsLeastOf, IsPumped, AfterPump}
 use Rattle.ss_engine.specs.Tried.{StepsAt, tried_of, IsOfProcedure, IsTried}
 use Rattle.ss_lanes.proofs.CallerLemmas.{on_and_on, on_longer}
+use Rattle.ss_settle.proofs.CallerLemmas.{ready_fits}
 use Rattle.ss_engine.proofs.Pumps.{after_later, pumped_later}
 
 -- a procedure that is ready at a partition takes its steps there
 pub ready_steps : (catalog : Catalog) (n : ℕ) (d : Database) (p q : ℕ) → IsReadyAt catalog n d p q → StepsAt catalog n p q
-ready_steps catalog n d p q (home, ready) =
-    let (x, is, t) = named (is_ready d q (batch_count d q)) (slice_get catalog.procedures q) ready in
-    (home, ap has_step is ∙ first_of_two _ _ (first_of_two _ _ t))
-
--- and it is one of the catalogue's, of which there are 64 at most
-pub ready_below : (catalog : Catalog) → Accepted catalog → (n : ℕ) (d : Database) (p q : ℕ) → IsReadyAt catalog n d p q → q < 64
-ready_below catalog accepted n d p q (home, ready) =
-    let there = procedure_there (is_ready d q (batch_count d q)) catalog.procedures q ready in let few = few_procedures catalog accepted.form in omega arith
+ready_steps catalog n d p q ready = (ready.0, ready_fits catalog n d p q ready)
 
 step_there : (ps : List Procedure) (q : ℕ) → has_step (slice_get ps q) ≡ true → q < length ps
 step_there ps q e = procedure_there (λ p. is_streaming p.kind) ps q (as_test (slice_get ps q) e)

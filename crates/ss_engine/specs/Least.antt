@@ -1,10 +1,7 @@
 -- The least member of a set of small numbers.
-use Rattle.std.specs.Prelude.{ℕ, ◌<◌}
+use Rattle.std.specs.Prelude.{ℕ}
 use Rattle.std.specs.Int.{IsBitSet}
-
--- no member is below a number
-abbrev pub NoneBelow : ℕ → ℕ → Type 0
-NoneBelow n set = (q : ℕ) → q < n → IsBitSet set q → ⊥
+pub use Rattle.ss_settle.specs.Members.{NoneBelow}
 
 -- a member, below which there is none
 abbrev pub IsLeastIn : ℕ → ℕ → Type 0

@@ -2,10 +2,8 @@ pub mod Pumped
 pub mod Assured
 pub mod Engines
 pub mod Least
-pub mod Ranking
 pub mod Tried
 pub mod Serving
-pub mod Openings
 pub mod Closings
 pub mod Clients
 pub mod Sessions

@@ -5,7 +5,6 @@ use Rattle.ss_model.specs.declared.entry.Entry.{Entry}
 use Rattle.ss_model.specs.Database.{Database}
 use Rattle.ss_model.specs.Partitions.{touches}
 use Rattle.ss_commitlog.specs.declared.rule.Item.{Item}
-use Rattle.ss_commitlog.specs.Reading.{IsReadyAt}
 use Rattle.ss_commitlog.specs.Right.{known_database}
 use Rattle.ss_commitlog.specs.Tokens.{Known}
 use Rattle.ss_engine.specs.declared.pump.Pumped.{Pumped}
@@ -13,6 +12,7 @@ use Rattle.ss_engine.specs.declared.pump.Pumped.TheVariants.{Ran, Idle, NoMemory
 use Rattle.ss_lanes.specs.declared.reply.Said.{Said}
 use Rattle.ss_lanes.specs.declared.reply.Said.TheVariants as said
 use Rattle.ss_lanes.specs.Growing.{GoesOn}
+use Rattle.ss_settle.specs.Ready.{NoneReady}
 
 -- the least partition that an entry touches
 abbrev pub IsLeastOf : Catalog → ℕ → Entry → ℕ → Type 0
@@ -23,10 +23,6 @@ abbrev pub StandsAt : Catalog → ℕ → ℕ → List Item → ℕ → ℕ → 
 StandsAt catalog parts first list place p =
     (before : List Item) × (i : Item) × (rest : List Item) × (list ≡ before ++ i ∷ rest) × (place ≡ first + length before)
     × IsLeastOf catalog parts i.listed.entry p
-
--- no procedure at home on partition p is ready
-abbrev pub NoneReady : Catalog → ℕ → Database → ℕ → Type 0
-NoneReady catalog parts d p = (q : ℕ) → IsReadyAt catalog parts d p q → ⊥
 
 -- what one call of a pump says of the list that the note then knows
 abbrev pub AfterPump : Catalog → ℕ → Database → ℕ → ℕ → ℕ → Known → Known → Pumped → Type 0

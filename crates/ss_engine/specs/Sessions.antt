@@ -23,9 +23,9 @@ use Rattle.ss_receipts.specs.Holding.{Holds}
 use Rattle.ss_receipts.specs.Past.{past_of}
 use Rattle.ss_engine.specs.declared.closing.Closed.{Closed}
 use Rattle.ss_engine.specs.declared.session.Finished.{Finished}
-use Rattle.ss_engine.specs.declared.settling.Settling.TheVariants.{NoMemory}
+use Rattle.ss_settle.specs.declared.settling.Settling.TheVariants.{NoMemory}
 use Rattle.ss_lanes.specs.Clients.{AreListedOr}
-use Rattle.ss_engine.specs.Closings.{EndedWith, SettledInOrder}
+use Rattle.ss_settle.specs.Settlings.{EndedWith, SettledInOrder}
 use Rattle.ss_lanes.specs.Dues.{FewOpen, entries_from}
 
 -- each request is of one of so many clients

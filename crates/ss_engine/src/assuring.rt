@@ -3,13 +3,13 @@
 ghost use Rattle.ss_engine.specs.Assured.{AsksForReceipt};
 
 use crate::engine::Engine;
-use crate::gate::Gate;
 use ss_cmdlog::Receipt;
 use ss_disk::Disk;
 use ss_lanes::{Lane, failed, lane_of};
 use ss_model::Life;
 use ss_proc::Runner;
 use ss_receipts::{DurableError, Receipts};
+use ss_settle::Gate;
 use std::alloc::Global;
 use std::sync::Wait;
 

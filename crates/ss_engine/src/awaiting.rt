@@ -9,12 +9,12 @@ ghost use Rattle.ss_lanes.specs.Lanes.{IsLane, IsSubmitted, lane_view};
 ghost use Rattle.ss_lanes.specs.Owning.{IsOwn};
 
 use crate::engine::Engine;
-use crate::gate::Gate;
 use crate::pump::Pumped;
 use ss_commitlog::Note;
 use ss_lanes::{Due, Job, Lane, Reply, Ticket, answered, unsent};
 use ss_model::{Answer, Asked, Entry, Life};
 use ss_proc::Runner;
+use ss_settle::Gate;
 use ss_value::Reserved;
 use std::alloc::Global;
 use std::sync::Wait;

@@ -4,7 +4,6 @@ ghost use Rattle.std.specs.Prelude.{◌≡◌, ◌<◌, length};
 ghost use Rattle.ss_lanes.specs.Clients.{AllFit, EachAt, EachHasLane, HasLane, HasMade, MayBegin};
 
 use crate::engine::Engine;
-use crate::gate::Gate;
 use crate::requesting::make_requests;
 use ss_commitlog::{Note, Notes};
 use ss_disk::Disk;
@@ -12,6 +11,7 @@ use ss_lanes::{Client, Lane, Ready, lanes_of};
 use ss_model::{Life, Request};
 use ss_proc::Runner;
 use ss_receipts::Receipts;
+use ss_settle::Gate;
 use std::alloc::Global;
 use std::sync::Wait;
 use std::sync::atomic::{AtomicBool, Ordering};

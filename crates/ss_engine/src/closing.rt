@@ -2,17 +2,16 @@
 
 ghost use Rattle.std.specs.Prelude.{◌≡◌, ◌≤◌, ◌+◌};
 ghost use Rattle.ss_commitlog.specs.declared.role.Role.TheVariants.{Disk};
-ghost use Rattle.ss_engine.specs.Closings.{IsClosed};
+ghost use Rattle.ss_engine.specs.Closings.{IsClosed, list_alone};
 ghost use Rattle.ss_lanes.specs.Apart.{AreOfClients};
 
 use crate::engine::Engine;
-use crate::gate::Gate;
-use crate::settling::{Settling, settle};
 use ss_commitlog::Note;
 use ss_hand::{Hand, in_one_hand};
 use ss_lanes::{Lane, Room, take_apart, with_parts};
 use ss_model::{Answer, Catalog, Life, Listed};
 use ss_proc::Runner;
+use ss_settle::{Gate, Settling, settle};
 use ss_shard::Database;
 use ss_value::Seq;
 use std::alloc::Global;
@@ -34,6 +33,20 @@ pub struct Closed {
     /// How many of the list's last entries these steps are. Each is the next one of settling: of the ready procedures that of
     /// least rank, then of least number.
     pub settled: u64,
+}
+
+/// What is left where there was no memory to take all partitions in one hand: the list, without the database.
+fn list_alone(list: Seq<Listed>, catalog: Catalog, answers: Seq<Seq<Answer>>) -> Closed
+    ensures { result ≡ list_alone list catalog answers }
+{
+    Closed {
+        list,
+        database: None,
+        catalog,
+        answers,
+        end: Settling::NoMemory,
+        settled: 0,
+    }
 }
 
 impl<I: Life, N: Runner + Drop, G: Gate + Drop> Engine<I, N, G> {
@@ -71,14 +84,7 @@ impl<I: Life, N: Runner + Drop, G: Gate + Drop> Engine<I, N, G> {
         let (_note, gathered) = in_one_hand(rt, alloc, &log, &catalog, parts, partitions, note);
         let Ok(hand) = gathered else {
             let (list, _streams) = log.close(Seq::from_vec(marks), disk);
-            return Closed {
-                list,
-                database: None,
-                catalog,
-                answers: Seq::from_vec(answers),
-                end: Settling::NoMemory,
-                settled: 0,
-            };
+            return list_alone(list, catalog, Seq::from_vec(answers));
         };
         let (hand, end, settled) = settle(
             rt, alloc, &log, &catalog, &runner, &gate, &homes, parts, hand,

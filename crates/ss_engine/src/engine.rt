@@ -1,11 +1,11 @@
 //! The engine that threads share.
 
-use crate::gate::Gate;
 use ss_hand::Partition;
 use ss_lanes::Hub;
 use ss_model::{Catalog, Life};
 use ss_party::Bays;
 use ss_proc::Runner;
+use ss_settle::Gate;
 use ss_value::Seq;
 use std::marker::Model;
 

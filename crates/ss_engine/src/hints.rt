@@ -4,7 +4,6 @@ ghost use Rattle.std.specs.Prelude.{◌≡◌, ◌<◌, true};
 ghost use Rattle.ss_engine.specs.Tried.{StepsAt, IsOfProcedure, IsTried, tried_of};
 
 use crate::engine::Engine;
-use crate::gate::Gate;
 use crate::holding::show;
 use crate::least::first_of;
 use crate::pump::Pumped;
@@ -12,6 +11,7 @@ use ss_commitlog::Note;
 use ss_model::{Entry, Life};
 use ss_partition::touch_set;
 use ss_proc::Runner;
+use ss_settle::Gate;
 use ss_turns::{Stepped, execute_step};
 use std::alloc::Global;
 use std::sync::Wait;

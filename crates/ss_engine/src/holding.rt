@@ -15,7 +15,6 @@ ghost use Rattle.ss_lanes.specs.Growing.{GoesOn};
 ghost use Rattle.ss_engine.specs.Pumped.{IsLeastOf};
 
 use crate::engine::Engine;
-use crate::gate::Gate;
 use crate::least::least_of;
 use ss_commitlog::{CommitLog, Note};
 use ss_hand::{Hand, Partition, put_parts, take_parts};
@@ -23,6 +22,7 @@ use ss_model::{Entry, Life};
 use ss_partition::touch_set;
 use ss_party::Turn;
 use ss_proc::Runner;
+use ss_settle::Gate;
 use ss_value::{NoMemory, PartSet, Reserved};
 use std::alloc::Global;
 use std::sync::Wait;

@@ -1,8 +1,9 @@
 //! The engine: clients in lanes, whose requests wait as jobs in the inboxes of partitions and come back as replies.
 //!
-//! Requests go out from lanes (`ss_lanes`) as jobs to the inbox of a partition, with the client's mark in the commit log, and come
-//! back as replies; they wait in the hub of `ss_lanes`, which calls nobody. Who runs the work of an inbox takes the partitions of
-//! an entry out of their bays (`ss_hand`), runs and commits it (`ss_turns`), and puts them back.
+//! An engine begins with what `ss_opening` makes of a database. Requests go out from lanes (`ss_lanes`) as jobs to the inbox of a
+//! partition, with the client's mark in the commit log, and come back as replies; they wait in the hub of `ss_lanes`, which calls
+//! nobody. Who runs the work of an inbox takes the partitions of an entry out of their bays (`ss_hand`), runs and commits it
+//! (`ss_turns`), and puts them back. What is ready at the end `ss_settle` runs.
 //!
 //! Source: S-Store's clients and partition engines, whose triggered work goes ahead of client work (Meehan et al., PVLDB 8,
 //! 2015, section 3).
@@ -10,13 +11,11 @@
 //! - `engine`: what threads share; `opening`: one with an empty list, and a lane for each client; `closing`: what it leaves
 //! - `submitting`: its calls for clients, which `awaiting` has answered; `assuring`: receipts for them
 //! - `pumping`: it runs the work of its inboxes
-//! - `settling`: its own last steps; `ranking`: in which order
 //! - `requesting`: a client's requests; `clients`: clients and executors in threads; `session`: a whole run
 //! - `serving`: a job; `hints`: a procedure that may be ready; `waking`: hints of what an entry may have made ready
-//! - `pump`: what the work of an inbox came to; `holding`: partitions in and out of bays; `gate`: what is told of an execution;
-//!   `least`: small sets
+//! - `pump`: what the work of an inbox came to; `holding`: partitions in and out of bays; `least`: small sets
 //!
-//! In `specs/`: `Pumped`, `Engines`, `Serving`, `Tried`, `Least`, `Ranking`, `Assured`, `Openings`, `Closings`, `Clients`, `Sessions`.
+//! In `specs/`: `Pumped`, `Engines`, `Serving`, `Tried`, `Least`, `Assured`, `Closings`, `Clients`, `Sessions`.
 //!
 //! # What is known of threads
 //!
@@ -64,26 +63,22 @@ mod awaiting;
 mod clients;
 mod closing;
 mod engine;
-mod gate;
 mod hints;
 mod holding;
 mod least;
 mod opening;
 mod pump;
 mod pumping;
-mod ranking;
 mod requesting;
 mod serving;
 mod session;
-mod settling;
 mod submitting;
 mod waking;
 
 pub use closing::Closed;
 pub use engine::Engine;
-pub use gate::{Gate, NoGate};
 pub use opening::Opened;
 pub use pump::Pumped;
 pub use session::{Finished, run_session};
-pub use settling::Settling;
 pub use ss_lanes::{Due, Hub, Lane, Room, lanes_serve};
+pub use ss_settle::{Gate, NoGate, Settling};

@@ -4,12 +4,12 @@ ghost use Rattle.std.specs.Prelude.{◌<◌};
 ghost use Rattle.ss_engine.specs.Pumped.{IsPumped};
 
 use crate::engine::Engine;
-use crate::gate::Gate;
 use crate::pump::Pumped;
 use ss_commitlog::Note;
 use ss_model::Life;
 use ss_proc::Runner;
 use ss_sched::Work;
+use ss_settle::Gate;
 use std::alloc::Global;
 use std::sync::Wait;
 

@@ -7,12 +7,12 @@ ghost use Rattle.ss_lanes.specs.Between.{HasRequested};
 ghost use Rattle.ss_lanes.specs.Clients.{AllFit, HasMade, MayBegin};
 
 use crate::engine::Engine;
-use crate::gate::Gate;
 use ss_disk::Disk;
 use ss_lanes::{Lane, MOST_PENDING, halted, unsent};
 use ss_model::{Life, Request};
 use ss_proc::Runner;
 use ss_receipts::{DurableError, Receipts};
+use ss_settle::Gate;
 use std::alloc::Global;
 use std::sync::Wait;
 

@@ -6,7 +6,6 @@ ghost use Rattle.ss_engine.specs.Pumped.{IsPumped, pumped_of};
 ghost use Rattle.ss_engine.specs.Serving.{ServesHere};
 
 use crate::engine::Engine;
-use crate::gate::Gate;
 use crate::pump::Pumped;
 use ss_commitlog::Note;
 use ss_hand::{Hand, Partition};
@@ -14,6 +13,7 @@ use ss_lanes::{Job, Said};
 use ss_model::Life;
 use ss_party::Turn;
 use ss_proc::Runner;
+use ss_settle::Gate;
 use ss_turns::execute_asked;
 use std::alloc::Global;
 use std::sync::Wait;

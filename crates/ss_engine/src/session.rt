@@ -16,7 +16,6 @@ ghost use Rattle.ss_engine.specs.Sessions.{AreOfClients, Ends, EndsOnDisk, IsFlu
 use crate::clients::run_clients;
 use crate::closing::Closed;
 use crate::engine::Engine;
-use crate::gate::Gate;
 use crate::opening::Opened;
 use ss_cmdlog::{CmdLog, Receipt};
 use ss_commitlog::{Blank, Opening};
@@ -25,6 +24,7 @@ use ss_lanes::with_room;
 use ss_model::{Catalog, Life, Request};
 use ss_proc::Runner;
 use ss_receipts::{DurableError, Receipts, all_stands, finish, held_fronts_stand, holds_go_on};
+use ss_settle::Gate;
 use ss_shard::Shard;
 use ss_stream::Streams;
 use ss_value::{NoMemory, Seq};

@@ -6,10 +6,10 @@ ghost use Rattle.ss_model.specs.Report.{asked_entry};
 ghost use Rattle.ss_lanes.specs.Lanes.{IsSubmitted};
 
 use crate::engine::Engine;
-use crate::gate::Gate;
 use ss_lanes::{Lane, halted, unsent};
 use ss_model::{Life, Request, asked_entry};
 use ss_proc::Runner;
+use ss_settle::Gate;
 use ss_value::Copies;
 use std::alloc::Global;
 use std::sync::Wait;

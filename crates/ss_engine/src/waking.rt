@@ -4,10 +4,10 @@ ghost use Rattle.std.specs.Prelude.{◌≡◌, true};
 ghost use Rattle.ss_model.specs.Database.{fits_entry};
 
 use crate::engine::Engine;
-use crate::gate::Gate;
 use ss_model::{Entry, Life};
 use ss_proc::Runner;
 use ss_sched::wake_list;
+use ss_settle::Gate;
 use std::sync::Wait;
 
 impl<I: Life, N: Runner + Drop, G: Gate + Drop> Engine<I, N, G> {

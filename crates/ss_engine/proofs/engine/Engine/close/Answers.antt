@@ -1,8 +1,9 @@
-use Rattle.std.proofs.Common.{◌≡◌, ◌∙◌, List, subst, arith}
+use Rattle.std.proofs.Common.{◌≡◌, ◌∙◌, List, sym, subst, arith}
 use Rattle.ss_commitlog.specs.declared.rule.Item.{Item}
 use Rattle.ss_commitlog.specs.Tokens.{Known, AllContinue, AllSaw, Continues}
 use Rattle.ss_commitlog.specs.Meaning.{listed_of}
 use Rattle.ss_lanes.proofs.CallerLemmas.{lane_marks}
+use Rattle.ss_engine.specs.Closings.{IsClosed}
 use Rattle.ss_engine.proofs.HandedOver.{closes, closes_apart, part_marks}
 use Rattle.ss_engine.proofs.engine.Engine.close.Goals as goal
 
@@ -29,7 +30,8 @@ returns g c =
 pub returns-in_default : goal.returns-in_default
 returns-in_default g c =
     let joined : List Known → Type 0 = λ ks. (items : List Item) × (c.close-list.result.0 ≡ listed_of items) × AllContinue g.I.Life.catalog g.I.Life.parts items ks × Continues g.I.Life.catalog g.I.Life.parts items c.args.disk in
-    closes_apart g.I.Life.catalog c.self.invariant.accepted g.I.Life.parts c.self.invariant.some g.I.Life.clients g.I.Life.first g.I.Life.limit g.I.Life.opening c.args.lanes.items c.take_apart-marks.result.0.items
+    subst (IsClosed g.I.Life.catalog g.I.Life.parts g.I.Life.clients g.I.Life.first g.I.Life.limit g.I.Life.opening c.args.disk c.args.lanes.items) (sym c.list_alone.ensures)
+    (closes_apart g.I.Life.catalog c.self.invariant.accepted g.I.Life.parts c.self.invariant.some g.I.Life.clients g.I.Life.first g.I.Life.limit g.I.Life.opening c.args.lanes.items c.take_apart-marks.result.0.items
     c.args.disk c.close-list.result.0 c.from_vec-in_default.result c.self.inside.catalog
     c.requires.lanes c.take_apart-marks.ensures.marks.0 (c.from_vec-in_default.ensures ∙ c.take_apart-marks.ensures.answers)
-    (subst joined c.from_vec.ensures c.close-list.ensures.list) (subst (λ (ks : List Known). AllSaw c.args.disk ks) c.from_vec.ensures c.close-list.ensures.seen) c.close-list.ensures.legal c.close-list.ensures.clients c.self.invariant.catalog_is
+    (subst joined c.from_vec.ensures c.close-list.ensures.list) (subst (λ (ks : List Known). AllSaw c.args.disk ks) c.from_vec.ensures c.close-list.ensures.seen) c.close-list.ensures.legal c.close-list.ensures.clients c.self.invariant.catalog_is)

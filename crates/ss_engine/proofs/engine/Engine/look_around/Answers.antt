@@ -2,7 +2,8 @@ use Rattle.std.proofs.Common.{ℕ, Option, IfNone, subst}
 use Rattle.ss_commitlog.specs.Right.{known_database}
 use Rattle.ss_engine.specs.Least.{NoneBelow}
 use Rattle.ss_lanes.proofs.CallerLemmas.{follows_on}
-use Rattle.ss_engine.proofs.Trying.{ready_below, tried_later}
+use Rattle.ss_settle.proofs.CallerLemmas.{ready_below}
+use Rattle.ss_engine.proofs.Trying.{tried_later}
 use Rattle.ss_engine.proofs.engine.Engine.look_around.Goals as goal
 
 pub returns-in-None : goal.returns-in-None
