@@ -67,6 +67,27 @@ fn check_catalog(alloc: Global, catalog: &Catalog) -> Result<(), CatalogError>
     check_window_owners(alloc, catalog)
 }
 
+/// The catalogue of a value's outline, which has passed the checks before any SQL is read; or the first thing that is wrong
+/// with it, in the order of `read_catalog`.
+///
+/// The outline is lent, so that it is let go in one place and not at each refusal.
+fn catalog_of(alloc: Global, value: &Json, outline: &Outline) -> Result<Catalog, CatalogError>
+    requires levels { depth (view value.now) ≤ max_depth }
+    requires numbered { IsNumbered (view value.now) outline.now }
+    ensures ok { IfOk result (Reads (view value.now)) }
+    ensures accepted { IfOk result Accepted }
+    ensures utf8 { IfOk result (λ catalog. IsUtf8 catalog.text) }
+    ensures refused { IfErr result (Refuses (view value.now)) }
+{
+    let text = text_of(alloc, value)?;
+    let catalog = resolve_sql(alloc, outline, text)?;
+    check_catalog(alloc, &catalog)?;
+    // Last in the order of refusals; counts that can't be numbered were refused before any SQL was read.
+    check_counts(outline)?;
+    what_reads_is_accepted();
+    Ok(catalog)
+}
+
 /// The catalogue of a value, or the first thing that is wrong with it.
 ///
 /// The checks go in this order, each over the whole: shape (C1); duplicate names (C2); unknown names (C3); counts too
@@ -85,11 +106,5 @@ pub fn read_catalog(alloc: Global, value: &Json) -> Result<Catalog, CatalogError
     ensures refused { IfErr result (Refuses (view value.now)) }
 {
     let outline = read_numbered(alloc, value)?;
-    let text = text_of(alloc, value)?;
-    let catalog = resolve_sql(alloc, &outline, text)?;
-    check_catalog(alloc, &catalog)?;
-    // Last in the order of refusals; counts that can't be numbered were refused above.
-    check_counts(&outline)?;
-    what_reads_is_accepted();
-    Ok(catalog)
+    catalog_of(alloc, value, &outline)
 }

@@ -1,6 +1,6 @@
 //! Commits: entries that join the list.
 
-ghost use Rattle.std.specs.Prelude.{◌≡◌, ◌≤◌, ◌↔◌, cond, get_or, drop, IfOk, IfErr, IsTrue};
+ghost use Rattle.std.specs.Prelude.{◌≡◌, ◌≤◌, ◌↔◌, ◌+◌, cond, get_or, drop, length, IfOk, IfErr, IsTrue};
 ghost use Rattle.std.specs.List.{list_all};
 ghost use Rattle.ss_core.specs.declared.machine.StepError.TheVariants.{NotEnabled};
 ghost use Rattle.ss_core.specs.declared.machine.Event.TheVariants.{Commit};
@@ -159,6 +159,36 @@ fn known_after(alloc: Global, core: &Core, entry: &Entry, count: u64) -> Result<
     Ok(known)
 }
 
+/// How many entries the holder of each partition knows once an entry is at the list's end, or why it may not join the list.
+/// Costs a replay of the first `seen` entries.
+///
+/// It reads the core and the entry, so that what refuses them lets nothing go.
+fn known_once_committed(
+    alloc: Global,
+    core: &Core,
+    actor: u8,
+    listed: &Listed,
+    seen: u64,
+) -> Result<Seq<u64>, StepError>
+    ensures may { IfOk result (λ _. MayCommit core.now actor listed.now seen) }
+    ensures known { IfOk result (λ known. known ≡ known_after core.now listed.now.entry (length core.now.list + 1)) }
+    ensures refused { IfErr result (λ e. e ≡ NotEnabled → CannotLead core.now (Commit actor listed.now seen)) }
+{
+    match may_commit(alloc, core, actor, listed, seen) {
+        Err(NoMemory) => return Err(StepError::NoMemory),
+        Ok(false) => return Err(StepError::NotEnabled),
+        Ok(true) => (),
+    }
+    // No list in memory is as long as its count's greatest value.
+    let Some(count) = (core.list.len() as u64).checked_add(1) else {
+        return Err(StepError::NoMemory);
+    };
+    match known_after(alloc, core, &listed.entry, count) {
+        Ok(known) => Ok(known),
+        Err(NoMemory) => Err(StepError::NoMemory),
+    }
+}
+
 /// An actor adds an entry that it ran after the first `seen` entries. Costs a replay of these by the definitions.
 ///
 /// What others committed behind `seen` touches none of the entry's partitions, since the actor holds these and knew all
@@ -175,18 +205,10 @@ pub fn commit(
     ensures err { IfErr result (λ e. e.1 ≡ core) }
     ensures refused { IfErr result (λ e. e.0 ≡ NotEnabled → CannotLead core (Commit actor listed seen)) }
 {
-    match may_commit(alloc, &core, actor, &listed, seen) {
-        Err(NoMemory) => return Err((StepError::NoMemory, core)),
-        Ok(false) => return Err((StepError::NotEnabled, core)),
-        Ok(true) => (),
-    }
-    // No list in memory is as long as its count's greatest value.
-    let Some(count) = (core.list.len() as u64).checked_add(1) else {
-        return Err((StepError::NoMemory, core));
-    };
     // Made before the entry joins the list, so that out of memory leaves the core as it was.
-    let Ok(known) = known_after(alloc, &core, &listed.entry, count) else {
-        return Err((StepError::NoMemory, core));
+    let known = match known_once_committed(alloc, &core, actor, &listed, seen) {
+        Ok(known) => known,
+        Err(refused) => return Err((refused, core)),
     };
     let mut core = core;
     if core.list.push(listed).is_err() {

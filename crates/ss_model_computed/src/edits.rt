@@ -11,7 +11,7 @@ ghost use Rattle.ss_model_computed.specs.Edits.{set_value, updated_entry};
 ghost use Rattle.ss_model_computed.specs.Meanings.{TurnsInto};
 
 use crate::contents::{Contents, Context};
-use crate::effects::one_row;
+use crate::lists::one_item;
 use crate::stored_rows::{put_entries, remove_entries, visible_entries};
 use crate::table::Entry;
 use ss_model::RunError;
@@ -27,7 +27,7 @@ fn row_passes(alloc: Global, params: &Row, test: &Option<Expr>, row: &Row) -> Re
 {
     let row = row.duplicate(alloc)?;
     // WHERE sees a tuple, one row per source; a statement has one source, its table.
-    let here = one_row(alloc, row)?;
+    let here = one_item(alloc, row)?;
     where_passes(alloc, test, &here, params)
 }
 
@@ -94,7 +94,7 @@ fn updated_row(alloc: Global, params: &Row, sets: &Seq<SetTo>, row: &Row) -> Res
 {
     let mut new = row.duplicate(alloc)?;
     let old = row.duplicate(alloc)?;
-    let here = one_row(alloc, old)?;
+    let here = one_item(alloc, old)?;
     let values = set_values(alloc, params, sets.as_slice(), &here)?;
     put_values(&mut new, values);
     Ok(new)

@@ -1,6 +1,6 @@
 //! What a statement makes of tables, or stages in a window.
 
-ghost use Rattle.std.specs.Prelude.{◌≡◌, ◌∷◌, [], IfOk, IfErr, OnOk, Ok};
+ghost use Rattle.std.specs.Prelude.{◌≡◌, [], IfOk, IfErr, OnOk, Ok};
 ghost use Rattle.ss_model.specs.Results.{try_map, try_fold};
 ghost use Rattle.ss_model.specs.Expressions.{expr_value};
 ghost use Rattle.ss_model.specs.Statements.{insert_row, insert_into};
@@ -11,12 +11,13 @@ ghost use Rattle.ss_model_computed.specs.Meanings.{InsertMakes, StatementMakes, 
 
 use crate::contents::{Contents, Context};
 use crate::edits::{delete_rows, update_rows};
+use crate::lists::one_item;
 use crate::queries::context_query;
 use crate::stored_rows::insert_row;
 use ss_model::{Catalog, RunError};
 use ss_model_computed_sql::evaluate;
 use ss_sql_trees::{Expr, Query, Statement, Target};
-use ss_value::{NoMemory, Row, Rows, Seq};
+use ss_value::{Row, Rows, Seq};
 use std::alloc::Global;
 
 /// What a statement made: it wrote to tables, or these rows are to be staged in a window. Staging sets triggers off,
@@ -25,15 +26,6 @@ use std::alloc::Global;
 pub enum Effect {
     Wrote,
     Staged { window: u16, rows: Rows },
-}
-
-/// The list of one row.
-pub fn one_row(alloc: Global, row: Row) -> Result<Rows, NoMemory>
-    ensures { IfOk result (λ rows. rows ≡ row ∷ []) }
-{
-    let mut rows = Seq::new(alloc);
-    rows.push(row)?;
-    Ok(rows)
 }
 
 /// The row of the values of expressions that see no row, in order. Aborts as the first one that does.
@@ -103,7 +95,7 @@ fn insert_values(
     ensures stops { IfErr result (StatementStops context.now inserted.now params.now (Statement.InsertValues target values.now) contents.old) }
 {
     let row = given_row(alloc, params, values.as_slice())?;
-    let rows = one_row(alloc, row)?;
+    let rows = one_item(alloc, row)?;
     insert_into(alloc, context, target, rows, contents)
 }
 

@@ -1,6 +1,6 @@
 //! Lists, read and changed at an index, where past the end there is nothing.
 
-ghost use Rattle.std.specs.Prelude.{◌≡◌, [], ◌++◌, get_or, set, replicate, IfOk, OnOk};
+ghost use Rattle.std.specs.Prelude.{◌≡◌, [], ◌∷◌, ◌++◌, get_or, set, replicate, IfOk, OnOk};
 
 use ss_value::{Copies, NoMemory, Rows, Seq, copy_row};
 use std::alloc::Global;
@@ -37,6 +37,15 @@ pub fn empty_lists<T: Drop>(alloc: Global, count: usize) -> Result<Seq<Seq<T>>, 
         lists.push(Seq::new(alloc))?;
     }
     Ok(lists)
+}
+
+/// The list of one item.
+pub fn one_item<T: Drop>(alloc: Global, item: T) -> Result<Seq<T>, NoMemory>
+    ensures { IfOk result (λ list. list ≡ item ∷ []) }
+{
+    let mut list = Seq::new(alloc);
+    list.push(item)?;
+    Ok(list)
 }
 
 /// Adds copies of rows behind others. Where it runs out of memory, some of them may have been added.

@@ -1,6 +1,6 @@
 //! Queries in an execution: the rows of their sources, and the rows that they give.
 
-ghost use Rattle.std.specs.Prelude.{◌≡◌, get_or, [], IfOk, IfErr, Ok};
+ghost use Rattle.std.specs.Prelude.{◌≡◌, IfOk, IfErr, Ok};
 ghost use Rattle.std.specs.FinMap as finmap;
 ghost use Rattle.ss_model.specs.Queries.{join_source};
 ghost use Rattle.ss_model.specs.Statements.{context_query};
@@ -9,6 +9,7 @@ ghost use Rattle.ss_model_computed.specs.State.{contents_of, context_of};
 ghost use Rattle.ss_model_computed.specs.Meanings.{table_seen, source_seen};
 
 use crate::contents::{Contents, Context};
+use crate::lists::copy_at;
 use crate::stored_rows::{rows_of, visible_entries};
 use crate::windows::visible_rows;
 use ss_model::RunError;
@@ -31,16 +32,6 @@ fn table_rows(
     rows_of(alloc, entries)
 }
 
-/// A copy of the batch of an input, and no row where there is none of this number.
-fn batch_rows(alloc: Global, batches: &Seq<Rows>, batch: u16) -> Result<Rows, NoMemory>
-    ensures { IfOk result (λ rows. rows ≡ get_or batches.now batch []) }
-{
-    match batches.get(usize::from(batch)) {
-        Some(rows) => rows.duplicate(alloc),
-        None => Ok(Seq::new(alloc)),
-    }
-}
-
 /// Copies of the rows of a source, where `inserted` are the rows just inserted.
 fn source_rows(
     alloc: Global,
@@ -54,7 +45,7 @@ fn source_rows(
     match source {
         SourceId::Table(table) => table_rows(alloc, context, contents, table),
         SourceId::Window(window) => visible_rows(alloc, context.catalog, window, contents),
-        SourceId::Batch(batch) => batch_rows(alloc, context.batches, batch),
+        SourceId::Batch(batch) => copy_at(alloc, context.batches, usize::from(batch)),
         SourceId::Inserted => inserted.duplicate(alloc),
     }
 }

@@ -1,6 +1,6 @@
 //! What an execution sees of tables, and how it changes them row by row.
 
-ghost use Rattle.std.specs.Prelude.{◌≡◌, ◌∷◌, [], map, slice_get, Some, IfOk, IfErr, OnOk, Ok};
+ghost use Rattle.std.specs.Prelude.{◌≡◌, map, slice_get, Some, IfOk, IfErr, OnOk, Ok};
 ghost use Rattle.std.specs.List.{filter};
 ghost use Rattle.std.specs.Option.{option_copied};
 ghost use Rattle.std.specs.FinMap as finmap;
@@ -13,6 +13,7 @@ ghost use Rattle.ss_model_computed.specs.State.{contents_of, context_of};
 ghost use Rattle.ss_model_computed.specs.Meanings.{table_seen};
 
 use crate::contents::{Contents, Context};
+use crate::lists::one_item;
 use crate::table::Entry;
 use ss_model::{Catalog, Placement, Reason, RunError, TableDef};
 use ss_model_computed_sql::columns::column_value;
@@ -188,15 +189,6 @@ fn is_table_full(catalog: &Catalog, table: u16, contents: &Contents) -> bool
     }
 }
 
-/// The list of one entry.
-fn one_entry(alloc: Global, key: Row, row: Row) -> Result<Seq<Entry>, NoMemory>
-    ensures { IfOk result (λ entries. entries ≡ (key, row) ∷ []) }
-{
-    let mut entries = Seq::new(alloc);
-    entries.push((key, row))?;
-    Ok(entries)
-}
-
 /// Inserts a row into a table. Aborts with `KeyTaken` where its key has a row, and else with `TableFull` where the
 /// table is full.
 #[tactic(auto, unfolding(ss_model::specs::Statements::insert_row))]
@@ -217,7 +209,7 @@ pub fn insert_row(
     if is_table_full(catalog, table, contents) {
         return Err(RunError::Abort(Reason::TableFull(table)));
     }
-    let entries = one_entry(alloc, key, row)?;
+    let entries = one_item(alloc, (key, row))?;
     put_entries(table, entries, contents)?;
     Ok(())
 }

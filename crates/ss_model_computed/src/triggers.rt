@@ -13,7 +13,8 @@ ghost use Rattle.ss_model.specs.Depths.{close_to_depth, stage_to_depth, stage_al
 ghost use Rattle.ss_model_computed.specs.Meanings.{Brings, StepStops, fire_to_depth};
 
 use crate::contents::{Context, Execution};
-use crate::effects::{Effect, one_row, statement_effect};
+use crate::effects::{Effect, statement_effect};
+use crate::lists::one_item;
 use crate::windows::{append_unit, join_unit, units_count, visible_end, window_unit};
 use ss_model::{On, Reason, RunError};
 use ss_sql_trees::Statement;
@@ -104,7 +105,7 @@ fn stage_row(
 {
     match window_unit(context.catalog, window) {
         Unit::Rows => {
-            let unit = one_row(alloc, row)?;
+            let unit = one_item(alloc, row)?;
             close_to_depth(alloc, depth, context, window, unit, execution)
         }
         Unit::Batches => {

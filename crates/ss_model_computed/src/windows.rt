@@ -6,8 +6,9 @@ ghost use Rattle.ss_model.specs.Contents.{window_def, window_units, append_unit,
 ghost use Rattle.ss_model_computed.specs.State.{contents_of};
 
 use crate::contents::Contents;
+use crate::lists::add_rows;
 use ss_model::Catalog;
-use ss_value::{Copies, NoMemory, Row, Rows, Seq, Unit};
+use ss_value::{NoMemory, Row, Rows, Seq, Unit};
 use std::alloc::Global;
 
 /// What the units of a window are: rows where there is no such window.
@@ -77,24 +78,13 @@ pub fn visible_end(catalog: &Catalog, window: u16, count: usize) -> usize
     first_kept(catalog, window, count) + visible_count(catalog, window, count)
 }
 
-/// Adds copies of a unit's rows behind others.
-fn add_unit(alloc: Global, rows: &mut Rows, unit: &Rows) -> Result<(), NoMemory>
-    ensures { OnOk result (rows.new ≡ rows.old ++ unit.now) }
-{
-    for row in unit.as_slice() {
-        let copy = row.duplicate(alloc)?;
-        rows.push(copy)?;
-    }
-    Ok(())
-}
-
 /// Copies of the rows of units, in order.
 fn unit_rows(alloc: Global, units: &[Rows]) -> Result<Rows, NoMemory>
     ensures { IfOk result (λ rows. rows ≡ flat_map (λ u. u) units.now) }
 {
     let mut rows = Seq::new(alloc);
     for unit in units {
-        add_unit(alloc, &mut rows, unit)?;
+        add_rows(alloc, &mut rows, unit)?;
     }
     Ok(rows)
 }

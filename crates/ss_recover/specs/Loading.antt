@@ -17,6 +17,7 @@ use Rattle.ss_recover.specs.declared.stored.Stored.{Stored}
 use Rattle.ss_recover.specs.declared.stored.StoredError.{StoredError}
 use Rattle.ss_recover.specs.declared.stored.StoredError.TheVariants.{NoMemory, Foreign}
 use Rattle.ss_recover.specs.Faults.{image_place, group_head}
+use Rattle.ss_replay.specs.declared.entries.Replayed.{Replayed}
 use Rattle.ss_replay.specs.Replaying.{StopsBehind}
 
 -- the image is that of the catalogue's empty database, and the entries replay on this one, up to the last place
@@ -29,6 +30,10 @@ pub record IsStored (loaded : Loaded) (parts : ℕ) (r : Stored) : Type 0 where
   pub few : r.first ≤ 2 ^ 60
   pub dealt : IsWholeShard r.catalog parts r.database.whole
   pub holds : StandsFor r.catalog r.database (after r.catalog (empty_database r.catalog) r.known)
+
+-- what is stored of a catalogue, where this came of the entries from this place on
+abbrev pub stored_as : Catalog → ℕ → Replayed → Stored
+stored_as catalog first r = record { database = r.database; catalog = catalog; first = first + length r.list; known = r.list }
 
 -- bytes are no image, and are told at the first one that can't be, by its place in the file
 pub record HasOddImage (image : List ℕ) (at : ℕ) : Type 0 where

@@ -45,10 +45,11 @@ pub(crate) fn form<D: Disk>(
 {
     forming_stands();
     one_thing_stands_on::<D>();
-    let Ok(database) = opening(alloc, &catalog, partitions) else {
+    let Ok(image) = empty_image(alloc, &catalog) else {
         return Err((RecoverError::NoMemory, disk));
     };
-    let Ok(image) = empty_image(alloc, &catalog) else {
+    // Behind the image, since it has more to let go where the other can't be made.
+    let Ok(database) = opening(alloc, &catalog, partitions) else {
         return Err((RecoverError::NoMemory, disk));
     };
     match CmdLog::format(alloc, disk, image.as_slice()) {

@@ -51,9 +51,10 @@ fn check_condition(
     let right = evaluate(alloc, &test.right, &nothing, params)?;
     let left = column_value(alloc, row, 0)?;
     if holds_of(test.cmp, compare(&left, &right)) {
-        return Err(RunError::Abort(Reason::Raised(code)));
+        Err(RunError::Abort(Reason::Raised(code)))
+    } else {
+        Ok(())
     }
-    Ok(())
 }
 
 /// Runs the query of an `abort_if`, then compares its one row with the right side. Writes nothing.

@@ -1,9 +1,9 @@
 //! A whole body, and what it leaves.
 
-ghost use Rattle.std.specs.Prelude.{◌≡◌, IfOk, IfErr, Ok};
+ghost use Rattle.std.specs.Prelude.{◌≡◌, IfOk, IfErr, Ok, Err};
 ghost use Rattle.std.specs.Option.{option_copied};
 ghost use Rattle.ss_model.specs.Bodies.{run_body, execution_start};
-ghost use Rattle.ss_model.specs.Database.{run_procedure, split_value_for};
+ghost use Rattle.ss_model.specs.Database.{body_result, run_procedure, split_value_for};
 ghost use Rattle.ss_model.specs.Stops.{StopsAs};
 ghost use Rattle.ss_model_computed.specs.State.{contents_of, context_of, execution_of};
 ghost use Rattle.ss_model_computed.specs.Runs.{body_result_of};
@@ -13,7 +13,7 @@ use crate::bodies::open_units::close_owned;
 use crate::bodies::steps::execute_steps;
 use crate::contents::{Contents, Context, Execution};
 use crate::lists::empty_lists;
-use ss_model::{Catalog, Outcome, Procedure, RunError, Step, Touch};
+use ss_model::{Catalog, Outcome, Procedure, Reason, RunError, Step, Touch};
 use ss_model_computed_sql::queries::column_value;
 use ss_value::{NoMemory, Row, Rows, Seq, Value};
 use std::alloc::Global;
@@ -24,6 +24,25 @@ pub struct BodyResult {
     pub contents: Contents,
     pub outcome: Outcome,
     pub emitted: Seq<Rows>,
+}
+
+/// What a body leaves that was aborted: the tables and windows as they were, and empty batches.
+fn aborted_result(
+    alloc: Global,
+    catalog: &Catalog,
+    contents: &Contents,
+    reason: Reason,
+) -> Result<BodyResult, NoMemory>
+    ensures { IfOk result (λ r. body_result catalog.now (contents_of contents.now) (Err reason) ≡ body_result_of r) }
+{
+    let emitted = empty_lists(alloc, catalog.streams.len())?;
+    // The body's own copy is gone with what it wrote, so an abort copies the contents as they were.
+    let contents = contents.copy(alloc)?;
+    Ok(BodyResult {
+        contents,
+        outcome: Outcome::Aborted(reason),
+        emitted,
+    })
 }
 
 /// An execution that begins on these tables and windows: no open unit, no batch and no reply yet.
@@ -99,17 +118,8 @@ fn run_limited<'a>(
         split_value,
     };
     match run_body(alloc, &context, &procedure.body, contents.copy(alloc)?) {
-        Ok(execution) => Ok(BodyResult {
-            contents: execution.contents,
-            outcome: Outcome::Done(execution.reply),
-            emitted: execution.emitted,
-        }),
-        Err(RunError::Abort(reason)) => Ok(BodyResult {
-            // The body's own copy is gone with what it wrote, so an abort copies the contents as they were.
-            contents: contents.copy(alloc)?,
-            outcome: Outcome::Aborted(reason),
-            emitted: empty_lists(alloc, catalog.streams.len())?,
-        }),
+        Ok(execution) => Ok(execution.into_result()),
+        Err(RunError::Abort(reason)) => aborted_result(alloc, catalog, contents, reason),
         Err(RunError::NoMemory) => Err(NoMemory),
     }
 }

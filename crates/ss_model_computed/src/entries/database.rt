@@ -14,12 +14,23 @@ use std::alloc::Global;
 
 /// Tables and windows, all batches that each stream has ever had, how many batches each procedure has taken, and for
 /// each stream the next numbers of the sources that push to it.
-#[derive(Drop)]
 pub struct Database {
     pub contents: Contents,
     pub streams: Seq<Seq<Rows>>,
     pub counts: Seq<u64>,
     pub next_numbers: Seq<NextNumbers>,
+}
+
+// By hand, so that letting it go is one call and not one for each of its parts.
+impl Drop for Database {
+    fn drop(self) {
+        let Database {
+            contents: _,
+            streams: _,
+            counts: _,
+            next_numbers: _,
+        } = self;
+    }
 }
 
 /// What an entry comes to, besides the database that it leaves: its outcome, and its batch per stream.
@@ -57,10 +68,10 @@ impl Database {
     pub fn empty(alloc: Global, catalog: &Catalog) -> Result<Database, NoMemory>
         ensures { IfOk result (λ database. database_of database ≡ empty_database catalog.now) }
     {
-        let contents = Contents::empty(alloc, catalog)?;
         let streams = empty_lists(alloc, catalog.streams.len())?;
         let counts = zeros(alloc, catalog.procedures.len())?;
         let next_numbers = no_numbers(alloc, catalog.streams.len())?;
+        let contents = Contents::empty(alloc, catalog)?;
         Ok(Database {
             contents,
             streams,
