@@ -18,7 +18,10 @@ pub fn catalog_of(alloc: Global, base: &str) -> Result<Catalog, Wrong>
     let Ok(value) = Json::from_str(alloc, text.as_str()) else {
         return Err(Wrong::text(alloc, "the base is no JSON"));
     };
-    match read_catalog(alloc, &value) {
+    let catalog = read_catalog(alloc, &value);
+    // So it is let go by one call.
+    drop(value);
+    match catalog {
         Ok(catalog) => Ok(catalog),
         Err(_) => Err(Wrong::text(alloc, "the base is refused")),
     }

@@ -29,7 +29,7 @@ use ss_model_computed::entries::database::{Applied, Database};
 use ss_model_computed::{Table, apply, visible_rows};
 use ss_report::{outcome_json, row_json, rows_json};
 use ss_value::{NoMemory, Row, Rows, Seq};
-use std::alloc::Global;
+use std::alloc::{AllocError, Global};
 use std::collections::BTreeMap;
 
 /// Lists of more rows than these are printed as their number.
@@ -45,14 +45,16 @@ struct Replay {
     listing: Listing,
 }
 
-// By hand, so that letting it go is one call and not one for each of its parts.
+// By hand, so that letting it go is one call here and one for each of its fields there, and not one for each of their parts.
 impl Drop for Replay {
     fn drop(self) {
         let Replay {
-            catalog: _,
-            database: _,
+            catalog,
+            database,
             listing: _,
         } = self;
+        drop(catalog);
+        drop(database);
     }
 }
 
@@ -70,30 +72,46 @@ fn resolved(alloc: Global, outline: &Outline) -> Result<Catalog, Wrong> {
 /// The catalogue of a base, without the checks behind its SQL.
 fn unchecked_catalog(alloc: Global, base: &str) -> Result<Catalog, Wrong> {
     let value = json_of(alloc, base)?;
-    match read_outline(alloc, &value) {
-        Ok(outline) => resolved(alloc, &outline),
-        Err(_) => Err(Wrong::text(alloc, "the base is no catalogue")),
-    }
+    let outline = read_outline(alloc, &value);
+    drop(value);
+    let Ok(outline) = outline else {
+        return Err(Wrong::text(alloc, "the base is no catalogue"));
+    };
+    let catalog = resolved(alloc, &outline);
+    drop(outline);
+    catalog
 }
 
 // ---- what is printed of a database
+
+/// The text of a value, which is let go by one call.
+fn text_of_json(alloc: Global, value: Json) -> Result<String, Wrong> {
+    let text = value.to_string(alloc);
+    drop(value);
+    Ok(text?)
+}
+
+/// A list of rows, or their number where it is long.
+fn rows_or_count(alloc: Global, rows: &Rows) -> Result<Json, AllocError> {
+    if rows.len() > LONG {
+        Ok(Json::from(rows.len() as u64))
+    } else {
+        rows_json(alloc, rows.as_slice())
+    }
+}
 
 /// Lists of rows.
 fn lists_text(alloc: Global, lists: &[Rows]) -> Result<String, Wrong> {
     let mut items = Vec::new(alloc);
     for rows in lists {
-        if rows.len() > LONG {
-            items.push(Json::from(rows.len() as u64))?;
-        } else {
-            items.push(rows_json(alloc, rows.as_slice())?)?;
-        }
+        items.push(rows_or_count(alloc, rows)?)?;
     }
-    Ok(Json::Array(items).to_string(alloc)?)
+    text_of_json(alloc, Json::Array(items))
 }
 
 /// Adds the line of a row, as the report prints it.
 fn add_row(alloc: Global, text: &mut String, name: &str, row: &Row) -> Result<(), Wrong> {
-    let row = row_json(alloc, row.as_slice())?.to_string(alloc)?;
+    let row = text_of_json(alloc, row_json(alloc, row.as_slice())?)?;
     write!(text, "[\"row\",\"{name}\",{row}]\n")?;
     Ok(())
 }
@@ -110,8 +128,7 @@ fn add_table(alloc: Global, text: &mut String, name: &str, table: &Table) -> Res
 
 /// The words of an outcome, as the report prints it.
 pub fn outcome_words(alloc: Global, catalog: &Catalog, outcome: &Outcome) -> Result<String, Wrong> {
-    let outcome = outcome_json(alloc, catalog, outcome)?;
-    Ok(outcome.to_string(alloc)?)
+    text_of_json(alloc, outcome_json(alloc, catalog, outcome)?)
 }
 
 /// The tables by their names.
@@ -131,12 +148,17 @@ impl Replay {
     /// The catalogue of a base, and its empty database.
     fn new(alloc: Global, base: &str) -> Result<Replay, Wrong> {
         let catalog = unchecked_catalog(alloc, base)?;
-        let database = Database::empty(alloc, &catalog)?;
-        Ok(Replay {
-            catalog,
-            database,
-            listing: Listing::new(alloc),
-        })
+        match Database::empty(alloc, &catalog) {
+            Ok(database) => Ok(Replay {
+                catalog,
+                database,
+                listing: Listing::new(alloc),
+            }),
+            Err(NoMemory) => {
+                drop(catalog);
+                Err(Wrong::NoMemory)
+            }
+        }
     }
 
     /// The lines of all tables.
@@ -157,7 +179,7 @@ impl Replay {
     fn visible_text(&self, alloc: Global, name: &str) -> Result<String, Wrong> {
         let window = window_number(alloc, &self.catalog, name)?;
         let rows = visible_rows(alloc, &self.catalog, window, &self.database.contents)?;
-        Ok(rows_json(alloc, rows.as_slice())?.to_string(alloc)?)
+        text_of_json(alloc, rows_json(alloc, rows.as_slice())?)
     }
 
     /// The units of a window.
@@ -186,10 +208,9 @@ impl Replay {
             index: 0,
         };
         let entry = entry_of(alloc, &self.catalog, asker, asked)?;
-        match apply(alloc, &self.catalog, &mut self.database, &entry) {
-            Ok(applied) => Ok(applied),
-            Err(NoMemory) => Err(Wrong::NoMemory),
-        }
+        let applied = apply(alloc, &self.catalog, &mut self.database, &entry);
+        drop(entry);
+        Ok(applied?)
     }
 
     /// Applies an entry: its outcome, as the report prints it.
@@ -211,18 +232,28 @@ impl Replay {
         }
     }
 
-    /// Compares what a line comes to; one of a table is noted.
-    fn add_line(&mut self, alloc: Global, line: &str) -> Result<(), Wrong> {
-        let Some((asked, want)) = line.split_once(" -> ") else {
-            return Ok(self.listing.add_row(line)?);
-        };
+    /// Compares what a look or an entry comes to.
+    fn check_answer(&mut self, alloc: Global, asked: &str, want: &str) -> Result<(), Wrong> {
         let came = self.answer(alloc, asked)?;
-        if want == NONE || want.starts_with('[') {
-            return compare(alloc, asked, want, came.as_str());
-        }
+        compare(alloc, asked, want, came.as_str())
+    }
+
+    /// Notes an entry with its outcome, and compares what it comes to.
+    fn add_entry(&mut self, alloc: Global, asked: &str, want: &str) -> Result<(), Wrong> {
         let outcome = outcome_of(alloc, want)?;
         self.listing.add_entry(alloc, asked, outcome.as_str())?;
-        compare(alloc, asked, outcome.as_str(), came.as_str())
+        self.check_answer(alloc, asked, outcome.as_str())
+    }
+
+    /// Compares what a line comes to; an entry and a line of a table are noted.
+    fn add_line(&mut self, alloc: Global, line: &str) -> Result<(), Wrong> {
+        match line.split_once(" -> ") {
+            None => Ok(self.listing.add_row(line)?),
+            Some((asked, want)) if want == NONE || want.starts_with('[') => {
+                self.check_answer(alloc, asked, want)
+            }
+            Some((asked, want)) => self.add_entry(alloc, asked, want),
+        }
     }
 
     /// Compares the tables that are left with those that lines said.
@@ -234,10 +265,12 @@ impl Replay {
     /// The list alone.
     fn into_listing(self) -> Listing {
         let Replay {
-            catalog: _,
-            database: _,
+            catalog,
+            database,
             listing,
         } = self;
+        drop(catalog);
+        drop(database);
         listing
     }
 }

@@ -60,20 +60,28 @@ fn batches_of(alloc: Global, value: &Json) -> Result<Seq<Rows>, Wrong> {
     Ok(batches)
 }
 
+// ---- texts, whose values are let go by one call each
+
 /// The row of a JSON text; empty where it is no array.
 pub fn row_in(alloc: Global, text: &str) -> Result<Row, Wrong> {
     let value = json_of(alloc, text)?;
-    row_of(alloc, &value)
+    let read = row_of(alloc, &value);
+    drop(value);
+    read
 }
 
 /// The rows of a JSON text; none where it is no array.
 pub fn rows_in(alloc: Global, text: &str) -> Result<Rows, Wrong> {
     let value = json_of(alloc, text)?;
-    rows_of(alloc, &value)
+    let read = rows_of(alloc, &value);
+    drop(value);
+    read
 }
 
 /// The batches of a JSON text: arrays of rows, in an array. What is no array there has no items.
 pub fn batches_in(alloc: Global, text: &str) -> Result<Seq<Rows>, Wrong> {
     let value = json_of(alloc, text)?;
-    batches_of(alloc, &value)
+    let read = batches_of(alloc, &value);
+    drop(value);
+    read
 }

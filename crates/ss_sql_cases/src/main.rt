@@ -2,7 +2,7 @@
 //!
 //! - `sql`: texts with their trees, typed trees and tokens, as `parsed_trees`, `typed_trees` and `tokens` print them;
 //!   `scopes` has the names that typed texts may use
-//! - `shown`, `signs`: what prints trees into one text, and the signs of their operators
+//! - `shown`, `signs`: what prints trees and refusals into one text, and the signs of their operators
 #![tactic(auto)]
 
 mod parsed_trees;
@@ -30,12 +30,8 @@ fn form_of(word: &str) -> Option<BlockForm> {
 
 /// Runs a case.
 fn check(alloc: Global, case: &Case) -> Result<(), Wrong> {
-    let form = case.block.name.as_str();
-    if case.block.word.as_str() == "parse" {
-        sql::check_parsed(alloc, form, case.row)
-    } else {
-        sql::check_typed(alloc, form, case.row)
-    }
+    let is_typed = case.block.word.as_str() == "type";
+    sql::check_row(alloc, is_typed, case.block.name.as_str(), case.row)
 }
 
 /// Ends with 0 where cases ran and none is wrong, and with 1 otherwise.

@@ -14,7 +14,7 @@
 //! C Q = E                   a condition
 //! ```
 
-use crate::shown::{Show, Shown, ShownIfAny, ShownList};
+use crate::shown::{Show, Shown, ShownIfAny, ShownList, show_behind};
 use crate::signs::{binary_sign, cmp_sign, unary_sign};
 use ss_sql_lex::{
     ColumnTree, ConditionTree, ExprTree, ItemTree, JoinTree, LexError, NameTree, NumberTree,
@@ -122,10 +122,8 @@ impl Show for ExprTree {
                 right,
             } => {
                 write!(f, "{at}(")?;
-                left.get().show(f)?;
-                f.write_str(binary_sign(*op))?;
-                right.get().show(f)?;
-                f.write_str(")")
+                show_behind(left.get().show(f), f, binary_sign(*op))?;
+                show_behind(right.get().show(f), f, ")")
             }
         }
     }
@@ -135,13 +133,14 @@ impl Show for ExprTree {
 
 impl Show for ItemTree {
     fn show<W: fmt::Write>(&self, f: &mut fmt::Formatter<W>) -> fmt::Result {
-        match self {
-            ItemTree::Count { at } => write!(f, "{at}COUNT"),
-            ItemTree::Sum { at, side } => write!(f, "{at}SUM {}", Shown(side)),
-            ItemTree::Min { at, side } => write!(f, "{at}MIN {}", Shown(side)),
-            ItemTree::Max { at, side } => write!(f, "{at}MAX {}", Shown(side)),
-            ItemTree::Plain(tree) => tree.show(f),
-        }
+        let (at, word, side) = match self {
+            ItemTree::Count { at } => return write!(f, "{at}COUNT"),
+            ItemTree::Sum { at, side } => (at, "SUM", side),
+            ItemTree::Min { at, side } => (at, "MIN", side),
+            ItemTree::Max { at, side } => (at, "MAX", side),
+            ItemTree::Plain(tree) => return tree.show(f),
+        };
+        write!(f, "{at}{word} {}", Shown(side))
     }
 }
 
@@ -230,13 +229,13 @@ pub enum ParsedTree {
     Condition(ConditionTree),
 }
 
-// By hand, so that letting it go is one call and not one for each part of a tree.
+// By hand, so that letting it go is one call here and one for each tree there, and not one for each part of a tree.
 impl Drop for ParsedTree {
     fn drop(self) {
         match self {
-            ParsedTree::Statement(_) => {}
-            ParsedTree::Query(_) => {}
-            ParsedTree::Condition(_) => {}
+            ParsedTree::Statement(tree) => drop(tree),
+            ParsedTree::Query(tree) => drop(tree),
+            ParsedTree::Condition(tree) => drop(tree),
         }
     }
 }
@@ -253,16 +252,26 @@ impl Show for ParsedTree {
 
 // ---- refusals
 
-/// Why a text has no tree: `!12` where something else has to stand at its byte 12, or the number of a lexical fault.
+/// Why a text has no tokens: the number of the fault, and where it is.
+impl Show for LexError {
+    fn show<W: fmt::Write>(&self, f: &mut fmt::Formatter<W>) -> fmt::Result {
+        let (code, at) = match self {
+            // What makes a text of it then reports want of memory, as it does of its own.
+            LexError::NoMemory => return Err(fmt::Error),
+            LexError::BadCharacter(at) => ("S1", at),
+            LexError::BadNumber(at) => ("S2", at),
+            LexError::OpenText(at) => ("S3", at),
+        };
+        write!(f, "{code} {at}")
+    }
+}
+
+/// Why a text has no tree: `!12` where something else has to stand at its byte 12, or why it has no tokens.
 impl Show for ParseError {
     fn show<W: fmt::Write>(&self, f: &mut fmt::Formatter<W>) -> fmt::Result {
         match self {
-            // What makes a text of it then reports want of memory, as it does of its own.
             ParseError::NoMemory => Err(fmt::Error),
-            ParseError::Lex(LexError::NoMemory) => Err(fmt::Error),
-            ParseError::Lex(LexError::BadCharacter(at)) => write!(f, "S1 {at}"),
-            ParseError::Lex(LexError::BadNumber(at)) => write!(f, "S2 {at}"),
-            ParseError::Lex(LexError::OpenText(at)) => write!(f, "S3 {at}"),
+            ParseError::Lex(error) => error.show(f),
             ParseError::Unexpected(at) => write!(f, "!{at}"),
         }
     }

@@ -2,6 +2,8 @@
 //!
 //! The trees are types of other crates, so `Show` says how each is printed, and `Shown` stands round a reference to one.
 
+use ss_case_files::Wrong;
+use std::alloc::Global;
 use std::fmt;
 
 /// What has a form in the rows of cases.
@@ -51,4 +53,26 @@ impl<T: Show> fmt::Display for ShownList<'_, T> {
         }
         Ok(())
     }
+}
+
+/// Prints a text behind what was printed before it, where that went well.
+pub fn show_behind<W: fmt::Write>(
+    before: fmt::Result,
+    f: &mut fmt::Formatter<W>,
+    text: &str,
+) -> fmt::Result {
+    before?;
+    f.write_str(text)
+}
+
+/// What was asked for in its form, or its refusal. Wrong where memory is wanting.
+pub fn shown_answer<T: Show + Drop, E: Show + Drop>(
+    alloc: Global,
+    answer: Result<T, E>,
+) -> Result<String, Wrong> {
+    let shown = match &answer {
+        Ok(value) => Shown(value).to_string(alloc),
+        Err(refusal) => Shown(refusal).to_string(alloc),
+    };
+    Ok(shown?)
 }

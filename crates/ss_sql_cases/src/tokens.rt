@@ -2,10 +2,12 @@
 //!
 //! `W` is a word, `N` a name, `I` a number, `T` a text, `P` a parameter and `S` a symbol: `SELECT a` has `W0-6 N7-8`.
 
-use crate::shown::Shown;
+use crate::shown::{Show, shown_answer};
+use ss_case_files::Wrong;
 use ss_sql_lex::{Token, TokenKind, tokens};
-use ss_sql_parse::ParseError;
-use std::alloc::{AllocError, Global};
+use ss_value::Seq;
+use std::alloc::Global;
+use std::fmt;
 
 /// The letter of a kind.
 fn kind_letter(kind: TokenKind) -> &'static str {
@@ -19,21 +21,19 @@ fn kind_letter(kind: TokenKind) -> &'static str {
     }
 }
 
-/// The words of tokens.
-fn words_of(alloc: Global, list: &[Token]) -> Result<String, AllocError> {
-    let mut words = String::new(alloc);
-    for token in list {
-        let blank = if words.is_empty() { "" } else { " " };
-        let letter = kind_letter(token.kind);
-        write!(words, "{blank}{letter}{}-{}", token.from, token.to)?;
+impl Show for Seq<Token> {
+    fn show<W: fmt::Write>(&self, f: &mut fmt::Formatter<W>) -> fmt::Result {
+        let mut blank = "";
+        for token in self.as_slice() {
+            let letter = kind_letter(token.kind);
+            write!(f, "{blank}{letter}{}-{}", token.from, token.to)?;
+            blank = " ";
+        }
+        Ok(())
     }
-    Ok(words)
 }
 
 /// The printed tokens of a text, or its refusal.
-pub fn tokens_text(alloc: Global, text: &str) -> Result<String, AllocError> {
-    match tokens(alloc, text.as_bytes()) {
-        Ok(list) => words_of(alloc, list.as_slice()),
-        Err(error) => Shown(&ParseError::Lex(error)).to_string(alloc),
-    }
+pub fn tokens_text(alloc: Global, text: &str) -> Result<String, Wrong> {
+    shown_answer(alloc, tokens(alloc, text.as_bytes()))
 }

@@ -12,7 +12,7 @@
 //! (Q)=E                     a condition
 //! ```
 
-use crate::shown::{Show, Shown, ShownIfAny, ShownList};
+use crate::shown::{Show, Shown, ShownIfAny, ShownList, show_behind};
 use crate::signs::{binary_sign, cmp_sign, unary_sign};
 use ss_sql_trees::{
     ColAt, Condition, Expr, Item, Joined, OrderBy, Query, SetTo, SourceId, Statement, Target,
@@ -44,10 +44,8 @@ impl Show for Expr {
             }
             Expr::Binary { op, left, right } => {
                 f.write_str("(")?;
-                left.get().show(f)?;
-                f.write_str(binary_sign(*op))?;
-                right.get().show(f)?;
-                f.write_str(")")
+                show_behind(left.get().show(f), f, binary_sign(*op))?;
+                show_behind(right.get().show(f), f, ")")
             }
         }
     }
@@ -57,24 +55,27 @@ impl Show for Expr {
 
 impl Show for Item {
     fn show<W: fmt::Write>(&self, f: &mut fmt::Formatter<W>) -> fmt::Result {
-        match self {
-            Item::Count => f.write_str("COUNT"),
-            Item::Sum(side) => write!(f, "SUM {}", Shown(side)),
-            Item::Min(side) => write!(f, "MIN {}", Shown(side)),
-            Item::Max(side) => write!(f, "MAX {}", Shown(side)),
-            Item::Plain(side) => side.show(f),
-        }
+        let (word, side) = match self {
+            Item::Count => return f.write_str("COUNT"),
+            Item::Sum(side) => ("SUM ", side),
+            Item::Min(side) => ("MIN ", side),
+            Item::Max(side) => ("MAX ", side),
+            Item::Plain(side) => ("", side),
+        };
+        f.write_str(word)?;
+        side.show(f)
     }
 }
 
 impl Show for SourceId {
     fn show<W: fmt::Write>(&self, f: &mut fmt::Formatter<W>) -> fmt::Result {
-        match self {
-            SourceId::Table(n) => write!(f, "T{n}"),
-            SourceId::Window(n) => write!(f, "W{n}"),
-            SourceId::Batch(n) => write!(f, "B{n}"),
-            SourceId::Inserted => f.write_str("I"),
-        }
+        let (letter, number) = match self {
+            SourceId::Table(number) => ("T", number),
+            SourceId::Window(number) => ("W", number),
+            SourceId::Batch(number) => ("B", number),
+            SourceId::Inserted => return f.write_str("I"),
+        };
+        write!(f, "{letter}{number}")
     }
 }
 
@@ -164,52 +165,20 @@ impl Show for Condition {
     }
 }
 
-// ---- trees of any form
-
-/// The typed tree of a text.
-pub enum TypedTree {
-    /// A statement.
-    Statement(Statement),
-    /// A query.
-    Query(Query),
-    /// A condition.
-    Condition(Condition),
-}
-
-// By hand, so that letting it go is one call and not one for each part of a tree.
-impl Drop for TypedTree {
-    fn drop(self) {
-        match self {
-            TypedTree::Statement(_) => {}
-            TypedTree::Query(_) => {}
-            TypedTree::Condition(_) => {}
-        }
-    }
-}
-
-impl Show for TypedTree {
-    fn show<W: fmt::Write>(&self, f: &mut fmt::Formatter<W>) -> fmt::Result {
-        match self {
-            TypedTree::Statement(tree) => tree.show(f),
-            TypedTree::Query(tree) => tree.show(f),
-            TypedTree::Condition(tree) => tree.show(f),
-        }
-    }
-}
-
 // ---- refusals
 
 /// Why a tree has no type: the number of the refusal, and its offset in the text.
 impl Show for TypeError {
     fn show<W: fmt::Write>(&self, f: &mut fmt::Formatter<W>) -> fmt::Result {
-        match self {
+        let (code, at) = match self {
             // What makes a text of it then reports want of memory, as it does of its own.
-            TypeError::NoMemory => Err(fmt::Error),
-            TypeError::UnknownName(at) => write!(f, "S5@{at}"),
-            TypeError::WrongType(at) => write!(f, "S6@{at}"),
-            TypeError::KeyIsSet(at) => write!(f, "S7@{at}"),
-            TypeError::WrongCount(at) => write!(f, "S8@{at}"),
-            TypeError::NotAggregated(at) => write!(f, "S9@{at}"),
-        }
+            TypeError::NoMemory => return Err(fmt::Error),
+            TypeError::UnknownName(at) => ("S5", at),
+            TypeError::WrongType(at) => ("S6", at),
+            TypeError::KeyIsSet(at) => ("S7", at),
+            TypeError::WrongCount(at) => ("S8", at),
+            TypeError::NotAggregated(at) => ("S9", at),
+        };
+        write!(f, "{code}@{at}")
     }
 }

@@ -6,42 +6,17 @@ use ss_table::{Hint, Table};
 use ss_value::{NoMemory, Row, Slot, Value, copy_row};
 use std::alloc::Global;
 
-/// The slot behind a live one.
-fn behind(table: &Table, slot: Slot) -> Option<Slot> {
-    match table.row(slot) {
+/// A slot, without its hint.
+fn slot_of(place: Option<(Slot, Hint)>) -> Option<Slot> {
+    match place {
+        Some((slot, _)) => Some(slot),
         None => None,
-        Some(_) => table.after(slot),
     }
 }
 
-/// Whether a slot, if there is one, has this row.
-fn has_row(table: &Table, slot: Option<Slot>, row: &Row) -> bool {
-    match slot {
-        None => false,
-        Some(slot) => match table.row(slot) {
-            None => false,
-            Some(found) => found == row,
-        },
-    }
-}
-
-/// Whether a walk over all rows gives the same, and each row stands where its key is found.
-fn walk_alike(table: &Table, map: &Rows) -> bool {
-    let mut slot = table.first();
-    for (key, row) in map.iter() {
-        if !has_row(table, slot, row) || table.get(key) != slot {
-            return false;
-        }
-        slot = match slot {
-            None => None,
-            Some(slot) => behind(table, slot),
-        };
-    }
-    slot.is_none()
-}
-
-/// The slot behind a live one, with its hint, where another hint gives the same slot.
-fn near(table: &Table, slot: Slot, hint: Hint) -> Option<(Slot, Hint)> {
+/// What stands behind a slot, with its hint. None where the slot isn't live, or where another hint or none gives another
+/// slot.
+fn behind(table: &Table, slot: Slot, hint: Hint) -> Option<Option<(Slot, Hint)>> {
     if table.row(slot).is_none() {
         return None;
     }
@@ -50,59 +25,58 @@ fn near(table: &Table, slot: Slot, hint: Hint) -> Option<(Slot, Hint)> {
         position: 2,
     };
     let found = table.after_near(slot, hint);
-    if found.map(|p| p.0) == table.after_near(slot, far).map(|p| p.0) {
-        found
+    let next = table.after(slot);
+    if slot_of(found) == next && slot_of(table.after_near(slot, far)) == next {
+        Some(found)
     } else {
         None
     }
 }
 
-/// Whether a walk by hints over all rows gives the same.
-fn near_alike(table: &Table, map: &Rows) -> bool {
-    let mut at = table.first_near();
-    for (_, row) in map.iter() {
-        at = match at {
-            None => return false,
-            Some((slot, hint)) => {
-                if !has_row(table, Some(slot), row) {
-                    return false;
-                }
-                near(table, slot, hint)
-            }
-        };
+/// Whether walks over all rows, by hints and without, give the same, and each row stands where its key is found.
+fn walk_alike(table: &Table, map: &Rows) -> bool {
+    let mut place = table.first_near();
+    if slot_of(place) != table.first() {
+        return false;
     }
-    at.is_none()
+    for (key, row) in map.iter() {
+        let Some((slot, hint)) = place else {
+            return false;
+        };
+        if table.row(slot) != Some(row) || table.get(key) != Some(slot) {
+            return false;
+        }
+        let Some(next) = behind(table, slot, hint) else {
+            return false;
+        };
+        place = next;
+    }
+    place.is_none()
 }
 
 /// Whether both have a row of a key, and the same one, or neither has.
 fn get_alike(table: &Table, map: &Rows, key: &Row) -> bool {
-    match map.get(key) {
-        None => table.get(key).is_none(),
-        Some(row) => has_row(table, table.get(key), row),
-    }
+    let found = match table.get(key) {
+        Some(slot) => table.row(slot),
+        None => None,
+    };
+    found == map.get(key)
 }
 
-/// A key with a value more.
-fn longer(alloc: Global, key: &Row) -> Result<Row, NoMemory> {
-    let mut longer = copy_row(alloc, key)?;
-    longer.push(Value::Int(0))?;
-    Ok(longer)
-}
-
-/// A key with a value less, where it has any.
-fn shorter(alloc: Global, key: &Row) -> Result<Row, NoMemory> {
-    let mut shorter = copy_row(alloc, key)?;
-    let _last = shorter.pop();
-    Ok(shorter)
+/// The same of a key with a value more, and of one with a value less, where it has any.
+fn others_alike(alloc: Global, table: &Table, map: &Rows, key: &Row) -> Result<bool, NoMemory> {
+    let mut other = copy_row(alloc, key)?;
+    other.push(Value::Int(0))?;
+    let longer = get_alike(table, map, &other);
+    let _added = other.pop();
+    let _last = other.pop();
+    Ok(longer && get_alike(table, map, &other))
 }
 
 /// The same of keys, of each with a value more, and of each with one less.
 fn gets_alike(alloc: Global, table: &Table, map: &Rows, keys: &[Row]) -> Result<bool, NoMemory> {
     for key in keys {
-        if !get_alike(table, map, key)
-            || !get_alike(table, map, &longer(alloc, key)?)
-            || !get_alike(table, map, &shorter(alloc, key)?)
-        {
+        if !get_alike(table, map, key) || !others_alike(alloc, table, map, key)? {
             return Ok(false);
         }
     }
@@ -120,8 +94,6 @@ pub fn live_below(table: &Table, slots: usize) -> usize {
 pub fn hold_the_same(alloc: Global, table: &Table, map: &Rows, keys: &[Row]) -> Result<(), Wrong> {
     let difference = if !walk_alike(table, map) {
         "the walk differs"
-    } else if !near_alike(table, map) {
-        "the walk by hints differs"
     } else if !gets_alike(alloc, table, map, keys)? {
         "a key is found otherwise"
     } else if live_below(table, keys.len()) != map.len() {

@@ -29,11 +29,13 @@
 //! compared.
 //!
 //! - `words`: numbers and rows from text
+//! - `change`: changes of a row, and what a side answers to one
 //! - `real`: tables with notes of the changes that made them; `plain`: maps, each with a copy of what it was before
 //! - `compare`: whether a table and a map hold the same, by every call that looks
 //! - `sides`: runs the calls of a row on both
 #![tactic(auto)]
 
+mod change;
 mod compare;
 mod plain;
 mod real;

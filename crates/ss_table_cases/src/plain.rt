@@ -3,6 +3,7 @@
 ghost use Rattle.std.specs.Prelude.{◌≡◌, IfOk};
 ghost use Rattle.ss_table.specs.TableValue.{key_of};
 
+use crate::change::{Answer, Change};
 use ss_case_files::Wrong;
 use ss_table::TableError;
 use ss_value::{Row, Seq, copy_row};
@@ -44,22 +45,19 @@ fn copy(alloc: Global, rows: &Rows) -> Result<Rows, Wrong> {
 }
 
 /// A table as it is, and as it was at the last commit.
+#[derive(Drop)]
 pub struct Plain {
+    /// How many rows there may be.
+    limit: Option<usize>,
     now: Rows,
     before: Rows,
 }
 
-// By hand, so that letting it go is one call.
-impl Drop for Plain {
-    fn drop(self) {
-        let Plain { now: _, before: _ } = self;
-    }
-}
-
 impl Plain {
     /// A table without a row.
-    pub fn new(alloc: Global) -> Plain {
+    pub fn new(alloc: Global, limit: Option<usize>) -> Plain {
         Plain {
+            limit,
             now: BTreeMap::new(alloc),
             before: BTreeMap::new(alloc),
         }
@@ -70,47 +68,49 @@ impl Plain {
         &self.now
     }
 
-    /// Inserts a row under its key, where there may be so many rows, or answers why not.
-    pub fn insert(
-        &mut self,
-        alloc: Global,
-        limit: Option<usize>,
-        key: &Row,
-        row: &Row,
-    ) -> Result<Option<TableError>, Wrong> {
+    /// Inserts a row under its key, or answers why not.
+    fn insert(&mut self, alloc: Global, key: &Row, row: &Row) -> Result<Answer, Wrong> {
         if self.now.contains_key(key) {
-            return Ok(Some(TableError::KeyTaken));
+            return Ok(Answer::Refused(TableError::KeyTaken));
         }
-        if limit.is_some_and(|limit| limit <= self.now.len()) {
-            return Ok(Some(TableError::Full));
+        if self.limit.is_some_and(|limit| limit <= self.now.len()) {
+            return Ok(Answer::Refused(TableError::Full));
         }
         put(alloc, &mut self.now, key, row)?;
-        Ok(None)
-    }
-
-    /// Deletes the row of a key, if there is one.
-    pub fn delete(&mut self, key: &Row) -> bool {
-        self.now.remove(key).is_some()
+        Ok(Answer::Made)
     }
 
     /// Puts a row in place of the one with its key, if there is one.
-    pub fn replace(&mut self, alloc: Global, key: &Row, row: &Row) -> Result<bool, Wrong> {
+    fn replace(&mut self, alloc: Global, key: &Row, row: &Row) -> Result<Answer, Wrong> {
         if !self.now.contains_key(key) {
-            return Ok(false);
+            return Ok(Answer::Absent);
         }
         put(alloc, &mut self.now, key, row)?;
-        Ok(true)
+        Ok(Answer::Made)
     }
 
-    /// Commits all changes.
-    pub fn commit(&mut self, alloc: Global) -> Result<(), Wrong> {
-        self.before = copy(alloc, &self.now)?;
-        Ok(())
+    /// Makes a change of a row under its key; a deletion asks for the key alone.
+    pub fn make(
+        &mut self,
+        alloc: Global,
+        change: Change,
+        key: &Row,
+        row: &Row,
+    ) -> Result<Answer, Wrong> {
+        match change {
+            Change::Insert => self.insert(alloc, key, row),
+            Change::Delete => Ok(Answer::of_found(self.now.remove(key).is_some())),
+            Change::Replace => self.replace(alloc, key, row),
+        }
     }
 
-    /// Rolls all changes back.
-    pub fn rollback(&mut self, alloc: Global) -> Result<(), Wrong> {
-        self.now = copy(alloc, &self.before)?;
+    /// Commits all changes, or rolls them back.
+    pub fn end(&mut self, alloc: Global, commits: bool) -> Result<(), Wrong> {
+        if commits {
+            self.before = copy(alloc, &self.now)?;
+        } else {
+            self.now = copy(alloc, &self.before)?;
+        }
         Ok(())
     }
 }

@@ -7,10 +7,13 @@ ghost use Rattle.ss_undo.specs.declared.change.Change.TheVariants.{Inserted, Del
 ghost use Rattle.ss_undo.specs.ResultsFrom.{AreCommitted, Step};
 ghost use Rattle.ss_table_cases.specs.Runs.{AreKeyed, IsLive, CanReplace};
 
+use crate::change::{Answer, Change};
 use crate::plain::key_of;
 use ss_case_files::Wrong;
 use ss_table::{Route, Table, TableError};
-use ss_undo::{Change, Undo, a_note_more, a_staging_more, committed_at_first, one_table_changed};
+use ss_undo::{
+    Change as Noted, Undo, a_note_more, a_staging_more, committed_at_first, one_table_changed,
+};
 use ss_value::{Copies, NoMemory, Row, Seq, Slot, compare_rows, copy_row, row_order_is_total};
 use ss_window::Window;
 use std::alloc::Global;
@@ -20,23 +23,12 @@ use std::marker::Model;
 ///
 /// Contracts see the columns of the key alone. That the noted changes are those that were made is an invariant of the
 /// type.
+#[derive(Drop)]
 pub struct Real {
     key: Seq<u8>,
     tables: Seq<Table>,
     windows: Seq<Window>,
     undo: Undo,
-}
-
-// By hand, so that letting it go is one call.
-impl Drop for Real {
-    fn drop(self) {
-        let Real {
-            key: _,
-            tables: _,
-            windows: _,
-            undo: _,
-        } = self;
-    }
 }
 
 impl Model for Real {
@@ -130,14 +122,13 @@ fn replace_in(key: &[u8], tables: &mut Seq<Table>, at: u16, slot: Slot, row: Row
     }
 }
 
-/// Whether two rows have one key.
-fn have_one_key(alloc: Global, key: &[u8], row: &Row, other: &Row) -> Result<bool, Wrong>
-    ensures { IfOk result (λ same. IsTrue same → key_of key.now row.now ≡ key_of key.now other.now) }
+/// Whether a row has this key.
+fn has_this_key(alloc: Global, key: &[u8], row: &Row, sought: &Row) -> Result<bool, Wrong>
+    ensures { IfOk result (λ same. IsTrue same → key_of key.now row.now ≡ sought.now) }
 {
     row_order_is_total();
-    let row = key_of(alloc, key, row)?;
-    let other = key_of(alloc, key, other)?;
-    Ok(compare_rows(row.as_slice(), other.as_slice()).is_eq())
+    let found = key_of(alloc, key, row)?;
+    Ok(compare_rows(found.as_slice(), sought.as_slice()).is_eq())
 }
 
 /// Whether a slot of one of the tables is live, and its row has the key of another.
@@ -147,15 +138,17 @@ fn can_replace(
     tables: &Seq<Table>,
     at: u16,
     slot: Slot,
+    sought: &Row,
     row: &Row,
 ) -> Result<bool, Wrong>
     requires keyed { AreKeyed key.now tables.now }
+    requires sought { sought.now ≡ key_of key.now row.now }
     ensures { IfOk result (λ can. IsTrue can → CanReplace tables.now at slot row.now) }
 {
     let table = table_in(alloc, tables, at)?;
     match table.row(slot) {
         None => Ok(false),
-        Some(old) => have_one_key(alloc, key, row, old),
+        Some(old) => has_this_key(alloc, key, old, sought),
     }
 }
 
@@ -181,8 +174,7 @@ fn two_tables(alloc: Global, key: &Seq<u8>, limit: Option<usize>) -> Result<Seq<
 
 impl Real {
     /// Two tables without a row.
-    pub fn new(alloc: Global, key: &Seq<u8>, limit: Option<usize>) -> Result<Real, NoMemory> {
-        let key = key.duplicate(alloc)?;
+    pub fn new(alloc: Global, key: Seq<u8>, limit: Option<usize>) -> Result<Real, NoMemory> {
         let tables = two_tables(alloc, &key, limit)?;
         Ok(Real {
             key,
@@ -192,18 +184,28 @@ impl Real {
         })
     }
 
+    /// The columns of the key.
+    pub fn key(&self) -> &[u8]
+        ensures { result.now ≡ self.now }
+    {
+        self.key.as_slice()
+    }
+
     /// One of them.
     pub fn table(&self, alloc: Global, at: u16) -> Result<&Table, Wrong> {
         table_in(alloc, &self.tables, at)
     }
 
+    /// The slot of a key in one of the tables.
+    fn found(&self, at: u16, key: &Row) -> Option<Slot> {
+        match self.tables.get(usize::from(at)) {
+            Some(table) => table.get(key),
+            None => None,
+        }
+    }
+
     /// Inserts a row, or answers why not. A refused row has to come back as it was.
-    pub fn insert(
-        &mut self,
-        alloc: Global,
-        at: u16,
-        row: &Row,
-    ) -> Result<Option<TableError>, Wrong> {
+    fn insert(&mut self, alloc: Global, at: u16, row: &Row) -> Result<Answer, Wrong> {
         if !has_key(self.key.as_slice(), row) || usize::from(at) >= self.tables.len() {
             return Err(Wrong::text(alloc, "no such table or row"));
         }
@@ -212,33 +214,33 @@ impl Real {
         self.undo.room()?;
         let given = copy_row(alloc, row)?;
         match insert_in(self.key.as_slice(), &mut self.tables, at, given) {
-            Err((error, back)) if back == *row => Ok(Some(error)),
+            Err((error, back)) if back == *row => Ok(Answer::Refused(error)),
             Err(_) => Err(Wrong::text(alloc, "a refused row comes back otherwise")),
             Ok(slot) => {
-                self.undo.note(Change::Inserted { table: at, slot });
-                Ok(None)
+                self.undo.note(Noted::Inserted { table: at, slot });
+                Ok(Answer::Made)
             }
         }
     }
 
     /// Deletes the row of a live slot, if it is one.
-    fn delete_slot(&mut self, at: u16, slot: Slot) -> Result<bool, NoMemory> {
+    fn delete_slot(&mut self, at: u16, slot: Slot) -> Result<Answer, Wrong> {
         if !is_live(&self.tables, at, slot) {
-            return Ok(false);
+            return Ok(Answer::Absent);
         }
         a_note_more();
         a_staging_more();
         self.undo.room()?;
         delete_in(self.key.as_slice(), &mut self.tables, at, slot);
-        self.undo.note(Change::Deleted { table: at, slot });
-        Ok(true)
+        self.undo.note(Noted::Deleted { table: at, slot });
+        Ok(Answer::Made)
     }
 
     /// Deletes the row of a key, if there is one.
-    pub fn delete(&mut self, alloc: Global, at: u16, key: &Row) -> Result<bool, Wrong> {
-        match self.table(alloc, at)?.get(key) {
-            None => Ok(false),
-            Some(slot) => Ok(self.delete_slot(at, slot)?),
+    fn delete(&mut self, at: u16, key: &Row) -> Result<Answer, Wrong> {
+        match self.found(at, key) {
+            None => Ok(Answer::Absent),
+            Some(slot) => self.delete_slot(at, slot),
         }
     }
 
@@ -248,29 +250,48 @@ impl Real {
         alloc: Global,
         at: u16,
         slot: Slot,
+        key: &Row,
         row: &Row,
-    ) -> Result<bool, Wrong> {
-        if !can_replace(alloc, self.key.as_slice(), &self.tables, at, slot, row)? {
-            return Ok(false);
+    ) -> Result<Answer, Wrong>
+        requires { key.now ≡ key_of self.old row.now }
+    {
+        if !can_replace(alloc, self.key.as_slice(), &self.tables, at, slot, key, row)? {
+            return Ok(Answer::Absent);
         }
         a_note_more();
         a_staging_more();
         self.undo.room()?;
         let given = copy_row(alloc, row)?;
         let old = replace_in(self.key.as_slice(), &mut self.tables, at, slot, given);
-        self.undo.note(Change::Replaced {
+        self.undo.note(Noted::Replaced {
             table: at,
             slot,
             old,
         });
-        Ok(true)
+        Ok(Answer::Made)
     }
 
     /// Puts a row in place of the one with its key, if there is one.
-    pub fn replace(&mut self, alloc: Global, at: u16, key: &Row, row: &Row) -> Result<bool, Wrong> {
-        match self.table(alloc, at)?.get(key) {
-            None => Ok(false),
-            Some(slot) => self.replace_slot(alloc, at, slot, row),
+    fn replace(&mut self, alloc: Global, at: u16, row: &Row) -> Result<Answer, Wrong> {
+        let key = key_of(alloc, self.key.as_slice(), row)?;
+        match self.found(at, &key) {
+            None => Ok(Answer::Absent),
+            Some(slot) => self.replace_slot(alloc, at, slot, &key, row),
+        }
+    }
+
+    /// Makes a change of a row in one of the tables; a deletion asks for the key alone.
+    pub fn make(
+        &mut self,
+        alloc: Global,
+        at: u16,
+        change: Change,
+        row: &Row,
+    ) -> Result<Answer, Wrong> {
+        match change {
+            Change::Insert => self.insert(alloc, at, row),
+            Change::Delete => self.delete(at, row),
+            Change::Replace => self.replace(alloc, at, row),
         }
     }
 

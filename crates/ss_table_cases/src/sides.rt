@@ -1,18 +1,19 @@
 //! Runs the calls of a row on tables and on plain maps side by side.
 
+use crate::change::{Answer, Change, change_of};
 use crate::compare::{hold_the_same, live_below};
 use crate::plain::{Plain, key_of};
 use crate::real::Real;
-use crate::words::{columns_of, first_word, number_of, numbered_row, row_of};
+use crate::words::{columns_of, count_of, first_word, number_of, numbered_row, row_of};
 use ss_case_files::Wrong;
-use ss_table::TableError;
 use ss_value::{NoMemory, Row, Seq, copy_row};
 use std::alloc::Global;
 
+/// What is wrong where a side says something else than a call does.
+const OTHERWISE: &str = "it is answered otherwise";
+
 /// Tables and plain maps that have to hold the same.
 struct Sides {
-    key: Seq<u8>,
-    limit: Option<usize>,
     real: Real,
     first: Plain,
     second: Plain,
@@ -22,18 +23,19 @@ struct Sides {
     at: u16,
 }
 
-// By hand, so that letting it go is one call.
+// By hand, so that letting it go is one call here and one for each of its fields there.
 impl Drop for Sides {
     fn drop(self) {
         let Sides {
-            key: _,
-            limit: _,
-            real: _,
-            first: _,
-            second: _,
+            real,
+            first,
+            second,
             keys: _,
             at: _,
         } = self;
+        drop(real);
+        drop(first);
+        drop(second);
     }
 }
 
@@ -55,13 +57,10 @@ impl Sides {
     /// Two tables without a row on either side, of the key and the limit that a block names.
     fn empty(alloc: Global, words: &str) -> Result<Sides, Wrong> {
         let (key, limit) = shape_of(alloc, words)?;
-        let real = Real::new(alloc, &key, limit)?;
         Ok(Sides {
-            key,
-            limit,
-            real,
-            first: Plain::new(alloc),
-            second: Plain::new(alloc),
+            real: Real::new(alloc, key, limit)?,
+            first: Plain::new(alloc, limit),
+            second: Plain::new(alloc, limit),
             keys: Seq::new(alloc),
             at: 0,
         })
@@ -83,37 +82,48 @@ impl Sides {
 
     // ---- calls
 
-    /// Inserts a row on both sides, which both have to refuse for this reason, or neither where there is none.
-    fn insert(&mut self, alloc: Global, row: &Row, want: Option<TableError>) -> Result<(), Wrong> {
-        let key = key_of(alloc, self.key.as_slice(), row)?;
-        let limit = self.limit;
-        let plain = self.plain_here().insert(alloc, limit, &key, row)?;
-        self.keys.push(key)?;
-        let real = self.real.insert(alloc, self.at, row)?;
-        answered(alloc, plain == want && real == want)
+    /// The key that a change of a row, or of a key, names.
+    fn key_named(&self, alloc: Global, change: Change, row: &Row) -> Result<Row, Wrong> {
+        if change == Change::Delete {
+            Ok(copy_row(alloc, row)?)
+        } else {
+            key_of(alloc, self.real.key(), row)
+        }
     }
 
-    /// Inserts `count` rows on both sides, with numbers below `count` for `#`: from 0 on, each `skip` further than the last,
-    /// and around at the end. None may be refused.
-    fn fill(&mut self, alloc: Global, count: usize, given: &str) -> Result<(), Wrong> {
-        let (skip, words) = first_word(given);
-        let skip = number_of(alloc, skip)?;
+    /// Makes a change of a row, or of a key, on both sides, which both have to answer as is wanted.
+    fn make(
+        &mut self,
+        alloc: Global,
+        change: Change,
+        row: &Row,
+        want: Answer,
+    ) -> Result<(), Wrong> {
+        let key = self.key_named(alloc, change, row)?;
+        let plain = self.plain_here().make(alloc, change, &key, row)?;
+        self.keys.push(key)?;
+        let real = self.real.make(alloc, self.at, change, row)?;
+        if plain == want && real == want {
+            return Ok(());
+        }
+        Err(Wrong::text(alloc, OTHERWISE))
+    }
+
+    /// Inserts as many rows on both sides as are given, with numbers below that for `#`: from 0 on, each `skip` further than
+    /// the last, and around at the end. None may be refused.
+    fn fill(&mut self, alloc: Global, given: &str) -> Result<(), Wrong> {
+        let (count, given) = count_of(alloc, given)?;
+        let (skip, words) = count_of(alloc, given)?;
         let mut number = 0usize;
         for _ in 0..count {
-            self.insert(alloc, &numbered_row(alloc, words, number)?, None)?;
+            let row = numbered_row(alloc, words, number)?;
+            self.make(alloc, Change::Insert, &row, Answer::Made)?;
             number = number.wrapping_add(skip).checked_rem(count).unwrap_or(0);
         }
         Ok(())
     }
 
-    /// Deletes the row of a key on both sides, which both have to have, or neither.
-    fn delete(&mut self, alloc: Global, key: &Row, want: bool) -> Result<(), Wrong> {
-        let plain = self.plain_here().delete(key);
-        let real = self.real.delete(alloc, self.at, key)?;
-        answered(alloc, plain == want && real == want)
-    }
-
-    /// The keys of every `step`th row, from the first on, in the order of the keys.
+    /// The keys of the rows whose places in the order of the keys, from 0 on, are multiples of `step`.
     fn each(&self, alloc: Global, step: usize) -> Result<Seq<Row>, NoMemory> {
         let mut keys = Seq::new(alloc);
         for (place, key) in self.plain(self.at).rows().keys().enumerate() {
@@ -124,83 +134,61 @@ impl Sides {
         Ok(keys)
     }
 
-    /// Deletes every `step`th row on both sides.
-    fn thin(&mut self, alloc: Global, step: usize) -> Result<(), Wrong> {
+    /// Deletes these rows on both sides, where `step` is given.
+    fn thin(&mut self, alloc: Global, given: &str) -> Result<(), Wrong> {
+        let step = number_of(alloc, given)?;
         for key in self.each(alloc, step)?.as_slice() {
-            self.delete(alloc, key, true)?;
+            self.make(alloc, Change::Delete, key, Answer::Made)?;
         }
         Ok(())
     }
 
-    /// Puts a row in place of the one with its key on both sides, which both have to have.
-    fn replace(&mut self, alloc: Global, row: &Row) -> Result<(), Wrong> {
-        let key = key_of(alloc, self.key.as_slice(), row)?;
-        let plain = self.plain_here().replace(alloc, &key, row)?;
-        let real = self.real.replace(alloc, self.at, &key, row)?;
-        answered(alloc, plain && real)
+    /// Deletes the row with a row's key and inserts the row, on both sides.
+    fn renew(&mut self, alloc: Global, row: &Row) -> Result<(), Wrong> {
+        let key = key_of(alloc, self.real.key(), row)?;
+        self.make(alloc, Change::Delete, &key, Answer::Made)?;
+        self.make(alloc, Change::Insert, row, Answer::Made)
     }
 
-    /// Deletes the row with a row's key and inserts the row, `count` times, on both sides.
-    fn again(&mut self, alloc: Global, count: usize, row: &Row) -> Result<(), Wrong> {
-        let key = key_of(alloc, self.key.as_slice(), row)?;
+    /// The same as often as is given.
+    fn again(&mut self, alloc: Global, given: &str) -> Result<(), Wrong> {
+        let (count, words) = count_of(alloc, given)?;
+        let row = row_of(alloc, words)?;
         for _ in 0..count {
-            self.delete(alloc, &key, true)?;
-            self.insert(alloc, row, None)?;
+            self.renew(alloc, &row)?;
         }
         Ok(())
     }
 
-    /// Asks both sides for a key that neither may have.
-    fn absent(&mut self, alloc: Global, key: &Row) -> Result<(), Wrong> {
-        self.keys.push(copy_row(alloc, key)?)?;
-        self.delete(alloc, key, false)
-    }
-
-    /// All rows have to stand in the first slots.
-    fn stand_below(&self, alloc: Global, slots: usize) -> Result<(), Wrong> {
+    /// All rows have to stand in the first slots, as many as are given.
+    fn stand_below(&self, alloc: Global, given: &str) -> Result<(), Wrong> {
+        let slots = number_of(alloc, given)?;
         let live = live_below(self.real.table(alloc, self.at)?, slots);
-        answered(alloc, live == self.plain(self.at).rows().len())
+        if live == self.plain(self.at).rows().len() {
+            return Ok(());
+        }
+        Err(Wrong::text(alloc, OTHERWISE))
     }
 
-    /// Commits all changes on both sides.
-    fn commit(&mut self, alloc: Global) -> Result<(), Wrong> {
-        self.real.commit(alloc);
-        self.first.commit(alloc)?;
-        self.second.commit(alloc)
-    }
-
-    /// Rolls all changes back on both sides.
-    fn rollback(&mut self, alloc: Global) -> Result<(), Wrong> {
-        self.real.rollback(alloc);
-        self.first.rollback(alloc)?;
-        self.second.rollback(alloc)
+    /// Commits all changes on both sides, or rolls them back.
+    fn end(&mut self, alloc: Global, commits: bool) -> Result<(), Wrong> {
+        if commits {
+            self.real.commit(alloc);
+        } else {
+            self.real.rollback(alloc);
+        }
+        self.first.end(alloc, commits)?;
+        self.second.end(alloc, commits)
     }
 
     // ---- calls by their words
 
-    /// Makes a call that is given a row or a key.
-    fn call_on_row(&mut self, alloc: Global, name: &str, row: &Row) -> Result<(), Wrong> {
-        match name {
-            "insert" => self.insert(alloc, row, None),
-            "taken" => self.insert(alloc, row, Some(TableError::KeyTaken)),
-            "full" => self.insert(alloc, row, Some(TableError::Full)),
-            "delete" => self.delete(alloc, row, true),
-            "absent" => self.absent(alloc, row),
-            "replace" => self.replace(alloc, row),
-            _ => Err(Wrong::text(alloc, "no such call")),
-        }
-    }
-
-    /// Makes a call that is given a count.
-    fn call_counted(&mut self, alloc: Global, name: &str, given: &str) -> Result<(), Wrong> {
-        let (count, given) = first_word(given);
-        let count = number_of(alloc, count)?;
-        match name {
-            "fill" => self.fill(alloc, count, given),
-            "again" => self.again(alloc, count, &row_of(alloc, given)?),
-            "thin" => self.thin(alloc, count),
-            _ => self.stand_below(alloc, count),
-        }
+    /// Makes a change of a row, or of a key, by its word.
+    fn change(&mut self, alloc: Global, name: &str, given: &str) -> Result<(), Wrong> {
+        let Some((change, want)) = change_of(name) else {
+            return Err(Wrong::text(alloc, "no such call"));
+        };
+        self.make(alloc, change, &row_of(alloc, given)?, want)
     }
 
     /// Makes a call, which both sides have to answer as it says.
@@ -211,10 +199,13 @@ impl Sides {
                 self.at = u16::from(given != "0");
                 Ok(())
             }
-            "commit" => self.commit(alloc),
-            "rollback" => self.rollback(alloc),
-            "fill" | "again" | "thin" | "slots" => self.call_counted(alloc, name, given),
-            _ => self.call_on_row(alloc, name, &row_of(alloc, given)?),
+            "commit" => self.end(alloc, true),
+            "rollback" => self.end(alloc, false),
+            "fill" => self.fill(alloc, given),
+            "again" => self.again(alloc, given),
+            "thin" => self.thin(alloc, given),
+            "slots" => self.stand_below(alloc, given),
+            _ => self.change(alloc, name, given),
         }
     }
 
@@ -232,14 +223,6 @@ impl Sides {
         self.hold_the_same(alloc, 0)?;
         self.hold_the_same(alloc, 1)
     }
-}
-
-/// Whether both sides answered as a call says.
-fn answered(alloc: Global, so: bool) -> Result<(), Wrong> {
-    if so {
-        return Ok(());
-    }
-    Err(Wrong::text(alloc, "it is answered otherwise"))
 }
 
 /// What is wrong, behind the call that shows it.

@@ -17,6 +17,12 @@ pub fn number_of(alloc: Global, word: &str) -> Result<usize, Wrong> {
     }
 }
 
+/// The number in front of the first space, and the words behind it.
+pub fn count_of(alloc: Global, text: &str) -> Result<(usize, &str), Wrong> {
+    let (word, words) = first_word(text);
+    Ok((number_of(alloc, word)?, words))
+}
+
 /// The columns that words spell.
 pub fn columns_of(alloc: Global, words: &str) -> Result<Seq<u8>, Wrong> {
     let mut columns = Seq::new(alloc);
@@ -34,9 +40,9 @@ fn value_of(alloc: Global, word: &str) -> Option<Value> {
     match word.strip_prefix('\'') {
         Some(text) => {
             let text = text.strip_suffix('\'')?;
-            Some(Value::Text(text_of(alloc, text.as_bytes()).ok()?))
+            text_of(alloc, text.as_bytes()).ok().map(Value::Text)
         }
-        None => Some(Value::Int(word.parse::<i64>().ok()?)),
+        None => word.parse::<i64>().ok().map(Value::Int),
     }
 }
 
