@@ -1,0 +1,13 @@
+pub mod CallerLemmas
+pub mod Texts
+pub mod Splits
+pub mod Forms
+pub mod Told
+pub mod Replayed
+pub mod Right
+pub mod Printed
+pub mod Passing
+pub mod Names
+pub mod Meaning
+pub mod Valid
+pub mod worked

@@ -1,0 +1,4 @@
+pub mod Shape
+pub mod Checks
+pub mod Valid
+pub mod Printed
