@@ -2,3 +2,7 @@
 
 -- The empty database has had no batch, and can take entries from any place on.
 pub use Rattle.ss_replay.proofs.Premises.{empty_had, opening_takes}
+-- Behind a list that replays, a database stands so many places further.
+pub use Rattle.ss_replay.proofs.Replaying.{stands_behind}
+-- An option that is not there.
+pub use Rattle.ss_replay.proofs.Valued.{no_value}

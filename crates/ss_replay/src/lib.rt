@@ -17,6 +17,8 @@
 //!
 //! - `replay`: the given entries, each with its outcome (`entries`), which replay on every database that the given one
 //!   stands for (`replayed`); or those before the first entry that doesn't replay (`foreign`).
+//! - `replay_entry`: the outcome of an entry that has a value on each such database (`outcome`), and the database behind it
+//!   (`stands`).
 //! - `has_value`: whether an entry has a value on each such database. `entry_fits`: exactly the model's `fits_entry`.
 //!
 //! # Choices
@@ -33,5 +35,6 @@ mod fitting;
 mod values;
 
 pub use entries::{ReplayError, Replayed, replay};
+pub use entry::replay_entry;
 pub use fitting::entry_fits;
 pub use values::has_value;

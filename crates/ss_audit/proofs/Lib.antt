@@ -1,0 +1,11 @@
+pub mod Steps
+pub mod Numbers
+pub mod Finding
+pub mod Placing
+pub mod Meaning
+pub mod Saying
+pub mod Whole
+pub mod Splitting
+pub mod Naming
+pub mod Running
+pub mod Verdicts
