@@ -22,7 +22,7 @@ module _ (carries : KeptCarries) (catalog : Catalog) (x y : Database) (same : ke
       let tables = (from_kept catalog (after catalog x list) (after catalog y list) (carries catalog x y same list).after).contents.tables in
       λ i. database_lines catalog (record (after catalog x list) { contents = record (after catalog x list).contents { tables = tables i } })
 
-  same_end : (list : List Listed) (end : End) → end_lines catalog x list end ≡ end_lines catalog y list end
+  pub same_end : (list : List Listed) (end : End) → end_lines catalog x list end ≡ end_lines catalog y list end
   same_end list Whole = ap (λ ls. ls ++ done_line (length list) ∷ []) (same_tables list)
   same_end list (Stopped stop) = refl
 

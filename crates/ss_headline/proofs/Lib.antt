@@ -1,3 +1,4 @@
+pub mod CallerLemmas
 pub mod Disks
 pub mod Few
 pub mod Untouched

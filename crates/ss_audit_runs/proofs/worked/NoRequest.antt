@@ -1,0 +1,52 @@
+-- The law at a run that nobody asked anything, of a catalogue with one table, on a disk that tells its contents and was empty.
+use Rattle.std.proofs.Common.{inl, Bool, true, false, [], refl, sym, arith, append-nil}
+use Rattle.ss_model.proofs.Accounts.{accounts, accepted}
+use Rattle.ss_model.specs.Database.{Database, empty_database}
+use Rattle.ss_model_laws.proofs.CallerLemmas.{empty_whole}
+use Rattle.ss_disk.specs.Files.{Files}
+use Rattle.ss_cmdlog.specs.Store.{entries_of}
+use Rattle.ss_standing.proofs.CallerLemmas.{batch_store, batch_files, batch_files_stand}
+use Rattle.ss_audit_laws.specs.Valid.{bytes_of}
+use Rattle.ss_audit_laws.proofs.worked.NoRequest.{lines, valid, one_line_each, report_printed}
+use Rattle.ss_headline.specs.Disks.{DiskChange, disk_of}
+use Rattle.ss_headline.specs.Laws.{SessionsHoldFromEach}
+use Rattle.ss_headline.specs.Runs.{IsWholeRun}
+use Rattle.ss_headline.specs.Sentences.{WholeSession}
+use Rattle.ss_audit_runs.specs.Runs.{AnswersYes, WholeRunsAreRight}
+
+abbrev start : Database
+start = empty_database accounts
+
+-- empty before the run, and a store behind it: whatever this has, its log ends with a list of nothing
+abbrev files : Bool → Files
+files false = record { selector = []; first = []; second = [] }
+files true = batch_files
+
+-- of crashes nothing is said
+abbrev told : Bool → Bool → DiskChange
+told = disk_of (Unit {0}) ⊥ files (λ disk. 0) (λ disk moment image. Unit {0}) (λ disk. 0)
+
+session : WholeSession accounts [] 0 [] (bytes_of lines) (told false true) start
+session = record {
+  replies_and_tables = record { one_by_one = tt; report = valid.report };
+  in_order = valid.orders;
+  wherever_a_crash_falls = λ honest. absurd honest;
+  receipts_stay = λ honest. absurd honest;
+  all_stands = λ honest image left. absurd honest;
+  at_the_end = valid.drained;
+}
+
+run : SessionsHoldFromEach told → IsWholeRun 5 accounts [] start 0 [] (bytes_of lines) (told false true)
+run each = record {
+  within = omega arith;
+  logged = λ tells. record { stood = batch_store; stands = batch_files_stand; before = entries_of batch_store; ends = sym (append-nil (entries_of batch_store)) };
+  session = record {
+    whole = empty_whole accounts accepted;
+    stood = λ tells. inl (record { empty = refl; none = refl; nothing = refl });
+    each = λ db same. (each accounts start db (sym same)).whole [] 0 [] (bytes_of lines) false true session;
+  };
+}
+
+-- an audit answers yes, and counts no entry
+found_right : SessionsHoldFromEach told → WholeRunsAreRight told → AnswersYes accounts [] lines 4 []
+found_right each law = law 5 accounts accepted [] start 0 [] (bytes_of lines) false true (run each) tt refl report_printed lines 4 (record { each = one_line_each; all = refl })
