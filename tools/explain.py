@@ -26,6 +26,7 @@ STATUS = {
     7: "foreign: the folder's files are no store; nothing has run, and they were left as they are",
     8: "other catalogue: the folder is a store of another catalogue; use another folder, or give the stored catalogue",
     9: "limit: the list is full; what is answered with list_full has not run",
+    12: "differs: an audit found that the report is not that of a run of its script",
     70: "of the script sstore: the program was not built, and what it printed says why",
     127: "of the script sstore: the toolchain's command rt is not on the path",
 }
@@ -76,6 +77,13 @@ ANSWER = {
     "no_memory": "there was no memory for it; it changed nothing",
     "list_full": "the list had no place for it; it changed nothing",
     "halted": "the disk had failed before; it changed nothing",
+}
+CHECK = {
+    1: "is no line of a report, or another one had to stand there",
+    2: "is not what the first entry of that client and index calls for",
+    3: "is no entry that can run there, or not with that place and outcome",
+    4: "is not what the entries leave in the tables",
+    5: "counts other than the entries, or a step is pending behind them",
 }
 WITHOUT_RUN = {"usage": 1, "read_fault": 3, "disk_fault": 5, "no_memory": 6, "foreign": 7, "other_catalog": 8}
 
@@ -181,6 +189,10 @@ def explained(line, lines, counts, says_all):
         yield f"stopped: {STATUS[line[1]]}; what is on the disk ends at place {line[2]}"
     elif word == "voter":
         yield "{:d} votes asked for, {:d} pushes done, {:d} steps, {:d} entries".format(*line[1:5])
+    elif word == "audit" and line[1] == "yes":
+        yield f"the report is right, and has {int(line[2]):,} entries"
+    elif word == "audit":
+        yield f"the report is not right: line {int(line[3])} {CHECK[line[2]]}"
     elif word in WITHOUT_RUN:
         at = f": byte {line[2]} of {['selector', 'gen1', 'gen2'][line[1]]} is the first that can't be" if word == "foreign" else ""
         yield STATUS[WITHOUT_RUN[word]] + at

@@ -78,6 +78,8 @@ CASES = [
         CALL + " --client 8", CALL + " --rows 5", PUSH + " --rows 0", PUSH + " --rows 1025", PUSH + " --seq -1", PUSH + " --source A", PUSH + " --call c")),
     ("explain.py", "@examples/stored_run.expected", 0, "line 4: aborted, a row has this key, in the table acct"),
     ("explain.py --all", "@examples/stored_run.expected", 0, "line 2: done"),
+    ("explain.py", '["audit","yes",12]', 0, "the report is right, and has 12 entries"),
+    ("explain.py", '["audit","no",4,27]', 0, "the report is not right: line 27 is not what the entries leave"),
     ("explain.py examples/refused/c04.jsonl", '["input",1,"C4","free",0,"S5",30]', 0, "line 1: C4"),
     ("explain.py examples/bank.jsonl", '["input",1,"C4","nope",0,"S5",30]', 0, "line 1: C4"),
     ("explain.py", '["voter",4,4,12,23]', 0, "4 votes asked for, 4 pushes done, 12 steps, 23 entries"),

@@ -11,6 +11,7 @@ use crate::run::{check_answer, run_on_disk};
 use ss_case_files::{Wrong, bytes_of, column};
 use ss_disk::MemoryDisk;
 use ss_value::Seq;
+use std::alloc::Global;
 use std::sync::Wait;
 use std::thread::Threads;
 
@@ -22,24 +23,39 @@ pub fn check_calls<R: AllocGlobal + Threads + Wait + Sync>(
 ) -> Result<(), Wrong> {
     let mut disk = MemoryDisk::new(rt.alloc(), Seq::new(rt.alloc()));
     for line in lines {
-        disk = check_call(rt, base, line.as_str(), disk)?;
+        let (words, input, want) = call_of(rt.alloc(), base, line.as_str())?;
+        disk = check_call(rt, words, input, want, disk)?;
     }
     Ok(())
+}
+
+/// The words of a call's command line, its input, and what it has to write.
+fn call_of<'a>(
+    alloc: Global,
+    base: &str,
+    row: &'a str,
+) -> Result<(&'a str, Vec<u8>, &'a str), Wrong> {
+    let (words, rest) = column(alloc, row)?;
+    let (requests, line) = column(alloc, rest)?;
+    let input = format!(in alloc; "{base}␤{requests}")?;
+    Ok((words, bytes_of(alloc, input.as_str())?, line))
 }
 
 /// A call, which gives back the disk as it left it.
 fn check_call<R: AllocGlobal + Threads + Wait + Sync>(
     rt: &R,
-    base: &str,
-    row: &str,
+    words: &str,
+    input: Vec<u8>,
+    want: &str,
     disk: MemoryDisk,
 ) -> Result<MemoryDisk, Wrong> {
-    let alloc = rt.alloc();
-    let (words, rest) = column(alloc, row)?;
-    let (requests, line) = column(alloc, rest)?;
-    let input = format!(in alloc; "{base}␤{requests}")?;
-    let input = bytes_of(alloc, input.as_str())?;
     let (ended, disk) = run_on_disk(rt, words, input, disk)?;
-    check_answer(alloc, &ended, line)?;
-    Ok(disk)
+    match check_answer(rt.alloc(), &ended, want) {
+        Ok(()) => Ok(disk),
+        Err(wrong) => {
+            // So it is let go by one call.
+            drop(disk);
+            Err(wrong)
+        }
+    }
 }

@@ -9,13 +9,14 @@ sstore runs transactions and stream workflows on one database, and prints replie
     sstore FOLDER|- run     [--partitions 1..8] < INPUT      a catalogue on the first line, then a request a line
     sstore FOLDER|- recover [--partitions 1..8]              runs what is pending on the store
     sstore FOLDER|- voter   --seed N --votes N --clients N   runs the benchmark Voter with Leaderboard
+    sstore FOLDER|- audit                    < FILE      a script and its report: is the report that of a run?
     sstore --help, sstore --version
 
 The first word is where the store is: a folder, which has to be there and is held by one process at a time, or - for
 memory, which ends with the program.
 
 Status: 0 done, 1 usage, 2 input refused, 3 read fault, 4 write fault, 5 disk fault or folder in use, 6 no memory,
-7 not a store, 8 a store of another catalogue, 9 the list is full.
+7 not a store, 8 a store of another catalogue, 9 the list is full, 12 an audit found the report wrong.
 
 docs/TUTORIAL.md goes from an idea to a catalogue; docs/FORMATS.md says what may be written and what is printed.
 ";
@@ -57,5 +58,10 @@ pub fn status_text(status: Status) -> Option<&'static str> {
         ),
         Status::OtherCatalog => Some("the store is of another catalogue, and nothing has run"),
         Status::Limit => Some("the list is full; what was answered with list_full has not run"),
+        Status::Differs => {
+            Some(
+                "the report is not that of a run of its script; CHECK and LINE are the first that is wrong",
+            )
+        }
     }
 }

@@ -30,7 +30,7 @@ asked_more catalog ls i rs l r h is all asks =
     rw more (AskInOrder-push catalog (take i ls) rs l r all asks)
 
 -- a list is what stands before an index, its item, and what stands behind
-parts_at : {A : Type 0} (xs : List A) (i : ℕ) (x : A) → i < length xs → x ≡ get_or xs i x → xs ≡ take i xs ++ x ∷ drop (suc i) xs
+pub parts_at : {A : Type 0} (xs : List A) (i : ℕ) (x : A) → i < length xs → x ≡ get_or xs i x → xs ≡ take i xs ++ x ∷ drop (suc i) xs
 parts_at [] i x h is = absurd (omega arith)
 parts_at (y ∷ xs) zero x h is = ap (λ z. z ∷ xs) (sym is)
 parts_at (y ∷ xs) (suc i) x h is = ap (λ zs. y ∷ zs) (parts_at xs i x (omega arith) is)

@@ -1,4 +1,5 @@
 pub mod CallerLemmas
+pub mod FieldFloats
 pub mod InputDepth
 pub mod InputRequests
 pub mod OneInput

@@ -59,7 +59,7 @@ catalog_means : (n : ℕ) (e : CatalogError) → says_nothing (OfCatalog n e) �
 catalog_means n e says is = says_both (OfCatalog n catalog.NoMemory) refl (subst (λ (x : CatalogError). says_nothing (OfCatalog n x) ≡ false) is says)
 
 -- what can't say something says nothing
-silent : (b : Bool) → (b ≡ false → ⊥) → b ≡ true
+pub silent : (b : Bool) → (b ≡ false → ⊥) → b ≡ true
 silent true h = refl
 silent false h = absurd (h refl)
 
@@ -69,7 +69,7 @@ one_value : (l : Line) (d e : Data) → value_at l ≡ Ok d → value_at l ≡ O
 one_value l d e h k = ok_same (value_at l) d e h k
 
 -- a line's bytes that have a value aren't refused
-has_value : (l : Line) (d : Data) (e : LineError) → value_at l ≡ Ok d → says_nothing (OfLine e) ≡ false → RefusesAs (value_at l) e → ⊥
+pub has_value : (l : Line) (d : Data) (e : LineError) → value_at l ≡ Ok d → says_nothing (OfLine e) ≡ false → RefusesAs (value_at l) e → ⊥
 has_value l d e json says h = ok_or_err (value_at l) d e json (line_means (value_at l) e says h)
 
 -- and have one refusal
@@ -79,7 +79,7 @@ one_of_bytes l e f p q h k = ap OfLine (err_same (value_at l) e f (line_means (v
 -- ---- the catalogue's line
 
 -- a line says one catalogue
-one_said : InputLaws → (l : Line) (a b : Catalog) → SaysCatalog l a → SaysCatalog l b → a ≡ b
+pub one_said : InputLaws → (l : Line) (a b : Catalog) → SaysCatalog l a → SaysCatalog l b → a ≡ b
 one_said laws l a b h k = laws.reading k.value a b (subst (λ (d : Data). Reads d a) (one_value l h.value k.value h.json k.json) h.reads) k.reads
 
 -- which isn't refused
@@ -88,7 +88,7 @@ said_or_refused laws l c n m e says p h =
     catalog_means m e p (laws.either says.value c e says.reads (subst (λ (d : Data). Refuses d e) (one_value l h.value says.value h.json says.json) h.refused))
 
 -- a line that says a catalogue isn't refused
-first_is_fine : InputLaws → (l : Line) (c : Catalog) (e : ReadError) → SaysCatalog l c → says_nothing e ≡ false → RefusesFirst l e → ⊥
+pub first_is_fine : InputLaws → (l : Line) (c : Catalog) (e : ReadError) → SaysCatalog l c → says_nothing e ≡ false → RefusesFirst l e → ⊥
 first_is_fine laws l c (OfLine e) says p h = has_value l says.value e says.json p h
 first_is_fine laws l c (OfCatalog n e) says p h = said_or_refused laws l c n n e says p h
 first_is_fine laws l c NoCatalog says p h = h
@@ -128,7 +128,7 @@ asked_or_refused c l r e asks p h =
     (request_means (request_of c l.number h.value) e p h.refused)
 
 -- a line that asks for a request isn't refused
-later_is_fine : (c : Catalog) (l : Line) (r : Request) (e : ReadError) → AsksFor c l r → says_nothing e ≡ false → RefusesLater c l e → ⊥
+pub later_is_fine : (c : Catalog) (l : Line) (r : Request) (e : ReadError) → AsksFor c l r → says_nothing e ≡ false → RefusesLater c l e → ⊥
 later_is_fine c l r (OfLine e) asks p h = has_value l asks.value e asks.json p h
 later_is_fine c l r (OfRequest e) asks p h = asked_or_refused c l r e asks p h
 later_is_fine c l r NoCatalog asks p h = h

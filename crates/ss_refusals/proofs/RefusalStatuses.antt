@@ -7,7 +7,7 @@ use Rattle.ss_catalog_requests.specs.declared.request.RequestError.TheVariants a
 use Rattle.ss_refusals.specs.declared.input.ReadError.{ReadError}
 use Rattle.ss_refusals.specs.declared.input.ReadError.TheVariants.{Line as OfLine, NoCatalog, Catalog as OfCatalog, Request as OfRequest}
 use Rattle.ss_refusals.specs.declared.status.Status.{Status}
-use Rattle.ss_refusals.specs.declared.status.Status.TheVariants.{Done, Usage, Input, ReadFault, WriteFault, Disk, NoMemory, Foreign, OtherCatalog, Limit}
+use Rattle.ss_refusals.specs.declared.status.Status.TheVariants.{Done, Usage, Input, ReadFault, WriteFault, Disk, NoMemory, Foreign, OtherCatalog, Limit, Differs}
 use Rattle.ss_refusals.specs.Statuses.{no_memory_text, read_fault_text, refusal_text, refusal_status}
 use Rattle.ss_refusals.specs.Sinks.{SinkChange, Writes, ExitsRefused, LeavesOfRefusedSource}
 
@@ -20,6 +20,7 @@ OfRefusal ReadFault = Unit {0}
 OfRefusal NoMemory = Unit {0}
 OfRefusal Done = ⊥
 OfRefusal Usage = ⊥
+OfRefusal Differs = ⊥
 OfRefusal WriteFault = ⊥
 OfRefusal Disk = ⊥
 OfRefusal Foreign = ⊥

@@ -1,9 +1,11 @@
 -- How the program ends where reading its input was refused.
-use Rattle.std.proofs.Common.{◌≡◌, ◌⊎◌, ◌∙◌, ℕ, Bool, true, false, List, Option, refl, sym, ap, subst, inl, inr}
+use Rattle.std.proofs.Common.{◌≡◌, ◌≤◌, ◌⊎◌, ◌∙◌, ℕ, Bool, true, false, List, length, Option, Some, None, refl, sym, ap, subst, inl, inr, arith}
 use Rattle.std.specs.Prelude.{IfSome}
+use Rattle.std.specs.Io.KnownBytes.{IsAtEnd}
 use Rattle.std.proofs.lemmas.Bool.{false≢true}
 use Rattle.std.proofs.lemmas.Option.{IfSome_then}
 use Rattle.ss_lines.specs.declared.line.LineError.TheVariants as cause
+use Rattle.ss_lines.specs.Lines.{max_input}
 use Rattle.ss_catalog.specs.declared.error.CatalogError.TheVariants as catalog
 use Rattle.ss_catalog_requests.specs.declared.request.RequestError.TheVariants as request
 use Rattle.ss_refusals.specs.declared.input.ReadError.{ReadError}
@@ -13,10 +15,28 @@ use Rattle.ss_refusals.specs.declared.status.Status.TheVariants.{NoMemory}
 use Rattle.ss_refusals.specs.Refused.{IsRefusedBy}
 use Rattle.ss_refusals.specs.Statuses.{refusal_status}
 use Rattle.ss_refusals.specs.Sinks.{SinkChange, ExitsRefused, LeavesOfRefusedSource}
-use Rattle.ss_refusals.specs.Inputs.{says_nothing, StartsOrRefused, HasOneRefusal, DidNotRise, ExitsAsRefused, ExitsAsStarted, OfStarted}
+use Rattle.ss_refusals.specs.Inputs.{says_nothing, LeavesOfSource, StartsOrRefused, HasOneRefusal, DidNotRise, ExitsAsRefused, ExitsAsStarted, OfStarted}
+
+-- what is left of the source where its lines were there
+pub at_end : (before left : Option (List ℕ)) → IsAtEnd left → IfSome before (λ (input : List ℕ). length input ≤ max_input → IsAtEnd left)
+at_end None left ends = tt
+at_end (Some input) left ends = λ short. ends
+
+-- what a refusal leaves of the source is what its status says
+pub leaves_so : (e : ReadError) (faults now : ℕ) (before left : Option (List ℕ)) → LeavesOfRefusedSource e faults now before left → LeavesOfSource (refusal_status e) before left
+leaves_so (OfLine cause.NoMemory) faults now before left leaves = tt
+leaves_so (OfLine cause.ReadFault) faults now before left leaves = tt
+leaves_so (OfLine (cause.LineTooLong line)) faults now before left leaves = at_end before left leaves
+leaves_so (OfLine cause.InputTooLong) faults now before left leaves = IfSome_then before leaves (λ input long short. absurd (omega (arith, long, short)))
+leaves_so (OfLine (cause.NotJson line)) faults now before left leaves = at_end before left leaves
+leaves_so NoCatalog faults now before left leaves = at_end before left leaves
+leaves_so (OfCatalog line catalog.NoMemory) faults now before left leaves = tt
+leaves_so (OfCatalog line e) faults now before left leaves = at_end before left leaves
+leaves_so (OfRequest request.NoMemory) faults now before left leaves = tt
+leaves_so (OfRequest e) faults now before left leaves = at_end before left leaves
 
 -- a refusal that says nothing ends as out of memory, unless the source failed
-silent_ends : (e : ReadError) (faults now : ℕ) (left rest : Option (List ℕ)) → says_nothing e ≡ true → LeavesOfRefusedSource e faults now left rest → DidNotRise faults now → refusal_status e ≡ NoMemory
+pub silent_ends : (e : ReadError) (faults now : ℕ) (left rest : Option (List ℕ)) → says_nothing e ≡ true → LeavesOfRefusedSource e faults now left rest → DidNotRise faults now → refusal_status e ≡ NoMemory
 silent_ends (OfLine cause.NoMemory) faults now left rest says leaves stayed = refl
 silent_ends (OfLine cause.ReadFault) faults now left rest says leaves stayed = absurd (stayed leaves)
 silent_ends (OfLine (cause.LineTooLong n)) faults now left rest says leaves stayed = absurd (false≢true says)

@@ -1,5 +1,7 @@
 -- An input has one answer: it starts, or it has one refusal.
-use Rattle.std.specs.Prelude.{◌≡◌, ◌⊎◌, Bool, true, false, ℕ, List}
+use Rattle.std.specs.Prelude.{◌≡◌, ◌≤◌, ◌⊎◌, Bool, true, false, ℕ, List, length, Option, IfSome}
+use Rattle.std.specs.Io.KnownBytes.{IsAtEnd}
+use Rattle.ss_lines.specs.Lines.{max_input}
 use Rattle.ss_lines.specs.declared.line.LineError.TheVariants as cause
 use Rattle.ss_value.specs.FaultCounts.{Rose}
 use Rattle.ss_model.specs.declared.catalog.Catalog.{Catalog}
@@ -9,7 +11,7 @@ use Rattle.ss_catalog_requests.specs.declared.request.RequestError.TheVariants a
 use Rattle.ss_refusals.specs.declared.input.ReadError.{ReadError}
 use Rattle.ss_refusals.specs.declared.input.ReadError.TheVariants.{Line as OfLine, Catalog as OfCatalog, Request as OfRequest}
 use Rattle.ss_refusals.specs.declared.status.Status.{Status}
-use Rattle.ss_refusals.specs.declared.status.Status.TheVariants.{Done, NoMemory, Foreign, OtherCatalog, Limit}
+use Rattle.ss_refusals.specs.declared.status.Status.TheVariants.{Done, Input, ReadFault, NoMemory, Foreign, OtherCatalog, Limit}
 use Rattle.ss_refusals.specs.Refused.{IsRefusedBy}
 use Rattle.ss_refusals.specs.Starts.{Starts}
 use Rattle.ss_refusals.specs.Statuses.{refusal_status}
@@ -42,6 +44,13 @@ abbrev pub HasOneRefusal : Type 0
 HasOneRefusal = (input : List ℕ) (e f : ReadError) → HasRefusal input e → HasRefusal input f → e ≡ f
 
 -- ---- how an input ends
+
+-- what a run leaves of its source: nothing, but where reading failed, at out of memory, and of an input that is too long
+abbrev pub LeavesOfSource : Status → Option (List ℕ) → Option (List ℕ) → Type 0
+LeavesOfSource Input before now = IfSome before (λ input. length input ≤ max_input → IsAtEnd now)
+LeavesOfSource ReadFault before now = Unit {0}
+LeavesOfSource NoMemory before now = Unit {0}
+LeavesOfSource _ before now = IsAtEnd now
 
 -- a count of faults didn't rise, and is below the greatest number of 64 bits
 abbrev pub DidNotRise : ℕ → ℕ → Type 0

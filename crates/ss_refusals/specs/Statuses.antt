@@ -15,7 +15,7 @@ use Rattle.ss_catalog_requests.specs.declared.request.RequestError.TheVariants a
 use Rattle.ss_refusals.specs.declared.input.ReadError.{ReadError}
 use Rattle.ss_refusals.specs.declared.input.ReadError.TheVariants.{Line as OfLine, NoCatalog, Catalog as OfCatalog, Request as OfRequest}
 use Rattle.ss_refusals.specs.declared.status.Status.{Status}
-use Rattle.ss_refusals.specs.declared.status.Status.TheVariants.{Done, Usage, Input, ReadFault, WriteFault, Disk, NoMemory, Foreign, OtherCatalog, Limit}
+use Rattle.ss_refusals.specs.declared.status.Status.TheVariants.{Done, Usage, Input, ReadFault, WriteFault, Disk, NoMemory, Foreign, OtherCatalog, Limit, Differs}
 
 -- the program's exit status
 abbrev pub status_number : Status → ℕ
@@ -29,6 +29,7 @@ status_number NoMemory = 6
 status_number Foreign = 7
 status_number OtherCatalog = 8
 status_number Limit = 9
+status_number Differs = 12
 
 -- ---- texts
 

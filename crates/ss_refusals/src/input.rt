@@ -43,8 +43,8 @@ pub struct ParsedInput {
     pub requests: Seq<Request>,
 }
 
-/// The catalogue of the first line, or the line's first refusal.
-fn catalog_at(alloc: Global, line: &Line) -> Result<Catalog, ReadError>
+/// The catalogue of the first line, or the line's first refusal. Costs what `read_catalog` costs.
+pub fn catalog_at(alloc: Global, line: &Line) -> Result<Catalog, ReadError>
     ensures ok { IfOk result (SaysCatalog line.now) }
     ensures own { IfOk result IsOwnCatalog }
     ensures refused { IfErr result (RefusesFirst line.now) }

@@ -8,6 +8,7 @@
 //! - `status`: how a run ends
 //! - `refusals`: what is written of an input that is refused, and with which status; `store_refusals`: the same of a disk;
 //!   `command_line`: the same where the words of the command line can't be had
+//! - `line`: the text of a line that tells of a refusal
 //!
 //! Every call that takes `alloc` may find itself out of memory, which is then its error or its status. It is told by a text that
 //! takes none ([`NO_MEMORY`]).
@@ -38,13 +39,15 @@
 mod command_line;
 mod input;
 mod laws;
+mod line;
 mod refusals;
 mod status;
 mod store_refusals;
 
 pub use command_line::refuse_words;
-pub use input::{ParsedInput, ReadError, read_input};
+pub use input::{ParsedInput, ReadError, catalog_at, read_input};
 pub use laws::an_input_has_one_answer;
+pub use line::line_of;
 pub use refusals::{NO_MEMORY, USAGE, refuse, write_line};
 pub use status::Status;
 pub use store_refusals::{refuse_store, write_whole};

@@ -1,19 +1,17 @@
 //! What is written where nothing ran, and with which status.
 
-ghost use Rattle.std.specs.Prelude.{◌≡◌, ◌≤◌, false, [], ◌∷◌, IfOk, codes, string_bytes};
+ghost use Rattle.std.specs.Prelude.{◌≡◌, ◌≤◌, [], ◌∷◌, IfOk, codes, string_bytes};
 ghost use Rattle.serde_json.specs.Data.{string};
-ghost use Rattle.serde_json.specs.View.{view};
-ghost use Rattle.serde_json.specs.Written.{has_float};
-ghost use Rattle.ss_model.specs.ReportLines.{array_of, count, line_text};
+ghost use Rattle.ss_model.specs.ReportLines.{count};
 ghost use Rattle.ss_refusals.specs.Statuses.{input_text, sql_fault, fault_code, counted_word, bytes_refusal, catalog_refusal, request_refusal, refusal_text, bytes_status, catalog_status, request_status, refusal_status};
 ghost use Rattle.ss_refusals.specs.Sinks.{sink_of, Writes, ExitsRefused};
 
 use crate::input::ReadError;
+use crate::line::line_of;
 use crate::status::Status;
-use serde_json::{Value as Json, json};
 use ss_catalog::{CatalogError, Counted, SqlFault};
 use ss_catalog_requests::RequestError;
-use ss_lines::{LineError, Sink, write_all};
+use ss_lines::{Field, LineError, Sink, write_all};
 use std::alloc::{AllocError, Global};
 
 /// The text at status 1, of a faulty command line.
@@ -36,73 +34,67 @@ pub fn write_line<K: Sink>(sink: &mut K, text: &str)
 
 // ---- lines
 
-/// A value as compact JSON, with its line feed.
-pub(crate) fn line_text(alloc: Global, value: &Json) -> Result<String, AllocError>
-    requires { has_float (view value.now) ≡ false }
-    ensures { IfOk result (λ text. string_bytes text ≡ line_text (view value.now)) }
-{
-    let mut text = value.to_string(alloc)?;
-    text.push('\n')?;
-    Ok(text)
-}
-
 /// A refused line with its code.
 fn input_line(alloc: Global, line: u64, code: &str) -> Result<String, AllocError>
     ensures { IfOk result (λ text. string_bytes text ≡ input_text line code.now []) }
 {
-    let value = json!(in alloc; ["input", line, code])?;
-    line_text(alloc, &value)
+    line_of(alloc, "input", &[Field::Number(line), Field::Text(code)])
 }
 
 /// A refused line with its code, and a word for what it is refused for.
-fn word_line(alloc: Global, line: u64, code: &str, word: &str) -> Result<String, AllocError>
+fn word_line<'x>(
+    alloc: Global,
+    line: u64,
+    code: &'x str,
+    word: &'x str,
+) -> Result<String, AllocError>
     ensures { IfOk result (λ text. string_bytes text ≡ input_text line code.now (string word.now ∷ [])) }
 {
-    let value = json!(in alloc; ["input", line, code, word])?;
-    line_text(alloc, &value)
+    let fields = [Field::Number(line), Field::Text(code), Field::Text(word)];
+    line_of(alloc, "input", &fields)
 }
 
 /// A refused line with its code, and the step of the procedure or trigger for which it is refused.
-fn step_line(
+fn step_line<'x>(
     alloc: Global,
     line: u64,
-    code: &str,
-    name: &str,
+    code: &'x str,
+    name: &'x str,
     step: u32,
 ) -> Result<String, AllocError>
     ensures { IfOk result (λ text. string_bytes text ≡ input_text line code.now (string name.now ∷ count step ∷ [])) }
 {
-    let value = json!(in alloc; ["input", line, code, name, step])?;
-    line_text(alloc, &value)
+    let fields = [
+        Field::Number(line),
+        Field::Text(code),
+        Field::Text(name),
+        Field::Number(u64::from(step)),
+    ];
+    line_of(alloc, "input", &fields)
 }
 
-/// A line that is refused for a SQL text: the step that has the text, the fault's code, and its offset in bytes.
-fn fault_json(
+/// A line that is refused with its code for a SQL text: the step that has the text, the fault's own code, and its offset in
+/// bytes.
+fn fault_line<'x>(
     alloc: Global,
     line: u64,
-    name: &str,
+    code: &'x str,
+    name: &'x str,
     step: u32,
-    code: &str,
-    at: usize,
-) -> Result<Json, AllocError>
-    ensures { IfOk result (λ v. view v ≡ array_of (string (codes "input") ∷ count line ∷ string (codes "C4") ∷ sql_fault name.now step code.now at)) }
-{
-    json!(in alloc; ["input", line, "C4", name, step, code, at])
-}
-
-/// The same, as a text with its line feed.
-fn fault_line(
-    alloc: Global,
-    line: u64,
-    name: &str,
-    step: u32,
-    code: &str,
+    fault: &'x str,
     at: usize,
 ) -> Result<String, AllocError>
-    ensures { IfOk result (λ text. string_bytes text ≡ input_text line (codes "C4") (sql_fault name.now step code.now at)) }
+    ensures { IfOk result (λ text. string_bytes text ≡ input_text line code.now (sql_fault name.now step fault.now at)) }
 {
-    let value = fault_json(alloc, line, name, step, code, at)?;
-    line_text(alloc, &value)
+    let fields = [
+        Field::Number(line),
+        Field::Text(code),
+        Field::Text(name),
+        Field::Number(u64::from(step)),
+        Field::Text(fault),
+        Field::Number(at as u64),
+    ];
+    line_of(alloc, "input", &fields)
 }
 
 // ---- what a catalogue is refused for
@@ -139,7 +131,7 @@ fn sql_line(
     ensures { IfOk result (λ text. string_bytes text ≡ input_text line (codes "C4") (sql_fault name.now step (fault_code fault.code) fault.at)) }
 {
     let code = fault_code(alloc, fault.code)?;
-    fault_line(alloc, line, name, step, code.as_str(), fault.at)
+    fault_line(alloc, line, "C4", name, step, code.as_str(), fault.at)
 }
 
 fn catalog_line(alloc: Global, line: u64, error: &CatalogError) -> Result<String, AllocError>

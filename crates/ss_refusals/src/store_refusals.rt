@@ -5,10 +5,10 @@ ghost use Rattle.ss_refusals.specs.Sinks.{sink_of, ExitsAs};
 ghost use Rattle.ss_refusals.specs.Statuses.{foreign_text, no_memory_text, other_catalog_text};
 ghost use Rattle.ss_refusals.specs.StoreRefusals.{HasTexts, TellsRefusal, ToldAs, WritesWhole};
 
-use crate::refusals::{NO_MEMORY, line_text, write_line};
+use crate::line::line_of;
+use crate::refusals::{NO_MEMORY, write_line};
 use crate::status::Status;
-use serde_json::json;
-use ss_lines::{Sink, write_all};
+use ss_lines::{Field, Sink, write_all};
 use ss_recover::RecoverError;
 use std::alloc::{AllocError, Global};
 use std::str;
@@ -34,12 +34,16 @@ pub fn write_whole<K: Sink>(sink: &mut K, text: &[u8]) -> Status
 fn foreign_line(alloc: Global, file: u8, at: u64) -> Result<String, AllocError>
     ensures { IfOk result (λ text. string_bytes text ≡ foreign_text file at) }
 {
-    let value = json!(in alloc; ["foreign", file, at])?;
-    line_text(alloc, &value)
+    let fields = [Field::Number(u64::from(file)), Field::Number(at)];
+    line_of(alloc, "foreign", &fields)
 }
 
 /// That a disk holds a store of another catalogue: the text of the stored one, and that of the given one.
-fn other_catalog_line(alloc: Global, stored: &[u8], given: &[u8]) -> Result<String, AllocError>
+fn other_catalog_line<'x>(
+    alloc: Global,
+    stored: &'x [u8],
+    given: &'x [u8],
+) -> Result<String, AllocError>
     requires stored { IsUtf8 stored.now }
     requires given { IsUtf8 given.now }
     ensures { IfOk result (λ text. string_bytes text ≡ other_catalog_text stored.now given.now) }
@@ -47,8 +51,8 @@ fn other_catalog_line(alloc: Global, stored: &[u8], given: &[u8]) -> Result<Stri
     let (Ok(stored), Ok(given)) = (str::from_utf8(stored), str::from_utf8(given)) else {
         unreachable!()
     };
-    let value = json!(in alloc; ["other_catalog", stored, given])?;
-    line_text(alloc, &value)
+    let fields = [Field::Text(stored), Field::Text(given)];
+    line_of(alloc, "other_catalog", &fields)
 }
 
 /// Writes a text with its status, or that there was no memory for it.

@@ -8,7 +8,7 @@ use Rattle.ss_headline.specs.Disks.{DiskChange}
 use Rattle.ss_recover.specs.Faults.{HasFaultAt, IsStore}
 use Rattle.ss_recover.specs.Laws.{EmptyHasNoFault, StoreHasNoFault, StoreHasOneCatalog}
 use Rattle.ss_refusals.specs.declared.status.Status.{Status}
-use Rattle.ss_refusals.specs.declared.status.Status.TheVariants.{Done, Usage, Input, ReadFault, WriteFault, Disk, NoMemory, Foreign, OtherCatalog, Limit}
+use Rattle.ss_refusals.specs.declared.status.Status.TheVariants.{Done, Usage, Input, ReadFault, WriteFault, Disk, NoMemory, Foreign, OtherCatalog, Limit, Differs}
 use Rattle.ss_refusals.specs.Sinks.{SinkChange, SinkHeld}
 use Rattle.ss_top.specs.declared.session.Printing.{Printing}
 use Rattle.ss_top.specs.declared.session.Printing.TheVariants.{InFull, Summary}
@@ -48,6 +48,7 @@ module _ (limit : ℕ) (w : SinkChange) (disk : DiskChange) (no_fault : EmptyHas
       let more = came.ran.owed_more in
       omega (arith, enough, more)
   came_complete printing catalog requests Usage came cause room = came
+  came_complete printing catalog requests Differs came cause room = came
   came_complete printing catalog requests Input came cause room = came
   came_complete printing catalog requests ReadFault came cause room = came
 
@@ -63,6 +64,7 @@ module _ (limit : ℕ) (w : SinkChange) (disk : DiskChange) (no_fault : EmptyHas
   recovered_complete catalog Foreign came cause room = not_foreign catalog room.was came.file came.place (came.fault room.tells)
   recovered_complete catalog OtherCatalog came cause room = came
   recovered_complete catalog Usage came cause room = came
+  recovered_complete catalog Differs came cause room = came
   recovered_complete catalog Input came cause room = came
   recovered_complete catalog ReadFault came cause room = came
 
@@ -85,5 +87,6 @@ module _ (limit : ℕ) (w : SinkChange) (disk : DiskChange) (no_fault : EmptyHas
       by OtherCatalog r cause' = ran OtherCatalog r cause'
       by Limit r cause' = ran Limit r cause'
       by Usage r cause' = ran Usage r cause'
+      by Differs r cause' = ran Differs r cause'
       by Input r cause' = ran Input r cause'
       by ReadFault r cause' = ran ReadFault r cause'

@@ -5,17 +5,15 @@ use Rattle.std.specs.declared.alloc.Global.{Global}
 use Rattle.std.specs.Io.KnownBytes.{IsAtEnd}
 use Rattle.std.proofs.lemmas.Bool.{false≢true}
 use Rattle.std.proofs.lemmas.Option.{IfSome_then}
-use Rattle.ss_lines.specs.declared.line.LineError.TheVariants as cause
 use Rattle.ss_lines.specs.Causes.{TakesAtMost}
 use Rattle.ss_lines.specs.Lines.{max_input}
 use Rattle.ss_model.specs.declared.catalog.Catalog.{Catalog}
 use Rattle.ss_model.specs.declared.entry.Request.{Request}
 use Rattle.ss_model.specs.Accepted.{Accepted}
 use Rattle.ss_catalog.specs.Answers.{HasOneCatalog}
-use Rattle.ss_catalog.specs.declared.error.CatalogError.TheVariants as of_catalog
-use Rattle.ss_catalog_requests.specs.declared.request.RequestError.TheVariants as of_request
+use Rattle.ss_audit_input.specs.Told.{AuditComes, AuditEnds, HasAuditCause}
 use Rattle.ss_words.specs.declared.names.Command.{Command}
-use Rattle.ss_words.specs.declared.names.Command.TheVariants.{Run, Recover, Voter}
+use Rattle.ss_words.specs.declared.names.Command.TheVariants.{Run, Recover, Audit, Voter}
 use Rattle.ss_words.specs.declared.names.Show.{Show}
 use Rattle.ss_words.specs.declared.command.CommandLine.{CommandLine}
 use Rattle.ss_words.specs.declared.command.Options.{Options}
@@ -24,12 +22,11 @@ use Rattle.ss_words.proofs.CallerLemmas.{asks_is_command, asks_for_one}
 use Rattle.ss_headline.specs.Disks.{DiskChange}
 use Rattle.ss_recover.specs.Laws.{EmptyHasNoFault, StoreHasNoFault, StoreHasOneCatalog}
 use Rattle.ss_refusals.specs.declared.input.ReadError.{ReadError}
-use Rattle.ss_refusals.specs.declared.input.ReadError.TheVariants.{Line as OfLine, NoCatalog, Catalog as OfCatalog, Request as OfRequest}
 use Rattle.ss_refusals.specs.declared.status.Status.{Status}
-use Rattle.ss_refusals.specs.declared.status.Status.TheVariants.{Done, Usage, Input, ReadFault, WriteFault, Disk, NoMemory, Foreign, OtherCatalog, Limit}
-use Rattle.ss_refusals.specs.Inputs.{HasOneStart, StartsOrRefused, HasOneRefusal, ExitsAsRefused, ExitsAsStarted, DidNotRise, OfStarted}
+use Rattle.ss_refusals.specs.declared.status.Status.TheVariants.{Done, Usage, Input, ReadFault, WriteFault, Disk, NoMemory, Foreign, OtherCatalog, Limit, Differs}
+use Rattle.ss_refusals.specs.Inputs.{LeavesOfSource, HasOneStart, StartsOrRefused, HasOneRefusal, ExitsAsRefused, ExitsAsStarted, DidNotRise, OfStarted}
 use Rattle.ss_refusals.specs.Refused.{IsRefusedBy}
-use Rattle.ss_refusals.proofs.CallerLemmas.{OfRefusal, refusals_have, never, memory_text_is, read_fault_text_is, fault_rose, refused_ends_refused, refused_ends_started}
+use Rattle.ss_refusals.proofs.CallerLemmas.{OfRefusal, refusals_have, never, memory_text_is, read_fault_text_is, fault_rose, leaves_so, refused_ends_refused, refused_ends_started}
 use Rattle.ss_refusals.specs.Sinks.{SourceChange, SinkChange, Writes, ExitsRefused, LeavesOfRefusedSource, SinkHeld}
 use Rattle.ss_refusals.specs.Starts.{Starts}
 use Rattle.ss_refusals.specs.Statuses.{refusal_status, refusal_text, usage_text, no_memory_text}
@@ -38,7 +35,7 @@ use Rattle.ss_top.specs.Complete.{HasRoom, IsDoneOrShort}
 use Rattle.ss_top.specs.Stores.{CameTo, RecoveredTo}
 use Rattle.ss_top.specs.Serving.{ComesToShow, RecoversTo, HasStoreCause}
 use Rattle.ss_top.specs.Shows.{ShowEnds}
-use Rattle.ss_top.specs.Top.{Ends, EndsVoter, RunEndsSo, RunEnds, RanInput, HasCause, IsComplete, WritesOnly, LeavesOfSource, DiskHeld}
+use Rattle.ss_top.specs.Top.{Ends, EndsVoter, RunEndsSo, RunEnds, RanInput, HasCause, IsComplete, WritesOnly, DiskHeld}
 use Rattle.ss_top.proofs.Completing.{came_complete, recovered_complete, show_complete}
 
 -- what holds of each holds of one that may be there
@@ -61,28 +58,12 @@ short Input of started = started
 short ReadFault of started = started
 short Done of started = tt
 short Usage of started = absurd of
+short Differs of started = absurd of
 short WriteFault of started = absurd of
 short Disk of started = absurd of
 short Foreign of started = absurd of
 short OtherCatalog of started = absurd of
 short Limit of started = absurd of
-
--- what is left of the source where its lines were there
-at_end : (before left : Option (List ℕ)) → IsAtEnd left → IfSome before (λ (input : List ℕ). length input ≤ max_input → IsAtEnd left)
-at_end before left ends = always before (λ input short. ends)
-
--- what a refusal leaves of the source is what its status says
-leaves_so : (e : ReadError) (faults now : ℕ) (before left : Option (List ℕ)) → LeavesOfRefusedSource e faults now before left → LeavesOfSource (refusal_status e) before left
-leaves_so (OfLine cause.NoMemory) faults now before left leaves = tt
-leaves_so (OfLine cause.ReadFault) faults now before left leaves = tt
-leaves_so (OfLine (cause.LineTooLong line)) faults now before left leaves = at_end before left leaves
-leaves_so (OfLine cause.InputTooLong) faults now before left leaves = IfSome_then before leaves (λ input long short. absurd (omega (arith, long, short)))
-leaves_so (OfLine (cause.NotJson line)) faults now before left leaves = at_end before left leaves
-leaves_so NoCatalog faults now before left leaves = at_end before left leaves
-leaves_so (OfCatalog line of_catalog.NoMemory) faults now before left leaves = tt
-leaves_so (OfCatalog line e) faults now before left leaves = at_end before left leaves
-leaves_so (OfRequest of_request.NoMemory) faults now before left leaves = tt
-leaves_so (OfRequest e) faults now before left leaves = at_end before left leaves
 
 -- ---- the command run
 
@@ -101,6 +82,7 @@ module _ (limit : ℕ) (s : SourceChange) (w : SinkChange) (disk : DiskChange) w
     refused_so NoMemory is reported = inl (record { uncalled = uncalled; written = subst (λ text. Writes text w) (memory_text_is e is) reported })
     refused_so Done is reported = never e Done is (λ of. of)
     refused_so Usage is reported = never e Usage is (λ of. of)
+    refused_so Differs is reported = never e Differs is (λ of. of)
     refused_so WriteFault is reported = never e WriteFault is (λ of. of)
     refused_so Disk is reported = never e Disk is (λ of. of)
     refused_so Foreign is reported = never e Foreign is (λ of. of)
@@ -110,6 +92,7 @@ module _ (limit : ℕ) (s : SourceChange) (w : SinkChange) (disk : DiskChange) w
     -- what is written of one without a word of the input
     only_so : (status : Status) → refusal_status e ≡ status → Writes (refusal_text e) w → WritesOnly status w
     only_so Usage is reported = never e Usage is (λ of. of)
+    only_so Differs is reported = tt
     only_so ReadFault is reported = subst (λ text. Writes text w) (read_fault_text_is e is) reported
     only_so Done is reported = tt
     only_so Input is reported = tt
@@ -126,6 +109,7 @@ module _ (limit : ℕ) (s : SourceChange) (w : SinkChange) (disk : DiskChange) w
     cause_so Disk is = never e Disk is (λ of. of)
     cause_so Done is = tt
     cause_so Usage is = tt
+    cause_so Differs is = tt
     cause_so Input is = tt
     cause_so NoMemory is = tt
     cause_so Foreign is = tt
@@ -188,11 +172,13 @@ module _ (limit : ℕ) (s : SourceChange) (w : SinkChange) (disk : DiskChange) w
     came_so OtherCatalog came = ran OtherCatalog came
     came_so Limit came = ran Limit came
     came_so Usage came = absurd came
+    came_so Differs came = absurd came
     came_so Input came = absurd came
     came_so ReadFault came = absurd came
 
     left_so : (ended : Status) → CameTo limit InFull catalog requests ended w disk → LeavesOfSource ended s.before s.now
     left_so Usage came = absurd came
+    left_so Differs came = absurd came
     left_so Input came = absurd came
     left_so ReadFault came = tt
     left_so NoMemory came = tt
@@ -205,6 +191,7 @@ module _ (limit : ℕ) (s : SourceChange) (w : SinkChange) (disk : DiskChange) w
 
     started_so : (ended : Status) → CameTo limit InFull catalog requests ended w disk → HasCause ended s w disk → SinkHeld w → DiskHeld disk → OfStarted ended
     started_so Usage came cause calm still = absurd came
+    started_so Differs came cause calm still = absurd came
     started_so Input came cause calm still = absurd came
     started_so ReadFault came cause calm still = absurd came
     started_so WriteFault came cause calm still = absurd (calm cause)
@@ -217,6 +204,7 @@ module _ (limit : ℕ) (s : SourceChange) (w : SinkChange) (disk : DiskChange) w
 
     cause_ran : (ended : Status) → CameTo limit InFull catalog requests ended w disk → HasStoreCause ended w disk → HasCause ended s w disk
     cause_ran Usage came cause = absurd came
+    cause_ran Differs came cause = absurd came
     cause_ran Input came cause = absurd came
     cause_ran ReadFault came cause = absurd came
     cause_ran WriteFault came cause = cause
@@ -229,6 +217,7 @@ module _ (limit : ℕ) (s : SourceChange) (w : SinkChange) (disk : DiskChange) w
 
     only_ran : (ended : Status) → CameTo limit InFull catalog requests ended w disk → WritesOnly ended w
     only_ran Usage came = absurd came
+    only_ran Differs came = absurd came
     only_ran ReadFault came = absurd came
     only_ran Done came = tt
     only_ran Input came = tt
@@ -273,6 +262,7 @@ module _ (limit : ℕ) (words : List (String Global)) (s : SourceChange) (w : Si
     run = λ what asks. absurd (none (asks_is_command _ _ asks));
     recover = λ what asks. absurd (none (asks_is_command _ _ asks));
     voter = λ what show asks. absurd (none (asks_is_command _ _ asks));
+    audit = λ what asks. absurd (none (asks_is_command _ _ asks));
     unread = λ is. (same, unmoved);
     untouched = λ is. uncalled;
     only = reported;
@@ -293,6 +283,7 @@ module _ (limit : ℕ) (words : List (String Global)) (s : SourceChange) (w : Si
       run = λ other more. so.ends;
       recover = λ other more. let no : Run ≡ Recover = other_command Run Recover other asks more in absurd cc;
       voter = λ other show more. let wrong : Run ≡ Voter show = other_command Run (Voter show) other asks more in absurd cc;
+      audit = λ other more. let no : Run ≡ Audit = other_command Run Audit other asks more in absurd cc;
       unread = λ is. absurd (so.no_usage is);
       untouched = λ is. absurd (so.no_usage is);
       only = so.only;
@@ -304,6 +295,7 @@ module _ (limit : ℕ) (words : List (String Global)) (s : SourceChange) (w : Si
     -- a recovery has no status of an input, and none of the words
     recovered_so : (ended : Status) → RecoveredTo limit ended w disk → WritesOnly ended w
     recovered_so Usage came = absurd came
+    recovered_so Differs came = absurd came
     recovered_so ReadFault came = absurd came
     recovered_so Done came = tt
     recovered_so Input came = tt
@@ -316,6 +308,7 @@ module _ (limit : ℕ) (words : List (String Global)) (s : SourceChange) (w : Si
 
     recovered_cause : (ended : Status) → RecoveredTo limit ended w disk → HasStoreCause ended w disk → HasCause ended s w disk
     recovered_cause Usage came cause = absurd came
+    recovered_cause Differs came cause = absurd came
     recovered_cause Input came cause = absurd came
     recovered_cause ReadFault came cause = absurd came
     recovered_cause WriteFault came cause = cause
@@ -337,6 +330,7 @@ module _ (limit : ℕ) (words : List (String Global)) (s : SourceChange) (w : Si
         unread = (same, unmoved);
       };
       voter = λ other show more. let wrong : Recover ≡ Voter show = other_command Recover (Voter show) other asks more in absurd cc;
+      audit = λ other more. let no : Recover ≡ Audit = other_command Recover Audit other asks more in absurd cc;
       unread = λ is. (same, unmoved);
       untouched = λ is. absurd (subst (λ status. RecoveredTo limit status w disk) is came);
       only = recovered_so ended came;
@@ -348,6 +342,7 @@ module _ (limit : ℕ) (words : List (String Global)) (s : SourceChange) (w : Si
     -- a show has no status of an input, and none of the words
     show_so : (show : Show) (ended : Status) → ShowEnds limit show ended w disk → WritesOnly ended w × (ended ≡ Usage → ⊥)
     show_so show Usage ends = absurd ends.came
+    show_so show Differs ends = absurd ends.came
     show_so show ReadFault ends = absurd ends.came
     show_so show Done ends = (tt, λ is. let wrong : ⊥ = cc in wrong)
     show_so show Input ends = (tt, λ is. let wrong : ⊥ = cc in wrong)
@@ -360,6 +355,7 @@ module _ (limit : ℕ) (words : List (String Global)) (s : SourceChange) (w : Si
 
     show_cause : (show : Show) (ended : Status) → ShowEnds limit show ended w disk → HasStoreCause ended w disk → HasCause ended s w disk
     show_cause show Usage ends cause = absurd ends.came
+    show_cause show Differs ends cause = absurd ends.came
     show_cause show Input ends cause = absurd ends.came
     show_cause show ReadFault ends cause = absurd ends.came
     show_cause show WriteFault ends cause = cause
@@ -384,6 +380,7 @@ module _ (limit : ℕ) (words : List (String Global)) (s : SourceChange) (w : Si
             complete = λ calm still. show_complete limit w disk no_fault store_has_none one_catalog calm still one show ended came so.cause;
             unread = (same, unmoved);
           });
+      audit = λ other more. let wrong : Voter show ≡ Audit = other_command (Voter show) Audit other asks more in absurd cc;
       unread = λ is. (same, unmoved);
       untouched = λ is. absurd ((show_so show ended came).1 is);
       only = (show_so show ended came).0;
@@ -391,3 +388,47 @@ module _ (limit : ℕ) (words : List (String Global)) (s : SourceChange) (w : Si
       cause = show_cause show ended came so.cause;
       taken = takes_nothing (max_input + 1) s.before s.now same;
     }
+
+    -- an audit has no status of a run, and none of the words
+    audit_only : (ended : Status) → AuditEnds s.before ended w → WritesOnly ended w
+    audit_only Usage came = absurd came
+    audit_only ReadFault came = came
+    audit_only Done came = tt
+    audit_only Input came = tt
+    audit_only WriteFault came = tt
+    audit_only Disk came = tt
+    audit_only NoMemory came = tt
+    audit_only Foreign came = tt
+    audit_only OtherCatalog came = tt
+    audit_only Limit came = tt
+    audit_only Differs came = tt
+
+    audit_cause : (ended : Status) → AuditEnds s.before ended w → HasAuditCause ended s w → HasCause ended s w disk
+    audit_cause ReadFault came cause = cause
+    audit_cause WriteFault came cause = cause
+    audit_cause Disk came cause = absurd came
+    audit_cause Done came cause = tt
+    audit_cause Usage came cause = tt
+    audit_cause Input came cause = tt
+    audit_cause NoMemory came cause = tt
+    audit_cause Foreign came cause = tt
+    audit_cause OtherCatalog came cause = tt
+    audit_cause Limit came cause = tt
+    audit_cause Differs came cause = tt
+
+    pub ends_audit : AsksFor (words_of words) (record { command = Audit; options = what }) → TakesAtMost (max_input + 1) s.before s.now → disk.uncalled → (ended : Status) → AuditComes s w ended → Ends limit words s w disk ended
+    ends_audit asks taken uncalled ended comes =
+        let no_usage : ended ≡ Usage → ⊥ = λ is. subst (λ status. AuditEnds s.before status w) is comes.ends in
+        record {
+          usage = (λ is. absurd (no_usage is), λ none. absurd (none (asks_is_command _ _ asks)));
+          run = λ other more. let no : Audit ≡ Run = other_command Audit Run other asks more in absurd cc;
+          recover = λ other more. let no : Audit ≡ Recover = other_command Audit Recover other asks more in absurd cc;
+          voter = λ other show more. let wrong : Audit ≡ Voter show = other_command Audit (Voter show) other asks more in absurd cc;
+          audit = λ other more. record { came = comes.ends; empties = comes.empties; complete = comes.complete; uncalled = uncalled };
+          unread = λ is. absurd (no_usage is);
+          untouched = λ is. absurd (no_usage is);
+          only = audit_only ended comes.ends;
+          counts = counts;
+          cause = audit_cause ended comes.ends comes.cause;
+          taken = taken;
+        }

@@ -23,6 +23,7 @@ use Rattle.ss_report_laws.specs.Replies.{AreAnswered, IsListedOr, answers_of, mi
 use Rattle.ss_report.specs.declared.run_end.End as report
 use Rattle.ss_report.specs.declared.run_end.End.TheVariants as written
 use Rattle.ss_report.specs.Reported.{IsReportOf, HasEndTables, missing_answer}
+use Rattle.ss_report.specs.Readable.{HasReadableLines}
 use Rattle.ss_shard.specs.declared.database.Database.{Database}
 use Rattle.ss_disk.specs.Files.{Files}
 use Rattle.ss_cmdlog.specs.declared.log.CmdLog.{CmdLog}
@@ -40,20 +41,20 @@ use Rattle.ss_headline.specs.Laws.{WholeRuns, StoppedRuns}
 use Rattle.ss_headline.specs.Laws as law
 use Rattle.ss_headline.specs.Runs.{LogEndsWith, LogEndsAsStopped, IsStoppedRun}
 use Rattle.ss_engine.specs.declared.session.Finished.{Finished}
-use Rattle.ss_engine.specs.declared.settling.Settling.{Settling}
-use Rattle.ss_engine.specs.declared.settling.Settling.TheVariants as settling
+use Rattle.ss_settle.specs.declared.settling.Settling.{Settling}
+use Rattle.ss_settle.specs.declared.settling.Settling.TheVariants as settling
 use Rattle.ss_engine.specs.Clients.{AreListedOr, IsUnlisted}
 use Rattle.ss_engine.specs.Closings.{EndedWith, SomeReady}
 use Rattle.ss_engine.specs.Dues.{FewOpen}
 use Rattle.ss_engine.specs.Sessions.{EndsOnDisk, IsLeftOver}
 use Rattle.ss_refusals.specs.declared.status.Status.{Status}
-use Rattle.ss_refusals.specs.declared.status.Status.TheVariants.{Done, Usage, Input, ReadFault, WriteFault, Disk, NoMemory, Foreign, OtherCatalog, Limit}
+use Rattle.ss_refusals.specs.declared.status.Status.TheVariants.{Done, Usage, Input, ReadFault, WriteFault, Disk, NoMemory, Foreign, OtherCatalog, Limit, Differs}
 use Rattle.ss_refusals.specs.Statuses.{status_number}
 use Rattle.ss_top.specs.declared.session.Printing.{Printing}
 use Rattle.ss_top.specs.declared.session.Printing.TheVariants.{InFull, Summary}
 use Rattle.ss_top.specs.Runs.{settled_status, session_status, end_for, Reports}
 use Rattle.ss_top.specs.Told.{say_full, some_say_full}
-use Rattle.ss_top.specs.Stores.{IsPrinted, WholeRun, StoppedRun, FullRun, RanAs}
+use Rattle.ss_top.specs.Stores.{IsPrinted, IsReadAgain, WholeRun, StoppedRun, FullRun, RanAs}
 use Rattle.ss_top.proofs.Outside.{outside_by_one}
 use Rattle.ss_top.proofs.Unreported.{all_without_memory, answered_without_memory}
 
@@ -127,6 +128,10 @@ small_at before now halted fault n (inr failed) is small = let same : n ≡ faul
 all_written : (wanted count fault : ℕ) (flushed : Result Receipt DurableError) → IsDurable wanted count fault flushed → IsOk flushed → wanted ≤ count
 all_written wanted count fault (Ok receipt) durable ok = omega (arith, durable.0, durable.1)
 all_written wanted count fault (Err e) durable ok = absurd (false≢true ok)
+
+-- these bytes are the report with this end, and each of its lines is read as what it says
+abbrev pub IsWrittenReport : Catalog → List Request → List (List Answer) → ℕ → List Listed → report.End → List ℕ → Type 0
+IsWrittenReport catalog requests answers first list end text = IsReportOf catalog requests answers first list end text × HasReadableLines catalog requests answers first list end
 
 module _ {D : Type 0} (tells honest : Type 0) (seen : D → Files) (moment : D → ℕ) (images : D → ℕ → Files → Type 0) (faults : D → ℕ) where
   abbrev change : D → D → DiskChange
@@ -327,8 +332,8 @@ module _ {D : Type 0} (tells honest : Type 0) (seen : D → Files) (moment : D �
     whole_text = report_text catalog requests (weave NoMemoryAnswer requests answers) first list db Whole
 
     whole_run : ended.log.halted ≡ None → some_say_full answers ≡ false → IsOk ended.flushed → Drained catalog (after catalog db list) → (text : List ℕ) → IsPrinted printing list whole_text text
-        → WholeRun limit printing catalog requests text (change old new)
-    whole_run going none ok drained text printed =
+        → IsReadAgain printing catalog requests db first list whole_text → WholeRun limit printing catalog requests text (change old new)
+    whole_run going none ok drained text printed read_again =
         record {
           opening = db;
           first = first;
@@ -336,6 +341,7 @@ module _ {D : Type 0} (tells honest : Type 0) (seen : D → Files) (moment : D �
           report = whole_text;
           run = whole_law limit catalog requests db first list NoMemoryAnswer answers old log.disk new opened closed (settled ok going drained) (answered_calm Whole tt going none) e.ends.run.within;
           printed = printed;
+          read_again = read_again;
         }
 
     -- the text that was written of it
@@ -344,36 +350,42 @@ module _ {D : Type 0} (tells honest : Type 0) (seen : D → Files) (moment : D �
     printed_as InFull database left n text written' = written' db left.0.shard.contents.tables
     printed_as (Summary votes) database left n text written' = written'
 
+    -- and read again, by its answers
+    read_as : (p : Printing) (database : Database) → IsLeftOver catalog (after catalog db list) database → (n : ℕ)
+        → HasReadableLines catalog requests answers first list (end_for Done p (Some database) ended.receipted n) → IsReadAgain p catalog requests db first list whole_text
+    read_as InFull database left n lines = record { answers = weave NoMemoryAnswer requests answers; written = refl; readable = lines db left.0.shard.contents.tables }
+    read_as (Summary votes) database left n lines = tt
+
     -- ---- by how it ended
 
     -- the report with this status and these faults was written
     abbrev IsWritten : Status → ℕ → List ℕ → Type 0
-    IsWritten status n text = IsReportOf catalog requests answers first list (end_for status printing ended.closed.database ended.receipted n) text
+    IsWritten status n text = IsWrittenReport catalog requests answers first list (end_for status printing ended.closed.database ended.receipted n) text
 
     abbrev Is : Status → List ℕ → Type 0
     Is status text = RanAs limit printing catalog requests status text (change old new)
 
     by_database : ended.log.halted ≡ None → some_say_full answers ≡ false → IsOk ended.flushed → Drained catalog (after catalog db list) → ended.closed.end ≡ settling.Done
         → (o : Option Database) → ended.closed.database ≡ o → IfNone o (ended.closed.end ≡ settling.NoMemory) → IfSome o (IsLeftOver catalog (after catalog db list)) → (n : ℕ) (text : List ℕ)
-        → IsReportOf catalog requests answers first list (end_for Done printing o ended.receipted n) text → Is Done text
+        → IsWrittenReport catalog requests answers first list (end_for Done printing o ended.receipted n) text → Is Done text
     by_database going none ok drained done None is lost left n text written' = let wrong : settling.Done ≡ settling.NoMemory = sym done ∙ lost in absurd (cc)
-    by_database going none ok drained done (Some database) is lost left n text written' = whole_run going none ok drained text (printed_as printing database left n text written')
+    by_database going none ok drained done (Some database) is lost left n text written' = whole_run going none ok drained text (printed_as printing database left n text written'.0) (read_as printing database left n written'.1)
 
     by_settling : ended.log.halted ≡ None → some_say_full answers ≡ false → (end : Settling) → ended.closed.end ≡ end → EndedWith catalog db (room_from limit first) list end
         → (flushed : Bool) → (flushed ≡ true → IsOk ended.flushed) → (n : ℕ) (text : List ℕ) → IsWritten (settled_status end flushed) n text → Is (settled_status end flushed) text
     by_settling going none settling.Done is ends true ok n text written' = by_database going none (ok refl) (ends.1 in_step) is ended.closed.database refl e.ends.run.lost e.ends.run.left n text written'
-    by_settling going none settling.Done is ends false ok n text written' = stopped_run NoMemory (goes_as_stopped going 6) (answered_calm (stop_since log.disk 6) tt going none) n text written'
-    by_settling going none (settling.ListFull count) is ends flushed ok n text written' = full_run going ends.0 (inr ends.2) n text written'
-    by_settling going none settling.NoMemory is ends flushed ok n text written' = stopped_run NoMemory (goes_as_stopped going 6) (answered_calm (stop_since log.disk 6) tt going none) n text written'
+    by_settling going none settling.Done is ends false ok n text written' = stopped_run NoMemory (goes_as_stopped going 6) (answered_calm (stop_since log.disk 6) tt going none) n text written'.0
+    by_settling going none (settling.ListFull count) is ends flushed ok n text written' = full_run going ends.0 (inr ends.2) n text written'.0
+    by_settling going none settling.NoMemory is ends flushed ok n text written' = stopped_run NoMemory (goes_as_stopped going 6) (answered_calm (stop_since log.disk 6) tt going none) n text written'.0
 
     by_answers : ended.log.halted ≡ None → (b : Bool) → some_say_full answers ≡ b → (flushed : Bool) → (flushed ≡ true → IsOk ended.flushed) → (n : ℕ) (text : List ℕ)
         → IsWritten (cond b Limit (settled_status ended.closed.end flushed)) n text → Is (cond b Limit (settled_status ended.closed.end flushed)) text
-    by_answers going true some flushed ok n text written' = full_run going (full_is some) (inl some) n text written'
+    by_answers going true some flushed ok n text written' = full_run going (full_is some) (inl some) n text written'.0
     by_answers going false none flushed ok n text written' = by_settling going none ended.closed.end refl e.ends.run.end flushed ok n text written'
 
     by_failed : (failed : Bool) → is_some ended.log.halted ≡ failed → (flushed : Bool) → (flushed ≡ true → IsOk ended.flushed) → (n : ℕ) (text : List ℕ)
         → IsWritten (session_status failed answers ended.closed.end flushed) n text → Is (session_status failed answers ended.closed.end flushed) text
-    by_failed true is flushed ok n text written' = stopped_run Disk (failed_as_stopped is 5 (inl refl)) answered_failed n text written'
+    by_failed true is flushed ok n text written' = stopped_run Disk (failed_as_stopped is 5 (inl refl)) answered_failed n text written'.0
     by_failed false is flushed ok n text written' = by_answers (not_halted ended.log.halted is) (some_say_full answers) refl flushed ok n text written'
 
     -- the status and the report that was written of it
@@ -429,6 +441,7 @@ end_tables catalog d Done InFull None count n left = tt
 end_tables catalog d Done (Summary votes) database count n left = tt
 end_tables catalog d Done InFull (Some database) count n left = left.1.of_catalog.tables
 end_tables catalog d Usage printing database count n left = tt
+end_tables catalog d Differs printing database count n left = tt
 end_tables catalog d Input printing database count n left = tt
 end_tables catalog d ReadFault printing database count n left = tt
 end_tables catalog d WriteFault printing database count n left = tt

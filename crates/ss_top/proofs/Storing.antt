@@ -18,14 +18,14 @@ use Rattle.ss_recover.specs.declared.recovered.Recovered.{Recovered}
 use Rattle.ss_recover.specs.Faults.{IsStore}
 use Rattle.ss_recover.specs.Recovering.{IsOwnCatalog, IsRecovered, LeavesOldOr, MayForm, RefusesAsSaid, recovered_database}
 use Rattle.ss_refusals.specs.declared.status.Status.{Status}
-use Rattle.ss_refusals.specs.declared.status.Status.TheVariants.{Done, Usage, Input, ReadFault, WriteFault, Disk, NoMemory, Foreign, OtherCatalog, Limit}
+use Rattle.ss_refusals.specs.declared.status.Status.TheVariants.{Done, Usage, Input, ReadFault, WriteFault, Disk, NoMemory, Foreign, OtherCatalog, Limit, Differs}
 use Rattle.ss_refusals.specs.Sinks.{SinkChange, Writes}
 use Rattle.ss_refusals.specs.Statuses.{no_memory_text, nothing_text, other_catalog_text}
 use Rattle.ss_refusals.specs.StoreRefusals.{TellsRefusal, WritesWhole, HasTexts}
 use Rattle.ss_top.specs.declared.session.Printing.{Printing}
 use Rattle.ss_top.specs.declared.session.Printing.TheVariants.{InFull, Summary}
-use Rattle.ss_engine.specs.declared.settling.Settling.{Settling}
-use Rattle.ss_engine.specs.declared.settling.Settling.TheVariants as settling
+use Rattle.ss_settle.specs.declared.settling.Settling.{Settling}
+use Rattle.ss_settle.specs.declared.settling.Settling.TheVariants as settling
 use Rattle.ss_top.specs.Runs.{settled_status, session_status, Reports, TellsReport}
 use Rattle.ss_top.specs.Told.{some_say_full}
 use Rattle.ss_voter.specs.VoterCatalog.{IsVoter}
@@ -47,6 +47,7 @@ module _ (limit : ℕ) (printing : Printing) (catalog : Catalog) (requests : Lis
   whole Done text is wrote = record { came = ran Done text is wrote; cause = tt }
   whole WriteFault text is wrote = record { came = ran Done text is wrote.0; cause = wrote.1 }
   whole Usage text is wrote = absurd wrote
+  whole Differs text is wrote = absurd wrote
   whole Input text is wrote = absurd wrote
   whole ReadFault text is wrote = absurd wrote
   whole Disk text is wrote = absurd wrote
@@ -62,6 +63,7 @@ module _ (limit : ℕ) (printing : Printing) (catalog : Catalog) (requests : Lis
   told NoMemory text is rose ended tells = subst Came (sym tells.is) (record { came = inr (inr (ran NoMemory text is (inl tells.reported))); cause = tt })
   told Limit text is rose ended tells = subst Came (sym tells.is) (record { came = ran Limit text is tells.reported; cause = tt })
   told Usage text is rose ended tells = absurd is
+  told Differs text is rose ended tells = absurd is
   told Input text is rose ended tells = absurd is
   told ReadFault text is rose ended tells = absurd is
   told WriteFault text is rose ended tells = absurd is
@@ -83,6 +85,7 @@ told_own w status (Some text) ended own tells other = by status own tells
     whole WriteFault is wrote = cc
     whole OtherCatalog is wrote = wrote
     whole Usage is wrote = cc
+    whole Differs is wrote = cc
     whole Input is wrote = cc
     whole ReadFault is wrote = cc
     whole Disk is wrote = cc
@@ -97,6 +100,7 @@ told_own w status (Some text) ended own tells other = by status own tells
     by NoMemory own' tells' = let wrong : NoMemory ≡ OtherCatalog = sym tells'.is ∙ other in cc
     by Limit own' tells' = let wrong : Limit ≡ OtherCatalog = sym tells'.is ∙ other in cc
     by Usage own' tells' = let wrong : Usage ≡ OtherCatalog = sym tells'.is ∙ other in cc
+    by Differs own' tells' = let wrong : Differs ≡ OtherCatalog = sym tells'.is ∙ other in cc
     by Input own' tells' = let wrong : Input ≡ OtherCatalog = sym tells'.is ∙ other in cc
     by ReadFault own' tells' = let wrong : ReadFault ≡ OtherCatalog = sym tells'.is ∙ other in cc
     by WriteFault own' tells' = let wrong : WriteFault ≡ OtherCatalog = sym tells'.is ∙ other in cc
@@ -177,6 +181,7 @@ module _ {D : Type 0} (tells honest : Type 0) (seen : D → Files) (moment : D �
   nothing_told Done empty before wrote = record { came = inl (record { empty = empty; only_read = before; written = wrote }); cause = tt }
   nothing_told WriteFault empty before wrote = record { came = inl (record { empty = empty; only_read = before; written = wrote.0 }); cause = wrote.1 }
   nothing_told Usage empty before wrote = absurd wrote
+  nothing_told Differs empty before wrote = absurd wrote
   nothing_told Input empty before wrote = absurd wrote
   nothing_told ReadFault empty before wrote = absurd wrote
   nothing_told Disk empty before wrote = absurd wrote
@@ -251,6 +256,7 @@ store_recovered limit catalog disk w accepted stored ended own requests none cam
     by Foreign own came = came
     by OtherCatalog own came = absurd (own refl)
     by Usage own came = absurd came
+    by Differs own came = absurd came
     by Input own came = absurd came
     by ReadFault own came = absurd came
 
@@ -276,5 +282,6 @@ show_came limit show catalog requests w disk voter accepted are ended comes = re
     by OtherCatalog came = ran OtherCatalog came
     by Limit came = ran Limit came
     by Usage came = absurd came
+    by Differs came = absurd came
     by Input came = absurd came
     by ReadFault came = absurd came

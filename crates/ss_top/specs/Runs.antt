@@ -14,8 +14,8 @@ use Rattle.ss_headline.specs.Layers.{Opened}
 use Rattle.ss_headline.specs.Sentences.{room_from}
 use Rattle.ss_shard.specs.declared.database.Database.{Database}
 use Rattle.ss_engine.specs.declared.session.Finished.{Finished}
-use Rattle.ss_engine.specs.declared.settling.Settling.{Settling}
-use Rattle.ss_engine.specs.declared.settling.Settling.TheVariants as settling
+use Rattle.ss_settle.specs.declared.settling.Settling.{Settling}
+use Rattle.ss_settle.specs.declared.settling.Settling.TheVariants as settling
 use Rattle.ss_engine.specs.Sessions.{EndsOnDisk}
 use Rattle.ss_report.specs.declared.run_end.End.{End}
 use Rattle.ss_report.specs.declared.run_end.End.TheVariants as report

@@ -8,6 +8,7 @@ use Rattle.ss_model.specs.Accepted.{Accepted}
 use Rattle.ss_model.specs.Database.{Database}
 use Rattle.ss_model.specs.Replays.{after}
 use Rattle.ss_model.specs.Report.{voter_text}
+use Rattle.ss_audit_laws.specs.Printed.{IsReadableReport}
 use Rattle.ss_cmdlog.specs.Store.{IsEmpty}
 use Rattle.ss_headline.specs.Disks.{DiskChange, AsBefore, NothingRan, OnlyRead}
 use Rattle.ss_headline.specs.Layers.{Opened}
@@ -80,6 +81,11 @@ abbrev pub IsPrinted : Printing → List Listed → List ℕ → List ℕ → Ty
 IsPrinted InFull list report text = text ≡ report
 IsPrinted (Summary votes) list report text = text ≡ voter_text votes list
 
+-- a report that is printed can be read again: each of its lines is read as what it says
+abbrev pub IsReadAgain : Printing → Catalog → List Request → Database → ℕ → List Listed → List ℕ → Type 0
+IsReadAgain InFull catalog requests opening first list report = IsReadableReport catalog requests opening first list report
+IsReadAgain (Summary votes) catalog requests opening first list report = Unit {0}
+
 -- a whole run: one list, from a database and a place on, with its report, and what is printed of it
 pub record WholeRun (limit : ℕ) (printing : Printing) (catalog : Catalog) (requests : List Request) (text : List ℕ) (disk : DiskChange) : Type 0 where
   pub opening : Database
@@ -88,6 +94,7 @@ pub record WholeRun (limit : ℕ) (printing : Printing) (catalog : Catalog) (req
   pub report : List ℕ
   pub run : IsWholeRun limit catalog requests opening first list report disk
   pub printed : IsPrinted printing list report text
+  pub read_again : IsReadAgain printing catalog requests opening first list report
 
 -- a run that stopped with this status, and with a count below which all executions are receipted
 pub record StoppedRun (limit : ℕ) (catalog : Catalog) (requests : List Request) (status : Status) (text : List ℕ) (disk : DiskChange) : Type 0 where

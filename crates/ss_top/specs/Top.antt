@@ -10,8 +10,8 @@ use Rattle.ss_model.specs.declared.entry.Request.{Request}
 use Rattle.ss_model.specs.Accepted.{Accepted}
 use Rattle.ss_headline.specs.Disks.{DiskChange}
 use Rattle.ss_refusals.specs.declared.status.Status.{Status}
-use Rattle.ss_refusals.specs.declared.status.Status.TheVariants.{Usage, Input, ReadFault, WriteFault, Disk, NoMemory}
-use Rattle.ss_refusals.specs.Inputs.{ExitsAsRefused, ExitsAsStarted, DidNotRise}
+use Rattle.ss_refusals.specs.declared.status.Status.TheVariants.{Usage, Input, ReadFault, WriteFault, Disk, NoMemory, Differs}
+use Rattle.ss_refusals.specs.Inputs.{LeavesOfSource, ExitsAsRefused, ExitsAsStarted, DidNotRise}
 use Rattle.ss_refusals.specs.Sinks.{SinkChange, SinkHeld, SourceChange, SourceHeld, Writes, IsRefused}
 use Rattle.ss_refusals.specs.Starts.{Starts}
 use Rattle.ss_refusals.specs.Statuses.{usage_text, read_fault_text, no_memory_text}
@@ -19,7 +19,8 @@ use Rattle.ss_top.specs.declared.session.Printing.TheVariants.{InFull}
 use Rattle.ss_top.specs.Complete.{HasRoom, IsDoneOrShort}
 use Rattle.ss_top.specs.Shows.{ShowEnds, IsCompleteShow}
 use Rattle.ss_top.specs.Stores.{CameTo, EndsUncalled, RecoveredTo}
-use Rattle.ss_words.specs.declared.names.Command.TheVariants.{Run, Recover, Voter}
+use Rattle.ss_audit_input.specs.Told.{AuditEnds, EndsWithVerdict}
+use Rattle.ss_words.specs.declared.names.Command.TheVariants.{Run, Recover, Audit, Voter}
 use Rattle.ss_words.specs.declared.command.Options.{Options}
 use Rattle.ss_words.specs.declared.names.Show.{Show}
 use Rattle.ss_words.specs.Words.{IsCommand, AsksFor, words_of}
@@ -27,13 +28,6 @@ use Rattle.ss_words.specs.Words.{IsCommand, AsksFor, words_of}
 -- the most entries that the list of a run may have
 abbrev pub most_entries : ℕ
 most_entries = 1000000
-
--- what a run leaves of its source: nothing, but where reading failed, at out of memory, and of an input that is too long
-abbrev pub LeavesOfSource : Status → Option (List ℕ) → Option (List ℕ) → Type 0
-LeavesOfSource Input before now = IfSome before (λ input. length input ≤ max_input → IsAtEnd now)
-LeavesOfSource ReadFault before now = Unit {0}
-LeavesOfSource NoMemory before now = Unit {0}
-LeavesOfSource _ before now = IsAtEnd now
 
 -- a fault is answered only where its count rose
 abbrev pub HasCause : Status → SourceChange → SinkChange → DiskChange → Type 0
@@ -69,6 +63,7 @@ pub record RefusedInput (input : Option (List ℕ)) (w : SinkChange) (disk : Dis
 -- what the command run has come to on this input, whose bytes may not be known
 abbrev pub RunEnds : ℕ → Option (List ℕ) → Status → SinkChange → DiskChange → Type 0
 RunEnds limit input Usage w disk = ⊥
+RunEnds limit input Differs w disk = ⊥
 RunEnds limit input Input w disk = RefusedInput input w disk
 RunEnds limit input ReadFault w disk = disk.uncalled
 RunEnds limit input NoMemory w disk = EndsUncalled no_memory_text w disk ⊎ RanInput limit input NoMemory w disk
@@ -110,6 +105,14 @@ pub record EndsVoter (limit : ℕ) (show : Show) (s : SourceChange) (w : SinkCha
   pub complete : SinkHeld w → DiskHeld disk → IsCompleteShow limit show disk ended
   pub unread : (s.now ≡ s.before) × (s.faults_now ≡ s.faults_before)
 
+-- what the command audit promises: the verdict of the report for the script that stands before it, or the input's first refusal; that
+-- it reads the input to its end; a verdict where the input is within its limits; and that no call reaches the disk
+pub record EndsAudit (s : SourceChange) (w : SinkChange) (disk : DiskChange) (ended : Status) : Type 0 where
+  pub came : AuditEnds s.before ended w
+  pub empties : LeavesOfSource ended s.before s.now
+  pub complete : SourceHeld s → SinkHeld w → IfSome s.before (λ input. EndsWithVerdict input ended)
+  pub uncalled : disk.uncalled
+
 -- all that the program promises of a call with these words, on this source, sink and disk, whose list has at most so many entries
 pub record Ends (limit : ℕ) (words : List (String Global)) (s : SourceChange) (w : SinkChange) (disk : DiskChange) (ended : Status) : Type 0 where
   -- the words alone decide whether they are a command, and which
@@ -117,6 +120,7 @@ pub record Ends (limit : ℕ) (words : List (String Global)) (s : SourceChange) 
   pub run : (what : Options) → AsksFor (words_of words) (record { command = Run; options = what }) → EndsRun limit s w disk ended
   pub recover : (what : Options) → AsksFor (words_of words) (record { command = Recover; options = what }) → EndsRecover limit s w disk ended
   pub voter : (what : Options) (show : Show) → AsksFor (words_of words) (record { command = Voter show; options = what }) → EndsVoter limit show s w disk ended
+  pub audit : (what : Options) → AsksFor (words_of words) (record { command = Audit; options = what }) → EndsAudit s w disk ended
   -- where they are none nothing is read, and no call reaches the disk
   pub unread : ended ≡ Usage → (s.now ≡ s.before) × (s.faults_now ≡ s.faults_before)
   pub untouched : ended ≡ Usage → disk.uncalled

@@ -1,5 +1,5 @@
 //! All that the program `sstore` does, as a library: it reads a catalogue and requests, runs them on the store of a disk, and
-//! writes the report; or it recovers a store, or runs a benchmark on it.
+//! writes the report; or it recovers a store, runs a benchmark on it, or audits a report.
 //!
 //! [`sstore`] is the whole program between a source of bytes, a sink and a disk, and its contract is the program's promise. It
 //! answers a [`Status`], whose number is the exit status.
@@ -9,7 +9,7 @@
 //! - `voter`: the catalogue and the script of the benchmark, in place of an input
 //!
 //! How an input is read, and what is written of it, of the words and of the disk where they are refused, `ss_refusals` says, with
-//! the statuses.
+//! the statuses. The command `audit`, which has no disk and no threads, stands in `ss_audit_input`.
 //!
 //! Every call that takes `alloc` may find itself out of memory, which is then its error or its status.
 //!

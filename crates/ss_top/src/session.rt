@@ -1,6 +1,6 @@
 //! A session on what was recovered of a store: its requests run, and are reported.
 
-ghost use Rattle.std.specs.Prelude.{◌≡◌, ◌≢◌, ◌≤◌, ◌<◌, ◌+◌, ◌^◌, length, IfOk, IfErr, IfSome};
+ghost use Rattle.std.specs.Prelude.{◌≡◌, ◌≢◌, ◌≤◌, ◌<◌, ◌+◌, ◌^◌, length, IfOk, IfErr, IfSome, OnOk};
 ghost use Rattle.std.specs.List.{AllByRecursion};
 ghost use Rattle.ss_model.specs.declared.entry.Request.{Request};
 ghost use Rattle.ss_model.specs.Accepted.{Accepted};
@@ -10,6 +10,8 @@ ghost use Rattle.ss_headline.specs.Disks.{disk_of};
 ghost use Rattle.ss_headline.specs.Layers.{Opened};
 ghost use Rattle.ss_headline.specs.Sentences.{room_from};
 ghost use Rattle.ss_recover.specs.Recovering.{GoesOn};
+ghost use Rattle.ss_report.specs.Readable.{HasReadableLines};
+ghost use Rattle.ss_report.specs.Reported.{IsReportOf};
 ghost use Rattle.ss_engine.specs.Clients.{AllFit};
 ghost use Rattle.ss_engine.specs.Sessions.{AreOfClients, IsLeftOver};
 ghost use Rattle.ss_top.specs.Runs.{settled_status, session_status, end_for, Reports, ReportsFinished};
@@ -25,7 +27,7 @@ use ss_recover::Recovered;
 use ss_refusals::Status;
 use ss_report::{End, write_report};
 use ss_shard::Database;
-use ss_value::Seq;
+use ss_value::{NoMemory, Seq};
 use std::alloc::Global;
 use std::sync::Wait;
 use std::thread::Threads;
@@ -152,6 +154,38 @@ fn end_for(
     }
 }
 
+/// The report of a session that ended with this status, or what is printed in its place. Linear in its bytes.
+///
+/// What the engine left is let go here, and not by the caller, because each value that is alive at an exit of a function
+/// costs its own part of the function there.
+fn closed_report(
+    alloc: Global,
+    closed: Closed,
+    requests: &Seq<Request>,
+    first: u64,
+    status: Status,
+    printing: Printing,
+    count: u64,
+    faults: u64,
+) -> Result<Seq<u8>, NoMemory>
+    requires places { first + length closed.list < 2 ^ 64 }
+    requires left { (d : Model) × IfSome closed.database (IsLeftOver closed.catalog d) }
+    ensures report { IfOk result (IsReportOf closed.catalog requests.now closed.answers first closed.list
+        (end_for status printing closed.database count faults)) }
+    ensures readable { OnOk result (HasReadableLines closed.catalog requests.now closed.answers first closed.list
+        (end_for status printing closed.database count faults)) }
+{
+    let Closed {
+        list,
+        database,
+        catalog,
+        answers,
+        ..
+    } = closed;
+    let end = end_for(status, printing, database, count, faults);
+    write_report(alloc, &catalog, requests, &answers, first, &list, &end)
+}
+
 /// The report of a finished session.
 ///
 /// Linear in the bytes of the report. Where there is no memory for it the session has stopped for want of memory, whatever it
@@ -180,19 +214,24 @@ fn report_session<D: Disk + Drop>(
         receipted,
         flushed,
     } = finished;
-    let Closed {
-        list,
-        database,
-        catalog,
-        answers,
-        end,
-        ..
-    } = closed;
     let halted = log.halted();
-    let status = session_status(halted.is_some(), answers.as_slice(), &end, flushed.is_ok());
-    let end = end_for(status, printing, database, receipted, halted.unwrap_or(0));
+    let status = session_status(
+        halted.is_some(),
+        closed.answers.as_slice(),
+        &closed.end,
+        flushed.is_ok(),
+    );
     let disk = log.into_disk();
-    match write_report(alloc, &catalog, requests, &answers, first, &list, &end) {
+    match closed_report(
+        alloc,
+        closed,
+        requests,
+        first,
+        status,
+        printing,
+        receipted,
+        halted.unwrap_or(0),
+    ) {
         Ok(text) => Reported {
             status,
             text: Some(text),

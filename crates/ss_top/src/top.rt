@@ -11,6 +11,7 @@ ghost use Rattle.ss_top.specs.Top.{Ends, RunEndsSo, most_entries};
 use crate::session::Printing;
 use crate::store::{recover_store, run_on_store};
 use crate::voter::show_input;
+use ss_audit_input::audit_input;
 use ss_catalog::a_value_has_one_answer;
 use ss_disk::Disk;
 use ss_engine::Gate;
@@ -131,6 +132,7 @@ pub fn sstore_limited<
     let partitions = options.partitions;
     match command {
         Command::Run => run(rt, alloc, source, sink, disk, partitions, gate, limit),
+        Command::Audit => (audit_input(alloc, source, sink), disk),
         Command::Recover => recover_store(rt, alloc, sink, disk, partitions, gate, limit),
         Command::Voter(show) => voter(rt, alloc, sink, disk, &show, partitions, gate, limit),
     }

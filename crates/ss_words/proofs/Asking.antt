@@ -1,5 +1,5 @@
 -- What a command asks for is one thing, and within its ranges.
-use Rattle.std.proofs.Common.{◌≡◌, ◌≤◌, [], ◌∷◌, ◌∙◌, List, ℕ, Bool, true, false, cond, Option, Some, None, unwrap_or, refl, sym, ap, ap₂, subst, arith, leb-true}
+use Rattle.std.proofs.Common.{◌≡◌, ◌≤◌, ◌==◌, [], ◌∷◌, ◌∙◌, List, ℕ, codes, Bool, true, false, true≢false, cond, Option, Some, None, unwrap_or, refl, sym, ap, ap₂, subst, arith, leb-true}
 use Rattle.std.specs.List.{AllByRecursion}
 use Rattle.std.specs.Str.Parse.{digits_value}
 use Rattle.std.proofs.lemmas.Bool.{and_parts}
@@ -7,7 +7,7 @@ use Rattle.ss_lemmas.proofs.Bools.{some_same}
 use Rattle.ss_words.specs.declared.names.OptionName.{OptionName}
 use Rattle.ss_words.specs.declared.names.OptionName.TheVariants.{Partitions, Recovery, Seed, Votes, Clients}
 use Rattle.ss_words.specs.declared.names.Command.{Command}
-use Rattle.ss_words.specs.declared.names.Command.TheVariants.{Run, Recover, Voter}
+use Rattle.ss_words.specs.declared.names.Command.TheVariants.{Run, Recover, Audit, Voter}
 use Rattle.ss_words.specs.declared.names.Show.{Show}
 use Rattle.ss_words.specs.declared.command.CommandLine.{CommandLine}
 use Rattle.ss_words.specs.Words.{Asked, asked, fits, is_named, is_number_within, AreOptions, IsCommand, IsMadeFrom, IsShowAsked, AsksFor, command_word, number_asked, partitions_asked}
@@ -27,16 +27,31 @@ same_show show other options h k =
     let first : of show.seed show.votes ≡ of other.seed other.votes = ap₂ of seed votes in
     ap₂ (λ (f : ℕ → Show) (n : ℕ). f n) first clients
 
+-- the words of an audit and of a show begin with other letters
+abbrev first_byte : List ℕ → ℕ
+first_byte [] = 0
+first_byte (byte ∷ bytes) = byte
+
+pub audit_is_no_show : codes "audit" ≡ codes "voter" → ⊥
+audit_is_no_show e = let wrong : true ≡ false = ap (λ (bytes : List ℕ). first_byte bytes == 97) e in true≢false wrong
+
 -- commands with one word, made from the same options, are one
 same_command : (a b : Command) (options : List Asked) → command_word a ≡ command_word b → IsMadeFrom a options → IsMadeFrom b options → a ≡ b
 same_command Run Run options e h k = refl
 same_command Run Recover options e h k = absurd cc
+same_command Run Audit options e h k = absurd cc
 same_command Run (Voter other) options e h k = absurd cc
 same_command Recover Run options e h k = absurd cc
 same_command Recover Recover options e h k = refl
+same_command Recover Audit options e h k = absurd cc
 same_command Recover (Voter other) options e h k = absurd cc
+same_command Audit Run options e h k = absurd cc
+same_command Audit Recover options e h k = absurd cc
+same_command Audit Audit options e h k = refl
+same_command Audit (Voter other) options e h k = absurd (audit_is_no_show e)
 same_command (Voter show) Run options e h k = absurd cc
 same_command (Voter show) Recover options e h k = absurd cc
+same_command (Voter show) Audit options e h k = absurd (audit_is_no_show (sym e))
 same_command (Voter show) (Voter other) options e h k = ap (λ (s : Show). Voter s) (same_show show other options h k)
 
 pub asks_for_one : (words : List (List ℕ)) (line other : CommandLine) → AsksFor words line → AsksFor words other → line ≡ other

@@ -8,12 +8,12 @@ use Rattle.ss_lemmas.proofs.EachOf.{all_with, all_such, all_three, none_passes}
 use Rattle.ss_words.specs.declared.names.OptionName.{OptionName}
 use Rattle.ss_words.specs.declared.names.OptionName.TheVariants.{Partitions, Recovery, Seed, Votes, Clients}
 use Rattle.ss_words.specs.declared.names.Command.{Command}
-use Rattle.ss_words.specs.declared.names.Command.TheVariants.{Run, Recover, Voter}
+use Rattle.ss_words.specs.declared.names.Command.TheVariants.{Run, Recover, Audit, Voter}
 use Rattle.ss_words.specs.declared.names.Show.{Show}
 use Rattle.ss_words.specs.declared.command.CommandLine.{CommandLine}
 use Rattle.ss_words.specs.declared.found.Found.{Found}
 use Rattle.ss_words.specs.Words.{Asked, asked, is_named, is_among, belongs, number_asked, command_word, IsMadeFrom, AreOptionsOf, IsCommand, AsksFor, words_of}
-use Rattle.ss_words.specs.Found.{HaveFound, HasWhatItNeeds, Suits, is_for_show}
+use Rattle.ss_words.specs.Found.{HaveFound, HasWhatItNeeds, Suits, is_any, is_for_show}
 use Rattle.ss_words.proofs.Reading.{one_spelling}
 
 -- ---- a number is had just where an option of its name is
@@ -61,6 +61,26 @@ of_voter show Seed value = refl
 of_voter show Votes value = refl
 of_voter show Clients value = refl
 
+-- ---- an audit has none. An option more is a line in the first of these
+
+own : (name : OptionName) (value : List ℕ) → is_named name (asked name value) ≡ true
+own Partitions value = refl
+own Recovery value = refl
+own Seed value = refl
+own Votes value = refl
+own Clients value = refl
+
+none_there : (options : List Asked) → ((name : OptionName) → is_among options name ≡ false) → options ≡ []
+none_there [] h = refl
+none_there (option ∷ others) h =
+    let named = own option.name option.value in
+    let odd = (or_parts (is_named option.name option) (is_among others option.name) (h option.name)).0 in
+    absurd (cc)
+
+none_of_audit : (options : List Asked) → AllByRecursion (λ option. belongs Audit option ≡ true) options → options ≡ []
+none_of_audit [] h = refl
+none_of_audit (option ∷ others) h = let never : false ≡ true = h.0 in absurd (cc)
+
 module _ (words : List (List ℕ)) (found : Found) (h : HaveFound words found) where
   abbrev Belong : Command → Type 0
   Belong command = AllByRecursion (λ option. belongs command option ≡ true) h.options
@@ -74,6 +94,38 @@ module _ (words : List (List ℕ)) (found : Found) (h : HaveFound words found) w
 
   clients_is : is_some found.clients ≡ is_among h.options Clients
   clients_is = ap (λ o. is_some o) h.clients ∙ asked_is Clients h.options
+
+  partitions_is : is_some found.partitions ≡ is_among h.options Partitions
+  partitions_is = ap (λ o. is_some o) h.partitions ∙ asked_is Partitions h.options
+
+  -- nothing was found just where there is no option
+  nothing_there : is_any found ≡ false → h.options ≡ []
+  nothing_there e = none_there h.options each
+    where
+      both : (is_some found.partitions || found.recovery ≡ false) × (is_for_show found ≡ false)
+      both = or_parts (is_some found.partitions || found.recovery) (is_for_show found) e
+
+      first : (is_some found.partitions ≡ false) × (found.recovery ≡ false)
+      first = or_parts (is_some found.partitions) found.recovery both.0
+
+      show : (is_some found.seed || is_some found.votes ≡ false) × (is_some found.clients ≡ false)
+      show = or_parts (is_some found.seed || is_some found.votes) (is_some found.clients) both.1
+
+      numbers : (is_some found.seed ≡ false) × (is_some found.votes ≡ false)
+      numbers = or_parts (is_some found.seed) (is_some found.votes) show.0
+
+      each : (name : OptionName) → is_among h.options name ≡ false
+      each Partitions = sym partitions_is ∙ first.0
+      each Recovery = sym h.recovery ∙ first.1
+      each Seed = sym seed_is ∙ numbers.0
+      each Votes = sym votes_is ∙ numbers.1
+      each Clients = sym clients_is ∙ show.1
+
+  found_nothing : h.options ≡ [] → is_any found ≡ false
+  found_nothing e =
+      let none : (name : OptionName) → is_among h.options name ≡ false = λ name. ap (λ (options : List Asked). is_among options name) e in
+      let show = or_from (is_some found.seed || is_some found.votes) (is_some found.clients) (or_from (is_some found.seed) (is_some found.votes) (seed_is ∙ none Seed) (votes_is ∙ none Votes)) (clients_is ∙ none Clients) in
+      or_from (is_some found.partitions || found.recovery) (is_for_show found) (or_from (is_some found.partitions) found.recovery (partitions_is ∙ none Partitions) (h.recovery ∙ none Recovery)) show
 
   -- nothing of a show was found just where each option belongs to run
   all_belong : is_for_show found ≡ false → Belong Run
@@ -98,6 +150,7 @@ module _ (words : List (List ℕ)) (found : Found) (h : HaveFound words found) w
   are_of : (command : Command) → HasWhatItNeeds found command → AreOptionsOf command words h.options
   are_of Run n = record { are = h.are; belong = all_belong n; complete = tt }
   are_of Recover n = record { are = h.are; belong = all_belong n; complete = tt }
+  are_of Audit n = record { are = h.are; belong = subst (AllByRecursion (λ option. belongs Audit option ≡ true)) (sym (nothing_there n)) tt; complete = tt }
   are_of (Voter show) n = record {
     are = h.are;
     belong = all_such _ (λ option. of_voter show option.name option.value) h.options;
@@ -107,12 +160,14 @@ module _ (words : List (List ℕ)) (found : Found) (h : HaveFound words found) w
   is_made : (command : Command) → HasWhatItNeeds found command → IsMadeFrom command h.options
   is_made Run n = tt
   is_made Recover n = tt
+  is_made Audit n = tt
   is_made (Voter show) n = record { seed = sym h.seed ∙ n.seed; votes = sym h.votes ∙ n.votes; clients = sym h.clients ∙ n.clients }
 
   -- a command of the same word has what it needs
   has_needs : (command : Command) → AreOptionsOf command words h.options → (other : Command) × (command_word command ≡ command_word other) × HasWhatItNeeds found other
   has_needs Run are = (Run, refl, none_of_show are.belong)
   has_needs Recover are = (Recover, refl, none_of_show are.belong)
+  has_needs Audit are = (Audit, refl, found_nothing (none_of_audit h.options are.belong))
   has_needs (Voter show) are =
       let seed = the_number found.seed (seed_is ∙ are.complete.0) in
       let votes = the_number found.votes (votes_is ∙ are.complete.1.0) in

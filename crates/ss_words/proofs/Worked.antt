@@ -4,9 +4,10 @@ use Rattle.std.specs.List.{AllByRecursion, IsDistinct}
 use Rattle.ss_lemmas.proofs.Bools.{some_same}
 use Rattle.ss_words.specs.declared.names.OptionName.TheVariants.{Partitions, Recovery, Seed, Votes, Clients}
 use Rattle.ss_words.specs.declared.names.Command.{Command}
-use Rattle.ss_words.specs.declared.names.Command.TheVariants.{Run, Recover, Voter}
+use Rattle.ss_words.specs.declared.names.Command.TheVariants.{Run, Recover, Audit, Voter}
 use Rattle.ss_words.specs.declared.command.CommandLine.{CommandLine}
 use Rattle.ss_words.specs.Words.{Asked, asked, is_among, belongs, required, AreOptionsOf, IsCommand, AsksFor, command_word}
+use Rattle.ss_words.proofs.Asking.{audit_is_no_show}
 use Rattle.ss_words.proofs.Reading.{read, read_is}
 
 abbrev run : List (List ℕ) → List (List ℕ)
@@ -89,6 +90,14 @@ recovery = record {
     partitions = refl;
     show = tt;
   };
+}
+
+an_audit : AsksFor (codes "audit" ∷ []) (record { command = Audit; options = record { partitions = 1 } })
+unfolding IsDistinct
+an_audit = record {
+  rest = [];
+  begins = refl;
+  asks = record { options = []; are = record { are = record { spelled = refl; once = tt; fit = tt }; belong = tt; complete = tt }; partitions = refl; show = tt };
 }
 
 a_show : AsksFor (voter (codes "--seed" ∷ codes "0" ∷ codes "--votes" ∷ codes "200000" ∷ codes "--clients" ∷ codes "8" ∷ [])) (show_of 1 0 200000 8)
@@ -174,6 +183,7 @@ no_words h = let e : [] ≡ command_word h.command ∷ h.rest = h.begins in absu
 no_such : (c : Command) → codes "--partitions" ≡ command_word c → ⊥
 no_such Run e = cc
 no_such Recover e = cc
+no_such Audit e = cc
 no_such (Voter show) e = cc
 
 no_command : ¬ (IsCommand (codes "--partitions" ∷ codes "1" ∷ []))
@@ -228,6 +238,20 @@ seed_of_run = unlike _ _ (asked Seed (codes "1") ∷ []) refl never
         by : (command : Command) → codes "run" ≡ command_word command → belongs command (asked Seed (codes "1")) ≡ true → ⊥
         by Run e f = cc
         by Recover e f = cc
+        by Audit e f = cc
+        by (Voter show) e f = cc
+
+-- an option behind an audit
+recovery_of_audit : ¬ (IsCommand (codes "audit" ∷ codes "--recovery=strong" ∷ []))
+recovery_of_audit = unlike _ _ (asked Recovery (codes "strong") ∷ []) refl never
+  where
+    never : ¬ (IsWith (codes "audit") (codes "--recovery=strong" ∷ []) (asked Recovery (codes "strong") ∷ []))
+    never w = by w.0 w.1 w.2.belong.0
+      where
+        by : (command : Command) → codes "audit" ≡ command_word command → belongs command (asked Recovery (codes "strong")) ≡ true → ⊥
+        by Run e f = cc
+        by Recover e f = cc
+        by Audit e f = cc
         by (Voter show) e f = cc
 
 -- a show without its seed
@@ -240,6 +264,7 @@ no_seed = unlike _ _ (asked Votes (codes "1") ∷ asked Clients (codes "1") ∷ 
         by : (command : Command) → codes "voter" ≡ command_word command → AllByRecursion (λ name. is_among (asked Votes (codes "1") ∷ asked Clients (codes "1") ∷ []) name ≡ true) (required command) → ⊥
         by Run e f = cc
         by Recover e f = cc
+        by Audit e f = audit_is_no_show (sym e)
         by (Voter show) e f = true≢false (sym f.0)
 
 votes_past_the_range : ¬ (IsCommand (voter (codes "--votes=200001" ∷ codes "--seed=1" ∷ codes "--clients=1" ∷ [])))

@@ -4,10 +4,10 @@ use Rattle.std.specs.Str.Parse.{digits_value}
 use Rattle.ss_words.specs.declared.names.OptionName.{OptionName}
 use Rattle.ss_words.specs.declared.names.OptionName.TheVariants.{Partitions, Recovery, Seed, Votes, Clients}
 use Rattle.ss_words.specs.declared.names.Command.{Command}
-use Rattle.ss_words.specs.declared.names.Command.TheVariants.{Run, Recover, Voter}
+use Rattle.ss_words.specs.declared.names.Command.TheVariants.{Run, Recover, Audit, Voter}
 use Rattle.ss_words.specs.declared.names.Show.{Show}
 use Rattle.ss_words.specs.declared.found.Found.{Found}
-use Rattle.ss_words.specs.Words.{Asked, AreOptions, command_word, fits, number_asked}
+use Rattle.ss_words.specs.Words.{Asked, AreOptions, command_word, fits, is_among, number_asked}
 
 abbrev pub nothing_found : Found
 nothing_found = record { partitions = None; recovery = false; seed = None; votes = None; clients = None }
@@ -35,7 +35,7 @@ with_option found option = with_value found option.name option.value
 abbrev pub can_take : Found → Asked → Bool
 can_take found option = not (was_found found option.name) && fits option.name option.value
 
--- the words are options, none twice, and these are their numbers
+-- the words are options, none twice, these are their numbers, and this is whether recovery is among them
 pub record HaveFound (words : List (List ℕ)) (found : Found) : Type 0 where
   pub options : List Asked
   pub are : AreOptions words options
@@ -43,6 +43,7 @@ pub record HaveFound (words : List (List ℕ)) (found : Found) : Type 0 where
   pub seed : found.seed ≡ number_asked Seed options
   pub votes : found.votes ≡ number_asked Votes options
   pub clients : found.clients ≡ number_asked Clients options
+  pub recovery : found.recovery ≡ is_among options Recovery
 
 -- the options of a show were all found, and are this show's
 pub record HasShow (found : Found) (show : Show) : Type 0 where
@@ -54,10 +55,15 @@ pub record HasShow (found : Found) (show : Show) : Type 0 where
 abbrev pub is_for_show : Found → Bool
 is_for_show found = is_some found.seed || is_some found.votes || is_some found.clients
 
--- of the options of a show, the command has what was found
+-- whether any option was found
+abbrev pub is_any : Found → Bool
+is_any found = is_some found.partitions || found.recovery || is_for_show found
+
+-- of the options of a show, the command has what was found; an audit has no option at all
 abbrev pub HasWhatItNeeds : Found → Command → Type 0
 HasWhatItNeeds found Run = is_for_show found ≡ false
 HasWhatItNeeds found Recover = is_for_show found ≡ false
+HasWhatItNeeds found Audit = is_any found ≡ false
 HasWhatItNeeds found (Voter show) = HasShow found show
 
 -- the command has this word, and what was found are options of it

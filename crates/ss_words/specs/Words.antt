@@ -7,7 +7,7 @@ use Rattle.std.specs.declared.alloc.Global.{Global}
 use Rattle.ss_words.specs.declared.names.OptionName.{OptionName}
 use Rattle.ss_words.specs.declared.names.OptionName.TheVariants.{Partitions, Recovery, Seed, Votes, Clients}
 use Rattle.ss_words.specs.declared.names.Command.{Command}
-use Rattle.ss_words.specs.declared.names.Command.TheVariants.{Run, Recover, Voter}
+use Rattle.ss_words.specs.declared.names.Command.TheVariants.{Run, Recover, Audit, Voter}
 use Rattle.ss_words.specs.declared.names.Show.{Show}
 use Rattle.ss_words.specs.declared.command.CommandLine.{CommandLine}
 
@@ -100,24 +100,28 @@ pub record IsShowAsked (options : List Asked) (show : Show) : Type 0 where
 abbrev pub command_word : Command → List ℕ
 command_word Run = codes "run"
 command_word Recover = codes "recover"
+command_word Audit = codes "audit"
 command_word (Voter show) = codes "voter"
 
 -- the options that must stand behind a command
 abbrev pub required : Command → List OptionName
 required Run = []
 required Recover = []
+required Audit = []
 required (Voter show) = Seed ∷ Votes ∷ Clients ∷ []
 
 -- and those that may
 abbrev pub optional : Command → List OptionName
 optional Run = Partitions ∷ Recovery ∷ []
 optional Recover = Partitions ∷ Recovery ∷ []
+optional Audit = []
 optional (Voter show) = Partitions ∷ Recovery ∷ []
 
 -- a command is made from its options: a voter has the show that they ask for
 abbrev pub IsMadeFrom : Command → List Asked → Type 0
 IsMadeFrom Run options = Unit {0}
 IsMadeFrom Recover options = Unit {0}
+IsMadeFrom Audit options = Unit {0}
 IsMadeFrom (Voter show) options = IsShowAsked options show
 
 -- whether an option is one that must stand behind the command, or may

@@ -2,7 +2,7 @@
 
 ghost use Rattle.std.specs.Prelude.{◌≡◌, if◌then◌else◌, MatchOption};
 ghost use Rattle.ss_words.specs.Words.{asked};
-ghost use Rattle.ss_words.specs.Found.{nothing_found, can_take, with_option, is_for_show, HasShow, Suits};
+ghost use Rattle.ss_words.specs.Found.{nothing_found, can_take, with_option, is_any, is_for_show, HasShow, Suits};
 
 use crate::names::{Command, OptionName, Show};
 use crate::numbers::number_within;
@@ -68,6 +68,13 @@ impl Found {
         self.seed.is_some() || self.votes.is_some() || self.clients.is_some()
     }
 
+    /// Whether any option was found.
+    fn is_any(self) -> bool
+        ensures { result ≡ is_any self }
+    {
+        self.partitions.is_some() || self.recovery || self.is_for_show()
+    }
+
     /// The show of these options, where each was found that a show must have.
     fn show(self) -> Option<Show>
         ensures { MatchOption result ((show : Show) → ¬ (HasShow self show)) (HasShow self) }
@@ -86,6 +93,7 @@ impl Found {
         match word {
             "run" if !self.is_for_show() => Some(Command::Run),
             "recover" if !self.is_for_show() => Some(Command::Recover),
+            "audit" if !self.is_any() => Some(Command::Audit),
             "voter" => Some(Command::Voter(self.show()?)),
             _ => None,
         }

@@ -1,7 +1,8 @@
 //! The words of the command line of the program `sstore`, read exactly.
 //!
 //! A command is its word, and options behind it in any order, none twice. An option is written in two words, its name and
-//! its value, or in one with `=` between them. The commands are `run`, `recover` and `voter`, and each may have two options:
+//! its value, or in one with `=` between them. The commands are `run`, `recover`, `audit` and `voter`. Behind `audit` stands no
+//! option, and each of the others may have two:
 //!
 //! - `--partitions`, a number from 1 to 8: into how many partitions the database is split, 1 where it isn't said
 //! - `--recovery`, the word `strong`: how the state is had again after a crash

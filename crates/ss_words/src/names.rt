@@ -24,6 +24,8 @@ pub enum Command {
     Run,
     /// `recover`: reads nothing, and reports what a store has once all that was pending has run.
     Recover,
+    /// `audit`: reads a catalogue, requests and a report, and says whether the report is that of their run.
+    Audit,
     /// `voter`: runs a show of the benchmark.
     Voter(Show),
 }

@@ -2,7 +2,7 @@ use Rattle.std.proofs.Common.{refl, subst, arith}
 use Rattle.ss_words.specs.declared.names.Command.{Command}
 use Rattle.ss_words.specs.Words.{AsksFor, words_of}
 use Rattle.ss_words.proofs.CallerLemmas.{partitions_are_few, show_is_small}
-use Rattle.ss_top.proofs.Ending.{ends_run, ends_recover, ends_voter}
+use Rattle.ss_top.proofs.Ending.{ends_audit, ends_run, ends_recover, ends_voter}
 use Rattle.ss_top.proofs.top.sstore_limited.Goals as goal
 
 pub run-requires-clause-partitions : goal.run-requires-clause-partitions
@@ -38,3 +38,9 @@ returns-in-Voter g c =
     let fault = c.a_disk_has_one_fault.ensures in
     ends_voter c.args.limit c.args.words.now _ _ _ c.in-Some.field-0.options (omega arith, c.voter.ensures.counts.0, c.voter.ensures.counts.1) c.a_value_has_one_answer.ensures.catalog fault.empty fault.store fault.catalog c.in-Voter.show asks
     refl refl c.voter.result.0 c.voter.ensures.came
+
+pub returns-in-Audit : goal.returns-in-Audit
+returns-in-Audit g c =
+    let asks = subst (λ (command : Command). AsksFor (words_of c.args.words.now) (record { command = command; options = c.in-Some.field-0.options })) c.in-Audit.is c.in-Some.ensures in
+    let told = c.audit_input.ensures in
+    ends_audit c.args.limit c.args.words.now _ _ _ c.in-Some.field-0.options (told.counts.0, told.counts.1, omega arith) asks told.taken refl c.audit_input.result told.comes

@@ -1,0 +1,4 @@
+pub mod Scripts
+pub mod Reports
+pub mod OneAudit
+pub mod Ends
