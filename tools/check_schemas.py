@@ -29,6 +29,11 @@ def marked(text):
     return re.sub(r"«(.*?)»", repeated, text.replace("␤", "\n").replace("␍", "\r").replace("␉", "\t"))
 
 
+def script_of(row):
+    """The requests of a row with words. An audit has a report behind them, of which no schema says anything."""
+    return row[1] if row[0] != "audit" else re.split(r"(?m)^\[", marked(row[1]))[0]
+
+
 def inputs_of(kind, base, lines):
     """Each input that a block makes, with the first line that it has to print."""
     rows = [line.split(" ~ ") for line in lines]
@@ -45,7 +50,7 @@ def inputs_of(kind, base, lines):
     elif kind == "requests":
         yield from ((base + "\n" + row[0], row[-1]) for row in rows)
     elif kind == "words":
-        yield from ((base + "\n" + row[1], row[-1]) for row in rows if row[-1] != '["usage"]')
+        yield from ((base + "\n" + script_of(row), row[-1]) for row in rows if row[-1] != '["usage"]')
     elif kind in ("report", "tables"):
         yield "\n".join([base, *lines[: lines.index("->")]]), lines[lines.index("->") + 1]
     elif kind == "run":
