@@ -15,5 +15,5 @@ mod touching;
 
 pub use at_home::{border_home, home, homes, window_home};
 pub use rows::row_partition;
-pub use sets::touch_set;
+pub use sets::{procedure_touch_set, touch_set};
 pub use touching::touches;

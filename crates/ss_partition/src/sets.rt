@@ -1,7 +1,8 @@
 //! All partitions that an entry touches.
 
-ghost use Rattle.std.specs.Prelude.{◌≤◌, ◌<◌, ◌==◌, ◌%◌, nat_lt, slice_get};
+ghost use Rattle.std.specs.Prelude.{◌≤◌, ◌<◌, ◌==◌, ◌%◌, nat_lt, slice_get, ℕ};
 ghost use Rattle.std.specs.List.{list_any};
+ghost use Rattle.ss_model.specs.declared.entry.Entry.TheVariants.{Step as StepEntry};
 ghost use Rattle.ss_model.specs.Partitions.{in_touch_set, procedure_touches, touches};
 ghost use Rattle.ss_partition.specs.PartSets.{HasJust};
 
@@ -73,6 +74,16 @@ fn touched_by_procedure(catalog: &Catalog, procedure: u16, args: &[Value], parts
         Some(procedure) => touched_by(&procedure.touch, args, parts),
         None => PartSet::empty(),
     }
+}
+
+/// The partitions that each step of a procedure touches, of so many, whatever its batch is. Linear in the parts that its touch set
+/// lists.
+pub fn procedure_touch_set(catalog: &Catalog, procedure: u16, parts: u8) -> PartSet
+    requires some { 1 ≤ parts }
+    requires few { parts ≤ 8 }
+    ensures { (batch : ℕ) → HasJust result (touches catalog.now parts (StepEntry procedure batch)) }
+{
+    touched_by_procedure(catalog, procedure, &[], parts)
 }
 
 /// The partitions that an entry touches, of so many. Linear in the parts that a touch set lists, and for a push in the

@@ -4,7 +4,7 @@
 //! of that value: else two lists of equal items with different room would differ. Where a contract has to speak of
 //! room, there is `Reserved`.
 
-ghost use Rattle.std.specs.Prelude.{◌≡◌, ◌<◌, ◌≤◌, ◌+◌, List, [], ◌∷◌, ◌++◌, length, IfOk, OnOk, IfErr, OnErr, IfSome, IfNone, OnSome, IsSome, IsOk, slice_get, slice_set, take, ◌-◌, ◌↔◌};
+ghost use Rattle.std.specs.Prelude.{◌≡◌, ◌<◌, ◌≤◌, ◌+◌, List, [], ◌∷◌, ◌++◌, length, IfOk, OnOk, IfErr, OnErr, IfSome, IfNone, OnSome, IsSome, IsOk, IsTrue, slice_get, slice_set, take, ◌-◌, ◌↔◌};
 ghost use Rattle.std.specs.Option.{option_copied};
 
 use crate::NoMemory;
@@ -69,6 +69,21 @@ impl<T> Seq<T> {
         ensures { result ≡ length self.now }
     {
         self.items.len()
+    }
+
+    /// Whether there is no item.
+    pub fn is_empty(&self) -> bool
+        ensures { IsTrue result ↔ (self.now ≡ []) }
+    {
+        self.items.is_empty()
+    }
+
+    /// The item at a position that is there. `get` is for one that may not be.
+    pub fn at(&self, at: usize) -> &T
+        requires { at < length self.now }
+        ensures { slice_get self.now at ≡ Some result.now }
+    {
+        &self.items[at]
     }
 
     /// The item at a position, and None exactly where the list ends before it.
