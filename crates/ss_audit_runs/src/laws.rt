@@ -13,7 +13,7 @@ use ss_standing::stands_for_one;
 /// the run this takes that it is whole, and that its report was printed so that each line is read as what it says; of the
 /// disk that it tells its contents, and was empty.
 pub fn whole_runs_are_right<D: Disk>()
-    ensures { WholeRunsAreRight (disk_of D.tells D.honest D.seen D.moment D.images D.faults) }
+    ensures { WholeRunsAreRight (disk_of D.kind) }
 {
     runs_hold_from_each::<D>();
     stands_for_one();

@@ -1,5 +1,6 @@
 -- What an open log's disk may leave.
 use Rattle.std.proofs.Common.{◌≡◌, ℕ, ◌≤◌, List, length, take, subst, sym, ap, arith, length-append}
+use Rattle.ss_disk.specs.Kinds.{DiskKind, present}
 use Rattle.std.specs.List.{flat_map}
 use Rattle.std.proofs.lemmas.Grind.{flat_map-append}
 use Rattle.ss_model.specs.declared.entry.Entry.{Entry}
@@ -16,14 +17,14 @@ use Rattle.ss_cmdlog.proofs.Torn.{open_stands}
 pub counts_more : (s : Stood) (groups : List (List Entry)) → count_of s ≤ count_of (with_groups s groups)
 counts_more s groups = omega (arith, ap length (flat_map-append (λ (es : List Entry). es) s.groups groups), length-append (entries_of s) (flat_map (λ (es : List Entry). es) groups))
 
-module _ {D : Type 0} (tells honest : Type 0) (seen : D → Files) (present : D → Files → Type 0) where
+module _ {D : Type 0} (kind : DiskKind D) where
   -- each present image stands for what the log stands for
-  pub open_here : (log : CmdLog D) (s : Stood) → IsOpen tells honest seen present log s → tells → honest → (image : Files) → present log.disk image → StandsFor image s
+  pub open_here : (log : CmdLog D) (s : Stood) → IsOpen kind log s → kind.tells → kind.honest → (image : Files) → present kind log.disk image → StandsFor image s
   open_here log s open' told true' image left =
-      subst (λ (d : Files). StandsFor d s) (sym (open'.only true' image left)) (open_stands (seen log.disk) log.file log.gate s (open'.at told))
+      subst (λ (d : Files). StandsFor d s) (sym (open'.only true' image left)) (open_stands (kind.seen log.disk) log.file log.gate s (open'.at told))
 
   -- an open log has the receipt of its count
-  pub open_receipted : (log : CmdLog D) (s : Stood) → IsOpen tells honest seen present log s → tells → honest → (n : ℕ) → n ≡ log.count → IsReceipted present n log.disk
+  pub open_receipted : (log : CmdLog D) (s : Stood) → IsOpen kind log s → kind.tells → kind.honest → (n : ℕ) → n ≡ log.count → IsReceipted (present kind) n log.disk
   open_receipted log s open' told true' n is = λ image left. (s, open_here log s open' told true' image left, omega (arith, open'.count told))
 
 -- what was receipted stays so while groups are added

@@ -1,5 +1,6 @@
 -- Calls that change nothing, one run of them after another.
 use Rattle.std.proofs.Common.{◌∙◌, ⊎_elim, ℕ, ◌≤◌, ◌<◌, arith}
+use Rattle.ss_disk.specs.Kinds.{DiskKind}
 use Rattle.std.proofs.lemmas.Bool.{cases_lt}
 use Rattle.ss_disk.specs.Files.{Files}
 use Rattle.ss_disk.specs.Moments.{LeavesOnly, LeavesFewer}
@@ -19,12 +20,12 @@ fewer_join moment images from old new P first run second t u a b c image left = 
     (λ (within : u ≤ moment old). run.keeps t image (omega (arith, b, within)) (first t u a b within image (run.kept u image within left)))
     (cases_lt (moment old) u)
 
-module _ {D : Type 0} (tells honest : Type 0) (seen : D → Files) (moment : D → ℕ) (images : D → ℕ → Files → Type 0) where
+module _ {D : Type 0} (kind : DiskKind D) where
   -- one run and then another
-  pub reads_join : (old mid new : D) → OnlyReads tells honest seen moment images old mid → OnlyReads tells honest seen moment images mid new → OnlyReads tells honest seen moment images old new
+  pub reads_join : (old mid new : D) → OnlyReads kind old mid → OnlyReads kind mid new → OnlyReads kind old new
   reads_join old mid new first second = record {
     same = λ told. second.same told ∙ first.same told;
-    moments = λ true'. runs_join moment images old mid new _ (first.moments true')
-        (leaves_less moment images mid new _ _ (second.moments true') (at_end moment images old mid (images old (moment old)) (first.moments true')));
-    fewer = λ true'. fewer_join moment images (moment old) mid new _ (first.fewer true') (second.moments true') (second.fewer true');
+    moments = λ true'. runs_join kind.moment kind.images old mid new _ (first.moments true')
+        (leaves_less kind.moment kind.images mid new _ _ (second.moments true') (at_end kind.moment kind.images old mid (kind.images old (kind.moment old)) (first.moments true')));
+    fewer = λ true'. fewer_join kind.moment kind.images (kind.moment old) mid new _ (first.fewer true') (second.moments true') (second.fewer true');
   }

@@ -1,5 +1,6 @@
 -- A log, and what its calls leave on the disk.
 use Rattle.std.specs.Prelude.{◌≡◌, ◌≢◌, ◌⊎◌, ℕ, ◌≤◌, List, [], ◌∷◌, ◌++◌, length, take, Option, Some, None, Result, OnOk, IsErrOf}
+use Rattle.ss_disk.specs.Kinds.{DiskKind, present}
 use Rattle.ss_model.specs.declared.entry.Entry.{Entry}
 use Rattle.ss_disk.specs.declared.disk.FileNo.{FileNo}
 use Rattle.ss_disk.specs.Files.{Files, file}
@@ -25,20 +26,16 @@ pub record IsOpenAt (disk : Files) (current : FileNo) (gate : ℕ) (s : Stood) :
   pub rest : List ℕ
   pub bytes : file current disk ≡ front_bytes s ++ shut ∷ rest
 
--- what a crash now may leave
-abbrev pub present : {D : Type 0} → (D → ℕ) → (D → ℕ → Files → Type 0) → D → Files → Type 0
-present moment images disk = images disk (moment disk)
-
 -- a crash now leaves what a read gives
-abbrev pub IsSettled : {D : Type 0} → (D → Files) → (D → Files → Type 0) → D → Type 0
-IsSettled seen present disk = Only (seen disk) (present disk)
+abbrev pub IsSettled : {D : Type 0} → DiskKind D → D → Type 0
+IsSettled kind disk = Only (kind.seen disk) (present kind disk)
 
 -- the log goes on, its disk stands for this, and all of that is on the disk
-pub record IsOpen {D : Type 0} (tells honest : Type 0) (seen : D → Files) (present : D → Files → Type 0) (log : CmdLog D) (s : Stood) : Type 0 where
+pub record IsOpen {D : Type 0} (kind : DiskKind D) (log : CmdLog D) (s : Stood) : Type 0 where
   pub going : log.halted ≡ None
-  pub at : tells → IsOpenAt (seen log.disk) log.file log.gate s
-  pub count : tells → log.count ≡ count_of s
-  pub only : honest → Only (seen log.disk) (present log.disk)
+  pub at : kind.tells → IsOpenAt (kind.seen log.disk) log.file log.gate s
+  pub count : kind.tells → log.count ≡ count_of s
+  pub only : kind.honest → Only (kind.seen log.disk) (present kind log.disk)
 
 -- the files stand for this count at least
 abbrev pub HasAtLeast : ℕ → Files → Type 0
@@ -53,20 +50,20 @@ abbrev pub KeepsCounts : {D : Type 0} → (D → ℕ) → (D → ℕ → Files �
 KeepsCounts moment images from now = (n : ℕ) → StaysFrom moment images from now (HasAtLeast n)
 
 -- a group is added whole, or not at all
-pub record AddsGroup {D : Type 0} (tells honest : Type 0) (seen : D → Files) (moment : D → ℕ) (images : D → ℕ → Files → Type 0) (old new : CmdLog D) (result : Result (Unit {0}) LogError) (s : Stood)
+pub record AddsGroup {D : Type 0} (kind : DiskKind D) (old new : CmdLog D) (result : Result (Unit {0}) LogError) (s : Stood)
     (entries : List Entry) : Type 0 where
-  pub done : OnOk result (IsOpen tells honest seen (λ disk. images disk (moment disk)) new (with_groups s (entries ∷ [])))
-  pub kept : IsErrOf result NoMemory → IsOpen tells honest seen (λ disk. images disk (moment disk)) new s
-  pub moments : honest → LeavesOnly moment images old.disk new.disk (λ image. StandsFor image s ⊎ StandsFor image (with_groups s (entries ∷ [])))
-  pub stays : honest → KeepsCounts moment images (moment old.disk) new.disk
+  pub done : OnOk result (IsOpen kind new (with_groups s (entries ∷ [])))
+  pub kept : IsErrOf result NoMemory → IsOpen kind new s
+  pub moments : kind.honest → LeavesOnly kind.moment kind.images old.disk new.disk (λ image. StandsFor image s ⊎ StandsFor image (with_groups s (entries ∷ [])))
+  pub stays : kind.honest → KeepsCounts kind.moment kind.images (kind.moment old.disk) new.disk
 
 -- the first groups of the entries are added: all of them, or so many as had room
-pub record AddsEntries {D : Type 0} (tells honest : Type 0) (seen : D → Files) (moment : D → ℕ) (images : D → ℕ → Files → Type 0) (old new : CmdLog D) (ok no_memory : Type 0) (s : Stood)
+pub record AddsEntries {D : Type 0} (kind : DiskKind D) (old new : CmdLog D) (ok no_memory : Type 0) (s : Stood)
     (entries : List Entry) : Type 0 where
-  pub done : ok → IsOpen tells honest seen (λ disk. images disk (moment disk)) new (with_groups s (groups_of entries))
-  pub kept : no_memory → (j : ℕ) × (j ≤ length (groups_of entries)) × IsOpen tells honest seen (λ disk. images disk (moment disk)) new (with_groups s (take j (groups_of entries)))
-  pub moments : honest → LeavesOnly moment images old.disk new.disk (StandsForPart s (groups_of entries))
-  pub stays : honest → KeepsCounts moment images (moment old.disk) new.disk
+  pub done : ok → IsOpen kind new (with_groups s (groups_of entries))
+  pub kept : no_memory → (j : ℕ) × (j ≤ length (groups_of entries)) × IsOpen kind new (with_groups s (take j (groups_of entries)))
+  pub moments : kind.honest → LeavesOnly kind.moment kind.images old.disk new.disk (StandsForPart s (groups_of entries))
+  pub stays : kind.honest → KeepsCounts kind.moment kind.images (kind.moment old.disk) new.disk
 
 -- each image at each moment of a call stands for this count at least
 abbrev pub KeepsReceipts : {D : Type 0} → (D → ℕ) → (D → ℕ → Files → Type 0) → ℕ → D → D → Type 0

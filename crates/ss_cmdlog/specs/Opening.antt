@@ -1,5 +1,6 @@
 -- What opening a store finds.
 use Rattle.std.specs.Prelude.{◌≡◌, ◌≢◌, ℕ, List, [], ◌∷◌, ◌++◌, map, length, Result, Ok, Err}
+use Rattle.ss_disk.specs.Kinds.{DiskKind}
 use Rattle.ss_disk.specs.declared.disk.FileNo.{FileNo}
 use Rattle.ss_disk.specs.declared.disk.FileNo.TheVariants.{Selector, First, Second}
 use Rattle.ss_disk.specs.Files.{Files, file}
@@ -63,10 +64,10 @@ abbrev pub StandForLoaded : (Files → Type 0) → Loaded → Type 0
 StandForLoaded present loaded = (image : Files) → present image → (s : Stood) × StandsFor image s × IsLoaded loaded s
 
 -- a call that changes nothing: reads give what they gave, and a crash leaves nothing new, at each moment no more than at those before
-pub record OnlyReads {D : Type 0} (tells honest : Type 0) (seen : D → Files) (moment : D → ℕ) (images : D → ℕ → Files → Type 0) (old new : D) : Type 0 where
-  pub same : tells → seen new ≡ seen old
-  pub moments : honest → LeavesOnly moment images old new (images old (moment old))
-  pub fewer : honest → LeavesFewer moment images (moment old) new
+pub record OnlyReads {D : Type 0} (kind : DiskKind D) (old new : D) : Type 0 where
+  pub same : kind.tells → kind.seen new ≡ kind.seen old
+  pub moments : kind.honest → LeavesOnly kind.moment kind.images old new (kind.images old (kind.moment old))
+  pub fewer : kind.honest → LeavesFewer kind.moment kind.images (kind.moment old) new
 
 -- what opening may refuse
 abbrev pub IsOpenRefusal : LogError → Type 0

@@ -1,11 +1,12 @@
 //! A new store.
 
 ghost use Rattle.std.specs.Prelude.{◌≡◌, ◌≢◌, ◌+◌, ◌<◌, ◌^◌, ◌⊎◌, [], ◌∷◌, ◌++◌, length, OnOk, IfOk, IfErr};
+ghost use Rattle.ss_disk.specs.Kinds.{present};
 ghost use Rattle.ss_disk.specs.Files.{file, with_file};
 ghost use Rattle.ss_disk.specs.Moments.{LeavesOnly};
 ghost use Rattle.ss_cmdlog.specs.Errors.{HasWriteCause};
 ghost use Rattle.ss_cmdlog.specs.Generation.{head_bytes};
-ghost use Rattle.ss_cmdlog.specs.Log.{IsSettled, present};
+ghost use Rattle.ss_cmdlog.specs.Log.{IsSettled};
 ghost use Rattle.ss_cmdlog.specs.Formatting.{KeepsSelector, LeavesSome};
 
 use crate::log::{CmdLog, LogError};
@@ -34,10 +35,10 @@ pub(crate) fn generation(alloc: Global, first: u64, image: &[u8]) -> Result<Vec<
 /// Puts other bytes into a generation's file, without a sync.
 pub(crate) fn refill<D: Disk>(disk: &mut D, which: FileNo, bytes: &[u8]) -> Result<(), DiskError>
     requires { which ≢ FileNo.Selector }
-    ensures filled { D.tells → OnOk result (D.seen disk.new ≡ with_file which bytes.now (D.seen disk.old)) }
-    ensures moments { D.honest → LeavesOnly D.moment D.images disk.old disk.new (KeepsSelector (present D.moment D.images disk.old)) }
-    ensures some { D.honest → LeavesSome D.moment D.images (D.moment disk.old) disk.new }
-    ensures cause { HasWriteCause (D.faults disk.old) (D.faults disk.new) result }
+    ensures filled { D.kind.tells → OnOk result (D.kind.seen disk.new ≡ with_file which bytes.now (D.kind.seen disk.old)) }
+    ensures moments { D.kind.honest → LeavesOnly D.kind.moment D.kind.images disk.old disk.new (KeepsSelector (present D.kind disk.old)) }
+    ensures some { D.kind.honest → LeavesSome D.kind.moment D.kind.images (D.kind.moment disk.old) disk.new }
+    ensures cause { HasWriteCause (D.kind.faults disk.old) (D.kind.faults disk.new) result }
 {
     disk.cut(which, 0)?;
     disk.write_at(which, 0, bytes)
@@ -45,11 +46,12 @@ pub(crate) fn refill<D: Disk>(disk: &mut D, which: FileNo, bytes: &[u8]) -> Resu
 
 /// Puts one generation into both of its files, and syncs.
 pub(crate) fn fill_both<D: Disk>(disk: &mut D, bytes: &[u8]) -> Result<(), DiskError>
-    ensures filled { D.tells → OnOk result (D.seen disk.new ≡ record { selector = (D.seen disk.old).selector; first = bytes.now; second = bytes.now }) }
-    ensures durable { D.honest → OnOk result (IsSettled D.seen (present D.moment D.images) disk.new) }
-    ensures moments { D.honest → LeavesOnly D.moment D.images disk.old disk.new (KeepsSelector (present D.moment D.images disk.old)) }
-    ensures some { D.honest → LeavesSome D.moment D.images (D.moment disk.old) disk.new }
-    ensures cause { HasWriteCause (D.faults disk.old) (D.faults disk.new) result }
+    ensures filled { D.kind.tells → OnOk result (D.kind.seen disk.new
+        ≡ record { selector = (D.kind.seen disk.old).selector; first = bytes.now; second = bytes.now }) }
+    ensures durable { D.kind.honest → OnOk result (IsSettled D.kind disk.new) }
+    ensures moments { D.kind.honest → LeavesOnly D.kind.moment D.kind.images disk.old disk.new (KeepsSelector (present D.kind disk.old)) }
+    ensures some { D.kind.honest → LeavesSome D.kind.moment D.kind.images (D.kind.moment disk.old) disk.new }
+    ensures cause { HasWriteCause (D.kind.faults disk.old) (D.kind.faults disk.new) result }
 {
     refill(disk, FileNo::First, bytes)?;
     refill(disk, FileNo::Second, bytes)?;
@@ -70,16 +72,16 @@ impl<D: Disk> CmdLog<D> {
     /// A crash at any moment leaves something (`some`): a disk that is still empty, or one that stands for the image. `DiskFault` comes only
     /// where the disk counted a fault. There are seven calls of the disk. Time is linear in the image, of which there is one copy.
     pub fn format(alloc: Global, mut disk: D, image: &[u8]) -> Result<CmdLog<D>, (LogError, D)>
-        requires empty { D.tells → IsEmpty (D.seen disk) }
-        requires settled { D.honest → IsSettled D.seen (present D.moment D.images) disk }
-        ensures open { IfOk result (λ log. IsOpen D.tells D.honest D.seen (present D.moment D.images) log (fresh image.now)) }
+        requires empty { D.kind.tells → IsEmpty (D.kind.seen disk) }
+        requires settled { D.kind.honest → IsSettled D.kind disk }
+        ensures open { IfOk result (λ log. IsOpen D.kind log (fresh image.now)) }
         ensures count { IfOk result (λ log. log.count ≡ 0) }
-        ensures moments { D.honest → MatchResult result
-            (λ log. LeavesOnly D.moment D.images disk log.disk (λ crashed. IsEmpty crashed ⊎ StandsFor crashed (fresh image.now)))
-            (λ refused. LeavesOnly D.moment D.images disk refused.1 (λ crashed. IsEmpty crashed ⊎ StandsFor crashed (fresh image.now))) }
-        ensures some { D.honest → IfOk result (λ log. LeavesSome D.moment D.images (D.moment disk) log.disk) }
-        ensures cause { IfErr result (λ refused. HasCallCause (D.faults disk) (D.faults refused.1) refused.0) }
-        ensures later { IfOk result (λ log. D.faults disk ≤ D.faults log.disk) }
+        ensures moments { D.kind.honest → MatchResult result
+            (λ log. LeavesOnly D.kind.moment D.kind.images disk log.disk (λ crashed. IsEmpty crashed ⊎ StandsFor crashed (fresh image.now)))
+            (λ refused. LeavesOnly D.kind.moment D.kind.images disk refused.1 (λ crashed. IsEmpty crashed ⊎ StandsFor crashed (fresh image.now))) }
+        ensures some { D.kind.honest → IfOk result (λ log. LeavesSome D.kind.moment D.kind.images (D.kind.moment disk) log.disk) }
+        ensures cause { IfErr result (λ refused. HasCallCause (D.kind.faults disk) (D.kind.faults refused.1) refused.0) }
+        ensures later { IfOk result (λ log. D.kind.faults disk ≤ D.kind.faults log.disk) }
         ensures refusals { IfErr result (λ refused. IsAddRefusal refused.0) }
     {
         let Ok(bytes) = generation(alloc, 0, image) else {

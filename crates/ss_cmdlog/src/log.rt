@@ -72,21 +72,22 @@ pub struct CmdLog<D: Disk> {
 impl<D: Disk> CmdLog<D> {
     ghost use Rattle.ss_cmdlog.specs.Generation.{Stood, IsGroup, max_body};
     ghost use Rattle.ss_record.specs.Bounds.{IsRecordable};
-    ghost use Rattle.ss_cmdlog.specs.Log.{IsOpenAt, IsOpen, AddsGroup, AddsEntries, HasLogCause, IsAddRefusal, present, IsReceipted, KeepsReceipts, KeepsCounts};
+    ghost use Rattle.ss_disk.specs.Kinds.{present};
+    ghost use Rattle.ss_cmdlog.specs.Log.{IsOpenAt, IsOpen, AddsGroup, AddsEntries, HasLogCause, IsAddRefusal, IsReceipted, KeepsReceipts, KeepsCounts};
 
     /// Adds the group of these records.
     pub(crate) fn write_group(&mut self, body: &[u8], number: usize) -> Result<(), LogError>
         requires going { self.old.halted ≡ None }
-        requires open { D.tells → (s : Stood) × IsOpenAt (D.seen self.old.disk) self.old.file self.old.gate s }
+        requires open { D.kind.tells → (s : Stood) × IsOpenAt (D.kind.seen self.old.disk) self.old.file self.old.gate s }
         requires body { length body.now ≤ max_body }
         requires number { number ≤ max_body }
         requires within { self.old.count + number ≤ 2 ^ 60 }
-        ensures adds { (s : Stood) (entries : List Entry) → IsOpen D.tells D.honest D.seen (present D.moment D.images) self.old s → IsGroup entries
-            → body.now ≡ records entries → number ≡ length entries → AddsGroup D.tells D.honest D.seen D.moment D.images self.old self.new result s entries }
+        ensures adds { (s : Stood) (entries : List Entry) → IsOpen D.kind self.old s → IsGroup entries
+            → body.now ≡ records entries → number ≡ length entries → AddsGroup D.kind self.old self.new result s entries }
         ensures count { OnOk result (self.new.count ≡ self.old.count + number) }
         ensures uncounted { OnErr result (self.new.count ≡ self.old.count) }
         ensures refusals { IfErr result IsAddRefusal }
-        ensures cause { HasLogCause (D.faults self.old.disk) (D.faults self.new.disk) self.old.halted self.new.halted result }
+        ensures cause { HasLogCause (D.kind.faults self.old.disk) (D.kind.faults self.new.disk) self.old.halted self.new.halted result }
     {
         let bytes = behind_gate(self.alloc, body, number)?;
         let Some(gate) = self.gate.checked_add(bytes.len() as u64) else {
@@ -109,14 +110,14 @@ impl<D: Disk> CmdLog<D> {
     /// Adds entries, group by group.
     fn add_entries(&mut self, entries: &[Entry]) -> Result<(), LogError>
         requires going { self.old.halted ≡ None }
-        requires open { (s : Stood) × IsOpen D.tells D.honest D.seen (present D.moment D.images) self.old s }
+        requires open { (s : Stood) × IsOpen D.kind self.old s }
         requires recordable { All IsRecordable entries.now }
         requires within { self.old.count + length entries.now ≤ 2 ^ 60 }
-        ensures adds { (s : Stood) → IsOpen D.tells D.honest D.seen (present D.moment D.images) self.old s
-            → AddsEntries D.tells D.honest D.seen D.moment D.images self.old self.new (IsOk result) (IsErrOf result LogError.NoMemory) s entries.now }
+        ensures adds { (s : Stood) → IsOpen D.kind self.old s
+            → AddsEntries D.kind self.old self.new (IsOk result) (IsErrOf result LogError.NoMemory) s entries.now }
         ensures count { OnOk result (self.new.count ≡ self.old.count + length entries.now) }
         ensures between { (self.old.count ≤ self.new.count) × (self.new.count ≤ self.old.count + length entries.now) }
-        ensures cause { HasLogCause (D.faults self.old.disk) (D.faults self.new.disk) self.old.halted self.new.halted result }
+        ensures cause { HasLogCause (D.kind.faults self.old.disk) (D.kind.faults self.new.disk) self.old.halted self.new.halted result }
         ensures refusals { IfErr result IsAddRefusal }
         ensures nothing { entries.now ≡ [] → self.new ≡ self.old }
     {
@@ -144,18 +145,18 @@ impl<D: Disk> CmdLog<D> {
     /// each of which is spelled into a buffer of its own and copied into its group, and with it once more behind the
     /// group's head; the entry that begins the next group is spelled twice.
     pub fn flush(&mut self, entries: &Seq<Entry>) -> Result<Receipt, LogError>
-        requires open { self.old.halted ≡ None → (s : Stood) × IsOpen D.tells D.honest D.seen (present D.moment D.images) self.old s }
+        requires open { self.old.halted ≡ None → (s : Stood) × IsOpen D.kind self.old s }
         requires recordable { All IsRecordable entries.now }
         requires within { self.old.halted ≡ None → self.old.count + length entries.now ≤ 2 ^ 60 }
-        ensures adds { (s : Stood) → IsOpen D.tells D.honest D.seen (present D.moment D.images) self.old s
-            → AddsEntries D.tells D.honest D.seen D.moment D.images self.old self.new (IsOk result) (IsErrOf result LogError.NoMemory) s entries.now }
+        ensures adds { (s : Stood) → IsOpen D.kind self.old s
+            → AddsEntries D.kind self.old self.new (IsOk result) (IsErrOf result LogError.NoMemory) s entries.now }
         ensures count { IfOk result (λ receipt. (receipt.count ≡ self.old.count + length entries.now) × (self.new.count ≡ receipt.count)) }
         ensures between { (self.old.count ≤ self.new.count) × (self.new.count ≤ self.old.count + length entries.now) }
-        ensures cause { HasLogCause (D.faults self.old.disk) (D.faults self.new.disk) self.old.halted self.new.halted result }
-        ensures receipt { D.honest → IfOk result (λ receipt. IsReceipted (present D.moment D.images) receipt.count self.new.disk) }
-        ensures receipts { D.honest → (n : ℕ) → n ≤ self.old.count → IsReceipted (present D.moment D.images) n self.old.disk
-            → KeepsReceipts D.moment D.images n self.old.disk self.new.disk }
-        ensures stays { D.honest → KeepsCounts D.moment D.images (D.moment self.old.disk) self.new.disk }
+        ensures cause { HasLogCause (D.kind.faults self.old.disk) (D.kind.faults self.new.disk) self.old.halted self.new.halted result }
+        ensures receipt { D.kind.honest → IfOk result (λ receipt. IsReceipted (present D.kind) receipt.count self.new.disk) }
+        ensures receipts { D.kind.honest → (n : ℕ) → n ≤ self.old.count → IsReceipted (present D.kind) n self.old.disk
+            → KeepsReceipts D.kind.moment D.kind.images n self.old.disk self.new.disk }
+        ensures stays { D.kind.honest → KeepsCounts D.kind.moment D.kind.images (D.kind.moment self.old.disk) self.new.disk }
         ensures halted { (faults : ℕ) → self.old.halted ≡ Some faults → (result ≡ Err (LogError.Halted faults)) × (self.new ≡ self.old) }
         ensures halted_only { (faults : ℕ) → result ≡ Err (LogError.Halted faults) → self.old.halted ≡ Some faults }
         ensures own { (file at : ℕ) → result ≡ Err (LogError.Foreign file at) → ⊥ }

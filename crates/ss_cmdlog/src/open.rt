@@ -53,13 +53,13 @@ fn generation_of<D: Disk>(
     disk: &mut D,
     which: FileNo,
 ) -> Result<Generation, LogError>
-    ensures found { IfOk result (λ g. ReadsGeneration D.tells (file which (D.seen disk.old)) g.loaded g.gate) }
-    ensures foreign { D.tells → (n at : ℕ) → result ≡ Err (LogError.Foreign n at) → generation_at (file which (D.seen disk.old)) ≡ Err at }
+    ensures found { IfOk result (λ g. ReadsGeneration D.kind.tells (file which (D.kind.seen disk.old)) g.loaded g.gate) }
+    ensures foreign { D.kind.tells → (n at : ℕ) → result ≡ Err (LogError.Foreign n at) → generation_at (file which (D.kind.seen disk.old)) ≡ Err at }
     ensures numbered { (n at : ℕ) → result ≡ Err (LogError.Foreign n at) → n ≡ number_of which }
     ensures halted { (faults : ℕ) → result ≡ Err (LogError.Halted faults) → ⊥ }
-    ensures reads { OnlyReads D.tells D.honest D.seen D.moment D.images disk.old disk.new }
-    ensures cause { IfErr result (λ refused. HasCallCause (D.faults disk.old) (D.faults disk.new) refused) }
-    ensures later { D.faults disk.old ≤ D.faults disk.new }
+    ensures reads { OnlyReads D.kind disk.old disk.new }
+    ensures cause { IfErr result (λ refused. HasCallCause (D.kind.faults disk.old) (D.kind.faults disk.new) refused) }
+    ensures later { D.kind.faults disk.old ≤ D.kind.faults disk.new }
 {
     let bytes = bytes_of(alloc, disk, which)?;
     match generation_in(alloc, bytes.as_slice()) {
@@ -81,13 +81,13 @@ struct Current {
 
 /// Reads the current generation. Four calls of the disk.
 fn current_of<D: Disk>(alloc: Global, disk: &mut D) -> Result<Current, LogError>
-    requires stored { D.tells → (D.seen disk.old).selector ≢ [] }
-    ensures found { IfOk result (λ c. ReadsStore D.tells (D.seen disk.old) c.generation.loaded c.file c.generation.gate) }
-    ensures foreign { D.tells → (which at : ℕ) → result ≡ Err (LogError.Foreign which at) → store_at (D.seen disk.old) ≡ Err (which, at) }
+    requires stored { D.kind.tells → (D.kind.seen disk.old).selector ≢ [] }
+    ensures found { IfOk result (λ c. ReadsStore D.kind.tells (D.kind.seen disk.old) c.generation.loaded c.file c.generation.gate) }
+    ensures foreign { D.kind.tells → (which at : ℕ) → result ≡ Err (LogError.Foreign which at) → store_at (D.kind.seen disk.old) ≡ Err (which, at) }
     ensures halted { (faults : ℕ) → result ≡ Err (LogError.Halted faults) → ⊥ }
-    ensures reads { OnlyReads D.tells D.honest D.seen D.moment D.images disk.old disk.new }
-    ensures cause { IfErr result (λ refused. HasCallCause (D.faults disk.old) (D.faults disk.new) refused) }
-    ensures later { D.faults disk.old ≤ D.faults disk.new }
+    ensures reads { OnlyReads D.kind disk.old disk.new }
+    ensures cause { IfErr result (λ refused. HasCallCause (D.kind.faults disk.old) (D.kind.faults disk.new) refused) }
+    ensures later { D.kind.faults disk.old ≤ D.kind.faults disk.new }
 {
     let byte = selector_of(disk)?;
     let file = named(byte);
@@ -98,7 +98,8 @@ fn current_of<D: Disk>(alloc: Global, disk: &mut D) -> Result<Current, LogError>
 impl<D: Disk> CmdLog<D> {
     ghost use Rattle.std.specs.Prelude.{MatchResult, ◌+◌, length};
     ghost use Rattle.ss_disk.specs.Moments.{LeavesOnly, LeavesFewer};
-    ghost use Rattle.ss_cmdlog.specs.Log.{IsOpen, present};
+    ghost use Rattle.ss_disk.specs.Kinds.{present};
+    ghost use Rattle.ss_cmdlog.specs.Log.{IsOpen};
     ghost use Rattle.ss_cmdlog.specs.Opening.{IsOpenRefusal, IsForeignAt, StandForLoaded};
 
     /// Opens the store on a disk that isn't empty, and gives what it holds.
@@ -108,20 +109,20 @@ impl<D: Disk> CmdLog<D> {
     /// bytes; `DiskFault` comes only where the disk counted a fault. Time is linear in the current file, which is read whole
     /// into one buffer; the image is copied out of it, and each entry.
     pub fn open(alloc: Global, mut disk: D) -> Result<(CmdLog<D>, Loaded), (LogError, D)>
-        requires stored { D.tells → (D.seen disk).selector ≢ [] }
-        ensures open { IfOk result (λ r. (s : Stood) × (D.tells → store_at (D.seen disk) ≡ Ok s)
-            × IsOpen D.tells D.honest D.seen (present D.moment D.images) r.0 s × IsLoaded r.1 s × IsStood s) }
+        requires stored { D.kind.tells → (D.kind.seen disk).selector ≢ [] }
+        ensures open { IfOk result (λ r. (s : Stood) × (D.kind.tells → store_at (D.kind.seen disk) ≡ Ok s)
+            × IsOpen D.kind r.0 s × IsLoaded r.1 s × IsStood s) }
         ensures count { IfOk result (λ r. r.0.count ≡ r.1.first + length r.1.entries) }
-        ensures foreign { D.tells → IfErr result (λ refused. IsForeignAt (D.seen disk) refused.0) }
-        ensures same { D.tells → MatchResult result (λ r. D.seen r.0.disk ≡ D.seen disk) (λ refused. D.seen refused.1 ≡ D.seen disk) }
-        ensures moments { D.honest → MatchResult result
-            (λ r. LeavesOnly D.moment D.images disk r.0.disk (present D.moment D.images disk))
-            (λ refused. LeavesOnly D.moment D.images disk refused.1 (present D.moment D.images disk)) }
-        ensures fewer { D.honest → MatchResult result
-            (λ r. LeavesFewer D.moment D.images (D.moment disk) r.0.disk) (λ refused. LeavesFewer D.moment D.images (D.moment disk) refused.1) }
-        ensures stands { D.honest → IfOk result (λ r. StandForLoaded (present D.moment D.images r.0.disk) r.1) }
-        ensures cause { IfErr result (λ refused. HasCallCause (D.faults disk) (D.faults refused.1) refused.0) }
-        ensures later { IfOk result (λ r. D.faults disk ≤ D.faults r.0.disk) }
+        ensures foreign { D.kind.tells → IfErr result (λ refused. IsForeignAt (D.kind.seen disk) refused.0) }
+        ensures same { D.kind.tells → MatchResult result (λ r. D.kind.seen r.0.disk ≡ D.kind.seen disk) (λ refused. D.kind.seen refused.1 ≡ D.kind.seen disk) }
+        ensures moments { D.kind.honest → MatchResult result
+            (λ r. LeavesOnly D.kind.moment D.kind.images disk r.0.disk (present D.kind disk))
+            (λ refused. LeavesOnly D.kind.moment D.kind.images disk refused.1 (present D.kind disk)) }
+        ensures fewer { D.kind.honest → MatchResult result
+            (λ r. LeavesFewer D.kind.moment D.kind.images (D.kind.moment disk) r.0.disk) (λ refused. LeavesFewer D.kind.moment D.kind.images (D.kind.moment disk) refused.1) }
+        ensures stands { D.kind.honest → IfOk result (λ r. StandForLoaded (present D.kind r.0.disk) r.1) }
+        ensures cause { IfErr result (λ refused. HasCallCause (D.kind.faults disk) (D.kind.faults refused.1) refused.0) }
+        ensures later { IfOk result (λ r. D.kind.faults disk ≤ D.kind.faults r.0.disk) }
         ensures refusals { IfErr result (λ refused. IsOpenRefusal refused.0) }
     {
         if disk.sync().is_err() {

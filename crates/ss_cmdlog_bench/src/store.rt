@@ -3,7 +3,7 @@
 ghost use Rattle.std.specs.Prelude.{◌≡◌, ◌≢◌, ◌<◌, [], length, All, IfOk};
 ghost use Rattle.ss_record.specs.Bounds.{IsRecordable};
 ghost use Rattle.ss_cmdlog.specs.Store.{IsEmpty};
-ghost use Rattle.ss_cmdlog.specs.Log.{IsSettled, present};
+ghost use Rattle.ss_cmdlog.specs.Log.{IsSettled};
 
 use ss_cmdlog::{CmdLog, LogError};
 use ss_disk::{Disk, FileNo};
@@ -68,8 +68,8 @@ pub fn write_calls<D: Disk + Drop, C: Clock>(
     records: u32,
     group: u32,
 ) -> io::Result<(u64, Duration)>
-    requires empty { D.tells → IsEmpty (D.seen disk) }
-    requires settled { D.honest → IsSettled D.seen (present D.moment D.images) disk }
+    requires empty { D.kind.tells → IsEmpty (D.kind.seen disk) }
+    requires settled { D.kind.honest → IsSettled D.kind disk }
     requires some { 0 < group }
     ensures { IfOk result (λ r. r.0 ≡ records) }
 {
@@ -99,7 +99,7 @@ pub fn read_calls<D: Disk + Drop, C: Clock>(
     clock: &C,
     disk: D,
 ) -> io::Result<(u64, Duration)>
-    requires { D.tells → (D.seen disk).selector ≢ [] }
+    requires { D.kind.tells → (D.kind.seen disk).selector ≢ [] }
 {
     let begun = Instant::now(clock)?;
     match CmdLog::open(alloc, disk) {

@@ -6,6 +6,7 @@ use Rattle.ss_disk.specs.declared.events.Event.TheVariants.{Synced}
 use Rattle.ss_disk.specs.declared.disk.DiskError.{DiskError}
 use Rattle.ss_disk.specs.declared.disk.DiskError.TheVariants.{Failed, NoMemory}
 use Rattle.ss_disk.specs.Files.{Files}
+use Rattle.ss_disk.specs.Kinds.{DiskKind}
 use Rattle.ss_disk.specs.Crash.{Only}
 use Rattle.ss_disk.specs.Memory.{files_of, seen_after}
 use Rattle.ss_disk.specs.Happened.{left_at}
@@ -38,6 +39,17 @@ memory_fails d = d.fails
 -- what a crash may leave, behind so many events
 abbrev pub memory_left : MemoryDisk → ℕ → Files → Type 0
 memory_left d t image = left_at (files_of d.initial) d.events.items t image
+
+-- it tells its contents, is honest, and has a moment behind each event
+abbrev pub memory_kind : DiskKind MemoryDisk
+memory_kind = record {
+  tells = Unit {0};
+  honest = Unit {0};
+  seen = λ d. files_of d.files;
+  moment = λ d. length d.events.items;
+  images = λ d t image. left_at (files_of d.initial) d.events.items t image;
+  faults = λ d. d.faults;
+}
 
 -- what a crash now may leave
 abbrev pub memory_left_now : MemoryDisk → Files → Type 0

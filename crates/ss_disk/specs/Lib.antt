@@ -1,4 +1,5 @@
 pub mod Files
+pub mod Kinds
 pub mod Crash
 pub mod Moments
 pub mod Causes

@@ -169,7 +169,7 @@ fn changed(faults: &mut u64, answer: io::Result<()>) -> Result<(), DiskError>
 /// The files `selector`, `gen1` and `gen2` of one folder, which has to be there. Where a file isn't, it is made.
 ///
 /// They are opened at the first call, and the folder is then made to last, so that a file that was made is there behind a
-/// crash. It tells no contents and is not honest (`tells`, `honest`), since no contract can say what a file system keeps: it
+/// crash. It tells no contents and is not honest (`folder_kind`), since no contract can say what a file system keeps: it
 /// owes the count of its faults alone. Whoever else writes the folder spoils what a store says.
 ///
 /// Each call costs what the system's costs; `sync` is an `fsync` of each file that was changed since the last. Only `new`
@@ -201,20 +201,9 @@ impl<R: Files + Drop> FolderDisk<R> {
 }
 
 impl<R: Files + Drop> Disk for FolderDisk<R> {
-    ghost use Rattle.ss_disk.specs.Memory.{no_files};
-    ghost use Rattle.ss_disk.specs.Folder.{folder_faults};
+    ghost use Rattle.ss_disk.specs.Folder.{folder_kind};
 
-    ghost tells = { ⊥ };
-
-    ghost honest = { ⊥ };
-
-    ghost seen = { λ _. no_files };
-
-    ghost moment = { λ _. 0 };
-
-    ghost images = { λ _ _ _. ⊥ };
-
-    ghost faults = { λ d. folder_faults d };
+    ghost kind = { folder_kind };
 
     ghost honest_tells = { λ h. h };
 

@@ -19,10 +19,10 @@ pub trait Claim {
 /// since an earlier moment goes on to hold over it (`goes_on`). Calls that leave no new image leave a disk that has
 /// nothing unsynced as it is (`only`).
 pub fn runs_compose<D: Disk, P: Claim, Q: Claim>()
-    ensures none { NoCall D D.moment D.images P.holds }
-    ensures one { OneCall D D.moment D.images P.holds }
-    ensures join { RunsJoin D D.moment D.images P.holds }
-    ensures less { LeavesLess D D.moment D.images P.holds Q.holds }
-    ensures goes_on { GoesOn D D.moment D.images P.holds }
-    ensures only { StaysOnly D D.moment D.images }
+    ensures none { NoCall D D.kind.moment D.kind.images P.holds }
+    ensures one { OneCall D D.kind.moment D.kind.images P.holds }
+    ensures join { RunsJoin D D.kind.moment D.kind.images P.holds }
+    ensures less { LeavesLess D D.kind.moment D.kind.images P.holds Q.holds }
+    ensures goes_on { GoesOn D D.kind.moment D.kind.images P.holds }
+    ensures only { StaysOnly D D.kind.moment D.kind.images }
 {}

@@ -91,7 +91,7 @@ impl MemoryDisk {
 impl MemoryDisk {
     ghost use Rattle.std.specs.Prelude.{[], ◌≤◌, ◌<◌, IfOk};
     ghost use Rattle.ss_disk.specs.Tearing.{crash_moment, crash_image};
-    ghost use Rattle.ss_disk.specs.Calls.{memory_seen, memory_initial, memory_left, memory_moment, memory_events, memory_calls, memory_faults, memory_fails, IsSynced};
+    ghost use Rattle.ss_disk.specs.Calls.{memory_kind, memory_seen, memory_initial, memory_left, memory_moment, memory_events, memory_calls, memory_faults, memory_fails, IsSynced};
 
     /// A disk with what a crash in that call, counted from 0, leaves. It fails at no call, and nothing is
     /// unsynced.
@@ -139,19 +139,9 @@ impl Disk for MemoryDisk {
     ghost use Rattle.ss_disk.specs.Crash.{Follows, TornWrite, TornCut, NoNewImage};
     ghost use Rattle.ss_disk.specs.Moments.{Passes};
     ghost use Rattle.ss_disk.specs.Causes.{HasDiskCause};
-    ghost use Rattle.ss_disk.specs.Calls.{memory_seen, memory_left, memory_left_now, memory_moment, memory_calls, memory_faults, IsSynced, MadeCall, MadeChange, MadeSync};
+    ghost use Rattle.ss_disk.specs.Calls.{memory_kind, memory_seen, memory_left, memory_left_now, memory_moment, memory_calls, memory_faults, IsSynced, MadeCall, MadeChange, MadeSync};
 
-    ghost tells = { Unit {0} };
-
-    ghost honest = { Unit {0} };
-
-    ghost seen = { λ d. files_of d.files };
-
-    ghost moment = { λ d. length d.events.items };
-
-    ghost images = { λ d t image. left_at (files_of d.initial) d.events.items t image };
-
-    ghost faults = { λ d. d.faults };
+    ghost kind = { memory_kind };
 
     ghost honest_tells = { λ _. tt };
 

@@ -1,6 +1,7 @@
 //! A write that lasts.
 
 ghost use Rattle.std.specs.Prelude.{◌≡◌, ◌≤◌, ◌+◌, length, OnOk, IsErrOf};
+ghost use Rattle.ss_disk.specs.Kinds.{present};
 ghost use Rattle.ss_disk.specs.declared.disk.DiskError.TheVariants.{NoMemory, Failed};
 ghost use Rattle.ss_disk.specs.Files.{file, with_write};
 ghost use Rattle.ss_disk.specs.Crash.{TornWrite, NoNewImage, Only};
@@ -19,15 +20,15 @@ pub fn write_synced<D: Disk>(
     at: u64,
     bytes: &[u8],
 ) -> Result<(), DiskError>
-    requires { D.tells → at ≤ length (file which (D.seen disk.old)) }
-    ensures ok { D.tells → OnOk result (D.seen disk.new ≡ with_write which at bytes.now (D.seen disk.old)) }
-    ensures durable { D.honest → OnOk result (Only (D.seen disk.new) (D.images disk.new (D.moment disk.new))) }
-    ensures moments { D.honest → LeavesWrite D.moment D.images disk.old disk.new which at (length bytes.now) }
-    ensures fewer { D.honest → LeavesFewer D.moment D.images (D.moment disk.old + 1) disk.new }
-    ensures err { D.tells → IsErrOf result NoMemory → D.seen disk.new ≡ D.seen disk.old }
-    ensures torn { D.tells → IsErrOf result Failed → TornWrite which at (length bytes.now) (D.seen disk.old) (D.seen disk.new) }
-    ensures untouched { D.honest → IsErrOf result NoMemory → NoNewImage (D.images disk.old (D.moment disk.old)) (D.images disk.new (D.moment disk.new)) }
-    ensures cause { HasDiskCause (D.faults disk.old) (D.faults disk.new) result }
+    requires { D.kind.tells → at ≤ length (file which (D.kind.seen disk.old)) }
+    ensures ok { D.kind.tells → OnOk result (D.kind.seen disk.new ≡ with_write which at bytes.now (D.kind.seen disk.old)) }
+    ensures durable { D.kind.honest → OnOk result (Only (D.kind.seen disk.new) (present D.kind disk.new)) }
+    ensures moments { D.kind.honest → LeavesWrite D.kind.moment D.kind.images disk.old disk.new which at (length bytes.now) }
+    ensures fewer { D.kind.honest → LeavesFewer D.kind.moment D.kind.images (D.kind.moment disk.old + 1) disk.new }
+    ensures err { D.kind.tells → IsErrOf result NoMemory → D.kind.seen disk.new ≡ D.kind.seen disk.old }
+    ensures torn { D.kind.tells → IsErrOf result Failed → TornWrite which at (length bytes.now) (D.kind.seen disk.old) (D.kind.seen disk.new) }
+    ensures untouched { D.kind.honest → IsErrOf result NoMemory → NoNewImage (present D.kind disk.old) (present D.kind disk.new) }
+    ensures cause { HasDiskCause (D.kind.faults disk.old) (D.kind.faults disk.new) result }
 {
     disk.write_at(which, at, bytes)?;
     match disk.sync() {

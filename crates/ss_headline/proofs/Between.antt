@@ -1,14 +1,14 @@
 -- Two runs on one disk go on from each other.
 use Rattle.std.proofs.Common.{◌≡◌, ◌⊎◌, ◌∙◌, inl, inr, ℕ, ◌+◌, ◌≤◌, List, ◌++◌, length, take, refl, sym, ap, subst, arith, append-nil, length-append, length-take-le}
+use Rattle.ss_disk.specs.Kinds.{DiskKind, present}
 use Rattle.std.proofs.Math.Seq.{take-append-add}
 use Rattle.ss_model.specs.declared.catalog.Catalog.{Catalog}
 use Rattle.ss_model.specs.declared.entry.Listed.{Listed}
 use Rattle.ss_model.specs.declared.entry.Request.{Request}
 use Rattle.ss_model.specs.Database.{Database}
 use Rattle.ss_model.specs.Replays.{Replays, ReplaysGoOn, after}
-use Rattle.ss_model.specs.Settling.{Drained, Kept, KeptCarries, kept}
+use Rattle.ss_model.specs.Settling.{Drained, KeptCarries, kept}
 use Rattle.ss_disk.specs.Files.{Files}
-use Rattle.ss_cmdlog.specs.Log.{present}
 use Rattle.ss_standing.specs.Standing.{Prefix, Stands, StandsForAll, StandsForAtLeast, StandsForFront}
 use Rattle.ss_standing.specs.Laws.{StandsForOne}
 use Rattle.ss_standing.proofs.CallerLemmas.{front_goes_on, front_replays}
@@ -57,14 +57,14 @@ module _ (goes_on : ReplaysGoOn) (carries : KeptCarries) (one_thing : StandsForO
       behind_is_front a m one two image
       (subst (λ (at : ℕ). Prefix catalog (after catalog a one) at two image) place (front_carried carries catalog b (after catalog a one) same n two n image f))
 
-  module _ {D : Type 0} (tells honest : Type 0) (seen : D → Files) (moment : D → ℕ) (images : D → ℕ → Files → Type 0) (faults : D → ℕ) (told : honest → tells)
-      (sees : (disk : D) → honest → images disk (moment disk) (seen disk)) where
+  module _ {D : Type 0} (kind : DiskKind D) (told : kind.honest → kind.tells)
+      (sees : (disk : D) → kind.honest → kind.images disk (kind.moment disk) (kind.seen disk)) where
     abbrev change : D → D → DiskChange
-    change = disk_of tells honest seen moment images faults
+    change = disk_of kind
 
     -- what is needed of the second run
     record Goes (b : Database) (n : ℕ) (two : List Listed) (mid new : D) : Type 0 where
-      stood : tells → Stands catalog (seen mid) n (kept catalog b)
+      stood : kind.tells → Stands catalog (kind.seen mid) n (kept catalog b)
       replays : Replays catalog b two
       crashes : AtEachMoment (change mid new) (Prefix catalog b n two)
 
@@ -75,10 +75,10 @@ module _ (goes_on : ReplaysGoOn) (carries : KeptCarries) (one_thing : StandsForO
         let session = run.session.each b refl in record { stood = run.session.stood; replays = session.replies.one_by_one; crashes = session.wherever_a_crash_falls }
 
     -- behind what a read gave between the two
-    one_list : (true' : honest) (a b : Database) (m n : ℕ) (one two : List Listed) (mid new : D) → Replays catalog a one → Stands catalog (seen mid) (m + length one) (kept catalog (after catalog a one)) → Goes b n two mid new
+    one_list : (true' : kind.honest) (a b : Database) (m n : ℕ) (one two : List Listed) (mid new : D) → Replays catalog a one → Stands catalog (kind.seen mid) (m + length one) (kept catalog (after catalog a one)) → Goes b n two mid new
         → AreOneList catalog a b m n one two
     one_list true' a b m n one two mid new replays stands second =
-        let same = one_thing catalog (seen mid) n (m + length one) (kept catalog b) (kept catalog (after catalog a one)) (second.stood (told true')) stands in
+        let same = one_thing catalog (kind.seen mid) n (m + length one) (kept catalog b) (kept catalog (after catalog a one)) (second.stood (told true')) stands in
         let joined = goes_on catalog a one two in record {
           place = same.0;
           same = same.1;
@@ -87,65 +87,65 @@ module _ (goes_on : ReplaysGoOn) (carries : KeptCarries) (one_thing : StandsForO
         }
 
     -- what stood before the second call, and what it leaves, stands through it
-    stays : (least : ℕ) (b : Database) (n : ℕ) (two : List Listed) (mid new : D) → least ≤ n → (honest → (image : Files) → present moment images mid image → StandsForAtLeast catalog least image) → Goes b n two mid new
+    stays : (least : ℕ) (b : Database) (n : ℕ) (two : List Listed) (mid new : D) → least ≤ n → (kind.honest → (image : Files) → present kind mid image → StandsForAtLeast catalog least image) → Goes b n two mid new
         → AlwaysLeaves (change mid new) (StandsForAtLeast catalog least)
     stays least b n two mid new le before second =
-        always_has tells honest seen moment images faults (StandsForAtLeast catalog least) mid new before
-        (less_at_each tells honest seen moment images faults (Prefix catalog b n two) (StandsForAtLeast catalog least) mid new (λ image f. front_at_least catalog b n two n least image le f) second.crashes)
+        always_has kind (StandsForAtLeast catalog least) mid new before
+        (less_at_each kind (Prefix catalog b n two) (StandsForAtLeast catalog least) mid new (λ image f. front_at_least catalog b n two n least image le f) second.crashes)
 
     -- ---- behind a whole run
 
-    behind_all : (limit : ℕ) (requests others : List Request) (a b : Database) (m n : ℕ) (one two : List Listed) (text : List ℕ) (old mid new : D) → honest → IsWholeRun limit catalog requests a m one text (change old mid)
+    behind_all : (limit : ℕ) (requests others : List Request) (a b : Database) (m n : ℕ) (one two : List Listed) (text : List ℕ) (old mid new : D) → kind.honest → IsWholeRun limit catalog requests a m one text (change old mid)
         → HadList limit catalog others b n two (change mid new) → GoesOnBehindAll change catalog a b m n one two old mid new
     behind_all limit requests others a b m n one two text old mid new true' first had =
         let session = first.session.each a refl in
         let second = goes_of limit others b n two mid new had in
-        let lists = one_list true' a b m n one two mid new session.replies_and_tables.one_by_one (session.all_stands true' (seen mid) (sees mid true')) second in
+        let lists = one_list true' a b m n one two mid new session.replies_and_tables.one_by_one (session.all_stands true' (kind.seen mid) (sees mid true')) second in
         let list = one ++ two in
-        let before = less_at_each tells honest seen moment images faults (Prefix catalog a m one) (Prefix catalog a m list) old mid (front_goes_on catalog a m one two) session.wherever_a_crash_falls in
-        let behind = less_at_each tells honest seen moment images faults (Prefix catalog b n two) (Prefix catalog a m list) mid new (moved a b m n one two lists.place lists.same) second.crashes in
+        let before = less_at_each kind (Prefix catalog a m one) (Prefix catalog a m list) old mid (front_goes_on catalog a m one two) session.wherever_a_crash_falls in
+        let behind = less_at_each kind (Prefix catalog b n two) (Prefix catalog a m list) mid new (moved a b m n one two lists.place lists.same) second.crashes in
         let least : m + length one ≤ n = omega (arith, lists.place) in record {
           lists = lists;
-          crashes = calls_join tells honest seen moment images faults (Prefix catalog a m list) old mid new before
-              (always_has tells honest seen moment images faults (Prefix catalog a m list) mid new (λ h image left. all_is_front catalog a m one two image (session.all_stands h image left)) behind);
+          crashes = calls_join kind (Prefix catalog a m list) old mid new before
+              (always_has kind (Prefix catalog a m list) mid new (λ h image left. all_is_front catalog a m one two image (session.all_stands h image left)) behind);
           stays = stays (m + length one) b n two mid new least
               (λ h image left. record { count = m + length one; k = kept catalog (after catalog a one); stands = session.all_stands h image left; enough = omega arith }) second;
         }
 
     -- ---- behind a run that stopped
 
-    behind_front : (limit : ℕ) (requests others : List Request) (a b : Database) (m n : ℕ) (one two : List Listed) (status count : ℕ) (text : List ℕ) (old mid new : D) → honest
+    behind_front : (limit : ℕ) (requests others : List Request) (a b : Database) (m n : ℕ) (one two : List Listed) (status count : ℕ) (text : List ℕ) (old mid new : D) → kind.honest
         → IsStoppedRun limit catalog requests a m one status count text (change old mid) → HadList limit catalog others b n two (change mid new) → GoesOnBehindFront change catalog a b m n one two count old mid new
     behind_front limit requests others a b m n one two status count text old mid new true' first had =
         let session = first.session.each a refl in
         let receipts = session.every_receipt_stands in
         let second = goes_of limit others b n two mid new had in
-        let front = receipts.fronts true' (seen mid) (sees mid true') in
+        let front = receipts.fronts true' (kind.seen mid) (sees mid true') in
         let part = take front.some one in
         let many : m + front.some ≡ m + length part = omega (arith, length-take-le front.some one front.within) in
-        let stands = subst (λ (at : ℕ). Stands catalog (seen mid) at (kept catalog (after catalog a part))) many front.stands in
+        let stands = subst (λ (at : ℕ). Stands catalog (kind.seen mid) at (kept catalog (after catalog a part))) many front.stands in
         let lists = one_list true' a b m n part two mid new (front_replays goes_on catalog a one front.some session.replies.one_by_one) stands second in
         let left : Files → Type 0 = λ image. Prefix catalog a m one image ⊎ Prefix catalog a m (part ++ two) image in
-        let before = less_at_each tells honest seen moment images faults (Prefix catalog a m one) left old mid (λ image p. inl p) session.wherever_a_crash_falls in
-        let behind = less_at_each tells honest seen moment images faults (Prefix catalog b n two) left mid new (λ image p. inr (moved a b m n part two lists.place lists.same image p)) second.crashes in
+        let before = less_at_each kind (Prefix catalog a m one) left old mid (λ image p. inl p) session.wherever_a_crash_falls in
+        let behind = less_at_each kind (Prefix catalog b n two) left mid new (λ image p. inr (moved a b m n part two lists.place lists.same image p)) second.crashes in
         let least : count ≤ n = omega (arith, front.enough, many, lists.place) in record {
           some = front.some;
           within = front.within;
           enough = front.enough;
           lists = lists;
-          crashes = calls_join tells honest seen moment images faults left old mid new before
-              (always_has tells honest seen moment images faults left mid new (λ h image stays'. inl (as_prefix (receipts.fronts h image stays'))) behind);
+          crashes = calls_join kind left old mid new before
+              (always_has kind left mid new (λ h image stays'. inl (as_prefix (receipts.fronts h image stays'))) behind);
           stays = stays count b n two mid new least receipts.receipt second;
         }
       where
         as_prefix : {image : Files} → StandsForFront catalog a m one count image → Prefix catalog a m one image
         as_prefix f = record { some = f.some; within = f.within; enough = omega arith; stands = f.stands }
 
-pub calls_go_on : ReplaysGoOn → KeptCarries → StandsForOne → {D : Type 0} (tells honest : Type 0) (seen : D → Files) (moment : D → ℕ) (images : D → ℕ → Files → Type 0) (faults : D → ℕ) → (honest → tells)
-    → ((disk : D) → honest → images disk (moment disk) (seen disk)) → CallsGoOn (disk_of tells honest seen moment images faults)
-calls_go_on goes_on carries one tells honest seen moment images faults told sees = record {
+pub calls_go_on : ReplaysGoOn → KeptCarries → StandsForOne → {D : Type 0} (kind : DiskKind D) → (kind.honest → kind.tells)
+    → ((disk : D) → kind.honest → kind.images disk (kind.moment disk) (kind.seen disk)) → CallsGoOn (disk_of kind)
+calls_go_on goes_on carries one kind told sees = record {
   whole = λ limit catalog requests others a b m n first second text old mid new true' ran had.
-      behind_all goes_on carries one catalog tells honest seen moment images faults told sees limit requests others a b m n first second text old mid new true' ran had;
+      behind_all goes_on carries one catalog kind told sees limit requests others a b m n first second text old mid new true' ran had;
   stopped = λ limit catalog requests others a b m n first second status count text old mid new true' ran had.
-      behind_front goes_on carries one catalog tells honest seen moment images faults told sees limit requests others a b m n first second status count text old mid new true' ran had;
+      behind_front goes_on carries one catalog kind told sees limit requests others a b m n first second status count text old mid new true' ran had;
 }

@@ -1,5 +1,6 @@
 -- What is said of a session holds from each database of which the same is kept.
 use Rattle.std.proofs.Common.{◌≡◌, ◌∙◌, ℕ, ◌+◌, List, [], ◌∷◌, ◌++◌, length, take, refl, sym, ap, subst, get_or}
+use Rattle.ss_disk.specs.Kinds.{DiskKind}
 use Rattle.ss_model.specs.declared.catalog.Catalog.{Catalog}
 use Rattle.ss_model.specs.declared.entry.Listed.{Listed}
 use Rattle.ss_model.specs.declared.entry.Request.{Request}
@@ -52,16 +53,16 @@ module _ (carries : KeptCarries) (catalog : Catalog) (x y : Database) (same : ke
       let alike = from_kept catalog (after catalog x list) (after catalog y list) (carries catalog x y same list).after in
       sym (ap (λ cs. get_or cs q 0) alike.counts) ∙ d q streams ∙ alike.lengths (border_stream catalog q)
 
-  module _ {D : Type 0} (tells honest : Type 0) (seen : D → Files) (moment : D → ℕ) (images : D → ℕ → Files → Type 0) (faults : D → ℕ) where
+  module _ {D : Type 0} (kind : DiskKind D) where
     abbrev change : D → D → DiskChange
-    change = disk_of tells honest seen moment images faults
+    change = disk_of kind
 
     whole_carried : (requests : List Request) (first : ℕ) (list : List Listed) (text : List ℕ) (old new : D) → WholeSession catalog requests first list text (change old new) x
         → WholeSession catalog requests first list text (change old new) y
     whole_carried requests first list text old new s = record {
       replies_and_tables = replies_carried requests first list Whole text s.replies_and_tables;
       in_order = (carries catalog x y same list).orders s.in_order;
-      wherever_a_crash_falls = less_at_each tells honest seen moment images faults (Prefix catalog x first list) (Prefix catalog y first list) old new (front_carried first list first) s.wherever_a_crash_falls;
+      wherever_a_crash_falls = less_at_each kind (Prefix catalog x first list) (Prefix catalog y first list) old new (front_carried first list first) s.wherever_a_crash_falls;
       receipts_stay = s.receipts_stay;
       all_stands = λ true' image left. subst (λ (k : Kept). Stands catalog image (first + length list) k) (carries catalog x y same list).after (s.all_stands true' image left);
       at_the_end = drained_carried list s.at_the_end;
@@ -70,9 +71,9 @@ module _ (carries : KeptCarries) (catalog : Catalog) (x y : Database) (same : ke
     stopped_carried : (requests : List Request) (limit first : ℕ) (list : List Listed) (status count : ℕ) (text : List ℕ) (old new : D)
         → StoppedSession catalog requests limit first list status count text (change old new) x → StoppedSession catalog requests limit first list status count text (change old new) y
     stopped_carried requests limit first list status count text old new s = record {
-      replies = replies_carried requests first list (stop_at status count limit first list (faults old) (faults new)) text s.replies;
+      replies = replies_carried requests first list (stop_at status count limit first list (kind.faults old) (kind.faults new)) text s.replies;
       in_order = (carries catalog x y same list).orders s.in_order;
-      wherever_a_crash_falls = less_at_each tells honest seen moment images faults (Prefix catalog x first list) (Prefix catalog y first list) old new (front_carried first list first) s.wherever_a_crash_falls;
+      wherever_a_crash_falls = less_at_each kind (Prefix catalog x first list) (Prefix catalog y first list) old new (front_carried first list first) s.wherever_a_crash_falls;
       receipts_stay = s.receipts_stay;
       every_receipt_stands = record {
         from_first = s.every_receipt_stands.from_first;
@@ -86,6 +87,6 @@ module _ (carries : KeptCarries) (catalog : Catalog) (x y : Database) (same : ke
     pub holds_from_other : HoldsFromOther change catalog x y
     holds_from_other = record { whole = whole_carried; stopped = stopped_carried }
 
-pub sessions_hold_from_each : KeptCarries → {D : Type 0} (tells honest : Type 0) (seen : D → Files) (moment : D → ℕ) (images : D → ℕ → Files → Type 0) (faults : D → ℕ)
-    → SessionsHoldFromEach (disk_of tells honest seen moment images faults)
-sessions_hold_from_each carries tells honest seen moment images faults = λ catalog x y same. holds_from_other carries catalog x y same tells honest seen moment images faults
+pub sessions_hold_from_each : KeptCarries → {D : Type 0} (kind : DiskKind D)
+    → SessionsHoldFromEach (disk_of kind)
+sessions_hold_from_each carries kind = λ catalog x y same. holds_from_other carries catalog x y same kind

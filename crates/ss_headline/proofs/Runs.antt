@@ -1,5 +1,6 @@
 -- Runs come together.
 use Rattle.std.proofs.Common.{◌≡◌, ◌⊎◌, inl, inr, ℕ, ◌-◌, ◌^◌, ◌<◌, ◌≤◌, List, [], ◌∷◌, sym, arith}
+use Rattle.ss_disk.specs.Kinds.{DiskKind}
 use Rattle.std.specs.List.{AllByRecursion}
 use Rattle.ss_model.specs.declared.entry.Answer.{Answer}
 use Rattle.ss_model.specs.declared.entry.Answer.TheVariants.{Listed as ListedAnswer, NoMemory, ListFull, Halted}
@@ -7,7 +8,6 @@ use Rattle.ss_model.specs.declared.entry.Listed.{Listed}
 use Rattle.ss_model.specs.declared.entry.Request.{Request}
 use Rattle.ss_model.specs.Report.{Stop, Stopped, Whole, Unlisted, report_text}
 use Rattle.ss_model.specs.Settling.{kept}
-use Rattle.ss_disk.specs.Files.{Files}
 use Rattle.ss_report_laws.specs.Replies.{answers_of, IsListedOr, AreAnswered, weave, AnswersMakeReport}
 use Rattle.ss_standing.specs.Laws.{StandsForOne}
 use Rattle.ss_headline.specs.Disks.{DiskChange, disk_of}
@@ -41,9 +41,9 @@ module _ (stop : Stop) (before : ℕ) (le : before ≤ stop.faults_before) where
 
 -- ---- runs
 
-module _ {D : Type 0} (tells honest : Type 0) (seen : D → Files) (moment : D → ℕ) (images : D → ℕ → Files → Type 0) (faults : D → ℕ) where
+module _ {D : Type 0} (kind : DiskKind D) where
   abbrev change : D → D → DiskChange
-  change = disk_of tells honest seen moment images faults
+  change = disk_of kind
 
   pub whole_runs : AnswersMakeReport → WholeSessions change → SessionsHoldFromEach change → WholeRuns change
   whole_runs makes sessions from_each = λ limit catalog requests db first list missing answers old mid new opened closed settled answered within.
@@ -59,7 +59,7 @@ module _ {D : Type 0} (tells honest : Type 0) (seen : D → Files) (moment : D �
       }
 
   -- a disk that failed since the opening has failed since before it
-  failed_since : (status first : ℕ) (list : List Listed) (count : ℕ) (old mid new : D) → faults old ≤ faults mid → LogEndsAsStopped status first list count (change mid new) → LogEndsAsStopped status first list count (change old new)
+  failed_since : (status first : ℕ) (list : List Listed) (count : ℕ) (old mid new : D) → kind.faults old ≤ kind.faults mid → LogEndsAsStopped status first list count (change mid new) → LogEndsAsStopped status first list count (change old new)
   failed_since status first list count old mid new le logged told = elim (logged told) [
     | inl front ↦ inl front
     | inr failed ↦ inr (record { status_is = failed.status_is; rose = (let rose = failed.rose in omega (arith, rose, le)) })
@@ -67,9 +67,9 @@ module _ {D : Type 0} (tells honest : Type 0) (seen : D → Files) (moment : D �
 
   pub stopped_runs : AnswersMakeReport → StoppedSessions change → SessionsHoldFromEach change → StoppedRuns change
   stopped_runs makes sessions from_each = λ limit catalog requests db first list status count missing answers old mid new opened closed receipted logged answered within.
-      let end = stop_at status count limit first list (faults old) (faults new) in
+      let end = stop_at status count limit first list (kind.faults old) (kind.faults new) in
       let text = report_text catalog requests (weave missing requests answers) first list db end in
-      let since = answered_since _ (faults old) opened.faults requests first list answers answered in
+      let since = answered_since _ (kind.faults old) opened.faults requests first list answers answered in
       let session = sessions catalog requests limit db first list status count text old mid new opened closed receipted (makes catalog requests db first list end missing answers since) in record {
         within = within;
         logged = failed_since status first list count old mid new opened.faults logged;
@@ -82,8 +82,8 @@ module _ {D : Type 0} (tells honest : Type 0) (seen : D → Files) (moment : D �
 
   pub runs_hold_from_each : StandsForOne → RunsHoldFromEach change
   runs_hold_from_each one = record {
-    whole = λ limit catalog requests opening first list text old new run tells place db stands.
-        let same = one catalog (seen old) place first (kept catalog db) (kept catalog opening) stands (run.session.stood tells) in (same.0, run.session.each db same.1);
-    stopped = λ limit catalog requests opening first list status count text old new run tells place db stands.
-        let same = one catalog (seen old) place first (kept catalog db) (kept catalog opening) stands (run.session.stood tells) in (same.0, run.session.each db same.1);
+    whole = λ limit catalog requests opening first list text old new run told place db stands.
+        let same = one catalog (kind.seen old) place first (kept catalog db) (kept catalog opening) stands (run.session.stood told) in (same.0, run.session.each db same.1);
+    stopped = λ limit catalog requests opening first list status count text old new run told place db stands.
+        let same = one catalog (kind.seen old) place first (kept catalog db) (kept catalog opening) stands (run.session.stood told) in (same.0, run.session.each db same.1);
   }

@@ -1,5 +1,6 @@
 -- The sentences come together.
 use Rattle.std.proofs.Common.{◌≡◌, ℕ, ◌+◌, List, length, take, subst, arith, take_all}
+use Rattle.ss_disk.specs.Kinds.{DiskKind}
 use Rattle.ss_model.specs.declared.catalog.Catalog.{Catalog}
 use Rattle.ss_model.specs.declared.entry.Listed.{Listed}
 use Rattle.ss_model.specs.Database.{Database}
@@ -21,23 +22,23 @@ front_is_all catalog db first list image f =
     subst (λ (l : List Listed). Stands catalog image (first + length list) (kept catalog (after catalog db l))) whole
     (subst (λ (m : ℕ). Stands catalog image (first + m) (kept catalog (after catalog db (take f.some list)))) some_is f.stands)
 
-module _ {D : Type 0} (tells honest : Type 0) (seen : D → Files) (moment : D → ℕ) (images : D → ℕ → Files → Type 0) (faults : D → ℕ) (bounds : ReceiptsBoundFronts) where
+module _ {D : Type 0} (kind : DiskKind D) (bounds : ReceiptsBoundFronts) where
   abbrev change : D → D → DiskChange
-  change = disk_of tells honest seen moment images faults
+  change = disk_of kind
 
   -- at the exit each image is a front that ends at the receipt at least
   fronts_at_exit : (catalog : Catalog) (db : Database) (first : ℕ) (list : List Listed) (n : ℕ) (old new : D) → Closed catalog db first list (change old new)
       → AtTheExit (change old new) (StandsForAtLeast catalog n) → AtTheExit (change old new) (StandsForFront catalog db first list n)
   fronts_at_exit catalog db first list n old new closed receipt true' image left =
       let run = closed.crashes true' in
-      bounds catalog db first list n image (run.each (moment new) image run.later (omega arith) left) (receipt true' image left)
+      bounds catalog db first list n image (run.each (kind.moment new) image run.later (omega arith) left) (receipt true' image left)
 
   pub whole_sessions : WholeSessions change
   whole_sessions = λ catalog requests db first list text old mid new opened closed settled report. record {
     replies_and_tables = record { one_by_one = closed.replays; report = report };
     in_order = closed.orders;
-    wherever_a_crash_falls = crashes_join tells honest seen moment images faults catalog db first list old mid new opened closed;
-    receipts_stay = receipts_join tells honest seen moment images faults catalog db first list old mid new opened closed;
+    wherever_a_crash_falls = crashes_join kind catalog db first list old mid new opened closed;
+    receipts_stay = receipts_join kind catalog db first list old mid new opened closed;
     all_stands = λ true' image left. front_is_all catalog db first list image (fronts_at_exit catalog db first list (first + length list) mid new closed settled.receipt true' image left);
     at_the_end = settled.drained;
   }
@@ -46,8 +47,8 @@ module _ {D : Type 0} (tells honest : Type 0) (seen : D → Files) (moment : D �
   stopped_sessions few = λ catalog requests limit db first list status count text old mid new opened closed receipted report. record {
     replies = record { one_by_one = closed.replays; report = report };
     in_order = closed.orders;
-    wherever_a_crash_falls = crashes_join tells honest seen moment images faults catalog db first list old mid new opened closed;
-    receipts_stay = receipts_join tells honest seen moment images faults catalog db first list old mid new opened closed;
+    wherever_a_crash_falls = crashes_join kind catalog db first list old mid new opened closed;
+    receipts_stay = receipts_join kind catalog db first list old mid new opened closed;
     every_receipt_stands = record {
       from_first = receipted.from_first;
       within = receipted.within;

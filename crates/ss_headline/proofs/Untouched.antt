@@ -1,12 +1,12 @@
 -- Calls that ran nothing, openings, and an engine behind one.
 use Rattle.std.proofs.Common.{◌≡◌, inl, ℕ, ◌+◌, List, refl, sym, subst, arith}
+use Rattle.ss_disk.specs.Kinds.{DiskKind, present}
 use Rattle.ss_model.specs.declared.catalog.Catalog.{Catalog}
 use Rattle.ss_model.specs.declared.entry.Listed.{Listed}
 use Rattle.ss_model.specs.Database.{Database, empty_database}
 use Rattle.ss_model.specs.Settling.{Kept, kept}
 use Rattle.ss_disk.specs.Files.{Files}
 use Rattle.ss_disk.proofs.CallerLemmas.{no_call, stays_join}
-use Rattle.ss_cmdlog.specs.Log.{present}
 use Rattle.ss_cmdlog.specs.Store.{IsEmpty}
 use Rattle.ss_standing.specs.Standing.{Stands, Prefix, StandsForAtLeast}
 use Rattle.ss_standing.specs.Laws.{StandsForOne}
@@ -29,32 +29,32 @@ none_stands catalog db first list image stands =
     let place : first ≡ first + 0 = omega arith in
     record { some = 0; within = omega arith; enough = omega arith; stands = subst (λ (n : ℕ). Stands catalog image n (kept catalog db)) place stands }
 
-module _ {D : Type 0} (tells honest : Type 0) (seen : D → Files) (moment : D → ℕ) (images : D → ℕ → Files → Type 0) (faults : D → ℕ) where
+module _ {D : Type 0} (kind : DiskKind D) where
   abbrev change : D → D → DiskChange
-  change = disk_of tells honest seen moment images faults
+  change = disk_of kind
 
   -- ---- calls that ran nothing
 
-  pub uncalled : UncalledIsOnlyRead tells honest seen moment images faults
+  pub uncalled : UncalledIsOnlyRead kind
   uncalled = λ old new same. subst (λ (disk : D). OnlyRead (change old disk)) (sym same) (record {
-    as_before = λ true'. no_call moment images old (present moment images old) (λ image left. left);
+    as_before = λ true'. no_call kind.moment kind.images old (present kind old) (λ image left. left);
     reads = λ told. refl;
   })
 
-  pub nothing_ran_stands : StandsForOne → NothingRanStands tells honest seen moment images faults
+  pub nothing_ran_stands : StandsForOne → NothingRanStands kind
   nothing_ran_stands one = λ catalog db first old new stood nothing.
-      less_at_each tells honest seen moment images faults (λ image. IsEmpty (seen old) × Stands catalog image 0 (kept catalog (empty_database catalog))) (λ image. Stands catalog image first (kept catalog db)) old new
-      (λ image made. stands_as_empty one catalog db first (seen old) image stood made.0 made.1) nothing
+      less_at_each kind (λ image. IsEmpty (kind.seen old) × Stands catalog image 0 (kept catalog (empty_database catalog))) (λ image. Stands catalog image first (kept catalog db)) old new
+      (λ image made. stands_as_empty one catalog db first (kind.seen old) image stood made.0 made.1) nothing
 
   -- what stays through the opening, and then through the engine, stays through all of the call
   pub receipts_join : (catalog : Catalog) (db : Database) (first : ℕ) (list : List Listed) (old mid new : D) → Opened catalog db first (change old mid) → Closed catalog db first list (change mid new)
       → ReceiptsStay catalog (change old new)
   receipts_join catalog db first list old mid new opened closed true' n =
-      stays_join moment images (StandsForAtLeast catalog n) (moment old) mid new (Prefix catalog db first list) (opened.receipts_stay true' n) (closed.crashes true') (closed.receipts_stay true' n)
+      stays_join kind.moment kind.images (StandsForAtLeast catalog n) (kind.moment old) mid new (Prefix catalog db first list) (opened.receipts_stay true' n) (closed.crashes true') (closed.receipts_stay true' n)
 
   -- what the opening and the engine say of crashes is said of all of the call
   pub crashes_join : (catalog : Catalog) (db : Database) (first : ℕ) (list : List Listed) (old mid new : D) → Opened catalog db first (change old mid) → Closed catalog db first list (change mid new)
       → AtEachMoment (change old new) (Prefix catalog db first list)
   crashes_join catalog db first list old mid new opened closed =
-      calls_join tells honest seen moment images faults (Prefix catalog db first list) old mid new
-      (less_at_each tells honest seen moment images faults (λ image. Stands catalog image first (kept catalog db)) (Prefix catalog db first list) old mid (none_stands catalog db first list) opened.crashes) closed.crashes
+      calls_join kind (Prefix catalog db first list) old mid new
+      (less_at_each kind (λ image. Stands catalog image first (kept catalog db)) (Prefix catalog db first list) old mid (none_stands catalog db first list) opened.crashes) closed.crashes

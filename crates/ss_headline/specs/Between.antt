@@ -1,5 +1,6 @@
 -- Between calls: what is said of a disk on which nothing was pending, and how two runs on one disk go on from each other.
 use Rattle.std.specs.Prelude.{◌≡◌, ◌⊎◌, ◌≤◌, ◌+◌, ℕ, List, ◌++◌, length, take}
+use Rattle.ss_disk.specs.Kinds.{DiskKind}
 use Rattle.ss_model.specs.declared.catalog.Catalog.{Catalog}
 use Rattle.ss_model.specs.declared.entry.Listed.{Listed}
 use Rattle.ss_model.specs.declared.entry.Request.{Request}
@@ -8,28 +9,28 @@ use Rattle.ss_model.specs.Replays.{Replays, after}
 use Rattle.ss_model.specs.Settling.{Drained, kept}
 use Rattle.ss_disk.specs.Files.{Files}
 use Rattle.ss_disk.specs.Moments.{LeavesOnly}
-use Rattle.ss_cmdlog.specs.Log.{IsSettled, present}
+use Rattle.ss_cmdlog.specs.Log.{IsSettled}
 use Rattle.ss_standing.specs.Standing.{Prefix, StandsForAtLeast}
 use Rattle.ss_headline.specs.Disks.{DiskChange, disk_of, AlwaysLeaves, AtEachMoment, AsBefore}
 use Rattle.ss_headline.specs.Runs.{IsWholeRun, IsStoppedRun}
 
 -- ---- a disk on which nothing was pending
 
-module _ {D : Type 0} (tells honest : Type 0) (seen : D → Files) (moment : D → ℕ) (images : D → ℕ → Files → Type 0) (faults : D → ℕ) where
+module _ {D : Type 0} (kind : DiskKind D) where
   abbrev pub change : D → D → DiskChange
-  change = disk_of tells honest seen moment images faults
+  change = disk_of kind
 
   -- law: where nothing was pending, a crash left what has this at each moment, if what a read gave before has it
   abbrev pub QuietLeaves : (Files → Type 0) → Type 0
   QuietLeaves P =
-      (old new : D) → honest → IsSettled seen (present moment images) old → P (seen old) → AtEachMoment (change old new) P →
-      LeavesOnly moment images old new P
+      (old new : D) → kind.honest → IsSettled kind old → P (kind.seen old) → AtEachMoment (change old new) P →
+      LeavesOnly kind.moment kind.images old new P
 
   -- law: and where the disk is as before, what a read gave
   abbrev pub QuietStays : Type 0
   QuietStays =
-      (old new : D) → honest → IsSettled seen (present moment images) old → AsBefore (change old new) →
-      LeavesOnly moment images old new (λ image. image ≡ seen old)
+      (old new : D) → kind.honest → IsSettled kind old → AsBefore (change old new) →
+      LeavesOnly kind.moment kind.images old new (λ image. image ≡ kind.seen old)
 
 -- ---- two runs on one disk
 

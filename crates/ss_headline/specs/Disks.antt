@@ -1,11 +1,11 @@
 -- A disk before and after a call, and what a crash leaves of it meanwhile.
 use Rattle.std.specs.Prelude.{◌≡◌, ◌⊎◌, ℕ}
+use Rattle.ss_disk.specs.Kinds.{DiskKind, present as present_images}
 use Rattle.ss_model.specs.declared.catalog.Catalog.{Catalog}
 use Rattle.ss_model.specs.Database.{empty_database}
 use Rattle.ss_model.specs.Settling.{kept}
 use Rattle.ss_disk.specs.Files.{Files}
 use Rattle.ss_disk.specs.Moments.{LeavesOnly, StaysFrom}
-use Rattle.ss_cmdlog.specs.Log.{present as present_images}
 use Rattle.ss_cmdlog.specs.Store.{IsEmpty}
 use Rattle.ss_standing.specs.Standing.{Stands}
 
@@ -30,19 +30,19 @@ pub record DiskChange : Type 1 where
   pub faults_now : ℕ
 
 -- the disk that was so before, and is so now
-abbrev pub disk_of : {D : Type 0} → Type 0 → Type 0 → (D → Files) → (D → ℕ) → (D → ℕ → Files → Type 0) → (D → ℕ) → D → D → DiskChange
-disk_of tells honest seen moment images faults before now = record {
-  tells = tells;
-  honest = honest;
+abbrev pub disk_of : {D : Type 0} → DiskKind D → D → D → DiskChange
+disk_of kind before now = record {
+  tells = kind.tells;
+  honest = kind.honest;
   uncalled = now ≡ before;
-  seen_before = seen before;
-  seen_now = seen now;
-  present_before = present_images moment images before;
-  present = present_images moment images now;
-  leaves_only = LeavesOnly moment images before now;
-  stays = StaysFrom moment images (moment before) now;
-  faults_before = faults before;
-  faults_now = faults now;
+  seen_before = kind.seen before;
+  seen_now = kind.seen now;
+  present_before = present_images kind before;
+  present = present_images kind now;
+  leaves_only = LeavesOnly kind.moment kind.images before now;
+  stays = StaysFrom kind.moment kind.images (kind.moment before) now;
+  faults_before = kind.faults before;
+  faults_now = kind.faults now;
 }
 
 -- a crash at each moment of the call leaves what has this

@@ -43,8 +43,8 @@ pub fn logs_end_with_lists()
 /// Of a disk that no call has reached nothing has changed, whatever is known of it (`uncalled`). Where nothing ran a crash
 /// leaves what it might have left before, or what stands for the same as the disk did (`stands`).
 pub fn nothing_ran<D: Disk>()
-    ensures uncalled { UncalledIsOnlyRead D.tells D.honest D.seen D.moment D.images D.faults }
-    ensures stands { NothingRanStands D.tells D.honest D.seen D.moment D.images D.faults }
+    ensures uncalled { UncalledIsOnlyRead D.kind }
+    ensures stands { NothingRanStands D.kind }
 {
     stands_for_one();
 }
@@ -53,20 +53,20 @@ pub fn nothing_ran<D: Disk>()
 /// read gave has it (`anew`), and of a disk that is as before what a read gave (`as_before`). A new disk is so, and the
 /// image that a crash left.
 pub fn quiet_leaves<D: Disk, P: Claim>()
-    ensures anew { QuietLeaves D.tells D.honest D.seen D.moment D.images D.faults P.holds }
-    ensures as_before { QuietStays D.tells D.honest D.seen D.moment D.images D.faults }
+    ensures anew { QuietLeaves D.kind P.holds }
+    ensures as_before { QuietStays D.kind }
 {}
 
 /// An opening, an engine that was settled and closed, and its report are a whole session.
 pub fn whole_sessions<D: Disk>()
-    ensures { WholeSessions (disk_of D.tells D.honest D.seen D.moment D.images D.faults) }
+    ensures { WholeSessions (disk_of D.kind) }
 {
     receipts_bound_fronts();
 }
 
 /// An opening, an engine that was closed, its receipts and its stopped report are a stopped session.
 pub fn stopped_sessions<D: Disk>()
-    ensures { StoppedSessions (disk_of D.tells D.honest D.seen D.moment D.images D.faults) }
+    ensures { StoppedSessions (disk_of D.kind) }
 {
     receipts_bound_fronts();
     few_stand_behind();
@@ -74,14 +74,14 @@ pub fn stopped_sessions<D: Disk>()
 
 /// What is said of a session from one database holds from each of which the same is kept.
 pub fn sessions_hold_from_each<D: Disk>()
-    ensures { SessionsHoldFromEach (disk_of D.tells D.honest D.seen D.moment D.images D.faults) }
+    ensures { SessionsHoldFromEach (disk_of D.kind) }
 {
     kept_carries();
 }
 
 /// An opening, an engine that was settled and closed, and the answers to its clients are a whole run.
 pub fn whole_runs<D: Disk>()
-    ensures { WholeRuns (disk_of D.tells D.honest D.seen D.moment D.images D.faults) }
+    ensures { WholeRuns (disk_of D.kind) }
 {
     answers_make_report();
     whole_sessions::<D>();
@@ -90,7 +90,7 @@ pub fn whole_runs<D: Disk>()
 
 /// An opening, an engine that was closed, its receipts, its log and the answers to its clients are a stopped run.
 pub fn stopped_runs<D: Disk>()
-    ensures { StoppedRuns (disk_of D.tells D.honest D.seen D.moment D.images D.faults) }
+    ensures { StoppedRuns (disk_of D.kind) }
 {
     answers_make_report();
     stopped_sessions::<D>();
@@ -99,7 +99,7 @@ pub fn stopped_runs<D: Disk>()
 
 /// A run is one from every place and database that the disk stood for.
 pub fn runs_hold_from_each<D: Disk>()
-    ensures { RunsHoldFromEach (disk_of D.tells D.honest D.seen D.moment D.images D.faults) }
+    ensures { RunsHoldFromEach (disk_of D.kind) }
 {
     stands_for_one();
 }
@@ -110,7 +110,7 @@ pub fn runs_hold_from_each<D: Disk>()
 /// The disk may have something pending between the two. A crash in the second call may then take what it could take
 /// before, but nothing that the first call promised: this stands at each moment of the second.
 pub fn calls_go_on<D: Disk>()
-    ensures { CallsGoOn (disk_of D.tells D.honest D.seen D.moment D.images D.faults) }
+    ensures { CallsGoOn (disk_of D.kind) }
 {
     stands_for_one();
     kept_carries();

@@ -1,4 +1,5 @@
 pub mod Causes
+pub mod Kinds
 pub mod Fields
 pub mod Lines
 pub mod Splitting

@@ -32,9 +32,7 @@ impl Source for MemorySource {
     ghost use Rattle.ss_value.specs.FaultCounts.{HasCause};
     ghost use Rattle.ss_lines.specs.Memory.{bytes_left};
 
-    ghost left = { λ s. Some (bytes_left s) };
-
-    ghost faults = { λ _. 0 };
+    ghost kind = { record { left = λ s. Some (bytes_left s); faults = λ _. 0 } };
 
     /// Gives as many bytes as are left and fit the buffer, in time linear in them. It never fails.
     fn pull(&mut self, buf: &mut [u8]) -> Result<usize, Failed>
@@ -103,9 +101,7 @@ impl Sink for MemorySink {
     ghost use Rattle.ss_lines.specs.Causes.{CountsFailures};
     ghost use Rattle.ss_lines.specs.Memory.{bytes_taken, fault_count, room_of};
 
-    ghost written = { λ s. Some (bytes_taken s) };
-
-    ghost faults = { λ s. fault_count s };
+    ghost kind = { record { written = λ s. Some (bytes_taken s); faults = λ s. fault_count s } };
 
     /// Takes as many bytes as there is room for, in time linear in them. It fails exactly where
     /// its room is full, and counts that.

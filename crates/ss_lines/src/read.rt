@@ -30,12 +30,12 @@ const PIECE: usize = 16_384;
 /// where it gives that many, and into its line. A line that ends in a later piece than it began in
 /// grows by doubling, and may be moved for that. Memory is that of the lines and of one piece.
 pub fn read_lines<S: Source>(alloc: Global, source: &mut S) -> Result<Seq<Line>, LineError>
-    ensures most { TakesAtMost (max_input + 1) (S.left source.old) (S.left source.new) }
-    ensures ok { IfOk result (λ lines. IfSome (S.left source.old) (λ input. (lines ≡ lines_of input) × (length input ≤ max_input))) }
-    ensures end { OnOk result (IsAtEnd (S.left source.new)) }
-    ensures too_long { result ≡ Err LineError.InputTooLong → IfSome (S.left source.old) (λ input. max_input < length input) }
-    ensures cause { S.faults source.old ≤ S.faults source.new }
-    ensures fault { result ≡ Err LineError.ReadFault → Rose (S.faults source.old) (S.faults source.new) }
+    ensures most { TakesAtMost (max_input + 1) (S.kind.left source.old) (S.kind.left source.new) }
+    ensures ok { IfOk result (λ lines. IfSome (S.kind.left source.old) (λ input. (lines ≡ lines_of input) × (length input ≤ max_input))) }
+    ensures end { OnOk result (IsAtEnd (S.kind.left source.new)) }
+    ensures too_long { result ≡ Err LineError.InputTooLong → IfSome (S.kind.left source.old) (λ input. max_input < length input) }
+    ensures cause { S.kind.faults source.old ≤ S.kind.faults source.new }
+    ensures fault { result ≡ Err LineError.ReadFault → Rose (S.kind.faults source.old) (S.kind.faults source.new) }
     ensures others { IfErr result IsReadRefusal }
 {
     let mut splitter = Splitter::new(alloc);

@@ -36,9 +36,7 @@ impl<R: Read> ReadSource<R> {
 impl<R: Read> Source for ReadSource<R> {
     ghost use Rattle.ss_lines.specs.StdIo.{reader_of, read_faults};
 
-    ghost left = { λ s. R.remaining (reader_of s) };
-
-    ghost faults = { λ s. read_faults s };
+    ghost kind = { record { left = λ s. R.remaining (reader_of s); faults = λ s. read_faults s } };
 
     /// One `read` of the reader. Every error of it is counted as a fault.
     fn pull(&mut self, buf: &mut [u8]) -> Result<usize, Failed>
@@ -93,9 +91,7 @@ impl<W: Write> WriteSink<W> {
 impl<W: Write> Sink for WriteSink<W> {
     ghost use Rattle.ss_lines.specs.StdIo.{writer_of, write_faults};
 
-    ghost written = { λ s. W.contents (writer_of s) };
-
-    ghost faults = { λ s. write_faults s };
+    ghost kind = { record { written = λ s. W.contents (writer_of s); faults = λ s. write_faults s } };
 
     /// One `write` of the writer. Every error of it is counted as a fault, and so is a write of no byte.
     fn push(&mut self, piece: &[u8]) -> Result<usize, Failed>

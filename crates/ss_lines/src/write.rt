@@ -19,9 +19,9 @@ pub enum WriteFault {
 /// written. No memory is taken, no byte is copied here, and the sink is called at most once for
 /// each byte.
 pub fn write_all<K: Sink>(sink: &mut K, bytes: &[u8]) -> Result<(), WriteFault>
-    ensures ok { OnOk result (Appends (K.written sink.old) (K.written sink.new) bytes.now) }
-    ensures part { (n : ℕ) × (n ≤ length bytes.now) × Appends (K.written sink.old) (K.written sink.new) (take n bytes.now) }
-    ensures cause { HasCause (K.faults sink.old) (K.faults sink.new) result }
+    ensures ok { OnOk result (Appends (K.kind.written sink.old) (K.kind.written sink.new) bytes.now) }
+    ensures part { (n : ℕ) × (n ≤ length bytes.now) × Appends (K.kind.written sink.old) (K.kind.written sink.new) (take n bytes.now) }
+    ensures cause { HasCause (K.kind.faults sink.old) (K.kind.faults sink.new) result }
 {
     let mut at = 0;
     while at < bytes.len() {

@@ -1,5 +1,6 @@
 -- What holds behind a run that only reads holds from its beginning.
 use Rattle.std.proofs.Common.{◌⊎◌, ℕ, ◌≤◌, Option, subst}
+use Rattle.ss_disk.specs.Kinds.{DiskKind}
 use Rattle.ss_model.specs.declared.catalog.Catalog.{Catalog}
 use Rattle.ss_model.specs.Database.{Database as Model}
 use Rattle.ss_model.specs.Settling.{Kept, kept}
@@ -16,12 +17,12 @@ use Rattle.ss_recover.specs.Faults.{HasFaultAt, IsStore}
 use Rattle.ss_recover.specs.Recovering.{IsRecovered, RefusesAsSaid}
 use Rattle.ss_recover.proofs.Moments.{only_that, since, forms_since, rose_since}
 
-module _ {D : Type 0} (tells honest : Type 0) (told_by : honest → tells) (seen : D → Files) (moment : D → ℕ) (images : D → ℕ → Files → Type 0) (given : Option Catalog) (old mid : D)
-    (reads : OnlyReads tells honest seen moment images old mid) where
-  pub recovered_since : (parts : ℕ) (r : Recovered D) (db : Model) → IsRecovered tells honest seen moment images given parts mid r db → IsRecovered tells honest seen moment images given parts old r db
+module _ {D : Type 0} (kind : DiskKind D) (told_by : kind.honest → kind.tells) (given : Option Catalog) (old mid : D)
+    (reads : OnlyReads kind old mid) where
+  pub recovered_since : (parts : ℕ) (r : Recovered D) (db : Model) → IsRecovered kind given parts mid r db → IsRecovered kind given parts old r db
   recovered_since parts r db is =
-      let stood : tells → Stands r.catalog (seen old) r.first (kept r.catalog db) = λ told. subst (λ (d : Files). Stands r.catalog d r.first (kept r.catalog db)) (reads.same told) (is.stood told) in
-      let moments = λ (true' : honest). since moment images old mid r.log.disk _ _ (reads.moments true') (λ image s. s) (is.moments true') in
+      let stood : kind.tells → Stands r.catalog (kind.seen old) r.first (kept r.catalog db) = λ told. subst (λ (d : Files). Stands r.catalog d r.first (kept r.catalog db)) (reads.same told) (is.stood told) in
+      let moments = λ (true' : kind.honest). since kind old mid r.log.disk _ _ (reads.moments true') (λ image s. s) (is.moments true') in
       record {
         own = is.own;
         given_one = is.given_one;
@@ -29,20 +30,20 @@ module _ {D : Type 0} (tells honest : Type 0) (told_by : honest → tells) (seen
         was = λ told. subst (λ (d : Files). IsEmpty d ⊎ IsStore d r.catalog) (reads.same told) (is.was told);
         stood = stood;
         moments = moments;
-        stands_on = λ true' n. stays_join moment images (StandsForAtLeast r.catalog n) (moment old) mid r.log.disk _ (stays_fewer moment images (StandsForAtLeast r.catalog n) (moment old) mid (reads.fewer true')) (is.moments true') (is.stands_on true' n);
-        quiet = λ true' only. only_that moment images old r.log.disk (seen old) _ only (stood (told_by true')) (moments true');
+        stands_on = λ true' n. stays_join kind.moment kind.images (StandsForAtLeast r.catalog n) (kind.moment old) mid r.log.disk _ (stays_fewer kind.moment kind.images (StandsForAtLeast r.catalog n) (kind.moment old) mid (reads.fewer true')) (is.moments true') (is.stands_on true' n);
+        quiet = λ true' only. only_that kind old r.log.disk (kind.seen old) _ only (stood (told_by true')) (moments true');
       }
 
-  module _ (faults : D → ℕ) (new : D) (later : faults old ≤ faults mid) where
-    pub refused_since : (e : RecoverError) → RefusesAsSaid tells honest seen moment images faults given mid new e → RefusesAsSaid tells honest seen moment images faults given old new e
-    refused_since NoMemory is = λ true'. since moment images old mid new _ _ (reads.moments true') (λ image. forms_since given (seen old) (seen mid) image (reads.same (told_by true'))) (is true')
+  module _ (new : D) (later : kind.faults old ≤ kind.faults mid) where
+    pub refused_since : (e : RecoverError) → RefusesAsSaid kind given mid new e → RefusesAsSaid kind given old new e
+    refused_since NoMemory is = λ true'. since kind old mid new _ _ (reads.moments true') (λ image. forms_since given (kind.seen old) (kind.seen mid) image (reads.same (told_by true'))) (is true')
     refused_since DiskFault is =
-        (λ true'. since moment images old mid new _ _ (reads.moments true') (λ image. forms_since given (seen old) (seen mid) image (reads.same (told_by true'))) (is.0 true'), rose_since (faults old) (faults mid) (faults new) later is.1)
+        (λ true'. since kind old mid new _ _ (reads.moments true') (λ image. forms_since given (kind.seen old) (kind.seen mid) image (reads.same (told_by true'))) (is.0 true'), rose_since (kind.faults old) (kind.faults mid) (kind.faults new) later is.1)
     refused_since (Foreign which at) is =
-        (reads_join tells honest seen moment images old mid new reads is.0, λ told. subst (λ (d : Files). HasFaultAt d which at) (reads.same told) (is.1 told))
+        (reads_join kind old mid new reads is.0, λ told. subst (λ (d : Files). HasFaultAt d which at) (reads.same told) (is.1 told))
     refused_since (OtherCatalog stored text) is =
         let other = is.1 in (
-          reads_join tells honest seen moment images old mid new reads is.0,
+          reads_join kind old mid new reads is.0,
           record {
             ours = other.ours;
             is_given = other.is_given;
@@ -55,4 +56,4 @@ module _ {D : Type 0} (tells honest : Type 0) (told_by : honest → tells) (seen
             another = other.another;
           },
         )
-    refused_since Nothing is = (reads_join tells honest seen moment images old mid new reads is.0, is.1, λ told. subst IsEmpty (reads.same told) (is.2 told))
+    refused_since Nothing is = (reads_join kind old mid new reads is.0, is.1, λ told. subst IsEmpty (reads.same told) (is.2 told))

@@ -1,5 +1,6 @@
 -- A store that was made.
 use Rattle.std.proofs.Common.{◌≡◌, ◌⊎◌, inl, inr, ℕ, List, [], Option, Some, refl, arith, subst}
+use Rattle.ss_disk.specs.Kinds.{DiskKind, present}
 use Rattle.ss_model.specs.declared.catalog.Catalog.{Catalog}
 use Rattle.ss_model.specs.Database.{empty_database}
 use Rattle.ss_model.specs.Settling.{kept}
@@ -14,7 +15,7 @@ use Rattle.ss_cmdlog.specs.declared.log.CmdLog.{CmdLog}
 use Rattle.ss_cmdlog.specs.declared.log.LogError.{LogError}
 use Rattle.ss_cmdlog.specs.declared.log.LogError.TheVariants as log
 use Rattle.ss_cmdlog.specs.Formatting.{LeavesSome, fresh}
-use Rattle.ss_cmdlog.specs.Log.{HasCallCause, IsAddRefusal, IsOpen, present}
+use Rattle.ss_cmdlog.specs.Log.{HasCallCause, IsAddRefusal, IsOpen}
 use Rattle.ss_cmdlog.specs.Store.{IsEmpty, StandsFor}
 use Rattle.ss_standing.specs.Image.{empty_image_of}
 use Rattle.ss_standing.specs.Keeping.{OneThingStandsOn}
@@ -25,8 +26,8 @@ use Rattle.ss_recover.specs.Recovering.{IsOwnCatalog, IsRecovered, LeadsTo, MayF
 use Rattle.ss_recover.proofs.Images.{empty_image_at, leads_replayed}
 use Rattle.ss_replay.proofs.CallerLemmas.{empty_had}
 
-module _ {D : Type 0} (tells honest : Type 0) (told_by : honest → tells) (seen : D → Files) (moment : D → ℕ) (images : D → ℕ → Files → Type 0) (catalog : Catalog) (own : IsOwnCatalog catalog)
-    (forming : FormingStands) (image : List ℕ) (spelled : image ≡ empty_image_of catalog) (old : D) (empty : tells → IsEmpty (seen old)) where
+module _ {D : Type 0} (kind : DiskKind D) (told_by : kind.honest → kind.tells) (catalog : Catalog) (own : IsOwnCatalog catalog)
+    (forming : FormingStands) (image : List ℕ) (spelled : image ≡ empty_image_of catalog) (old : D) (empty : kind.tells → IsEmpty (kind.seen old)) where
   -- a crash leaves an empty disk, or the new store
   stands : (crashed : Files) → IsEmpty crashed ⊎ StandsFor crashed (fresh image) → Stands catalog crashed 0 (kept catalog (empty_database catalog))
   stands crashed either = forming catalog crashed own.0 (subst (λ (bytes : List ℕ). IsEmpty crashed ⊎ StandsFor crashed (fresh bytes)) spelled either)
@@ -41,12 +42,12 @@ module _ {D : Type 0} (tells honest : Type 0) (told_by : honest → tells) (seen
     reached = refl;
   }
 
-  pub formed : (parts : ℕ) (database : Database) (log : CmdLog D) → IsWholeShard catalog parts database.whole → HoldsModel catalog database (empty_database catalog) → IsOpen tells honest seen (present moment images) log (fresh image) → log.count ≡ 0
-      → (honest → LeavesOnly moment images old log.disk (λ crashed. IsEmpty crashed ⊎ StandsFor crashed (fresh image)))
-      → (honest → LeavesSome moment images (moment old) log.disk) → OneThingStandsOn D moment images
-      → IsRecovered tells honest seen moment images (Some catalog) parts old (record { database = database; catalog = catalog; first = 0; known = []; log = log }) (empty_database catalog)
+  pub formed : (parts : ℕ) (database : Database) (log : CmdLog D) → IsWholeShard catalog parts database.whole → HoldsModel catalog database (empty_database catalog) → IsOpen kind log (fresh image) → log.count ≡ 0
+      → (kind.honest → LeavesOnly kind.moment kind.images old log.disk (λ crashed. IsEmpty crashed ⊎ StandsFor crashed (fresh image)))
+      → (kind.honest → LeavesSome kind.moment kind.images (kind.moment old) log.disk) → OneThingStandsOn D kind.moment kind.images
+      → IsRecovered kind (Some catalog) parts old (record { database = database; catalog = catalog; first = 0; known = []; log = log }) (empty_database catalog)
   formed parts database log dealt holds is_open count run some one =
-      let stood : tells → Stands catalog (seen old) 0 (kept catalog (empty_database catalog)) = λ told. stands (seen old) (inl (empty told)) in
+      let stood : kind.tells → Stands catalog (kind.seen old) 0 (kept catalog (empty_database catalog)) = λ told. stands (kind.seen old) (inl (empty told)) in
       record {
         own = own;
         given_one = λ other is. (let same : catalog ≡ other = cc in same);
@@ -62,23 +63,23 @@ module _ {D : Type 0} (tells honest : Type 0) (told_by : honest → tells) (seen
         };
         was = λ told. inl (empty told);
         stood = stood;
-        moments = λ true'. leaves_less moment images old log.disk _ _ (run true') (λ crashed either. inr (stands crashed either));
-        stands_on = λ true'. one catalog 0 (kept catalog (empty_database catalog)) (moment old) log.disk (some true') (λ t crashed from to left. stands crashed ((run true').each t crashed from to left));
-        quiet = λ true' only. leaves_less moment images old log.disk _ _ (run true') stands;
+        moments = λ true'. leaves_less kind.moment kind.images old log.disk _ _ (run true') (λ crashed either. inr (stands crashed either));
+        stands_on = λ true'. one catalog 0 (kept catalog (empty_database catalog)) (kind.moment old) log.disk (some true') (λ t crashed from to left. stands crashed ((run true').each t crashed from to left));
+        quiet = λ true' only. leaves_less kind.moment kind.images old log.disk _ _ (run true') stands;
       }
 
-  may_form : (new : D) → LeavesOnly moment images old new (λ crashed. IsEmpty crashed ⊎ StandsFor crashed (fresh image)) → tells
-      → LeavesOnly moment images old new (λ crashed. present moment images old crashed ⊎ MayForm (Some catalog) (seen old) crashed)
-  may_form new run told = leaves_less moment images old new _ _ run (λ crashed either. inr (empty told, stands crashed either))
+  may_form : (new : D) → LeavesOnly kind.moment kind.images old new (λ crashed. IsEmpty crashed ⊎ StandsFor crashed (fresh image)) → kind.tells
+      → LeavesOnly kind.moment kind.images old new (λ crashed. present kind old crashed ⊎ MayForm (Some catalog) (kind.seen old) crashed)
+  may_form new run told = leaves_less kind.moment kind.images old new _ _ run (λ crashed either. inr (empty told, stands crashed either))
 
-  pub unformed : (faults : D → ℕ) (new : D) (e : LogError) → IsAddRefusal e → HasCallCause (faults old) (faults new) e → (honest → LeavesOnly moment images old new (λ crashed. IsEmpty crashed ⊎ StandsFor crashed (fresh image)))
-      → RefusesAsSaid tells honest seen moment images faults (Some catalog) old new (forming_refusal e)
-  unformed faults new log.NoMemory may cause run = λ true'. may_form new (run true') (told_by true')
-  unformed faults new log.DiskFault may cause run = (λ true'. may_form new (run true') (told_by true'), cause.rose refl)
-  unformed faults new (log.Foreign which at) may cause run = absurd may
-  unformed faults new (log.Halted n) may cause run = absurd may
+  pub unformed : (new : D) (e : LogError) → IsAddRefusal e → HasCallCause (kind.faults old) (kind.faults new) e → (kind.honest → LeavesOnly kind.moment kind.images old new (λ crashed. IsEmpty crashed ⊎ StandsFor crashed (fresh image)))
+      → RefusesAsSaid kind (Some catalog) old new (forming_refusal e)
+  unformed new log.NoMemory may cause run = λ true'. may_form new (run true') (told_by true')
+  unformed new log.DiskFault may cause run = (λ true'. may_form new (run true') (told_by true'), cause.rose refl)
+  unformed new (log.Foreign which at) may cause run = absurd may
+  unformed new (log.Halted n) may cause run = absurd may
 
 -- before the disk is called nothing has changed
-pub uncalled : {D : Type 0} (tells honest : Type 0) (seen : D → Files) (moment : D → ℕ) (images : D → ℕ → Files → Type 0) (given : Option Catalog) (disk : D)
-    → honest → LeavesOnly moment images disk disk (λ image. present moment images disk image ⊎ MayForm given (seen disk) image)
-uncalled tells honest seen moment images given disk = λ true'. no_call moment images disk _ (λ image left. inl left)
+pub uncalled : {D : Type 0} (kind : DiskKind D) (given : Option Catalog) (disk : D)
+    → kind.honest → LeavesOnly kind.moment kind.images disk disk (λ image. present kind disk image ⊎ MayForm given (kind.seen disk) image)
+uncalled kind given disk = λ true'. no_call kind.moment kind.images disk _ (λ image left. inl left)

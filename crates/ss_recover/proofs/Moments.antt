@@ -1,38 +1,38 @@
 -- What calls leave of a disk, one run of them after another.
 use Rattle.std.proofs.Common.{◌≡◌, inl, inr, ⊎_elim, ℕ, ◌≤◌, Option, arith, subst, sym}
 use Rattle.ss_value.specs.FaultCounts.{Rose}
+use Rattle.ss_disk.specs.Kinds.{DiskKind, present}
 use Rattle.ss_model.specs.declared.catalog.Catalog.{Catalog}
 use Rattle.ss_disk.specs.Files.{Files}
 use Rattle.ss_disk.specs.Crash.{Only}
 use Rattle.ss_disk.specs.Moments.{LeavesOnly}
 use Rattle.ss_disk.proofs.CallerLemmas.{runs_join, leaves_less}
-use Rattle.ss_cmdlog.specs.Log.{present}
 use Rattle.ss_recover.specs.Recovering.{LeavesOldOr, MayForm}
 
 -- a count that rose since a later moment rose since an earlier one
 pub rose_since : (before mid now : ℕ) → before ≤ mid → Rose mid now → Rose before now
 rose_since before mid now le rose = omega (arith, le, rose)
 
-module _ {D : Type 0} (moment : D → ℕ) (images : D → ℕ → Files → Type 0) where
+module _ {D : Type 0} (kind : DiskKind D) where
   -- what was left at first, or something more
-  pub old_or : (old new : D) (P : Files → Type 0) → LeavesOnly moment images old new (present moment images old) → LeavesOldOr moment images old new P
-  old_or old new P run = leaves_less moment images old new _ _ run (λ image left. inl left)
+  pub old_or : (old new : D) (P : Files → Type 0) → LeavesOnly kind.moment kind.images old new (present kind old) → LeavesOldOr kind old new P
+  old_or old new P run = leaves_less kind.moment kind.images old new _ _ run (λ image left. inl left)
 
   -- of a disk of which a crash leaves one thing, which has it too, a crash leaves what has it alone
-  pub only_that : (old new : D) (files : Files) (P : Files → Type 0) → Only files (present moment images old) → P files → LeavesOldOr moment images old new P → LeavesOnly moment images old new P
+  pub only_that : (old new : D) (files : Files) (P : Files → Type 0) → Only files (present kind old) → P files → LeavesOldOr kind old new P → LeavesOnly kind.moment kind.images old new P
   only_that old new files P only has run =
-      leaves_less moment images old new _ _ run (λ image either. ⊎_elim (λ (left : present moment images old image). subst P (sym (only image left)) has) (λ (p : P image). p) either)
+      leaves_less kind.moment kind.images old new _ _ run (λ image either. ⊎_elim (λ (left : present kind old image). subst P (sym (only image left)) has) (λ (p : P image). p) either)
 
   -- what a run left at its end it left at some moment
-  at_end : (old new : D) (P : Files → Type 0) → LeavesOnly moment images old new P → (image : Files) → present moment images new image → P image
-  at_end old new P run image left = run.each (moment new) image run.later (omega arith) left
+  at_end : (old new : D) (P : Files → Type 0) → LeavesOnly kind.moment kind.images old new P → (image : Files) → present kind new image → P image
+  at_end old new P run image left = run.each (kind.moment new) image run.later (omega arith) left
 
   -- behind a run that leaves nothing new
-  pub since : (old mid new : D) (P Q : Files → Type 0) → LeavesOnly moment images old mid (present moment images old) → ((image : Files) → P image → Q image) → LeavesOldOr moment images mid new P → LeavesOldOr moment images old new Q
+  pub since : (old mid new : D) (P Q : Files → Type 0) → LeavesOnly kind.moment kind.images old mid (present kind old) → ((image : Files) → P image → Q image) → LeavesOldOr kind mid new P → LeavesOldOr kind old new Q
   since old mid new P Q first more second =
-      runs_join moment images old mid new _ (old_or old mid Q first)
-      (leaves_less moment images mid new _ _ second
-      (λ image either. ⊎_elim (λ (left : present moment images mid image). inl (at_end old mid (present moment images old) first image left)) (λ (p : P image). inr (more image p)) either))
+      runs_join kind.moment kind.images old mid new _ (old_or old mid Q first)
+      (leaves_less kind.moment kind.images mid new _ _ second
+      (λ image either. ⊎_elim (λ (left : present kind mid image). inl (at_end old mid (present kind old) first image left)) (λ (p : P image). inr (more image p)) either))
 
 -- a store that is being made on the same files
 pub forms_since : (given : Option Catalog) (old mid image : Files) → mid ≡ old → MayForm given mid image → MayForm given old image

@@ -1,5 +1,6 @@
 -- A store that was opened.
 use Rattle.std.proofs.Common.{◌≡◌, ◌≢◌, inl, inr, ◌∙◌, ℕ, ◌+◌, List, [], ◌∷◌, length, All, Ok, Option, IfSome, ap, refl, arith, subst, sym}
+use Rattle.ss_disk.specs.Kinds.{DiskKind}
 use Rattle.std.specs.List.{flat_map}
 use Rattle.std.proofs.lemmas.List.{length-map}
 use Rattle.std.proofs.lemmas.List.Elements.{All-append, All-head, All-nil, All-tail}
@@ -20,7 +21,7 @@ use Rattle.ss_cmdlog.specs.declared.log.LogError.TheVariants as log
 use Rattle.ss_cmdlog.specs.declared.open.Loaded.{Loaded}
 use Rattle.ss_record.specs.Bounds.{IsRecordable}
 use Rattle.ss_cmdlog.specs.Generation.{IsGroup, IsStood, Stood}
-use Rattle.ss_cmdlog.specs.Log.{HasCallCause, IsOpen, present}
+use Rattle.ss_cmdlog.specs.Log.{HasCallCause, IsOpen}
 use Rattle.ss_cmdlog.specs.Opening.{number_of, store_at, IsForeignAt as IsForeignStore, IsLoaded, IsOpenRefusal, OnlyReads}
 use Rattle.ss_cmdlog.specs.Store.{entries_of, StandsFor}
 use Rattle.ss_cmdlog.proofs.CallerLemmas.{open_stands}
@@ -53,22 +54,22 @@ entries_recordable s stood = entries_of_groups s.groups stood.groups
 abbrev pub reached : Stored → Model
 reached r = after r.catalog (empty_database r.catalog) r.known
 
-module _ {D : Type 0} (tells honest : Type 0) (told_by : honest → tells) (seen : D → Files) (moment : D → ℕ) (images : D → ℕ → Files → Type 0) (old : D) where
+module _ {D : Type 0} (kind : DiskKind D) (told_by : kind.honest → kind.tells) (old : D) where
   -- ---- a store that isn't opened
 
-  pub unopened : (faults : D → ℕ) (given : Option Catalog) (new : D) (e : LogError) → IsOpenRefusal e → HasCallCause (faults old) (faults new) e → (tells → (seen old).selector ≢ []) → (tells → IsForeignStore (seen old) e)
-      → OnlyReads tells honest seen moment images old new → RefusesAsSaid tells honest seen moment images faults given old new (opening_refusal e)
-  unopened faults given new log.NoMemory may cause some foreign reads = λ true'. old_or moment images old new _ (reads.moments true')
-  unopened faults given new log.DiskFault may cause some foreign reads = (λ true'. old_or moment images old new _ (reads.moments true'), cause.rose refl)
-  unopened faults given new (log.Foreign which at) may cause some foreign reads = (reads, λ told. inl (some told, foreign told which at refl))
-  unopened faults given new (log.Halted n) may cause some foreign reads = absurd may
+  pub unopened : (given : Option Catalog) (new : D) (e : LogError) → IsOpenRefusal e → HasCallCause (kind.faults old) (kind.faults new) e → (kind.tells → (kind.seen old).selector ≢ []) → (kind.tells → IsForeignStore (kind.seen old) e)
+      → OnlyReads kind old new → RefusesAsSaid kind given old new (opening_refusal e)
+  unopened given new log.NoMemory may cause some foreign reads = λ true'. old_or kind old new _ (reads.moments true')
+  unopened given new log.DiskFault may cause some foreign reads = (λ true'. old_or kind old new _ (reads.moments true'), cause.rose refl)
+  unopened given new (log.Foreign which at) may cause some foreign reads = (reads, λ told. inl (some told, foreign told which at refl))
+  unopened given new (log.Halted n) may cause some foreign reads = absurd may
 
   -- ---- a store that is
 
-  module _ (log : CmdLog D) (loaded : Loaded) (s : Stood) (read : tells → store_at (seen old) ≡ Ok s) (is_open : IsOpen tells honest seen (present moment images) log s) (is_loaded : IsLoaded loaded s)
-      (reads : OnlyReads tells honest seen moment images old log.disk) where
+  module _ (log : CmdLog D) (loaded : Loaded) (s : Stood) (read : kind.tells → store_at (kind.seen old) ≡ Ok s) (is_open : IsOpen kind log s) (is_loaded : IsLoaded loaded s)
+      (reads : OnlyReads kind old log.disk) where
     -- it is read from the log's file
-    read_so : tells → ReadsAs (seen old) (number_of log.file) s
+    read_so : kind.tells → ReadsAs (kind.seen old) (number_of log.file) s
     read_so told =
         let at = is_open.at told in
         record {
@@ -78,11 +79,11 @@ module _ {D : Type 0} (tells honest : Type 0) (told_by : honest → tells) (seen
           named = ap number_of at.named;
         }
 
-    pub unstored : (faults : D → ℕ) (given : Option Catalog) (e : StoredError) → RefusesLoaded loaded e → RefusesAsSaid tells honest seen moment images faults given old log.disk (stored_refusal (number_of log.file) e)
-    unstored faults given stored.NoMemory why = λ true'. old_or moment images old log.disk _ (reads.moments true')
-    unstored faults given (stored.Foreign at) (inl odd) =
+    pub unstored : (given : Option Catalog) (e : StoredError) → RefusesLoaded loaded e → RefusesAsSaid kind given old log.disk (stored_refusal (number_of log.file) e)
+    unstored given stored.NoMemory why = λ true'. old_or kind old log.disk _ (reads.moments true')
+    unstored given (stored.Foreign at) (inl odd) =
         (reads, λ told. inr (inl (record { s = s; reads = read_so told; offset = odd.offset; foreign = subst (λ (bytes : List ℕ). IsForeignAt bytes odd.offset) is_loaded.image odd.foreign; place = odd.place })))
-    unstored faults given (stored.Foreign at) (inr odd) = (
+    unstored given (stored.Foreign at) (inr odd) = (
       reads,
       λ told. inr (inr (record {
         s = s;
@@ -107,14 +108,14 @@ module _ {D : Type 0} (tells honest : Type 0) (told_by : honest → tells) (seen
         reached = refl;
       }
 
-      replayed : tells → StandsForReplayed r.catalog (seen old) r.first (kept r.catalog (reached r))
+      replayed : kind.tells → StandsForReplayed r.catalog (kind.seen old) r.first (kept r.catalog (reached r))
       replayed told = record {
         stood = s;
-        stands = subst (λ (d : Files). StandsFor d s) (reads.same told) (open_stands (seen log.disk) log.file log.gate s (is_open.at told));
+        stands = subst (λ (d : Files). StandsFor d s) (reads.same told) (open_stands (kind.seen log.disk) log.file log.gate s (is_open.at told));
         replayed = leads_replayed r.catalog s r.known r.first (reached r) leads;
       }
 
-      is_store : tells → IsStore (seen old) r.catalog
+      is_store : kind.tells → IsStore (kind.seen old) r.catalog
       is_store told = record {
         which = number_of log.file;
         s = s;
@@ -127,7 +128,7 @@ module _ {D : Type 0} (tells honest : Type 0) (told_by : honest → tells) (seen
         few = omega (arith, is.few, is.placed, is_loaded.first);
       }
 
-      goes_on : log.count ≡ loaded.first + length loaded.entries → GoesOn tells honest seen (present moment images) parts (record { database = r.database; catalog = r.catalog; first = r.first; known = r.known; log = log }) (reached r)
+      goes_on : log.count ≡ loaded.first + length loaded.entries → GoesOn kind parts (record { database = r.database; catalog = r.catalog; first = r.first; known = r.known; log = log }) (reached r)
       goes_on count =
           let whole = empty_whole r.catalog is.accepted in
           record {
@@ -142,10 +143,10 @@ module _ {D : Type 0} (tells honest : Type 0) (told_by : honest → tells) (seen
           }
 
       pub restored : HasOneCatalog → (given : Option Catalog) → IfSome given IsOwnCatalog → IfSome given (λ (c : Catalog). r.catalog.text ≡ c.text) → log.count ≡ loaded.first + length loaded.entries
-          → IsRecovered tells honest seen moment images given parts old (record { database = r.database; catalog = r.catalog; first = r.first; known = r.known; log = log }) (reached r)
+          → IsRecovered kind given parts old (record { database = r.database; catalog = r.catalog; first = r.first; known = r.known; log = log }) (reached r)
       restored one given theirs same count =
-          let stood : tells → Stands r.catalog (seen old) r.first (kept r.catalog (reached r)) = λ told. inr (replayed told) in
-          let moments = λ (true' : honest). old_or moment images old log.disk (λ image. Stands r.catalog image r.first (kept r.catalog (reached r))) (reads.moments true') in
+          let stood : kind.tells → Stands r.catalog (kind.seen old) r.first (kept r.catalog (reached r)) = λ told. inr (replayed told) in
+          let moments = λ (true' : kind.honest). old_or kind old log.disk (λ image. Stands r.catalog image r.first (kept r.catalog (reached r))) (reads.moments true') in
           record {
             own = (is.accepted, is.image.own);
             given_one = λ c given_is. of_one_text one r.catalog c is.image.own (subst (λ (o : Option Catalog). IfSome o IsOwnCatalog) given_is theirs).1 (subst (λ (o : Option Catalog). IfSome o (λ (c : Catalog). r.catalog.text ≡ c.text)) given_is same);
@@ -153,13 +154,13 @@ module _ {D : Type 0} (tells honest : Type 0) (told_by : honest → tells) (seen
             was = λ told. inr (is_store told);
             stood = stood;
             moments = moments;
-            stands_on = λ true' n. stays_fewer moment images (StandsForAtLeast r.catalog n) (moment old) log.disk (reads.fewer true');
-            quiet = λ true' only. only_that moment images old log.disk (seen old) _ only (stood (told_by true')) (moments true');
+            stands_on = λ true' n. stays_fewer kind.moment kind.images (StandsForAtLeast r.catalog n) (kind.moment old) log.disk (reads.fewer true');
+            quiet = λ true' only. only_that kind old log.disk (kind.seen old) _ only (stood (told_by true')) (moments true');
           }
 
-      pub another : (faults : D → ℕ) (given : Option Catalog) (e : RecoverError) → DiffersFrom r.catalog given e → RefusesAsSaid tells honest seen moment images faults given old log.disk e
-      another faults given e differs =
-          subst (RefusesAsSaid tells honest seen moment images faults given old log.disk) (sym differs.told) (
+      pub another : (given : Option Catalog) (e : RecoverError) → DiffersFrom r.catalog given e → RefusesAsSaid kind given old log.disk e
+      another given e differs =
+          subst (RefusesAsSaid kind given old log.disk) (sym differs.told) (
             reads,
             record {
               ours = differs.ours;

@@ -1,5 +1,6 @@
 -- What recovery gives, and what it leaves of the disk.
 use Rattle.std.specs.Prelude.{◌≡◌, ◌≢◌, ◌⊎◌, ◌≤◌, ◌+◌, ◌^◌, ℕ, List, length, Option, Some, None}
+use Rattle.ss_disk.specs.Kinds.{DiskKind, present}
 use Rattle.ss_value.specs.FaultCounts.{Rose}
 use Rattle.ss_model.specs.declared.catalog.Catalog.{Catalog}
 use Rattle.ss_model.specs.declared.entry.Listed.{Listed}
@@ -15,7 +16,7 @@ use Rattle.ss_shard.specs.declared.database.Database.{Database}
 use Rattle.ss_shard.specs.Databases.{StandsFor}
 use Rattle.ss_shard.specs.Parts.{IsWholeShard}
 use Rattle.ss_cmdlog.specs.Generation.{Stood}
-use Rattle.ss_cmdlog.specs.Log.{IsOpen, present}
+use Rattle.ss_cmdlog.specs.Log.{IsOpen}
 use Rattle.ss_cmdlog.specs.Opening.{OnlyReads}
 use Rattle.ss_cmdlog.specs.Store.{IsEmpty, entries_of}
 use Rattle.ss_snapshot.specs.EmptyImage.{IsReadFromItsText}
@@ -45,12 +46,12 @@ pub record LeadsTo (catalog : Catalog) (s : Stood) (list : List Listed) (place :
   pub reached : db ≡ after catalog opening list
 
 -- what was recovered stands for this database, and its log is open on a generation that stands for the same
-pub record GoesOn {D : Type 0} (tells honest : Type 0) (seen : D → Files) (now : D → Files → Type 0) (parts : ℕ) (r : Recovered D) (db : Model) : Type 0 where
+pub record GoesOn {D : Type 0} (kind : DiskKind D) (parts : ℕ) (r : Recovered D) (db : Model) : Type 0 where
   pub ready : IsReady r.catalog parts r.database db
   pub had : HadAtMost r.first db
   pub few : r.first ≤ 2 ^ 60
   pub s : Stood
-  pub log : IsOpen tells honest seen now r.log s
+  pub log : IsOpen kind r.log s
   pub count : r.log.count ≡ r.first
   pub leads : LeadsTo r.catalog s r.known r.first db
   pub generation : Replayed r.catalog s r.first (kept r.catalog db)
@@ -60,8 +61,8 @@ abbrev pub recovered_database : {D : Type 0} → Recovered D → Model
 recovered_database r = after r.catalog (empty_database r.catalog) r.known
 
 -- since then a crash leaves what it could leave at first, or what stands for so many executions and for what is kept after them
-abbrev pub LeavesOldOr : {D : Type 0} → (D → ℕ) → (D → ℕ → Files → Type 0) → D → D → (Files → Type 0) → Type 0
-LeavesOldOr moment images old new P = LeavesOnly moment images old new (λ image. present moment images old image ⊎ P image)
+abbrev pub LeavesOldOr : {D : Type 0} → DiskKind D → D → D → (Files → Type 0) → Type 0
+LeavesOldOr kind old new P = LeavesOnly kind.moment kind.images old new (λ image. present kind old image ⊎ P image)
 
 -- an image stands for so many executions as were recovered, and for what is kept of the database after them
 abbrev pub StandsForIt : {D : Type 0} → Recovered D → Model → Files → Type 0
@@ -69,16 +70,16 @@ StandsForIt r db image = Stands r.catalog image r.first (kept r.catalog db)
 
 -- a database was recovered from a disk, which stood for it, or made on an empty one; of the given catalogue, if there is one. What a
 -- crash at some moment could not take, one at no later moment takes
-pub record IsRecovered {D : Type 0} (tells honest : Type 0) (seen : D → Files) (moment : D → ℕ) (images : D → ℕ → Files → Type 0)
+pub record IsRecovered {D : Type 0} (kind : DiskKind D)
     (given : Option Catalog) (parts : ℕ) (old : D) (r : Recovered D) (db : Model) : Type 0 where
   pub own : IsOwnCatalog r.catalog
   pub given_one : (catalog : Catalog) → given ≡ Some catalog → r.catalog ≡ catalog
-  pub goes_on : GoesOn tells honest seen (present moment images) parts r db
-  pub was : tells → IsEmpty (seen old) ⊎ IsStore (seen old) r.catalog
-  pub stood : tells → StandsForIt r db (seen old)
-  pub moments : honest → LeavesOldOr moment images old r.log.disk (StandsForIt r db)
-  pub stands_on : honest → StandsOn r.catalog moment images (moment old) r.log.disk
-  pub quiet : honest → Only (seen old) (present moment images old) → LeavesOnly moment images old r.log.disk (StandsForIt r db)
+  pub goes_on : GoesOn kind parts r db
+  pub was : kind.tells → IsEmpty (kind.seen old) ⊎ IsStore (kind.seen old) r.catalog
+  pub stood : kind.tells → StandsForIt r db (kind.seen old)
+  pub moments : kind.honest → LeavesOldOr kind old r.log.disk (StandsForIt r db)
+  pub stands_on : kind.honest → StandsOn r.catalog kind.moment kind.images (kind.moment old) r.log.disk
+  pub quiet : kind.honest → Only (kind.seen old) (present kind old) → LeavesOnly kind.moment kind.images old r.log.disk (StandsForIt r db)
 
 -- ---- refusals
 
@@ -107,14 +108,14 @@ pub record DiffersFrom (stored : Catalog) (given : Option Catalog) (e : RecoverE
   pub told : e ≡ OtherCatalog stored.text ours.text
 
 -- a refusal, and what it leaves of the disk
-abbrev pub RefusesAsSaid : {D : Type 0} → Type 0 → Type 0 → (D → Files) → (D → ℕ) → (D → ℕ → Files → Type 0) → (D → ℕ) → Option Catalog →
+abbrev pub RefusesAsSaid : {D : Type 0} → DiskKind D → Option Catalog →
     D → D → RecoverError → Type 0
-RefusesAsSaid tells honest seen moment images faults given old new NoMemory = honest → LeavesOldOr moment images old new (MayForm given (seen old))
-RefusesAsSaid tells honest seen moment images faults given old new DiskFault =
-    (honest → LeavesOldOr moment images old new (MayForm given (seen old))) × Rose (faults old) (faults new)
-RefusesAsSaid tells honest seen moment images faults given old new (Foreign which at) =
-    OnlyReads tells honest seen moment images old new × (tells → HasFaultAt (seen old) which at)
-RefusesAsSaid tells honest seen moment images faults given old new (OtherCatalog stored text) =
-    OnlyReads tells honest seen moment images old new × HasOtherText tells (seen old) given stored text
-RefusesAsSaid tells honest seen moment images faults given old new Nothing =
-    OnlyReads tells honest seen moment images old new × (given ≡ None) × (tells → IsEmpty (seen old))
+RefusesAsSaid kind given old new NoMemory = kind.honest → LeavesOldOr kind old new (MayForm given (kind.seen old))
+RefusesAsSaid kind given old new DiskFault =
+    (kind.honest → LeavesOldOr kind old new (MayForm given (kind.seen old))) × Rose (kind.faults old) (kind.faults new)
+RefusesAsSaid kind given old new (Foreign which at) =
+    OnlyReads kind old new × (kind.tells → HasFaultAt (kind.seen old) which at)
+RefusesAsSaid kind given old new (OtherCatalog stored text) =
+    OnlyReads kind old new × HasOtherText kind.tells (kind.seen old) given stored text
+RefusesAsSaid kind given old new Nothing =
+    OnlyReads kind old new × (given ≡ None) × (kind.tells → IsEmpty (kind.seen old))

@@ -1,7 +1,7 @@
 //! A new store.
 
 ghost use Rattle.std.specs.Prelude.{◌≡◌, ◌≤◌, Some, IfOk, IfErr, MatchResult};
-ghost use Rattle.ss_cmdlog.specs.Log.{IsSettled, present};
+ghost use Rattle.ss_cmdlog.specs.Log.{IsSettled};
 ghost use Rattle.ss_cmdlog.specs.Store.{IsEmpty};
 ghost use Rattle.ss_recover.specs.Errors.{forming_refusal};
 ghost use Rattle.ss_recover.specs.Recovering.{IsOwnCatalog, IsRecovered, RefusesAsSaid, recovered_database};
@@ -37,11 +37,11 @@ pub(crate) fn form<D: Disk>(
     requires own { IsOwnCatalog catalog }
     requires some { 1 ≤ partitions }
     requires few { partitions ≤ 8 }
-    requires empty { D.tells → IsEmpty (D.seen disk) }
-    requires settled { D.honest → IsSettled D.seen (present D.moment D.images) disk }
-    ensures recovered { IfOk result (λ r. IsRecovered D.tells D.honest D.seen D.moment D.images (Some catalog) partitions disk r (recovered_database r)) }
-    ensures refused { IfErr result (λ refused. RefusesAsSaid D.tells D.honest D.seen D.moment D.images D.faults (Some catalog) disk refused.1 refused.0) }
-    ensures later { MatchResult result (λ r. D.faults disk ≤ D.faults r.log.disk) (λ refused. D.faults disk ≤ D.faults refused.1) }
+    requires empty { D.kind.tells → IsEmpty (D.kind.seen disk) }
+    requires settled { D.kind.honest → IsSettled D.kind disk }
+    ensures recovered { IfOk result (λ r. IsRecovered D.kind (Some catalog) partitions disk r (recovered_database r)) }
+    ensures refused { IfErr result (λ refused. RefusesAsSaid D.kind (Some catalog) disk refused.1 refused.0) }
+    ensures later { MatchResult result (λ r. D.kind.faults disk ≤ D.kind.faults r.log.disk) (λ refused. D.kind.faults disk ≤ D.kind.faults refused.1) }
 {
     forming_stands();
     one_thing_stands_on::<D>();

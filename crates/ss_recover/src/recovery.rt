@@ -2,7 +2,7 @@
 
 ghost use Rattle.std.specs.Prelude.{◌≡◌, ◌≢◌, ◌⊎◌, ◌≤◌, [], true, false, None, Ok, OnOk, IfOk, IfErr, IfSome, MatchResult};
 ghost use Rattle.ss_value.specs.FaultCounts.{HasCause};
-ghost use Rattle.ss_cmdlog.specs.Log.{IsSettled, present};
+ghost use Rattle.ss_cmdlog.specs.Log.{IsSettled};
 ghost use Rattle.ss_cmdlog.specs.Opening.{OnlyReads};
 ghost use Rattle.ss_cmdlog.specs.Store.{IsEmpty};
 ghost use Rattle.ss_recover.specs.Recovering.{IsOwnCatalog, IsRecovered, RefusesAsSaid, recovered_database};
@@ -22,11 +22,11 @@ use std::alloc::Global;
 /// `CmdLog::open` begins with a sync again, instead of going without, because each of the two promises what a crash
 /// leaves by itself. The second one finds nothing to do.
 fn is_empty<D: Disk>(disk: &mut D) -> Result<bool, Failed>
-    ensures empty { D.tells → result ≡ Ok true → IsEmpty (D.seen disk.old) }
-    ensures stored { D.tells → result ≡ Ok false → (D.seen disk.old).selector ≢ [] }
-    ensures settled { D.honest → OnOk result (IsSettled D.seen (present D.moment D.images) disk.new) }
-    ensures reads { OnlyReads D.tells D.honest D.seen D.moment D.images disk.old disk.new }
-    ensures cause { HasCause (D.faults disk.old) (D.faults disk.new) result }
+    ensures empty { D.kind.tells → result ≡ Ok true → IsEmpty (D.kind.seen disk.old) }
+    ensures stored { D.kind.tells → result ≡ Ok false → (D.kind.seen disk.old).selector ≢ [] }
+    ensures settled { D.kind.honest → OnOk result (IsSettled D.kind disk.new) }
+    ensures reads { OnlyReads D.kind disk.old disk.new }
+    ensures cause { HasCause (D.kind.faults disk.old) (D.kind.faults disk.new) result }
 {
     disk.sync()?;
     let length = disk.len(FileNo::Selector)?;
@@ -61,10 +61,10 @@ pub fn recover<N: Runner, D: Disk>(
     requires own { IfSome catalog IsOwnCatalog }
     requires some { 1 ≤ partitions }
     requires few { partitions ≤ 8 }
-    ensures recovered { IfOk result (λ r. IsRecovered D.tells D.honest D.seen D.moment D.images catalog partitions disk r (recovered_database r)) }
-    ensures refused { IfErr result (λ refused. RefusesAsSaid D.tells D.honest D.seen D.moment D.images D.faults catalog disk refused.1 refused.0) }
-    ensures later { MatchResult result (λ r. D.faults disk ≤ D.faults r.log.disk) (λ refused. D.faults disk ≤ D.faults refused.1) }
-    ensures nothing { D.tells → IsEmpty (D.seen disk) → catalog ≡ None
+    ensures recovered { IfOk result (λ r. IsRecovered D.kind catalog partitions disk r (recovered_database r)) }
+    ensures refused { IfErr result (λ refused. RefusesAsSaid D.kind catalog disk refused.1 refused.0) }
+    ensures later { MatchResult result (λ r. D.kind.faults disk ≤ D.kind.faults r.log.disk) (λ refused. D.kind.faults disk ≤ D.kind.faults refused.1) }
+    ensures nothing { D.kind.tells → IsEmpty (D.kind.seen disk) → catalog ≡ None
         → IfErr result (λ refused. (refused.0 ≡ RecoverError.Nothing) ⊎ (refused.0 ≡ RecoverError.DiskFault)) × OnOk result ⊥ }
 {
     let Ok(empty) = is_empty(&mut disk) else {

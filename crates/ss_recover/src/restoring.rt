@@ -65,10 +65,10 @@ pub(crate) fn restore<N: Runner, D: Disk>(
     requires own { IfSome given IsOwnCatalog }
     requires some { 1 ≤ partitions }
     requires few { partitions ≤ 8 }
-    requires stored { D.tells → (D.seen disk).selector ≢ [] }
-    ensures recovered { IfOk result (λ r. IsRecovered D.tells D.honest D.seen D.moment D.images given partitions disk r (recovered_database r)) }
-    ensures refused { IfErr result (λ refused. RefusesAsSaid D.tells D.honest D.seen D.moment D.images D.faults given disk refused.1 refused.0) }
-    ensures later { MatchResult result (λ r. D.faults disk ≤ D.faults r.log.disk) (λ refused. D.faults disk ≤ D.faults refused.1) }
+    requires stored { D.kind.tells → (D.kind.seen disk).selector ≢ [] }
+    ensures recovered { IfOk result (λ r. IsRecovered D.kind given partitions disk r (recovered_database r)) }
+    ensures refused { IfErr result (λ refused. RefusesAsSaid D.kind given disk refused.1 refused.0) }
+    ensures later { MatchResult result (λ r. D.kind.faults disk ≤ D.kind.faults r.log.disk) (λ refused. D.kind.faults disk ≤ D.kind.faults refused.1) }
 {
     a_value_has_one_answer();
     let (log, loaded) = match CmdLog::open(alloc, disk) {

@@ -11,7 +11,7 @@ use ss_report_laws::a_report_has_one_list;
 
 /// In a whole run each streaming procedure takes each batch of its workflow that it had not taken before exactly once.
 pub fn whole_runs_take_each_once<D: Disk>()
-    ensures { WholeRunsTakeEachOnce (disk_of D.tells D.honest D.seen D.moment D.images D.faults) }
+    ensures { WholeRunsTakeEachOnce (disk_of D.kind) }
 {
     takes_each_once();
 }
@@ -19,7 +19,7 @@ pub fn whole_runs_take_each_once<D: Disk>()
 /// Two whole runs of the requests of one client alone, from one place and from where the same is kept, have one list and
 /// the same bytes, where no step was pending before them, one accepted no push, and neither left a request out.
 pub fn whole_runs_of_one_client<D: Disk>()
-    ensures { WholeRunsOfOneClient (disk_of D.tells D.honest D.seen D.moment D.images D.faults) }
+    ensures { WholeRunsOfOneClient (disk_of D.kind) }
 {
     one_client_one_report();
 }
@@ -27,7 +27,7 @@ pub fn whole_runs_of_one_client<D: Disk>()
 /// Two whole runs of the same requests with one text have one list and begin at one place, on disks that tell their contents
 /// and had the same before them: what a run wrote determines what ran.
 pub fn whole_runs_have_one_list<D: Disk>()
-    ensures { WholeRunsHaveOneList (disk_of D.tells D.honest D.seen D.moment D.images D.faults) }
+    ensures { WholeRunsHaveOneList (disk_of D.kind) }
 {
     runs_hold_from_each::<D>();
     a_report_has_one_list();

@@ -1,6 +1,6 @@
 //! What files stand for is one thing, and goes on with the entries behind it.
 
-ghost use Rattle.ss_cmdlog.specs.Log.{present};
+ghost use Rattle.ss_disk.specs.Kinds.{present};
 ghost use Rattle.ss_standing.specs.Laws.{ImageTellsKept, EntriesTellList, StandsForOne, StandsForOneText, GenerationsGoOn};
 ghost use Rattle.ss_standing.specs.Laws.{FrontsStand, FlushesLeaveFronts, FormingStands, ReceiptsBoundFronts};
 ghost use Rattle.ss_standing.specs.Behind.{BehindGoesOn};
@@ -88,8 +88,8 @@ pub fn counts_are_executions()
 /// A flush of the entries behind those that a generation has leaves prefixes of the list (`over_flush`), and what stands
 /// of a list goes on where the list does (`grows`).
 pub fn prefixes_go_on<D: Disk>()
-    ensures over_flush { KeepsOverFlush D D.moment D.images }
-    ensures grows { KeepsGoOn D D.moment D.images }
+    ensures over_flush { KeepsOverFlush D D.kind.moment D.kind.images }
+    ensures grows { KeepsGoOn D D.kind.moment D.kind.images }
 {
     replays_go_on();
     fronts_stand();
@@ -104,7 +104,7 @@ pub fn behind_goes_on()
 /// After a flush of the entries behind those that a generation has, a generation with all of them stands for the whole
 /// list, and one with the first groups for as many entries more as these have.
 pub fn flushes_keep<D: Disk>()
-    ensures { FlushesKeep D D.moment D.images }
+    ensures { FlushesKeep D D.kind.moment D.kind.images }
 {
     replays_go_on();
     generations_go_on();
@@ -115,7 +115,7 @@ pub fn flushes_keep<D: Disk>()
 
 /// Where each image that a crash may leave now stands for something, a log's receipt is one for executions.
 pub fn log_receipts_tell<D: Disk>()
-    ensures { LogReceiptsTell D (present D.moment D.images) }
+    ensures { LogReceiptsTell D (present D.kind) }
 {
     counts_are_executions();
 }
@@ -123,7 +123,7 @@ pub fn log_receipts_tell<D: Disk>()
 /// Where each image that a crash may leave stands for something, and a log keeps its counts from each moment to the later
 /// ones, so many executions as a crash at some moment could not take, a crash at no later moment takes.
 pub fn kept_counts_stand_on<D: Disk>()
-    ensures { KeptCountsStandOn D D.moment D.images }
+    ensures { KeptCountsStandOn D D.kind.moment D.kind.images }
 {
     counts_are_executions();
 }
@@ -131,7 +131,7 @@ pub fn kept_counts_stand_on<D: Disk>()
 /// Where a crash at each moment leaves something, and all that it leaves stands for one thing, so many executions as a
 /// crash at some moment could not take, a crash at no later moment takes.
 pub fn one_thing_stands_on<D: Disk>()
-    ensures { OneThingStandsOn D D.moment D.images }
+    ensures { OneThingStandsOn D D.kind.moment D.kind.images }
 {
     stands_for_one();
 }

@@ -24,7 +24,7 @@ files true = batch_files
 
 -- of crashes nothing is said
 abbrev told : Bool → Bool → DiskChange
-told = disk_of (Unit {0}) ⊥ files (λ disk. 0) (λ disk moment image. Unit {0}) (λ disk. 0)
+told = disk_of (record { tells = Unit {0}; honest = ⊥; seen = files; moment = λ disk. 0; images = λ disk moment image. Unit {0}; faults = λ disk. 0 })
 
 session : WholeSession accounts [] 0 [] (bytes_of lines) (told false true) start
 session = record {

@@ -1,5 +1,6 @@
 -- The laws at a store that is made on an empty disk, run and closed: a client's batch goes through the workflow that splits and joins.
 use Rattle.std.proofs.Common.{◌≡◌, ◌⊎◌, ◌<◌, ◌==◌, ⊎_elim, ap, ◌∙◌, ℕ, zero, suc, pos, codes, List, [], ◌∷◌, ◌++◌, replicate, take, true, false, cond, Some, None, ◌+◌, ◌≤◌, inl, inr, refl, sym, subst, arith, append-nil}
+use Rattle.ss_disk.specs.Kinds.{DiskKind}
 use Rattle.std.specs.List.{AllByRecursion, cons_option, filter_map}
 use Rattle.std.proofs.lemmas.Bool.{cases_lt}
 use Rattle.std.proofs.lemmas.List.Elements.{All-nil}
@@ -27,7 +28,7 @@ use Rattle.ss_disk.specs.Moments.{LeavesOnly, StaysFrom}
 use Rattle.ss_disk.proofs.CallerLemmas.{no_call, one_call, stays_none}
 use Rattle.ss_cmdlog.specs.Generation.{Stood, IsGroup, front_bytes}
 use Rattle.ss_cmdlog.specs.Formatting.{fresh}
-use Rattle.ss_cmdlog.specs.Log.{IsSettled, present}
+use Rattle.ss_cmdlog.specs.Log.{IsSettled}
 use Rattle.ss_cmdlog.specs.Store.{IsEmpty, StandsFor, entries_of}
 use Rattle.ss_cmdlog.proofs.CallerLemmas.{files_stand_for_one}
 use Rattle.ss_standing.specs.Image.{empty_image_of}
@@ -85,11 +86,14 @@ seen (suc (suc n)) = batch_files
 abbrev images : ℕ → ℕ → Files → Type 0
 images disk t image = image ≡ seen t
 
+abbrev kind : DiskKind ℕ
+kind = record { tells = Unit {0}; honest = Unit {0}; seen = seen; moment = λ disk. disk; images = images; faults = λ disk. 0 }
+
 abbrev change : ℕ → ℕ → DiskChange
-change = disk_of (Unit {0}) (Unit {0}) seen (λ disk. disk) images (λ disk. 0)
+change = disk_of kind
 
 -- nothing is pending on it
-settled_so : (disk : ℕ) → IsSettled seen (present (λ disk. disk) images) disk
+settled_so : (disk : ℕ) → IsSettled kind disk
 settled_so disk image is = is
 
 next_call : (n : ℕ) (P : Files → Type 0) → P (seen n) → P (seen (suc n)) → LeavesOnly (λ disk. disk) images n (suc n) P
@@ -287,18 +291,18 @@ goes_on_behind_front runs stops law = law.stopped 5 workflow (request ∷ []) []
 nothing : NothingRan workflow (change 0 1)
 nothing = next_call_anew 0 (λ image. IsEmpty (seen 0) × Stands workflow image 0 (kept workflow start)) (refl, new_stands)
 
-stands_still : NothingRanStands (Unit {0}) (Unit {0}) seen (λ disk. disk) images (λ disk. 0) → AtEachMoment (change 0 1) (λ image. Stands workflow image 0 (kept workflow start))
+stands_still : NothingRanStands kind → AtEachMoment (change 0 1) (λ image. Stands workflow image 0 (kept workflow start))
 stands_still law = law workflow start 0 0 1 nothing_stands nothing
 
 -- a call that reached no disk
-uncalled : UncalledIsOnlyRead (Unit {0}) (Unit {0}) seen (λ disk. disk) images (λ disk. 0) → OnlyRead (change 1 1)
+uncalled : UncalledIsOnlyRead kind → OnlyRead (change 1 1)
 uncalled law = law 1 1 refl
 
 -- nothing was pending before the batch
-quiet : QuietLeaves (Unit {0}) (Unit {0}) seen (λ disk. disk) images (λ disk. 0) (Prefix workflow start 0 whole_batch) → LeavesOnly (λ disk. disk) images 1 2 (Prefix workflow start 0 whole_batch)
+quiet : QuietLeaves kind (Prefix workflow start 0 whole_batch) → LeavesOnly (λ disk. disk) images 1 2 (Prefix workflow start 0 whole_batch)
 quiet law = law 1 2 tt (settled_so 1) (none_stands workflow start 0 whole_batch new_files new_stands) (next_call_anew 1 (Prefix workflow start 0 whole_batch) batch_prefix)
 
-stays : QuietStays (Unit {0}) (Unit {0}) seen (λ disk. disk) images (λ disk. 0) → LeavesOnly (λ disk. disk) images 1 1 (λ image. image ≡ seen 1)
+stays : QuietStays kind → LeavesOnly (λ disk. disk) images 1 1 (λ image. image ≡ seen 1)
 stays law = law 1 1 tt (settled_so 1) (λ true'. no_call (λ disk. disk) images 1 (λ image. image ≡ seen 1) (λ image is. is))
 
 -- ---- what was owed

@@ -33,7 +33,7 @@ abbrev nothing : Files
 nothing = record { selector = []; first = []; second = [] }
 
 abbrev change : Unit {0} → Unit {0} → DiskChange
-change = disk_of ⊥ ⊥ (λ disk. nothing) (λ disk. 0) (λ disk moment image. Unit {0}) (λ disk. 0)
+change = disk_of (record { tells = ⊥; honest = ⊥; seen = λ disk. nothing; moment = λ disk. 0; images = λ disk moment image. Unit {0}; faults = λ disk. 0 })
 
 -- a list with its report, from the empty database
 module _ (catalog : Catalog) (ok : Accepted catalog) (requests : List Request) (list : List Listed) (text : List ℕ) (replays : Replays catalog (empty_database catalog) list)
@@ -97,7 +97,7 @@ files false = nothing
 files true = batch_files
 
 abbrev told : Bool → Bool → DiskChange
-told = disk_of (Unit {0}) ⊥ files (λ disk. 0) (λ disk moment image. Unit {0}) (λ disk. 0)
+told = disk_of (record { tells = Unit {0}; honest = ⊥; seen = files; moment = λ disk. 0; images = λ disk moment image. Unit {0}; faults = λ disk. 0 })
 
 told_run : SessionsHoldFromEach told → IsWholeRun 5 workflow pushes (empty_database workflow) 0 whole_batch push_text (told false true)
 told_run law = record {

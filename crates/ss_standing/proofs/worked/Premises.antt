@@ -1,5 +1,6 @@
 -- Each law at a store that meets its premises: a batch through the workflow that splits and joins, behind the image of a new store.
 use Rattle.std.proofs.Common.{◌^◌, ◌<◌, ◌≡◌, ℕ, drop, ◌∙◌, pos, inl, inr, List, [], ◌∷◌, ◌++◌, length, replicate, refl, sym, ap, subst, arith}
+use Rattle.ss_disk.specs.Kinds.{DiskKind, present}
 use Rattle.std.specs.List.{flat_map}
 use Rattle.std.proofs.lemmas.List.Elements.{All-from_recursion}
 use Rattle.ss_value.specs.declared.value.Value.TheVariants.{Int}
@@ -19,7 +20,7 @@ use Rattle.ss_disk.specs.Files.{Files}
 use Rattle.ss_disk.specs.Moments.{AnyMoment, LeavesOnly}
 use Rattle.ss_cmdlog.specs.Generation.{Stood, IsGroup, front_bytes}
 use Rattle.ss_cmdlog.specs.Formatting.{LeavesSome, fresh}
-use Rattle.ss_cmdlog.specs.Log.{IsReceipted, HasAtLeast, KeepsCounts, present}
+use Rattle.ss_cmdlog.specs.Log.{IsReceipted, HasAtLeast, KeepsCounts}
 use Rattle.ss_cmdlog.specs.Groups.{groups_of}
 use Rattle.ss_cmdlog.specs.Store.{StandsFor, StandsForPart}
 use Rattle.ss_standing.specs.Image.{text_bytes, empty_image_of}
@@ -148,6 +149,9 @@ at_least = record { count = 5; k = kept workflow (after workflow start whole_bat
 abbrev images : Unit {0} → ℕ → Files → Type 0
 images disk t image = image ≡ files
 
+abbrev kind : DiskKind (Unit {0})
+kind = record { tells = Unit {0}; honest = Unit {0}; seen = λ disk. files; moment = λ disk. 0; images = images; faults = λ disk. 0 }
+
 stays : (P : Files → Type 0) → P files → LeavesOnly (λ disk. 0) images tt tt P
 stays P holds = record { later = omega arith; kept = λ t image le left. left; keeps = λ t image le left. left; each = λ t image from to is. subst P (sym is) holds }
 
@@ -159,10 +163,10 @@ flushes : LeavesOnly (λ disk. 0) images tt tt (StandsForPart (fresh (empty_imag
 flushes = stays (StandsForPart (fresh (empty_image_of workflow)) (groups_of entries)) part
 
 -- with a receipt of the log for all of it
-receipted : IsReceipted (present (λ disk. 0) images) 5 tt
+receipted : IsReceipted (present kind) 5 tt
 receipted image is = (store, subst (λ (f : Files). StandsFor f store) (sym is) files_stand, omega arith)
 
-each_stands : (image : Files) → present (λ disk. 0) images tt image → StandsForAtLeast workflow 0 image
+each_stands : (image : Files) → present kind tt image → StandsForAtLeast workflow 0 image
 each_stands image is = subst (StandsForAtLeast workflow 0) (sym is) (record { count = 5; k = kept workflow (after workflow start whole_batch); stands = stands; enough = omega arith })
 
 -- and counts that are kept

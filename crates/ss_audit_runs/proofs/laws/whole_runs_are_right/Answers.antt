@@ -4,5 +4,5 @@ use Rattle.ss_audit_runs.proofs.laws.whole_runs_are_right.Goals as goal
 
 pub returns : goal.returns
 returns g c =
-    whole_runs_are_right (disk_of g.D.Disk.tells g.D.Disk.honest g.D.Disk.seen g.D.Disk.moment g.D.Disk.images g.D.Disk.faults)
+    whole_runs_are_right (disk_of g.D.Disk.kind)
     c.runs_hold_from_each.ensures c.stands_for_one.ensures c.kept_carries.ensures c.printed_is_right.ensures

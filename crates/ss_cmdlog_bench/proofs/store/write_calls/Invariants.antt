@@ -1,11 +1,11 @@
 use Rattle.std.proofs.Common.{◌≡◌, ◌≤◌, ◌-◌}
 use Rattle.ss_cmdlog.specs.Generation.{Stood}
-use Rattle.ss_cmdlog.specs.Log.{IsOpen, present}
+use Rattle.ss_cmdlog.specs.Log.{IsOpen}
 use Rattle.ss_cmdlog_bench.proofs.store.write_calls.Given as goal
 
 abbrev pub invariant-loop-written : goal.invariant-loop-written
 invariant-loop-written g l = record {
-  opened : (s : Stood) × IsOpen g.D.Disk.tells g.D.Disk.honest g.D.Disk.seen (present g.D.Disk.moment g.D.Disk.images) l.log s;
+  opened : (s : Stood) × IsOpen g.D.Disk.kind l.log s;
   count : l.log.count ≡ l.written;
   within : l.written ≤ l.all;
 }

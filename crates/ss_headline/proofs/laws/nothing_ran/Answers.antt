@@ -2,7 +2,7 @@ use Rattle.ss_headline.proofs.Untouched.{uncalled, nothing_ran_stands}
 use Rattle.ss_headline.proofs.laws.nothing_ran.Goals as goal
 
 pub returns-clause-uncalled : goal.returns-clause-uncalled
-returns-clause-uncalled g c = uncalled g.D.Disk.tells g.D.Disk.honest g.D.Disk.seen g.D.Disk.moment g.D.Disk.images g.D.Disk.faults
+returns-clause-uncalled g c = uncalled g.D.Disk.kind
 
 pub returns-clause-stands : goal.returns-clause-stands
-returns-clause-stands g c = nothing_ran_stands g.D.Disk.tells g.D.Disk.honest g.D.Disk.seen g.D.Disk.moment g.D.Disk.images g.D.Disk.faults c.stands_for_one.ensures
+returns-clause-stands g c = nothing_ran_stands g.D.Disk.kind c.stands_for_one.ensures

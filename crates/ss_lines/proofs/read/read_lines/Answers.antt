@@ -28,7 +28,7 @@ loop-taken-preserved g c =
     let number : c.take.new.self.number ≤ c.loop-taken.splitter.number + length c.split_at.result.0.now = search rules in
     record {
       read =
-          read_more (g.S.Source.left c.args.source.now) (g.S.Source.left c.loop-taken.source) (g.S.Source.left c.pull.new.self) c.loop-taken.splitter c.take.new.self
+          read_more (g.S.Source.kind.left c.args.source.now) (g.S.Source.kind.left c.loop-taken.source) (g.S.Source.kind.left c.pull.new.self) c.loop-taken.splitter c.take.new.self
           c.loop-taken.taken c.in-Ok.count c.split_at.result.0.now
           c.loop-taken.invariant.read (rw c.split_at.ensures.front c.in-Ok.ensures.bytes.0) c.split_at.ensures.front_len
           (search rules);

@@ -4,10 +4,10 @@ use Rattle.ss_lines.proofs.read.read_lines.Given as goal
 
 abbrev pub invariant-loop-taken : goal.invariant-loop-taken
 invariant-loop-taken g l = record {
-  read : IsRead (g.S.Source.left l.fn.source) (g.S.Source.left l.source) l.splitter l.taken;
+  read : IsRead (g.S.Source.kind.left l.fn.source) (g.S.Source.kind.left l.source) l.splitter l.taken;
   few : l.taken ≤ 67108865;
   number : l.splitter.number ≤ l.taken + 1;
-  later : g.S.Source.faults l.fn.source ≤ g.S.Source.faults l.source;
+  later : g.S.Source.kind.faults l.fn.source ≤ g.S.Source.kind.faults l.source;
 }
 
 abbrev pub decreases-loop-taken : goal.decreases-loop-taken

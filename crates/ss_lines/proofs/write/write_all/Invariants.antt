@@ -4,9 +4,9 @@ use Rattle.ss_lines.proofs.write.write_all.Given as goal
 
 abbrev pub invariant-loop-at : goal.invariant-loop-at
 invariant-loop-at g l = record {
-  front : Appends (g.K.Sink.written l.fn.sink) (g.K.Sink.written l.sink) (take l.at l.bytes);
+  front : Appends (g.K.Sink.kind.written l.fn.sink) (g.K.Sink.kind.written l.sink) (take l.at l.bytes);
   within : l.at ≤ length l.bytes;
-  later : g.K.Sink.faults l.fn.sink ≤ g.K.Sink.faults l.sink;
+  later : g.K.Sink.kind.faults l.fn.sink ≤ g.K.Sink.kind.faults l.sink;
 }
 
 abbrev pub decreases-loop-at : goal.decreases-loop-at

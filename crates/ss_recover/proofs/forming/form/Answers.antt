@@ -4,16 +4,14 @@ use Rattle.ss_recover.proofs.forming.form.Goals as goal
 
 pub returns-in-Ok-format-clause-recovered : goal.returns-in-Ok-format-clause-recovered
 returns-in-Ok-format-clause-recovered g c =
-    let d = g.D.Disk in
     let spelled = c.as_slice.ensures ∙ c.in-Ok.ensures.ok in
     rw c.new.ensures (
-    formed d.tells d.honest g.met.D.Disk.honest_tells d.seen d.moment d.images c.args.catalog c.requires.own c.forming_stands.ensures c.as_slice.result.now spelled c.args.disk c.requires.empty
+    formed g.D.Disk.kind g.met.D.Disk.honest_tells c.args.catalog c.requires.own c.forming_stands.ensures c.as_slice.result.now spelled c.args.disk c.requires.empty
     c.args.partitions c.in-Ok-opening.database c.in-Ok-format.log c.in-Ok-opening.ensures.is_whole c.in-Ok-opening.ensures.stands c.in-Ok-format.ensures.open c.in-Ok-format.ensures.count c.in-Ok-format.ensures.moments c.in-Ok-format.ensures.some c.one_thing_stands_on.ensures)
 
 pub returns-in-Err-clause-refused : goal.returns-in-Err-clause-refused
 returns-in-Err-clause-refused g c =
-    let d = g.D.Disk in
     let spelled = c.as_slice.ensures ∙ c.in-Ok.ensures.ok in
     rw c.refusal.ensures (
-    unformed d.tells d.honest g.met.D.Disk.honest_tells d.seen d.moment d.images c.args.catalog c.requires.own c.forming_stands.ensures c.as_slice.result.now spelled c.args.disk c.requires.empty
-    d.faults c.in-Err.disk c.in-Err.refused c.in-Err.ensures.refusals c.in-Err.ensures.cause c.in-Err.ensures.moments)
+    unformed g.D.Disk.kind g.met.D.Disk.honest_tells c.args.catalog c.requires.own c.forming_stands.ensures c.as_slice.result.now spelled c.args.disk c.requires.empty
+    c.in-Err.disk c.in-Err.refused c.in-Err.ensures.refusals c.in-Err.ensures.cause c.in-Err.ensures.moments)

@@ -6,30 +6,26 @@ use Rattle.ss_recover.proofs.recovery.recover.Goals as goal
 
 pub returns-then-not-empty-clause-recovered : goal.returns-then-not-empty-clause-recovered
 returns-then-not-empty-clause-recovered g c =
-    let d = g.D.Disk in
     IfOk-weaker c.restore.result _ _
-    (λ r found. recovered_since d.tells d.honest g.met.D.Disk.honest_tells d.seen d.moment d.images c.args.catalog c.args.disk c.is_empty.new.disk c.is_empty.ensures.reads c.args.partitions r (recovered_database r) found)
+    (λ r found. recovered_since g.D.Disk.kind g.met.D.Disk.honest_tells c.args.catalog c.args.disk c.is_empty.new.disk c.is_empty.ensures.reads c.args.partitions r (recovered_database r) found)
     c.restore.ensures.recovered
 
 pub returns-then-not-empty-clause-refused : goal.returns-then-not-empty-clause-refused
 returns-then-not-empty-clause-refused g c =
-    let d = g.D.Disk in
     IfErr-weaker c.restore.result _ _
-    (λ refused said. refused_since d.tells d.honest g.met.D.Disk.honest_tells d.seen d.moment d.images c.args.catalog c.args.disk c.is_empty.new.disk c.is_empty.ensures.reads d.faults refused.1 c.is_empty.ensures.cause.later refused.0 said)
+    (λ refused said. refused_since g.D.Disk.kind g.met.D.Disk.honest_tells c.args.catalog c.args.disk c.is_empty.new.disk c.is_empty.ensures.reads refused.1 c.is_empty.ensures.cause.later refused.0 said)
     c.restore.ensures.refused
 
 pub returns-in-Some-clause-recovered : goal.returns-in-Some-clause-recovered
 returns-in-Some-clause-recovered g c =
-    let d = g.D.Disk in
     rw c.in-Some.is (
     IfOk-weaker c.form.result _ _
-    (λ r found. recovered_since d.tells d.honest g.met.D.Disk.honest_tells d.seen d.moment d.images (Some c.in-Some.catalog) c.args.disk c.is_empty.new.disk c.is_empty.ensures.reads c.args.partitions r (recovered_database r) found)
+    (λ r found. recovered_since g.D.Disk.kind g.met.D.Disk.honest_tells (Some c.in-Some.catalog) c.args.disk c.is_empty.new.disk c.is_empty.ensures.reads c.args.partitions r (recovered_database r) found)
     c.form.ensures.recovered)
 
 pub returns-in-Some-clause-refused : goal.returns-in-Some-clause-refused
 returns-in-Some-clause-refused g c =
-    let d = g.D.Disk in
     rw c.in-Some.is (
     IfErr-weaker c.form.result _ _
-    (λ refused said. refused_since d.tells d.honest g.met.D.Disk.honest_tells d.seen d.moment d.images (Some c.in-Some.catalog) c.args.disk c.is_empty.new.disk c.is_empty.ensures.reads d.faults refused.1 c.is_empty.ensures.cause.later refused.0 said)
+    (λ refused said. refused_since g.D.Disk.kind g.met.D.Disk.honest_tells (Some c.in-Some.catalog) c.args.disk c.is_empty.new.disk c.is_empty.ensures.reads refused.1 c.is_empty.ensures.cause.later refused.0 said)
     c.form.ensures.refused)

@@ -11,32 +11,28 @@ stored_in-requires-clause-recordable g c =
 
 pub returns-in-Err-clause-refused : goal.returns-in-Err-clause-refused
 returns-in-Err-clause-refused g c =
-    let d = g.D.Disk in
     rw c.unopened.ensures (
-    unopened d.tells d.honest g.met.D.Disk.honest_tells d.seen d.moment d.images c.args.disk d.faults c.args.given c.in-Err.disk c.in-Err.refused c.in-Err.ensures.refusals c.in-Err.ensures.cause c.requires.stored
+    unopened g.D.Disk.kind g.met.D.Disk.honest_tells c.args.disk c.args.given c.in-Err.disk c.in-Err.refused c.in-Err.ensures.refusals c.in-Err.ensures.cause c.requires.stored
     c.in-Err.ensures.foreign (record { same = c.in-Err.ensures.same; moments = c.in-Err.ensures.moments; fewer = c.in-Err.ensures.fewer }))
 
 pub returns-in-Err-stored_in-clause-refused : goal.returns-in-Err-stored_in-clause-refused
 returns-in-Err-stored_in-clause-refused g c =
-    let d = g.D.Disk in
     let (s, read, is_open, is_loaded, stood) = c.in-Ok.ensures.open in
     rw (c.into_disk.ensures, c.unstored.ensures, c.file_number.ensures) (
-    unstored d.tells d.honest g.met.D.Disk.honest_tells d.seen d.moment d.images c.args.disk c.in-Ok.opened.0 c.in-Ok.opened.1 s read is_open is_loaded (record { same = c.in-Ok.ensures.same; moments = c.in-Ok.ensures.moments; fewer = c.in-Ok.ensures.fewer })
-    d.faults c.args.given c.in-Err-stored_in.refused c.in-Err-stored_in.ensures.refused)
+    unstored g.D.Disk.kind g.met.D.Disk.honest_tells c.args.disk c.in-Ok.opened.0 c.in-Ok.opened.1 s read is_open is_loaded (record { same = c.in-Ok.ensures.same; moments = c.in-Ok.ensures.moments; fewer = c.in-Ok.ensures.fewer })
+    c.args.given c.in-Err-stored_in.refused c.in-Err-stored_in.ensures.refused)
 
 pub returns-in-Ok-agreed-clause-recovered : goal.returns-in-Ok-agreed-clause-recovered
 returns-in-Ok-agreed-clause-recovered g c =
-    let d = g.D.Disk in
     let r = c.in-Ok-stored_in.stored in
     let (s, read, is_open, is_loaded, stood) = c.in-Ok.ensures.open in
     rw c.in-Ok-agreed.ensures.ok (
-    restored d.tells d.honest g.met.D.Disk.honest_tells d.seen d.moment d.images c.args.disk c.in-Ok.opened.0 c.in-Ok.opened.1 s read is_open is_loaded (record { same = c.in-Ok.ensures.same; moments = c.in-Ok.ensures.moments; fewer = c.in-Ok.ensures.fewer })
+    restored g.D.Disk.kind g.met.D.Disk.honest_tells c.args.disk c.in-Ok.opened.0 c.in-Ok.opened.1 s read is_open is_loaded (record { same = c.in-Ok.ensures.same; moments = c.in-Ok.ensures.moments; fewer = c.in-Ok.ensures.fewer })
     c.args.partitions r c.in-Ok-stored_in.ensures.ok c.a_value_has_one_answer.ensures.catalog c.args.given c.requires.own c.in-Ok-agreed.ensures.text c.in-Ok.ensures.count)
 
 pub returns-in-Err-agreed-clause-refused : goal.returns-in-Err-agreed-clause-refused
 returns-in-Err-agreed-clause-refused g c =
-    let d = g.D.Disk in
     let (s, read, is_open, is_loaded, stood) = c.in-Ok.ensures.open in
     rw c.into_disk-in-Err-agreed.ensures (
-    another d.tells d.honest g.met.D.Disk.honest_tells d.seen d.moment d.images c.args.disk c.in-Ok.opened.0 c.in-Ok.opened.1 s read is_open is_loaded (record { same = c.in-Ok.ensures.same; moments = c.in-Ok.ensures.moments; fewer = c.in-Ok.ensures.fewer })
-    c.args.partitions c.in-Ok-stored_in.stored c.in-Ok-stored_in.ensures.ok d.faults c.args.given c.in-Err-agreed.refused c.in-Err-agreed.ensures.other)
+    another g.D.Disk.kind g.met.D.Disk.honest_tells c.args.disk c.in-Ok.opened.0 c.in-Ok.opened.1 s read is_open is_loaded (record { same = c.in-Ok.ensures.same; moments = c.in-Ok.ensures.moments; fewer = c.in-Ok.ensures.fewer })
+    c.args.partitions c.in-Ok-stored_in.stored c.in-Ok-stored_in.ensures.ok c.args.given c.in-Err-agreed.refused c.in-Err-agreed.ensures.other)

@@ -3,4 +3,4 @@ use Rattle.ss_run_laws.proofs.Done.{whole_runs_of_one_client}
 use Rattle.ss_run_laws.proofs.whole_runs.whole_runs_of_one_client.Goals as goal
 
 pub returns : goal.returns
-returns g c = whole_runs_of_one_client (disk_of g.D.Disk.tells g.D.Disk.honest g.D.Disk.seen g.D.Disk.moment g.D.Disk.images g.D.Disk.faults) c.one_client_one_report.ensures
+returns g c = whole_runs_of_one_client (disk_of g.D.Disk.kind) c.one_client_one_report.ensures

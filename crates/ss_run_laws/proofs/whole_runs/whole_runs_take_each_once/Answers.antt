@@ -3,4 +3,4 @@ use Rattle.ss_run_laws.proofs.Done.{whole_runs_take_each_once}
 use Rattle.ss_run_laws.proofs.whole_runs.whole_runs_take_each_once.Goals as goal
 
 pub returns : goal.returns
-returns g c = whole_runs_take_each_once (disk_of g.D.Disk.tells g.D.Disk.honest g.D.Disk.seen g.D.Disk.moment g.D.Disk.images g.D.Disk.faults) c.takes_each_once.ensures
+returns g c = whole_runs_take_each_once (disk_of g.D.Disk.kind) c.takes_each_once.ensures

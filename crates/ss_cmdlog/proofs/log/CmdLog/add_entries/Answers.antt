@@ -23,7 +23,7 @@ loop-rest-init g c = record {
   later = omega arith;
   fewer = omega arith;
   nothing = λ none. refl;
-  so_far = begun g.D.Disk.tells g.D.Disk.honest g.D.Disk.seen g.D.Disk.moment g.D.Disk.images g.met.D.Disk.honest_tells c.args.self.now c.args.entries.now;
+  so_far = begun g.D.Disk.kind g.met.D.Disk.honest_tells c.args.self.now c.args.entries.now;
 }
 
 pub returns-in_err-next-clause-adds : goal.returns-in_err-next-clause-adds
@@ -32,7 +32,7 @@ returns-in_err-next-clause-adds g c = λ s is.
     let so_far = c.loop-rest.invariant.so_far in
     record {
       done = λ ok. absurd (not_both c.from_residual.result p.0 p.1 ok);
-      kept = λ refused. open_so_far g.D.Disk.tells g.D.Disk.honest g.D.Disk.seen g.D.Disk.moment g.D.Disk.images c.args.self.now c.loop-rest.self c.args.entries.now c.loop-rest.rest.now so_far s is;
+      kept = λ refused. open_so_far g.D.Disk.kind c.args.self.now c.loop-rest.self c.args.entries.now c.loop-rest.rest.now so_far s is;
       moments = λ honest. so_far.moments honest s is;
       stays = λ honest. so_far.stays honest s is;
     }
@@ -44,21 +44,21 @@ returns-in_err-write_group-clause-adds g c = λ s is.
     let first = take c.in_ok-next.next.number c.loop-rest.rest.now in
     let group = first_are_group c.loop-rest.rest.now c.in_ok-next.next.number c.in_ok-next.next.body.items c.in_ok-next.ensures.within.0 c.in_ok-next.ensures.within.1 c.in_ok-next.ensures.body.0 c.in_ok-next.ensures.body.1 c.loop-rest.invariant.recordable c.in_ok-next.ensures.typed in
     let counts : c.in_ok-next.next.number ≡ length first = sym (length-take-le c.in_ok-next.next.number c.loop-rest.rest.now c.in_ok-next.ensures.within.1) in
-    let adds : (t : Stood) → IsOpen g.D.Disk.tells g.D.Disk.honest g.D.Disk.seen (λ disk. g.D.Disk.images disk (g.D.Disk.moment disk)) c.loop-rest.self t
-    → AddsGroup g.D.Disk.tells g.D.Disk.honest g.D.Disk.seen g.D.Disk.moment g.D.Disk.images c.loop-rest.self c.write_group.new.self c.write_group.result t first =
+    let adds : (t : Stood) → IsOpen g.D.Disk.kind c.loop-rest.self t
+    → AddsGroup g.D.Disk.kind c.loop-rest.self c.write_group.new.self c.write_group.result t first =
     λ t open'. c.write_group.ensures.adds t first open' group (c.as_slice.ensures.value ∙ c.in_ok-next.ensures.body.0) counts in
-    let moments : g.D.Disk.honest → LeavesOnly g.D.Disk.moment g.D.Disk.images c.args.self.now.disk c.write_group.new.self.disk (StandsForPart s (groups_of c.args.entries.now)) = λ honest.
-    moments_more g.D.Disk.tells g.D.Disk.honest g.D.Disk.seen g.D.Disk.moment g.D.Disk.images c.args.self.now c.loop-rest.self c.write_group.new.self c.write_group.result
+    let moments : g.D.Disk.kind.honest → LeavesOnly g.D.Disk.kind.moment g.D.Disk.kind.images c.args.self.now.disk c.write_group.new.self.disk (StandsForPart s (groups_of c.args.entries.now)) = λ honest.
+    moments_more g.D.Disk.kind c.args.self.now c.loop-rest.self c.write_group.new.self c.write_group.result
     c.args.entries.now c.loop-rest.rest.now (drop c.in_ok-next.next.number c.loop-rest.rest.now) first so_far c.in_ok-next.ensures.groups adds honest s is in
     record {
       done = λ ok. absurd (not_both c.from_residual-in_err-write_group.result p.0 p.1 ok);
       kept = λ refused.
           let short : c.write_group.result ≡ Err NoMemory = cc (p.1, p.2, c.in_err-write_group.was) in
-          kept_so_far g.D.Disk.tells g.D.Disk.honest g.D.Disk.seen g.D.Disk.moment g.D.Disk.images c.args.self.now c.loop-rest.self c.write_group.new.self c.write_group.result
+          kept_so_far g.D.Disk.kind c.args.self.now c.loop-rest.self c.write_group.new.self c.write_group.result
           c.args.entries.now c.loop-rest.rest.now (drop c.in_ok-next.next.number c.loop-rest.rest.now) first so_far c.in_ok-next.ensures.groups adds short s is;
       moments = moments;
       stays = λ honest.
-          stays_more g.D.Disk.tells g.D.Disk.honest g.D.Disk.seen g.D.Disk.moment g.D.Disk.images c.args.self.now c.loop-rest.self c.write_group.new.self c.write_group.result
+          stays_more g.D.Disk.kind c.args.self.now c.loop-rest.self c.write_group.new.self c.write_group.result
           c.args.entries.now c.loop-rest.rest.now (drop c.in_ok-next.next.number c.loop-rest.rest.now) first so_far c.in_ok-next.ensures.groups adds honest s is;
     }
 
@@ -68,8 +68,8 @@ loop-rest-preserved g c =
     let first = take c.in_ok-next.next.number c.loop-rest.rest.now in
     let group = first_are_group c.loop-rest.rest.now c.in_ok-next.next.number c.in_ok-next.next.body.items c.in_ok-next.ensures.within.0 c.in_ok-next.ensures.within.1 c.in_ok-next.ensures.body.0 c.in_ok-next.ensures.body.1 c.loop-rest.invariant.recordable c.in_ok-next.ensures.typed in
     let counts : c.in_ok-next.next.number ≡ length first = sym (length-take-le c.in_ok-next.next.number c.loop-rest.rest.now c.in_ok-next.ensures.within.1) in
-    let adds : (t : Stood) → IsOpen g.D.Disk.tells g.D.Disk.honest g.D.Disk.seen (λ disk. g.D.Disk.images disk (g.D.Disk.moment disk)) c.loop-rest.self t
-    → AddsGroup g.D.Disk.tells g.D.Disk.honest g.D.Disk.seen g.D.Disk.moment g.D.Disk.images c.loop-rest.self c.write_group.new.self c.write_group.result t first =
+    let adds : (t : Stood) → IsOpen g.D.Disk.kind c.loop-rest.self t
+    → AddsGroup g.D.Disk.kind c.loop-rest.self c.write_group.new.self c.write_group.result t first =
     λ t open'. c.write_group.ensures.adds t first open' group (c.as_slice.ensures.value ∙ c.in_ok-next.ensures.body.0) counts in
     let next : groups_of c.loop-rest.rest.now ≡ first ∷ groups_of c.split_at.result.1.now = c.in_ok-next.ensures.groups ∙ ap (λ (l : List Entry). first ∷ groups_of l) (sym c.split_at.ensures.back) in
     record {
@@ -79,7 +79,7 @@ loop-rest-preserved g c =
       later = omega (arith, c.in_ok-write_group.ensures.cause.later);
       fewer = omega (arith, c.loop-rest.invariant.fewer);
       nothing = λ none. absurd (omega (arith, ap length none, c.in_ok-next.ensures.within.0, c.in_ok-next.ensures.within.1));
-      so_far = added g.D.Disk.tells g.D.Disk.honest g.D.Disk.seen g.D.Disk.moment g.D.Disk.images c.args.self.now c.loop-rest.self c.write_group.new.self c.write_group.result
+      so_far = added g.D.Disk.kind c.args.self.now c.loop-rest.self c.write_group.new.self c.write_group.result
           c.args.entries.now c.loop-rest.rest.now c.split_at.result.1.now first so_far next adds c.in_ok-write_group.was;
     }
 
@@ -97,7 +97,7 @@ returns-clause-adds g c = λ s is.
     let so_far = c.loop-rest.invariant.so_far in
     let none : c.loop-rest.rest.now ≡ [] = search rules in
     record {
-      done = λ ok. open_all g.D.Disk.tells g.D.Disk.honest g.D.Disk.seen g.D.Disk.moment g.D.Disk.images c.args.self.now c.loop-rest.self c.args.entries.now c.loop-rest.rest.now none so_far s is;
+      done = λ ok. open_all g.D.Disk.kind c.args.self.now c.loop-rest.self c.args.entries.now c.loop-rest.rest.now none so_far s is;
       kept = λ refused. cc;
       moments = λ honest. so_far.moments honest s is;
       stays = λ honest. so_far.stays honest s is;

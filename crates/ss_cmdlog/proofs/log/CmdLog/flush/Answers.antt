@@ -20,21 +20,21 @@ pub returns-in_err-add_entries-clause-receipts : goal.returns-in_err-add_entries
 returns-in_err-add_entries-clause-receipts g c = λ honest n le receipted.
     let none : c.args.self.now.halted ≡ None = search rules in
     let open' = c.requires.open none in
-    groups_keep g.D.Disk.moment g.D.Disk.images c.args.self.now.disk c.add_entries.new.self.disk open'.0 _ n (omega (arith, open'.1.count (g.met.D.Disk.honest_tells honest)))
+    groups_keep g.D.Disk.kind.moment g.D.Disk.kind.images c.args.self.now.disk c.add_entries.new.self.disk open'.0 _ n (omega (arith, open'.1.count (g.met.D.Disk.honest_tells honest)))
     ((c.add_entries.ensures.adds open'.0 open'.1).moments honest)
 
 pub returns-clause-receipts : goal.returns-clause-receipts
 returns-clause-receipts g c = λ honest n le receipted.
     let none : c.args.self.now.halted ≡ None = search rules in
     let open' = c.requires.open none in
-    groups_keep g.D.Disk.moment g.D.Disk.images c.args.self.now.disk c.add_entries.new.self.disk open'.0 _ n (omega (arith, open'.1.count (g.met.D.Disk.honest_tells honest)))
+    groups_keep g.D.Disk.kind.moment g.D.Disk.kind.images c.args.self.now.disk c.add_entries.new.self.disk open'.0 _ n (omega (arith, open'.1.count (g.met.D.Disk.honest_tells honest)))
     ((c.add_entries.ensures.adds open'.0 open'.1).moments honest)
 
 pub returns-clause-receipt : goal.returns-clause-receipt
 returns-clause-receipt g c = λ honest.
     let none : c.args.self.now.halted ≡ None = search rules in
     let open' = c.requires.open none in
-    open_receipted g.D.Disk.tells g.D.Disk.honest g.D.Disk.seen (λ disk. g.D.Disk.images disk (g.D.Disk.moment disk)) c.add_entries.new.self _
+    open_receipted g.D.Disk.kind c.add_entries.new.self _
     ((c.in_ok-add_entries.ensures.adds open'.0 open'.1).done refl) (g.met.D.Disk.honest_tells honest) honest c.add_entries.new.self.count refl
 
 pub returns-in_err-add_entries-clause-stays : goal.returns-in_err-add_entries-clause-stays

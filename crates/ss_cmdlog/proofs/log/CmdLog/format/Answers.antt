@@ -6,14 +6,14 @@ use Rattle.ss_cmdlog.proofs.log.CmdLog.format.Goals as goal
 pub returns-in-Err-write_synced-clause-moments : goal.returns-in-Err-write_synced-clause-moments
 returns-in-Err-write_synced-clause-moments g c = λ honest.
     let tells = g.met.D.Disk.honest_tells honest in
-    formatted g.D.Disk.moment g.D.Disk.images c.args.disk c.fill_both.new.disk c.write_synced.new.disk (g.D.Disk.seen c.args.disk) (g.D.Disk.seen c.fill_both.new.disk) c.args.image.now c.as_slice.result.now
+    formatted g.D.Disk.kind.moment g.D.Disk.kind.images c.args.disk c.fill_both.new.disk c.write_synced.new.disk (g.D.Disk.kind.seen c.args.disk) (g.D.Disk.kind.seen c.fill_both.new.disk) c.args.image.now c.as_slice.result.now
     (c.requires.settled honest) (c.requires.empty tells) c.in-Ok.ensures.long (c.as_slice.ensures.value ∙ c.in-Ok.ensures.spelled)
     (c.in_default-fill_both.ensures.filled tells) (c.in_default-fill_both.ensures.durable honest) (c.fill_both.ensures.moments honest) (c.write_synced.ensures.moments honest)
 
 pub returns-clause-moments : goal.returns-clause-moments
 returns-clause-moments g c = λ honest.
     let tells = g.met.D.Disk.honest_tells honest in
-    formatted g.D.Disk.moment g.D.Disk.images c.args.disk c.fill_both.new.disk c.write_synced.new.disk (g.D.Disk.seen c.args.disk) (g.D.Disk.seen c.fill_both.new.disk) c.args.image.now c.as_slice.result.now
+    formatted g.D.Disk.kind.moment g.D.Disk.kind.images c.args.disk c.fill_both.new.disk c.write_synced.new.disk (g.D.Disk.kind.seen c.args.disk) (g.D.Disk.kind.seen c.fill_both.new.disk) c.args.image.now c.as_slice.result.now
     (c.requires.settled honest) (c.requires.empty tells) c.in-Ok.ensures.long (c.as_slice.ensures.value ∙ c.in-Ok.ensures.spelled)
     (c.in_default-fill_both.ensures.filled tells) (c.in_default-fill_both.ensures.durable honest) (c.fill_both.ensures.moments honest) (c.write_synced.ensures.moments honest)
 
@@ -22,7 +22,7 @@ returns-clause-open g c =
     let place : c.len.result - 1 ≡ length c.as_slice.result.now - 1 = omega arith in
     record {
       going = refl;
-      at = λ tells. fresh_open c.args.image.now c.as_slice.result.now _ (g.D.Disk.seen c.fill_both.new.disk) _ _ c.in-Ok.ensures.long (c.as_slice.ensures.value ∙ c.in-Ok.ensures.spelled) (c.requires.empty tells)
+      at = λ tells. fresh_open c.args.image.now c.as_slice.result.now _ (g.D.Disk.kind.seen c.fill_both.new.disk) _ _ c.in-Ok.ensures.long (c.as_slice.ensures.value ∙ c.in-Ok.ensures.spelled) (c.requires.empty tells)
           (c.in_default-fill_both.ensures.filled tells) (c.in_default-write_synced.ensures.ok tells) place;
       count = λ tells. refl;
       only = λ honest. c.in_default-write_synced.ensures.durable honest;
@@ -31,5 +31,5 @@ returns-clause-open g c =
 pub returns-clause-some : goal.returns-clause-some
 returns-clause-some g c = λ honest.
     let run = c.write_synced.ensures.moments honest in
-    some_join g.D.Disk.moment g.D.Disk.images (g.D.Disk.moment c.args.disk) c.fill_both.new.disk c.write_synced.new.disk (c.fill_both.ensures.some honest) run.keeps
-    (some_fewer g.D.Disk.honest g.D.Disk.seen g.D.Disk.moment g.D.Disk.images g.met.D.Disk.sees_an_image honest c.fill_both.new.disk c.write_synced.new.disk run.keeps (c.write_synced.ensures.fewer honest))
+    some_join g.D.Disk.kind.moment g.D.Disk.kind.images (g.D.Disk.kind.moment c.args.disk) c.fill_both.new.disk c.write_synced.new.disk (c.fill_both.ensures.some honest) run.keeps
+    (some_fewer g.D.Disk.kind.honest g.D.Disk.kind.seen g.D.Disk.kind.moment g.D.Disk.kind.images g.met.D.Disk.sees_an_image honest c.fill_both.new.disk c.write_synced.new.disk run.keeps (c.write_synced.ensures.fewer honest))
