@@ -1,27 +1,17 @@
 -- What the functions of the cascade do, by their parts.
-use Rattle.std.proofs.Common.{◌≡◌, ◌+◌, ◌<◌, ◌^◌, nat_le, ℕ, Bool, true, false, cond, List, [], ◌∷◌, length, get_or, drop, refl, sym, ap, subst, ◌∙◌, Ok}
+use Rattle.std.proofs.Common.{◌≡◌, ◌+◌, ◌<◌, ◌^◌, nat_le, ℕ, Bool, true, false, cond, List, [], ◌∷◌, length, get_or, drop, refl, sym, ap, ◌∙◌, Ok}
 use Rattle.std.specs.List.{filter}
 use Rattle.std.proofs.lemmas.List.{at_drop_more}
-use Rattle.ss_value.specs.Rows.{Row, Rows}
-use Rattle.ss_sql_trees.specs.declared.typed.Target.{Target}
-use Rattle.ss_sql_trees.specs.declared.typed.Target.TheVariants.{Table as IntoTable, Window as IntoWindow}
-use Rattle.ss_sql_trees.specs.declared.typed.Statement.{Statement}
-use Rattle.ss_sql_trees.specs.declared.typed.Statement.TheVariants.{InsertValues, InsertQuery, Update, Delete}
+use Rattle.ss_value.specs.Rows.{Rows}
 use Rattle.ss_model.specs.declared.catalog.Catalog.{Catalog}
 use Rattle.ss_model.specs.declared.catalog.TriggerDef.{TriggerDef}
 use Rattle.ss_model.specs.declared.entry.Reason.TheVariants.{WindowFull}
 use Rattle.ss_model.specs.Results.{OrAbort, ◌>>=◌, try_fold, abort_when}
 use Rattle.ss_model.specs.Contents.{Contents, window_units, append_unit}
-use Rattle.ss_model.specs.Statements.{Context, Execution, Cascade, when_moved, close_unit, stage_row, apply_effect, execute_statement, statement_effect, run_triggers}
+use Rattle.ss_model.specs.Statements.{Context, Execution, Cascade, when_moved, close_unit, execute_statement, run_triggers}
 use Rattle.ss_model.specs.declared.run_error.RunError.{RunError}
 use Rattle.ss_model.specs.Stops.{StopsAs}
-use Rattle.ss_shard.specs.ShardValue.{ShardValue}
-use Rattle.ss_shard.specs.Contents.{contents_of, contents_with}
 use Rattle.ss_shard.specs.Windows.{unit_added, unit_moves_end}
-use Rattle.ss_plan.specs.declared.statement.Wrote.TheVariants.{Tables, Stage}
-use Rattle.ss_plan.specs.Statements.{FitsTables, FitsTarget, WroteTo, WroteBy, effect_of}
-use Rattle.ss_proc.specs.declared.work.Work.{Work}
-use Rattle.ss_proc.specs.Executions.{execution_of}
 use Rattle.ss_model.proofs.CallerLemmas.{stops_before, stops_same}
 
 -- ---- a unit that is closed
@@ -47,35 +37,6 @@ module _ (catalog : Catalog) (cascade : Cascade) (n : ℕ) (unit : Rows) (w : Ex
 
   pub close_still : (s : Contents) → unit_added catalog n unit w.contents ≡ Ok (false, s) → close_unit catalog cascade n unit w ≡ Ok (record w { contents = s })
   close_still s e = close_by ∙ ap (λ r. r >>= then_fires) e
-
--- ---- a statement that stages
-
-target_there : (catalog : Catalog) (count w : ℕ) (rows : Rows) (target : Target) (old new : ShardValue) → FitsTarget catalog count target → WroteTo target old new (Stage w rows) → (w < length catalog.windows) × (new.tables ≡ old.tables)
-target_there catalog count w rows (IntoTable t) old new fits wrote = absurd wrote
-target_there catalog count w rows (IntoWindow v) old new fits wrote = (subst (λ n. n < length catalog.windows) (sym wrote.0) fits, wrote.1)
-
-pub window_there : (catalog : Catalog) (w : ℕ) (rows : Rows) (st : Statement) (old new : ShardValue) → FitsTables catalog st → WroteBy st old new (Stage w rows) → (w < length catalog.windows) × (new.tables ≡ old.tables)
-window_there catalog w rows (InsertValues target vs) old new fits wrote = target_there catalog (length vs) w rows target old new fits wrote
-window_there catalog w rows (InsertQuery target q) old new fits wrote = target_there catalog (length q.items) w rows target old new fits wrote
-window_there catalog w rows (Update t sets test) old new fits wrote = let no : Stage w rows ≡ Tables = wrote in cc
-window_there catalog w rows (Delete t test) old new fits wrote = let no : Stage w rows ≡ Tables = wrote in cc
-
-module _ (context : Context) (cascade : Cascade) (inserted : Rows) (params : Row) (st : Statement) (old new : ShardValue) (work : Work) where
-  abbrev before : Execution
-  before = execution_of old work
-
-  pub effect_stops : (stop : RunError) → StopsAs (statement_effect context inserted params st (contents_of old)) stop → StopsAs (execute_statement context cascade inserted params st before) stop
-  effect_stops stop h = stops_before (statement_effect context inserted params st (contents_of old)) (apply_effect context.catalog cascade before) stop h
-
-  pub wrote_tables : statement_effect context inserted params st (contents_of old) ≡ Ok (effect_of Tables (contents_of new)) → execute_statement context cascade inserted params st before ≡ Ok (execution_of new work)
-  wrote_tables e = ap (λ r. r >>= apply_effect context.catalog cascade before) e
-
-  -- nothing has changed where rows are to be staged
-  pub staged_by : (w : ℕ) (rows : Rows) → statement_effect context inserted params st (contents_of old) ≡ Ok (effect_of (Stage w rows) (contents_of new)) → new.tables ≡ old.tables → new.windows ≡ old.windows →
-      execute_statement context cascade inserted params st before ≡ try_fold (stage_row context.catalog cascade w) rows (execution_of new work)
-  staged_by w rows e tables windows =
-      ap (λ r. r >>= apply_effect context.catalog cascade before) e
-      ∙ (λ i. try_fold (stage_row context.catalog cascade w) rows (record before { contents = contents_with (sym tables i) (sym windows i) }))
 
 -- ---- the triggers that are set off, one after another
 

@@ -1,4 +1,5 @@
 pub mod CallerLemmas
+pub mod Doing
 pub mod Firing
 pub mod Apart
 pub mod Emitting

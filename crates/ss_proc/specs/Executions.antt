@@ -16,6 +16,7 @@ use Rattle.ss_model.specs.Statements.{Context, Execution}
 use Rattle.ss_model.specs.Bodies.{exceeds_row_limit}
 use Rattle.ss_shard.specs.ShardValue.{ShardValue}
 use Rattle.ss_shard.specs.Contents.{contents_of}
+use Rattle.ss_shard.specs.Shards.{IsOf}
 use Rattle.ss_plan.specs.Statements.{FitsTables, SplitByKeys}
 use Rattle.ss_proc.specs.declared.work.Given.{Given}
 use Rattle.ss_proc.specs.declared.work.Work.{Work}
@@ -58,6 +59,11 @@ pub record MayRun (catalog : Catalog) : Type 0 where
   pub keyed : SplitByKeys catalog
   pub triggers : TriggersFit catalog
   pub few : length catalog.triggers ≤ 64
+
+-- they may run on a shard: it is one of the catalogue
+pub record MayRunOn (catalog : Catalog) (shard : ShardValue) : Type 0 where
+  pub of_catalog : IsOf catalog shard
+  pub runs : MayRun catalog
 
 -- a step of a `for_each` may run: its statement, if it has one, fits the tables
 abbrev pub InnerRuns : Catalog → Inner → Type 0

@@ -1,5 +1,5 @@
 -- What the parts of an execution mean to the model, by what it is given and how far it is.
-use Rattle.std.specs.Prelude.{◌≡◌, ℕ, List, [], Ok}
+use Rattle.std.specs.Prelude.{◌≡◌, ℕ, List, [], Ok, Result, OnOk, IfErr}
 use Rattle.std.specs.List.{filter}
 use Rattle.ss_value.specs.Rows.{Row, Rows}
 use Rattle.ss_sql_trees.specs.declared.typed.Query.{Query}
@@ -13,6 +13,7 @@ use Rattle.ss_model.specs.declared.run_error.RunError.{RunError}
 use Rattle.ss_model.specs.Stops.{StopsAs}
 use Rattle.ss_shard.specs.ShardValue.{ShardValue}
 use Rattle.ss_shard.specs.Contents.{contents_of}
+use Rattle.ss_shard.specs.Shards.{Changed}
 use Rattle.ss_plan.specs.Statements.{effect_of}
 use Rattle.ss_plan.specs.declared.statement.Wrote.{Wrote}
 use Rattle.ss_proc.specs.Waiting.{waits_for}
@@ -29,6 +30,12 @@ Brings step old work new further = step (execution_of old work) ≡ Ok (executio
 -- a part of an execution stops as the model's does
 abbrev pub StepStops : (Execution → OrAbort Execution) → ShardValue → Work → RunError → Type 0
 StepStops step shard work = StopsAs (step (execution_of shard work))
+
+-- a part of an execution does what the model's does, done or stopped, and notes what it changes
+pub record Does (step : Execution → OrAbort Execution) (result : Result (Unit {0}) RunError) (old : ShardValue) (work : Work) (new : ShardValue) (further : Work) : Type 0 where
+  pub ok : OnOk result (Brings step old work new further)
+  pub stops : IfErr result (StepStops step old work)
+  pub changed : Changed old new
 
 -- ---- statements and queries
 

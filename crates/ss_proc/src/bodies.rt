@@ -9,10 +9,10 @@ ghost use Rattle.ss_model.specs.Database.{split_value_for};
 ghost use Rattle.ss_model.specs.Stops.{StopsAs};
 ghost use Rattle.ss_shard.specs.Contents.{contents_of};
 ghost use Rattle.ss_shard.specs.Shards.{IsOf, Changed, CanRollBack, Same, IsCommitted};
-ghost use Rattle.ss_proc.specs.Executions.{context_of, MayRun, StepRuns};
+ghost use Rattle.ss_proc.specs.Executions.{context_of, MayRun, MayRunOn, StepRuns};
 ghost use Rattle.ss_proc.specs.Meanings.{BodyDone, BodyLeaves};
 
-use crate::steps::execute_steps;
+use crate::steps::run_steps;
 use crate::windows::close_owned;
 use crate::work::{Given, Work, empty_lists, empty_work};
 use ss_model::{Outcome, RunError, Step, Touch};
@@ -43,14 +43,13 @@ pub fn touched_argument(touch: &Touch) -> Option<u8>
 /// Runs the steps of a body, and then closes the procedure's windows of batches, in written order.
 ///
 /// Aborts as the model's `run_body` does. What was changed by then is noted in the shard.
-fn run_steps(
+fn run_and_close(
     alloc: Global,
     given: &Given,
     body: &[Step],
     shard: &mut Shard,
 ) -> Result<Work, RunError>
-    requires of_catalog { IsOf given.now.catalog.now shard.old }
-    requires runs { MayRun given.now.catalog.now }
+    requires may_run { MayRunOn given.now.catalog.now shard.old }
     requires fits { AllByRecursion (StepRuns given.now.catalog.now) body.now }
     requires few { length given.now.catalog.now.windows ≤ 32 }
     ensures ok { IfOk result (BodyDone given.now body.now shard.old shard.new) }
@@ -58,7 +57,7 @@ fn run_steps(
     ensures changed { Changed shard.old shard.new }
 {
     let mut work = empty_work(alloc, given.catalog)?;
-    execute_steps(alloc, given, body, shard, &mut work)?;
+    run_steps(alloc, given, body, shard, &mut work)?;
     close_owned(alloc, given, shard, &mut work)?;
     Ok(work)
 }
@@ -89,7 +88,7 @@ pub fn run_body(
     ensures err { OnErr result (Same shard.old shard.new) }
     ensures committed { OnErr result (IsCommitted given.now.catalog.now shard.new) }
 {
-    match run_steps(alloc, given, body, shard) {
+    match run_and_close(alloc, given, body, shard) {
         Ok(work) => Ok(BodyResult {
             outcome: Outcome::Done(work.reply),
             emitted: work.emitted,

@@ -5,15 +5,14 @@
 //! the number of windows is depth enough (law `depth_is_enough` of `ss_model_laws`), since no chain of triggers meets a
 //! window twice. So no rank of windows is needed.
 
-ghost use Rattle.std.specs.Prelude.{◌≡◌, ◌<◌, [], ◌∷◌, length, IfOk, IfErr, OnOk};
+ghost use Rattle.std.specs.Prelude.{◌≡◌, ◌<◌, [], ◌∷◌, length, IfOk};
 ghost use Rattle.std.specs.List.{AllByRecursion};
 ghost use Rattle.ss_model.specs.Contents.{window_def};
 ghost use Rattle.ss_model.specs.Statements.{cascade_to_depth};
-ghost use Rattle.ss_shard.specs.Shards.{IsOf, Changed};
 ghost use Rattle.ss_plan.specs.Statements.{FitsTables};
-ghost use Rattle.ss_proc.specs.Executions.{context_of, MayRun};
+ghost use Rattle.ss_proc.specs.Executions.{context_of, MayRunOn};
 ghost use Rattle.ss_model.specs.Depths.{close_to_depth, stage_to_depth, stage_all_to_depth, run_to_depth, run_all_to_depth};
-ghost use Rattle.ss_proc.specs.Meanings.{Brings, StepStops, fire_to_depth};
+ghost use Rattle.ss_proc.specs.Meanings.{Does, fire_to_depth};
 ghost use Rattle.ss_model.specs.Depths.{close_and_fire, run_and_fire, fire_stream};
 
 use crate::firings::{TriggerEvent, firings};
@@ -55,11 +54,8 @@ fn cascade(
     shard: &mut Shard,
     work: &mut Work,
 ) -> Result<(), RunError>
-    requires of_catalog { IsOf given.now.catalog.now shard.old }
-    requires runs { MayRun given.now.catalog.now }
-    ensures ok { OnOk result (Brings (cascade_to_depth depth (context_of given.now) window) shard.old work.old shard.new work.new) }
-    ensures stops { IfErr result (StepStops (cascade_to_depth depth (context_of given.now) window) shard.old work.old) }
-    ensures changed { Changed shard.old shard.new }
+    requires may_run { MayRunOn given.now.catalog.now shard.old }
+    ensures { Does (cascade_to_depth depth (context_of given.now) window) result shard.old work.old shard.new work.new }
 {
     if depth == 0 {
         return Ok(());
@@ -88,12 +84,9 @@ fn close_to_depth(
     shard: &mut Shard,
     work: &mut Work,
 ) -> Result<(), RunError>
-    requires of_catalog { IsOf given.now.catalog.now shard.old }
-    requires runs { MayRun given.now.catalog.now }
+    requires may_run { MayRunOn given.now.catalog.now shard.old }
     requires there { window < length given.now.catalog.now.windows }
-    ensures ok { OnOk result (Brings (close_to_depth depth (context_of given.now) window unit) shard.old work.old shard.new work.new) }
-    ensures stops { IfErr result (StepStops (close_to_depth depth (context_of given.now) window unit) shard.old work.old) }
-    ensures changed { Changed shard.old shard.new }
+    ensures { Does (close_to_depth depth (context_of given.now) window unit) result shard.old work.old shard.new work.new }
 {
     if shard.stage_unit(window, unit)? {
         return cascade(alloc, depth, given, window, shard, work);
@@ -113,12 +106,9 @@ fn stage_row(
     shard: &mut Shard,
     work: &mut Work,
 ) -> Result<(), RunError>
-    requires of_catalog { IsOf given.now.catalog.now shard.old }
-    requires runs { MayRun given.now.catalog.now }
+    requires may_run { MayRunOn given.now.catalog.now shard.old }
     requires there { window < length given.now.catalog.now.windows }
-    ensures ok { OnOk result (Brings (stage_to_depth depth (context_of given.now) window row) shard.old work.old shard.new work.new) }
-    ensures stops { IfErr result (StepStops (stage_to_depth depth (context_of given.now) window row) shard.old work.old) }
-    ensures changed { Changed shard.old shard.new }
+    ensures { Does (stage_to_depth depth (context_of given.now) window row) result shard.old work.old shard.new work.new }
 {
     match window_unit(given.catalog, window) {
         Unit::Rows => {
@@ -144,12 +134,9 @@ fn stage_rows(
     shard: &mut Shard,
     work: &mut Work,
 ) -> Result<(), RunError>
-    requires of_catalog { IsOf given.now.catalog.now shard.old }
-    requires runs { MayRun given.now.catalog.now }
+    requires may_run { MayRunOn given.now.catalog.now shard.old }
     requires there { window < length given.now.catalog.now.windows }
-    ensures ok { OnOk result (Brings (stage_all_to_depth depth (context_of given.now) window rows) shard.old work.old shard.new work.new) }
-    ensures stops { IfErr result (StepStops (stage_all_to_depth depth (context_of given.now) window rows) shard.old work.old) }
-    ensures changed { Changed shard.old shard.new }
+    ensures { Does (stage_all_to_depth depth (context_of given.now) window rows) result shard.old work.old shard.new work.new }
 {
     for row in rows.into_vec() {
         stage_row(alloc, depth, given, window, row, shard, work)?;
@@ -159,7 +146,7 @@ fn stage_rows(
 
 /// Runs a statement, with the triggers of the windows that it moves nested to this depth.
 #[cycle(cascade)]
-fn execute_to_depth(
+fn run_to_depth(
     alloc: Global,
     depth: usize,
     given: &Given,
@@ -169,12 +156,9 @@ fn execute_to_depth(
     shard: &mut Shard,
     work: &mut Work,
 ) -> Result<(), RunError>
-    requires of_catalog { IsOf given.now.catalog.now shard.old }
-    requires runs { MayRun given.now.catalog.now }
+    requires may_run { MayRunOn given.now.catalog.now shard.old }
     requires fits { FitsTables given.now.catalog.now statement.now }
-    ensures ok { OnOk result (Brings (run_to_depth depth (context_of given.now) inserted.now params.now statement.now) shard.old work.old shard.new work.new) }
-    ensures stops { IfErr result (StepStops (run_to_depth depth (context_of given.now) inserted.now params.now statement.now) shard.old work.old) }
-    ensures changed { Changed shard.old shard.new }
+    ensures { Does (run_to_depth depth (context_of given.now) inserted.now params.now statement.now) result shard.old work.old shard.new work.new }
 {
     match statement_effect(alloc, given, inserted, params, statement, shard)? {
         Wrote::Tables => Ok(()),
@@ -195,16 +179,13 @@ fn run_statements(
     shard: &mut Shard,
     work: &mut Work,
 ) -> Result<(), RunError>
-    requires of_catalog { IsOf given.now.catalog.now shard.old }
-    requires runs { MayRun given.now.catalog.now }
+    requires may_run { MayRunOn given.now.catalog.now shard.old }
     requires fits { AllByRecursion (FitsTables given.now.catalog.now) statements.now }
-    ensures ok { OnOk result (Brings (run_all_to_depth depth (context_of given.now) inserted.now statements.now) shard.old work.old shard.new work.new) }
-    ensures stops { IfErr result (StepStops (run_all_to_depth depth (context_of given.now) inserted.now statements.now) shard.old work.old) }
-    ensures changed { Changed shard.old shard.new }
+    ensures { Does (run_all_to_depth depth (context_of given.now) inserted.now statements.now) result shard.old work.old shard.new work.new }
 {
     let nothing = Seq::new(alloc);
     for statement in statements {
-        execute_to_depth(
+        run_to_depth(
             alloc, depth, given, inserted, &nothing, statement, shard, work,
         )?;
     }
@@ -223,11 +204,8 @@ fn run_triggers(
     shard: &mut Shard,
     work: &mut Work,
 ) -> Result<(), RunError>
-    requires of_catalog { IsOf given.now.catalog.now shard.old }
-    requires runs { MayRun given.now.catalog.now }
-    ensures ok { OnOk result (Brings (fire_to_depth depth given.now event inserted.now) shard.old work.old shard.new work.new) }
-    ensures stops { IfErr result (StepStops (fire_to_depth depth given.now event inserted.now) shard.old work.old) }
-    ensures changed { Changed shard.old shard.new }
+    requires may_run { MayRunOn given.now.catalog.now shard.old }
+    ensures { Does (fire_to_depth depth given.now event inserted.now) result shard.old work.old shard.new work.new }
 {
     let fired = firings(given.catalog, event);
     for (n, trigger) in given.catalog.triggers.as_slice().iter().enumerate() {
@@ -255,11 +233,8 @@ pub fn run_stream_triggers(
     shard: &mut Shard,
     work: &mut Work,
 ) -> Result<(), RunError>
-    requires of_catalog { IsOf given.now.catalog.now shard.old }
-    requires runs { MayRun given.now.catalog.now }
-    ensures ok { OnOk result (Brings (fire_stream (context_of given.now) rows.now stream) shard.old work.old shard.new work.new) }
-    ensures stops { IfErr result (StepStops (fire_stream (context_of given.now) rows.now stream) shard.old work.old) }
-    ensures changed { Changed shard.old shard.new }
+    requires may_run { MayRunOn given.now.catalog.now shard.old }
+    ensures { Does (fire_stream (context_of given.now) rows.now stream) result shard.old work.old shard.new work.new }
 {
     let depth = given.catalog.windows.len();
     let event = TriggerEvent::Emitted(stream);
@@ -277,19 +252,16 @@ pub fn close_unit(
     shard: &mut Shard,
     work: &mut Work,
 ) -> Result<(), RunError>
-    requires of_catalog { IsOf given.now.catalog.now shard.old }
-    requires runs { MayRun given.now.catalog.now }
+    requires may_run { MayRunOn given.now.catalog.now shard.old }
     requires there { window < length given.now.catalog.now.windows }
-    ensures ok { OnOk result (Brings (close_and_fire (context_of given.now) window unit) shard.old work.old shard.new work.new) }
-    ensures stops { IfErr result (StepStops (close_and_fire (context_of given.now) window unit) shard.old work.old) }
-    ensures changed { Changed shard.old shard.new }
+    ensures { Does (close_and_fire (context_of given.now) window unit) result shard.old work.old shard.new work.new }
 {
     let depth = given.catalog.windows.len();
     close_to_depth(alloc, depth, given, window, unit, shard, work)
 }
 
 /// Runs a statement of a body, with the triggers of the windows that it moves. Aborts as the statement and the triggers do.
-pub fn execute_statement(
+pub fn run_body_statement(
     alloc: Global,
     given: &Given,
     params: &Row,
@@ -297,16 +269,13 @@ pub fn execute_statement(
     shard: &mut Shard,
     work: &mut Work,
 ) -> Result<(), RunError>
-    requires of_catalog { IsOf given.now.catalog.now shard.old }
-    requires runs { MayRun given.now.catalog.now }
+    requires may_run { MayRunOn given.now.catalog.now shard.old }
     requires fits { FitsTables given.now.catalog.now statement.now }
-    ensures ok { OnOk result (Brings (run_and_fire (context_of given.now) [] params.now statement.now) shard.old work.old shard.new work.new) }
-    ensures stops { IfErr result (StepStops (run_and_fire (context_of given.now) [] params.now statement.now) shard.old work.old) }
-    ensures changed { Changed shard.old shard.new }
+    ensures { Does (run_and_fire (context_of given.now) [] params.now statement.now) result shard.old work.old shard.new work.new }
 {
     let depth = given.catalog.windows.len();
     let nothing = Seq::new(alloc);
-    execute_to_depth(
+    run_to_depth(
         alloc,
         depth,
         given,

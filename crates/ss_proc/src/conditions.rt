@@ -7,10 +7,11 @@ ghost use Rattle.ss_model.specs.Stops.{StopsAs};
 ghost use Rattle.ss_shard.specs.Shards.{IsOf};
 ghost use Rattle.ss_plan.specs.Statements.{SplitByKeys};
 ghost use Rattle.ss_proc.specs.Executions.{context_of};
-ghost use Rattle.ss_proc.specs.Meanings.{Brings, StepStops};
+ghost use Rattle.ss_proc.specs.Meanings.{Does};
+ghost use Rattle.ss_proc.specs.declared.work.Work.{Work};
 
 use crate::statements::execution_query;
-use crate::work::{Given, Work};
+use crate::work::Given;
 use ss_model::{Reason, RunError, cmp_holds};
 use ss_rows::{Tuple, column_in, evaluate, lent_or_zero};
 use ss_shard::Shard;
@@ -38,9 +39,10 @@ fn check_condition<'a>(
     let right = evaluate(alloc, &test.right, Tuple::Empty, params)?;
     let left = lent_or_zero(column_in(row, 0));
     if cmp_holds(test.cmp, compare(left.as_value(), right.as_value())) {
-        return Err(RunError::Abort(Reason::Raised(code)));
+        Err(RunError::Abort(Reason::Raised(code)))
+    } else {
+        Ok(())
     }
-    Ok(())
 }
 
 /// Runs a condition's query, then compares its one row with the right side.
@@ -54,15 +56,11 @@ pub fn abort_if(
     test: &Condition,
     code: i64,
     shard: &Shard,
-    work: &Work,
 ) -> Result<(), RunError>
     requires of_catalog { IsOf given.now.catalog.now shard.now }
     requires keyed { SplitByKeys given.now.catalog.now }
-    ensures ok { OnOk result (Brings (execute_abort_if (context_of given.now) params.now test.now code) shard.now work.now shard.now work.now) }
-    ensures stops { IfErr result (StepStops (execute_abort_if (context_of given.now) params.now test.now code) shard.now work.now) }
+    ensures { (work : Work) → Does (execute_abort_if (context_of given.now) params.now test.now code) result shard.now work shard.now work }
 {
-    // `work` is a parameter for the contract alone, which says that it stays.
-    let _ = &work.reply;
     let rows = execution_query(alloc, given, params, &test.query, shard)?;
     check_condition(alloc, params, test, code, &rows)
 }

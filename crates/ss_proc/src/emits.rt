@@ -3,9 +3,8 @@
 ghost use Rattle.std.specs.Prelude.{◌≡◌, [], ◌++◌, get_or, set, OnOk, IfErr, Ok};
 ghost use Rattle.ss_model.specs.Bodies.{emit_rows, exceeds_row_limit};
 ghost use Rattle.ss_model.specs.Stops.{StopsAs};
-ghost use Rattle.ss_shard.specs.Shards.{IsOf, Changed};
-ghost use Rattle.ss_proc.specs.Executions.{context_of, longer_reply, MayRun};
-ghost use Rattle.ss_proc.specs.Meanings.{Brings, StepStops};
+ghost use Rattle.ss_proc.specs.Executions.{context_of, longer_reply, MayRunOn};
+ghost use Rattle.ss_proc.specs.Meanings.{Does};
 
 use crate::cascade::run_stream_triggers;
 use crate::limits::exceeds_row_limit;
@@ -47,11 +46,8 @@ pub fn emit_rows(
     shard: &mut Shard,
     work: &mut Work,
 ) -> Result<(), RunError>
-    requires of_catalog { IsOf given.now.catalog.now shard.old }
-    requires runs { MayRun given.now.catalog.now }
-    ensures ok { OnOk result (Brings (emit_rows (context_of given.now) stream rows) shard.old work.old shard.new work.new) }
-    ensures stops { IfErr result (StepStops (emit_rows (context_of given.now) stream rows) shard.old work.old) }
-    ensures changed { Changed shard.old shard.new }
+    requires may_run { MayRunOn given.now.catalog.now shard.old }
+    ensures { Does (emit_rows (context_of given.now) stream rows) result shard.old work.old shard.new work.new }
 {
     if batch_is_full(stream, &work.emitted, rows.as_slice()) {
         return Err(RunError::Abort(Reason::BatchFull(stream)));

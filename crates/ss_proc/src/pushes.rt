@@ -45,14 +45,14 @@ pub fn run_push(
     ensures rest { shard.new ≡ record shard.old { sources = shard.new.sources } }
 {
     let next = shard.next_number(stream, source);
-    let outcome = push_outcome(alloc, seq, next);
     if seq != next {
         return Ok(Executed {
-            outcome,
+            outcome: push_outcome(alloc, seq, next),
             emitted: Seq::new(alloc),
         });
     }
-    let emitted = one_batch(alloc, stream, rows)?;
     shard.add_source(alloc, stream, source)?;
+    let emitted = one_batch(alloc, stream, rows)?;
+    let outcome = push_outcome(alloc, seq, next);
     Ok(Executed { outcome, emitted })
 }

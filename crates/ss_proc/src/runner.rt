@@ -89,9 +89,7 @@ fn run_procedure(
     ensures err { OnErr result (Same shard.old shard.new) }
     ensures committed { OnErr result (IsCommitted catalog.now shard.new) }
 {
-    let Some(procedure) = catalog.procedures.get(usize::from(number)) else {
-        unreachable!()
-    };
+    let procedure = catalog.procedures.at(usize::from(number));
     let given = Given {
         catalog,
         procedure: number,
@@ -120,9 +118,7 @@ fn with_outputs(
     ensures err { OnErr result ((before : ShardValue) → CanRollBack before shard.old → Same before shard.new) }
     ensures committed { OnErr result (IsCommitted catalog.now shard.new) }
 {
-    let Some(procedure) = catalog.procedures.get(usize::from(number)) else {
-        unreachable!()
-    };
+    let procedure = catalog.procedures.at(usize::from(number));
     let BodyResult { outcome, emitted } = left;
     match emitted_batches(alloc, catalog, procedure, emitted) {
         Ok(emitted) => Ok(Executed { outcome, emitted }),

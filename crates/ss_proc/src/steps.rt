@@ -1,16 +1,14 @@
 //! The steps of a body.
 
-ghost use Rattle.std.specs.Prelude.{◌≡◌, OnOk, IfErr};
 ghost use Rattle.std.specs.List.{AllByRecursion};
 ghost use Rattle.ss_model.specs.declared.catalog.Step.TheVariants.{Emit, Return};
 ghost use Rattle.ss_model.specs.Results.{try_fold};
 ghost use Rattle.ss_model.specs.Bodies.{execute_inner, execute_step};
-ghost use Rattle.ss_shard.specs.Shards.{IsOf, Changed};
-ghost use Rattle.ss_proc.specs.Executions.{context_of, MayRun, InnerRuns, StepRuns};
+ghost use Rattle.ss_proc.specs.Executions.{context_of, MayRunOn, InnerRuns, StepRuns};
 ghost use Rattle.ss_model.specs.Depths.{inner_steps, steps_of_input, steps_of_rows};
-ghost use Rattle.ss_proc.specs.Meanings.{Brings, StepStops};
+ghost use Rattle.ss_proc.specs.Meanings.{Does};
 
-use crate::cascade::execute_statement;
+use crate::cascade::run_body_statement;
 use crate::conditions::abort_if;
 use crate::emits::{emit_rows, reply_rows};
 use crate::statements::execution_query;
@@ -22,7 +20,7 @@ use ss_value::Row;
 use std::alloc::Global;
 
 /// Runs a step of a `for_each` on the current row, whose columns are the parameters.
-fn execute_inner(
+fn run_inner(
     alloc: Global,
     given: &Given,
     current: &Row,
@@ -30,21 +28,18 @@ fn execute_inner(
     shard: &mut Shard,
     work: &mut Work,
 ) -> Result<(), RunError>
-    requires of_catalog { IsOf given.now.catalog.now shard.old }
-    requires runs { MayRun given.now.catalog.now }
+    requires may_run { MayRunOn given.now.catalog.now shard.old }
     requires fits { InnerRuns given.now.catalog.now inner.now }
-    ensures ok { OnOk result (Brings (execute_inner (context_of given.now) current.now inner.now) shard.old work.old shard.new work.new) }
-    ensures stops { IfErr result (StepStops (execute_inner (context_of given.now) current.now inner.now) shard.old work.old) }
-    ensures changed { Changed shard.old shard.new }
+    ensures { Does (execute_inner (context_of given.now) current.now inner.now) result shard.old work.old shard.new work.new }
 {
     match inner {
-        Inner::Sql(statement) => execute_statement(alloc, given, current, statement, shard, work),
-        Inner::AbortIf { test, code } => abort_if(alloc, given, current, test, *code, shard, work),
+        Inner::Sql(statement) => run_body_statement(alloc, given, current, statement, shard, work),
+        Inner::AbortIf { test, code } => abort_if(alloc, given, current, test, *code, shard),
     }
 }
 
 /// Runs the steps of a `for_each` on one row, in order, up to the first abort.
-fn execute_inners(
+fn run_inners(
     alloc: Global,
     given: &Given,
     current: &Row,
@@ -52,15 +47,12 @@ fn execute_inners(
     shard: &mut Shard,
     work: &mut Work,
 ) -> Result<(), RunError>
-    requires of_catalog { IsOf given.now.catalog.now shard.old }
-    requires runs { MayRun given.now.catalog.now }
+    requires may_run { MayRunOn given.now.catalog.now shard.old }
     requires fits { AllByRecursion (InnerRuns given.now.catalog.now) body.now }
-    ensures ok { OnOk result (Brings (inner_steps (context_of given.now) current.now body.now) shard.old work.old shard.new work.new) }
-    ensures stops { IfErr result (StepStops (inner_steps (context_of given.now) current.now body.now) shard.old work.old) }
-    ensures changed { Changed shard.old shard.new }
+    ensures { Does (inner_steps (context_of given.now) current.now body.now) result shard.old work.old shard.new work.new }
 {
     for inner in body {
-        execute_inner(alloc, given, current, inner, shard, work)?;
+        run_inner(alloc, given, current, inner, shard, work)?;
     }
     Ok(())
 }
@@ -74,15 +66,12 @@ fn for_each(
     shard: &mut Shard,
     work: &mut Work,
 ) -> Result<(), RunError>
-    requires of_catalog { IsOf given.now.catalog.now shard.old }
-    requires runs { MayRun given.now.catalog.now }
+    requires may_run { MayRunOn given.now.catalog.now shard.old }
     requires fits { AllByRecursion (InnerRuns given.now.catalog.now) body.now }
-    ensures ok { OnOk result (Brings (steps_of_rows (context_of given.now) body.now rows.now) shard.old work.old shard.new work.new) }
-    ensures stops { IfErr result (StepStops (steps_of_rows (context_of given.now) body.now rows.now) shard.old work.old) }
-    ensures changed { Changed shard.old shard.new }
+    ensures { Does (steps_of_rows (context_of given.now) body.now rows.now) result shard.old work.old shard.new work.new }
 {
     for row in rows {
-        execute_inners(alloc, given, row, body, shard, work)?;
+        run_inners(alloc, given, row, body, shard, work)?;
     }
     Ok(())
 }
@@ -96,12 +85,9 @@ fn for_each_of(
     shard: &mut Shard,
     work: &mut Work,
 ) -> Result<(), RunError>
-    requires of_catalog { IsOf given.now.catalog.now shard.old }
-    requires runs { MayRun given.now.catalog.now }
+    requires may_run { MayRunOn given.now.catalog.now shard.old }
     requires fits { AllByRecursion (InnerRuns given.now.catalog.now) body.now }
-    ensures ok { OnOk result (Brings (steps_of_input (context_of given.now) body.now input) shard.old work.old shard.new work.new) }
-    ensures stops { IfErr result (StepStops (steps_of_input (context_of given.now) body.now input) shard.old work.old) }
-    ensures changed { Changed shard.old shard.new }
+    ensures { Does (steps_of_input (context_of given.now) body.now input) result shard.old work.old shard.new work.new }
 {
     match given.batches.get(usize::from(input)) {
         Some(rows) => for_each(alloc, given, body, rows.as_slice(), shard, work),
@@ -118,11 +104,8 @@ fn emit(
     shard: &mut Shard,
     work: &mut Work,
 ) -> Result<(), RunError>
-    requires of_catalog { IsOf given.now.catalog.now shard.old }
-    requires runs { MayRun given.now.catalog.now }
-    ensures ok { OnOk result (Brings (execute_step (context_of given.now) (Emit stream query.now)) shard.old work.old shard.new work.new) }
-    ensures stops { IfErr result (StepStops (execute_step (context_of given.now) (Emit stream query.now)) shard.old work.old) }
-    ensures changed { Changed shard.old shard.new }
+    requires may_run { MayRunOn given.now.catalog.now shard.old }
+    ensures { Does (execute_step (context_of given.now) (Emit stream query.now)) result shard.old work.old shard.new work.new }
 {
     let rows = execution_query(alloc, given, given.args, query, shard)?;
     emit_rows(alloc, given, stream, rows, shard, work)
@@ -136,10 +119,8 @@ fn reply(
     shard: &Shard,
     work: &mut Work,
 ) -> Result<(), RunError>
-    requires of_catalog { IsOf given.now.catalog.now shard.now }
-    requires runs { MayRun given.now.catalog.now }
-    ensures ok { OnOk result (Brings (execute_step (context_of given.now) (Return query.now)) shard.now work.old shard.now work.new) }
-    ensures stops { IfErr result (StepStops (execute_step (context_of given.now) (Return query.now)) shard.now work.old) }
+    requires may_run { MayRunOn given.now.catalog.now shard.now }
+    ensures { Does (execute_step (context_of given.now) (Return query.now)) result shard.now work.old shard.now work.new }
 {
     let rows = execution_query(alloc, given, given.args, query, shard)?;
     reply_rows(rows, &mut work.reply)
@@ -148,27 +129,22 @@ fn reply(
 /// Runs a step of a body, whose parameters are the arguments.
 ///
 /// Aborts exactly where the model's step does, and with the same reason.
-fn execute_step(
+fn run_step(
     alloc: Global,
     given: &Given,
     step: &Step,
     shard: &mut Shard,
     work: &mut Work,
 ) -> Result<(), RunError>
-    requires of_catalog { IsOf given.now.catalog.now shard.old }
-    requires runs { MayRun given.now.catalog.now }
+    requires may_run { MayRunOn given.now.catalog.now shard.old }
     requires fits { StepRuns given.now.catalog.now step.now }
-    ensures ok { OnOk result (Brings (execute_step (context_of given.now) step.now) shard.old work.old shard.new work.new) }
-    ensures stops { IfErr result (StepStops (execute_step (context_of given.now) step.now) shard.old work.old) }
-    ensures changed { Changed shard.old shard.new }
+    ensures { Does (execute_step (context_of given.now) step.now) result shard.old work.old shard.new work.new }
 {
     match step {
         Step::Sql(statement) => {
-            execute_statement(alloc, given, given.args, statement, shard, work)
+            run_body_statement(alloc, given, given.args, statement, shard, work)
         }
-        Step::AbortIf { test, code } => {
-            abort_if(alloc, given, given.args, test, *code, shard, work)
-        }
+        Step::AbortIf { test, code } => { abort_if(alloc, given, given.args, test, *code, shard) }
         Step::ForEach { input, body } => {
             for_each_of(alloc, given, *input, body.as_slice(), shard, work)
         }
@@ -178,22 +154,19 @@ fn execute_step(
 }
 
 /// Runs the steps of a body in order, up to the first abort.
-pub fn execute_steps(
+pub fn run_steps(
     alloc: Global,
     given: &Given,
     steps: &[Step],
     shard: &mut Shard,
     work: &mut Work,
 ) -> Result<(), RunError>
-    requires of_catalog { IsOf given.now.catalog.now shard.old }
-    requires runs { MayRun given.now.catalog.now }
+    requires may_run { MayRunOn given.now.catalog.now shard.old }
     requires fits { AllByRecursion (StepRuns given.now.catalog.now) steps.now }
-    ensures ok { OnOk result (Brings (try_fold (execute_step (context_of given.now)) steps.now) shard.old work.old shard.new work.new) }
-    ensures stops { IfErr result (StepStops (try_fold (execute_step (context_of given.now)) steps.now) shard.old work.old) }
-    ensures changed { Changed shard.old shard.new }
+    ensures { Does (try_fold (execute_step (context_of given.now)) steps.now) result shard.old work.old shard.new work.new }
 {
     for step in steps {
-        execute_step(alloc, given, step, shard, work)?;
+        run_step(alloc, given, step, shard, work)?;
     }
     Ok(())
 }

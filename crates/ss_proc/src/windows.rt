@@ -1,11 +1,10 @@
 //! The windows of batches that a procedure owns, each of which gets its unit behind the last step of the body.
 
-ghost use Rattle.std.specs.Prelude.{◌≡◌, ◌<◌, ◌≤◌, [], get_or, set, length, OnOk, IfErr, Some};
+ghost use Rattle.std.specs.Prelude.{◌≡◌, ◌<◌, ◌≤◌, [], get_or, set, length, Some};
 ghost use Rattle.ss_model.specs.Bodies.{is_closed_by, close_window};
-ghost use Rattle.ss_shard.specs.Shards.{IsOf, Changed};
-ghost use Rattle.ss_proc.specs.Executions.{context_of, MayRun};
+ghost use Rattle.ss_proc.specs.Executions.{context_of, MayRunOn};
 ghost use Rattle.ss_model.specs.Depths.{close_owned};
-ghost use Rattle.ss_proc.specs.Meanings.{Brings, StepStops};
+ghost use Rattle.ss_proc.specs.Meanings.{Does};
 
 use crate::cascade::close_unit;
 use crate::work::{Given, Work};
@@ -47,12 +46,9 @@ fn close_window(
     shard: &mut Shard,
     work: &mut Work,
 ) -> Result<(), RunError>
-    requires of_catalog { IsOf given.now.catalog.now shard.old }
-    requires runs { MayRun given.now.catalog.now }
+    requires may_run { MayRunOn given.now.catalog.now shard.old }
     requires there { window < length given.now.catalog.now.windows }
-    ensures ok { OnOk result (Brings (close_window (context_of given.now) window) shard.old work.old shard.new work.new) }
-    ensures stops { IfErr result (StepStops (close_window (context_of given.now) window) shard.old work.old) }
-    ensures changed { Changed shard.old shard.new }
+    ensures { Does (close_window (context_of given.now) window) result shard.old work.old shard.new work.new }
 {
     let unit = take_unit(alloc, window, &mut work.open_units);
     close_unit(alloc, given, window, unit, shard, work)
@@ -65,12 +61,9 @@ pub fn close_owned(
     shard: &mut Shard,
     work: &mut Work,
 ) -> Result<(), RunError>
-    requires of_catalog { IsOf given.now.catalog.now shard.old }
-    requires runs { MayRun given.now.catalog.now }
+    requires may_run { MayRunOn given.now.catalog.now shard.old }
     requires few { length given.now.catalog.now.windows ≤ 32 }
-    ensures ok { OnOk result (Brings (close_owned (context_of given.now)) shard.old work.old shard.new work.new) }
-    ensures stops { IfErr result (StepStops (close_owned (context_of given.now)) shard.old work.old) }
-    ensures changed { Changed shard.old shard.new }
+    ensures { Does (close_owned (context_of given.now)) result shard.old work.old shard.new work.new }
 {
     for (n, window) in given.catalog.windows.as_slice().iter().enumerate() {
         if is_closed_by(given.procedure, window) {

@@ -17,51 +17,48 @@ use Rattle.ss_plan.specs.Statements.{FitsTables}
 use Rattle.ss_plan.proofs.CallerLemmas.{changed_on}
 use Rattle.ss_proc.specs.Executions.{context_of, execution_of}
 use Rattle.ss_model.proofs.CallerLemmas.{one_depth_less, rest_of}
+use Rattle.ss_proc.proofs.Doing.{does_on, does_as}
 use Rattle.ss_proc.proofs.Firing.{close_stops, close_moved, close_still, fires_on, fires_stops, passes_by}
 use Rattle.ss_proc.proofs.cascade.+cascade.Goals as goal
 use Rattle.ss_proc.proofs.cascade.+cascade.Goals.{run_triggers-then-has+in_ok-run_statements, run_triggers-else-has}
 
-pub cascade-returns-clause-ok : goal.cascade-returns-clause-ok
-cascade-returns-clause-ok t c =
-    rw (one_depth_less c.args.depth (context_of c.args.given.now) c.args.window (execution_of c.args.shard.now c.args.work.now) c.if-depth-eq0.false)
-    (rw (c.as_slice.ensures, c.new-nothing.ensures) at c.run_triggers.ensures.ok)
+pub cascade-returns : goal.cascade-returns
+cascade-returns t c =
+    let same = one_depth_less c.args.depth (context_of c.args.given.now) c.args.window (execution_of c.args.shard.now c.args.work.now) c.if-depth-eq0.false in
+    does_as _ _ c.args.shard.now c.run_triggers.new.shard c.args.work.now c.run_triggers.new.work c.run_triggers.result same (rw (c.as_slice.ensures, c.new-nothing.ensures) at c.run_triggers.ensures)
 
-pub cascade-returns-clause-stops : goal.cascade-returns-clause-stops
-cascade-returns-clause-stops t c =
-    rw (one_depth_less c.args.depth (context_of c.args.given.now) c.args.window (execution_of c.args.shard.now c.args.work.now) c.if-depth-eq0.false)
-    (rw (c.as_slice.ensures, c.new-nothing.ensures) at c.run_triggers.ensures.stops)
-
-pub close_to_depth-returns-in_err-stage_unit-clause-stops : goal.close_to_depth-returns-in_err-stage_unit-clause-stops
-close_to_depth-returns-in_err-stage_unit-clause-stops t c =
+pub close_to_depth-returns-in_err-stage_unit : goal.close_to_depth-returns-in_err-stage_unit
+close_to_depth-returns-in_err-stage_unit t c =
     let p = err_from_is_err_and c.from_residual.result c.from_residual.ensures.1 in
     let catalog = c.args.given.now.catalog.now in
     rw (p.1, p.2)
-    (close_stops catalog (cascade_to_depth c.args.depth (context_of c.args.given.now)) c.args.window c.args.unit (execution_of c.args.shard.now c.args.work.now) c.in_err-stage_unit.field-0.0
-    (c.in_err-stage_unit.ensures.stops catalog c.requires.of_catalog.windows))
+    (record {
+      ok = tt;
+      stops =
+          close_stops catalog (cascade_to_depth c.args.depth (context_of c.args.given.now)) c.args.window c.args.unit (execution_of c.args.shard.now c.args.work.now) c.in_err-stage_unit.field-0.0
+          (c.in_err-stage_unit.ensures.stops catalog c.requires.may_run.of_catalog.windows);
+      changed = c.stage_unit.ensures.changed;
+    })
 
-pub close_to_depth-returns-then-branch-clause-ok : goal.close_to_depth-returns-then-branch-clause-ok
-close_to_depth-returns-then-branch-clause-ok t c =
+pub close_to_depth-returns-then-branch : goal.close_to_depth-returns-then-branch
+close_to_depth-returns-then-branch t c =
     let catalog = c.args.given.now.catalog.now in
     let s = contents_of c.args.shard.now in
     let now = contents_of c.stage_unit.new.self in
-    let moved = subst (λ (b : Bool). unit_added catalog c.args.window c.args.unit s ≡ Ok (b, now)) c.if-branch.true (c.in_ok-stage_unit.ensures.ok catalog c.requires.of_catalog.windows) in
-    rw (close_moved catalog (cascade_to_depth c.args.depth (context_of c.args.given.now)) c.args.window c.args.unit (execution_of c.args.shard.now c.args.work.now) now moved) c.cascade.ensures.ok
+    let moved = subst (λ (b : Bool). unit_added catalog c.args.window c.args.unit s ≡ Ok (b, now)) c.if-branch.true (c.in_ok-stage_unit.ensures.ok catalog c.requires.may_run.of_catalog.windows) in
+    let same = close_moved catalog (cascade_to_depth c.args.depth (context_of c.args.given.now)) c.args.window c.args.unit (execution_of c.args.shard.now c.args.work.now) now moved in
+    does_on _ _ c.args.shard.now c.stage_unit.new.self c.args.work.now c.args.work.now same c.cascade.new.shard c.cascade.new.work c.cascade.result c.stage_unit.ensures.changed c.cascade.ensures
 
-pub close_to_depth-returns-then-branch-clause-stops : goal.close_to_depth-returns-then-branch-clause-stops
-close_to_depth-returns-then-branch-clause-stops t c =
+pub close_to_depth-returns : goal.close_to_depth-returns
+close_to_depth-returns t c =
     let catalog = c.args.given.now.catalog.now in
     let s = contents_of c.args.shard.now in
     let now = contents_of c.stage_unit.new.self in
-    let moved = subst (λ (b : Bool). unit_added catalog c.args.window c.args.unit s ≡ Ok (b, now)) c.if-branch.true (c.in_ok-stage_unit.ensures.ok catalog c.requires.of_catalog.windows) in
-    rw (close_moved catalog (cascade_to_depth c.args.depth (context_of c.args.given.now)) c.args.window c.args.unit (execution_of c.args.shard.now c.args.work.now) now moved) c.cascade.ensures.stops
-
-pub close_to_depth-returns-clause-ok : goal.close_to_depth-returns-clause-ok
-close_to_depth-returns-clause-ok t c =
-    let catalog = c.args.given.now.catalog.now in
-    let s = contents_of c.args.shard.now in
-    let now = contents_of c.stage_unit.new.self in
-    let still = subst (λ (b : Bool). unit_added catalog c.args.window c.args.unit s ≡ Ok (b, now)) c.if-branch.false (c.in_ok-stage_unit.ensures.ok catalog c.requires.of_catalog.windows) in
-    close_still catalog (cascade_to_depth c.args.depth (context_of c.args.given.now)) c.args.window c.args.unit (execution_of c.args.shard.now c.args.work.now) now still
+    let still = subst (λ (b : Bool). unit_added catalog c.args.window c.args.unit s ≡ Ok (b, now)) c.if-branch.false (c.in_ok-stage_unit.ensures.ok catalog c.requires.may_run.of_catalog.windows) in record {
+      ok = close_still catalog (cascade_to_depth c.args.depth (context_of c.args.given.now)) c.args.window c.args.unit (execution_of c.args.shard.now c.args.work.now) now still;
+      stops = tt;
+      changed = c.stage_unit.ensures.changed;
+    }
 
 -- a bit that tells a test
 folds : (result b : Bool) (P : Type 0) → (IsTrue result ↔ P) → (P ↔ (b ≡ true)) → b ≡ result
@@ -69,8 +66,8 @@ folds true b P h k = k.0 (h.0 refl)
 folds false true P h k = let no : false ≡ true = h.1 (k.1 refl) in cc
 folds false false P h k = refl
 
-pub run_triggers-returns-in_err-run_statements-clause-stops : goal.run_triggers-returns-in_err-run_statements-clause-stops
-run_triggers-returns-in_err-run_statements-clause-stops t c =
+pub run_triggers-returns-in_err-run_statements : goal.run_triggers-returns-in_err-run_statements
+run_triggers-returns-in_err-run_statements t c =
     let p = err_from_is_err_and c.from_residual.result c.from_residual.ensures.1 in
     let context = context_of c.args.given.now in
     let cascade = cascade_to_depth c.args.depth context in
@@ -83,8 +80,13 @@ run_triggers-returns-in_err-run_statements-clause-stops t c =
     let fires : waits_for c.args.event trigger.on ≡ true = folds c.has.result (waits_for c.args.event trigger.on) (IsBitSet c.firings-fired.result n) c.has.ensures (c.firings-fired.ensures.those n trigger here) ∙ c.if-has.true in
     let stopped = rw c.as_slice.ensures at c.in_err-run_statements.ensures.stops in
     rw (p.1, p.2)
-    (subst (λ (r : OrAbort Execution). StopsAs r c.in_err-run_statements.field-0.0) c.loop-n.invariant.folds
-    (fires_stops context cascade c.args.inserted.now (λ t. waits_for c.args.event t.on) triggers n trigger within is (execution_of c.loop-n.shard c.loop-n.work) c.in_err-run_statements.field-0.0 fires stopped))
+    (record {
+      ok = tt;
+      stops =
+          subst (λ (r : OrAbort Execution). StopsAs r c.in_err-run_statements.field-0.0) c.loop-n.invariant.folds
+          (fires_stops context cascade c.args.inserted.now (λ t. waits_for c.args.event t.on) triggers n trigger within is (execution_of c.loop-n.shard c.loop-n.work) c.in_err-run_statements.field-0.0 fires stopped);
+      changed = changed_on c.args.shard.now c.loop-n.shard c.run_statements.new.shard c.loop-n.invariant.changed c.run_statements.ensures.changed;
+    })
 
 pub run_triggers-loop-n-preserved : goal.run_triggers-loop-n-preserved
 run_triggers-loop-n-preserved t c =

@@ -14,8 +14,8 @@ use Rattle.ss_proc.proofs.Owned.{numbers_from, owned_stops, owned_goes_on, owned
 use Rattle.ss_proc.proofs.windows.close_owned.Goals as goal
 use Rattle.ss_proc.proofs.windows.close_owned.Goals.{then-is_closed_by+in_ok-close_window, else-is_closed_by}
 
-pub returns-in_err-close_window-clause-stops : goal.returns-in_err-close_window-clause-stops
-returns-in_err-close_window-clause-stops c =
+pub returns-in_err-close_window : goal.returns-in_err-close_window
+returns-in_err-close_window c =
     let p = err_from_is_err_and c.from_residual.result c.from_residual.ensures.1 in
     let windows = c.args.given.now.catalog.now.windows in
     let n = c.loop-n.n in
@@ -28,8 +28,13 @@ returns-in_err-close_window-clause-stops c =
     let tested : mine n ≡ c.is_closed_by.result = ap (is_closed_by c.args.given.now.procedure) here ∙ sym c.is_closed_by.ensures in
     let before = execution_of c.loop-n.shard c.loop-n.work in
     rw (p.1, p.2)
-    (subst (λ (r : OrAbort Execution). StopsAs r c.in_err-close_window.field-0.0) c.loop-n.invariant.folds
-    (owned_stops close mine n (length windows) within before c.in_err-close_window.field-0.0 (tested ∙ c.if-is_closed_by.true) c.in_err-close_window.ensures.stops))
+    (record {
+      ok = tt;
+      stops =
+          subst (λ (r : OrAbort Execution). StopsAs r c.in_err-close_window.field-0.0) c.loop-n.invariant.folds
+          (owned_stops close mine n (length windows) within before c.in_err-close_window.field-0.0 (tested ∙ c.if-is_closed_by.true) c.in_err-close_window.ensures.stops);
+      changed = changed_on c.args.shard.now c.loop-n.shard c.close_window.new.shard c.loop-n.invariant.changed c.close_window.ensures.changed;
+    })
 
 pub loop-n-preserved : goal.loop-n-preserved
 loop-n-preserved c =

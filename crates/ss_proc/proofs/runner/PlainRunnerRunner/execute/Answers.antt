@@ -10,8 +10,6 @@ use Rattle.ss_shard.specs.Contents.{contents_of}
 use Rattle.ss_shard.specs.Windows.{HoldsDatabase}
 use Rattle.ss_proc.specs.declared.runner.Executed.{Executed}
 use Rattle.ss_proc.specs.Entries.{IsNext, AreAtHand, AreBatchesOf, Ran}
-use Rattle.ss_model.specs.declared.entry.Entry.TheVariants.{Push}
-use Rattle.ss_model.specs.declared.entry.Outcome.{Outcome}
 use Rattle.ss_shard.specs.Sources.{number_in, push_outcome}
 use Rattle.ss_shard.specs.Shards.{CanRollBack, Same}
 use Rattle.ss_lemmas.proofs.Results.{error_so}

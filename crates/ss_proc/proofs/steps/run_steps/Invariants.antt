@@ -4,7 +4,7 @@ use Rattle.ss_model.specs.Results.{try_fold}
 use Rattle.ss_model.specs.Bodies.{execute_step}
 use Rattle.ss_shard.specs.Shards.{Changed}
 use Rattle.ss_proc.specs.Executions.{context_of, execution_of, StepRuns}
-use Rattle.ss_proc.proofs.steps.execute_steps.Given as goal
+use Rattle.ss_proc.proofs.steps.run_steps.Given as goal
 
 abbrev pub invariant-loop-step : goal.invariant-loop-step
 invariant-loop-step l = record {

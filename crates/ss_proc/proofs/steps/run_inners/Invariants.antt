@@ -4,7 +4,7 @@ use Rattle.ss_model.specs.Results.{try_fold}
 use Rattle.ss_model.specs.Bodies.{execute_inner}
 use Rattle.ss_shard.specs.Shards.{Changed}
 use Rattle.ss_proc.specs.Executions.{context_of, execution_of, InnerRuns}
-use Rattle.ss_proc.proofs.steps.execute_inners.Given as goal
+use Rattle.ss_proc.proofs.steps.run_inners.Given as goal
 
 abbrev pub invariant-loop-inner : goal.invariant-loop-inner
 invariant-loop-inner l = record {
