@@ -10,3 +10,5 @@ pub use Rattle.ss_commitlog.proofs.Replaying.{after-append, length-listed_of, li
 pub use Rattle.ss_commitlog.proofs.BorderStreams.{border_streams_stay}
 -- Members of two lists.
 pub use Rattle.ss_commitlog.proofs.Lists.{in_either, in_left, in_right}
+-- Tokens that go on.
+pub use Rattle.ss_commitlog.proofs.Growing.{follows_on, on_and_on, on_itself, on_longer}

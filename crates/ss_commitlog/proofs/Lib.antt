@@ -3,6 +3,7 @@ pub mod BorderStreams
 pub mod CallerLemmas
 pub mod Dealt
 pub mod Desks
+pub mod Growing
 pub mod InAndOut
 pub mod Lists
 pub mod Meeting

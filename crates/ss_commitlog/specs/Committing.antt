@@ -1,12 +1,12 @@
 -- What stands behind the lock, and what a commit answers.
-use Rattle.std.specs.Prelude.{◌≡◌, ◌≤◌, ◌<◌, ℕ, ◌+◌, ◌^◌, List, [], length, set}
+use Rattle.std.specs.Prelude.{◌≡◌, ◌≤◌, ◌<◌, ℕ, ◌+◌, ◌^◌, List, [], length, set, Ok, Err}
+use Rattle.std.specs.declared.result.Result.{Result}
 use Rattle.atomic_table.specs.Seated.{TableId}
 use Rattle.atomic_table.specs.declared.shared.Seat.{Seat}
 use Rattle.ss_model.specs.declared.catalog.Catalog.{Catalog}
 use Rattle.ss_model.specs.declared.entry.Entry.{Entry}
 use Rattle.ss_model.specs.declared.entry.Entry.TheVariants.{Step as StepEntry}
 use Rattle.ss_model.specs.declared.entry.Listed.{Listed}
-use Rattle.ss_model.specs.declared.entry.Emitted.{Emitted}
 use Rattle.ss_model.specs.Database.{Database, stream_batches}
 use Rattle.ss_model.specs.Replays.{after}
 use Rattle.ss_model.specs.Orders.{MatchesCounts}
@@ -15,8 +15,8 @@ use Rattle.ss_stream.specs.Pending.{Pending}
 use Rattle.ss_stream.specs.OfDatabase.{AreStreamsOf}
 use Rattle.ss_commitlog.specs.declared.rule.Item.{Item}
 use Rattle.ss_commitlog.specs.declared.rule.View.{View}
-use Rattle.ss_commitlog.specs.declared.committed.Committed.{Committed}
-use Rattle.ss_commitlog.specs.declared.committed.Committed.TheVariants.{Done, NoMemory, ListFull}
+use Rattle.ss_commitlog.specs.declared.placed.Unlisted.{Unlisted}
+use Rattle.ss_commitlog.specs.declared.placed.Unlisted.TheVariants.{NoMemory, ListFull}
 use Rattle.ss_commitlog.specs.Meaning.{IsLegal, listed_of}
 use Rattle.ss_partition.specs.Homes.{homes_of}
 use Rattle.ss_commitlog.specs.Tokens.{Known, log_view, roles_of, added, AllKnow, AllContinue}
@@ -66,19 +66,20 @@ pub record IsDesk (table : TableId) (catalog : Catalog) (parts clients first lim
   pub legal : IsLegal catalog parts clients limit db seat.me.0.now.known
   pub flow : IsFlow catalog parts (after catalog db list) streams counts homes
 
--- the answer to a commit under the lock, where the list goes from one to the other
-abbrev pub IsCommitted : {I : Type 0} → Catalog → ℕ → ℕ → ℕ → List Item → List Item → List Known → Listed → List Emitted → Committed I → Type 0
-IsCommitted catalog parts first limit old new ks l em (Done marks place) =
-    (new ≡ added old (roles_of ks) l) × (place ≡ first + length old) × (place < 2 ^ 60) × AllKnow new ks marks × AllContinue catalog parts old ks
-IsCommitted catalog parts first limit old new ks l em (NoMemory marks listed emitted) = (new ≡ old) × (marks ≡ ks) × (listed ≡ l) × (emitted ≡ em)
-IsCommitted catalog parts first limit old new ks l em (ListFull marks listed emitted count) =
-    (new ≡ old) × (count ≡ limit) × (length old ≡ limit) × AllKnow old ks marks × AllContinue catalog parts old ks × (listed ≡ l) × (emitted ≡ em)
+-- the answer to a commit under the lock, where the list goes from one to the other and the marks from ks to ms: the entry's place, or
+-- why it has none
+abbrev pub IsCommitted : Catalog → ℕ → ℕ → ℕ → List Item → List Item → List Known → Listed → List Known → Result ℕ Unlisted → Type 0
+IsCommitted catalog parts first limit old new ks l ms (Ok place) =
+    (new ≡ added old (roles_of ks) l) × (place ≡ first + length old) × (place < 2 ^ 60) × AllKnow new ks ms × AllContinue catalog parts old ks
+IsCommitted catalog parts first limit old new ks l ms (Err NoMemory) = (new ≡ old) × (ms ≡ ks)
+IsCommitted catalog parts first limit old new ks l ms (Err (ListFull count)) =
+    (new ≡ old) × (count ≡ limit) × (length old ≡ limit) × AllKnow old ks ms × AllContinue catalog parts old ks
 
 -- the same as a caller sees it, who knows of the list by the tokens alone: the entry stands at its place, behind a list that goes on
 -- from what each mark knew, and all marks know the list that ends with it
-abbrev pub Commits : {I : Type 0} → Catalog → ℕ → ℕ → ℕ → List Known → Listed → List Emitted → Committed I → Type 0
-Commits catalog parts first limit ks l em (Done marks place) =
-    (list : List Item) × (place ≡ first + length list) × (place < 2 ^ 60) × AllKnow (added list (roles_of ks) l) ks marks × AllContinue catalog parts list ks
-Commits catalog parts first limit ks l em (NoMemory marks listed emitted) = (marks ≡ ks) × (listed ≡ l) × (emitted ≡ em)
-Commits catalog parts first limit ks l em (ListFull marks listed emitted count) =
-    (list : List Item) × (count ≡ limit) × (length list ≡ limit) × AllKnow list ks marks × AllContinue catalog parts list ks × (listed ≡ l) × (emitted ≡ em)
+abbrev pub Commits : Catalog → ℕ → ℕ → ℕ → List Known → Listed → List Known → Result ℕ Unlisted → Type 0
+Commits catalog parts first limit ks l ms (Ok place) =
+    (list : List Item) × (place ≡ first + length list) × (place < 2 ^ 60) × AllKnow (added list (roles_of ks) l) ks ms × AllContinue catalog parts list ks
+Commits catalog parts first limit ks l ms (Err NoMemory) = ms ≡ ks
+Commits catalog parts first limit ks l ms (Err (ListFull count)) =
+    (list : List Item) × (count ≡ limit) × (length list ≡ limit) × AllKnow list ks ms × AllContinue catalog parts list ks

@@ -2,6 +2,7 @@ pub mod Roles
 pub mod Rule
 pub mod Meaning
 pub mod Tokens
+pub mod Growing
 pub mod Right
 pub mod Reading
 pub mod Committing

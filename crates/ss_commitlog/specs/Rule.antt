@@ -94,6 +94,10 @@ without_first v = at_rest (stamp (rest_of v.now.roles) v.now.known v.now.count v
 abbrev pub first_alone : View → View
 first_alone v = at_rest (stamp (first_of_roles v.now.roles) v.now.known v.now.count v.now.faults)
 
+-- the seat of one more reader, who knows as much
+abbrev pub reader_alone : View → View
+reader_alone v = at_rest (stamp (Reader ∷ []) v.now.known v.now.count v.now.faults)
+
 -- the log's seat with another's role and numbers, and the other's stamp to compare
 abbrev pub together : View → View → View
 together v w = record {

@@ -123,6 +123,12 @@ KnowOne k l = (k.list ≡ l.list) × SeeOne k l
 abbrev pub MeetAll : Catalog → ℕ → ℕ → List Known → List Known → Type 0
 MeetAll catalog parts limit ks ls = (list : List Item) × (length list ≤ limit) × AllKnow list ks ls × AllContinue catalog parts list ks
 
+-- the same marks and the same note, which then know one list, that goes on from what each of them knew
+pub record Met (catalog : Catalog) (parts limit : ℕ) (marks : List Known) (note : Known) (new_marks : List Known) (new_note : Known) : Type 0 where
+  pub know : AllKnow new_note.list marks new_marks
+  pub go_on : AllContinue catalog parts new_note.list marks
+  pub follows : Follows catalog parts limit note new_note
+
 -- the tokens of these roles before the first entry, which has this place
 abbrev pub at_opening : ℕ → List Role → List Known
 at_opening first roles = map (λ n. known n [] first 0) roles

@@ -5,14 +5,15 @@ ghost use Rattle.ss_flow.specs.Advances.{HasRoom};
 ghost use Rattle.ss_flow.specs.Follows.{AreOfStreams};
 ghost use Rattle.ss_commitlog.specs.Committing.{counts_after, CanCount};
 
-use crate::committed::Committed;
-use crate::hands::{add_all, show_all};
+use crate::hands::{add_marks, show_marks};
+use crate::placed::Unlisted;
 use crate::rule::{LogSeat, LogTable};
 use crate::token::Marks;
 use ss_flow::{advance, make_room};
 use ss_model::{Catalog, Emitted, Entry, Life, Listed};
 use ss_stream::Streams;
 use ss_value::{NoMemory, Reserved, Seq};
+use std::alloc::Global;
 use std::marker::{Model, PhantomData};
 
 /// The list, the log's seat, which knows it, and streams and counts as the list leaves them.
@@ -21,6 +22,8 @@ use std::marker::{Model, PhantomData};
 /// hand. Of it the desk keeps each procedure's home alone.
 #[derive(Drop)]
 pub struct Desk<I: Life> {
+    /// For the empty list that stands in the place of marks while they are in the log's seat.
+    pub(crate) alloc: Global,
     pub(crate) list: Reserved<Listed>,
     pub(crate) streams: Streams,
     /// How many batches each procedure has taken.
@@ -85,44 +88,30 @@ impl<I: Life> Desk<I> {
         &mut self,
         table: &LogTable,
         catalog: &Catalog,
-        marks: Marks<I>,
+        marks: &mut Marks<I>,
         listed: Listed,
         emitted: Seq<Emitted>,
-    ) -> Committed<I>
+    ) -> Result<u64, Unlisted>
         requires table { (table.now.shared.table_id ≡ I.table) × (table.now.shared.key.first ≡ I.first) × (0 < I.table.words) }
         requires catalog { catalog.now ≡ I.catalog }
-        requires covers { Covers I.catalog I.parts (roles_of marks) listed.entry }
+        requires covers { Covers I.catalog I.parts (roles_of marks.old) listed.entry }
         requires client { HasClientBelow I.clients listed.entry }
-        requires right { IsRight I.catalog I.parts I.opening marks listed emitted }
-        ensures { IsCommitted I.catalog I.parts I.first I.limit self.old self.new marks listed emitted result }
+        requires right { IsRight I.catalog I.parts I.opening marks.old listed emitted }
+        ensures { IsCommitted I.catalog I.parts I.first I.limit self.old self.new marks.old listed marks.new result }
     {
         let count = self.list.len() as u64;
         if count >= self.limit {
-            let mut marks = marks.into_vec();
-            show_all(table, &mut self.seat, &mut marks);
-            return Committed::ListFull {
-                marks: Seq::from_vec(marks),
-                listed,
-                emitted,
-                count,
-            };
+            show_marks(table, &mut self.seat, self.alloc, marks);
+            return Err(Unlisted::ListFull { count });
         }
         let Ok(()) = reserve(&mut self.list, &mut self.streams, emitted.as_slice()) else {
-            return Committed::NoMemory {
-                marks,
-                listed,
-                emitted,
-            };
+            return Err(Unlisted::NoMemory);
         };
         let place = self.first + count;
-        let mut marks = marks.into_vec();
-        add_all(table, &mut self.seat, &mut marks, place, &listed);
+        add_marks(table, &mut self.seat, self.alloc, marks, place, &listed);
         advance(catalog, &mut self.streams, &listed.entry, emitted);
         count_batch(&mut self.counts, &listed.entry);
         self.list.add(listed);
-        Committed::Done {
-            marks: Seq::from_vec(marks),
-            place,
-        }
+        Ok(place)
     }
 }

@@ -9,9 +9,12 @@ ghost use Rattle.ss_commitlog.specs.Meaning.{IsLegal};
 ghost use Rattle.ss_commitlog.specs.Tokens.{joined, cut, token, log_view, roles_of, AllKnow, AllContinue, added};
 
 use crate::rule::{Adds, First, LogSeat, LogTable, Looks, TakesIn};
-use crate::token::Token;
+use crate::token::{Marks, Token};
 use ss_model::{Life, Listed};
+use ss_value::Seq;
+use std::alloc::Global;
 use std::marker::PhantomData;
+use std::mem::replace;
 
 /// All tokens go into the log's seat, the last one first. Their list keeps its room.
 pub(crate) fn take_in_all<I: Life>(table: &LogTable, seat: &mut LogSeat, tokens: &mut Vec<Token<I>>)
@@ -50,7 +53,7 @@ pub(crate) fn give_back<I: Life>(
 }
 
 /// The log's seat shows these tokens its list.
-pub(crate) fn show_all<I: Life>(table: &LogTable, seat: &mut LogSeat, tokens: &mut Vec<Token<I>>)
+fn show_all<I: Life>(table: &LogTable, seat: &mut LogSeat, tokens: &mut Vec<Token<I>>)
     requires table { (table.now.shared.table_id ≡ I.table) × (seat.old.table_id ≡ I.table) × (0 < I.table.words) }
     requires log { seat.old.me ≡ (log_view seat.old.me.0.now.known seat.old.me.0.now.count seat.old.me.0.now.faults, []) }
     requires legal { IsLegal I.catalog I.parts I.clients I.limit I.opening seat.old.me.0.now.known }
@@ -68,7 +71,7 @@ pub(crate) fn show_all<I: Life>(table: &LogTable, seat: &mut LogSeat, tokens: &m
 /// The log's seat adds an entry, under these tokens' roles.
 ///
 /// That the list is legal with the entry may rest on what the tokens know of the list before.
-pub(crate) fn add_all<I: Life>(
+fn add_all<I: Life>(
     table: &LogTable,
     seat: &mut LogSeat,
     tokens: &mut Vec<Token<I>>,
@@ -93,4 +96,49 @@ pub(crate) fn add_all<I: Life>(
         .shared
         .compare_exchange_with::<Adds>(seat, 0, place, place + 1, listed);
     give_back(table, seat, tokens, count);
+}
+
+/// The log's seat shows these marks its list. An empty list stands in their place meanwhile.
+pub(crate) fn show_marks<I: Life>(
+    table: &LogTable,
+    seat: &mut LogSeat,
+    alloc: Global,
+    marks: &mut Marks<I>,
+)
+    requires table { (table.now.shared.table_id ≡ I.table) × (seat.old.table_id ≡ I.table) × (0 < I.table.words) }
+    requires log { seat.old.me ≡ (log_view seat.old.me.0.now.known seat.old.me.0.now.count seat.old.me.0.now.faults, []) }
+    requires legal { IsLegal I.catalog I.parts I.clients I.limit I.opening seat.old.me.0.now.known }
+    ensures table { seat.new.table_id ≡ I.table }
+    ensures log { seat.new.me ≡ (log_view seat.old.me.0.now.known seat.new.me.0.now.count seat.new.me.0.now.faults, []) }
+    ensures marks { AllKnow seat.old.me.0.now.known marks.old marks.new × AllContinue I.catalog I.parts seat.old.me.0.now.known marks.old }
+{
+    let mut own = replace(marks, Seq::new(alloc)).into_vec();
+    show_all(table, seat, &mut own);
+    *marks = Seq::from_vec(own);
+}
+
+/// The log's seat adds an entry, under these marks' roles. An empty list stands in their place meanwhile.
+pub(crate) fn add_marks<I: Life>(
+    table: &LogTable,
+    seat: &mut LogSeat,
+    alloc: Global,
+    marks: &mut Marks<I>,
+    place: u64,
+    listed: &Listed,
+)
+    requires table { (table.now.shared.table_id ≡ I.table) × (seat.old.table_id ≡ I.table) × (0 < I.table.words) }
+    requires log { seat.old.me ≡ (log_view seat.old.me.0.now.known seat.old.me.0.now.count seat.old.me.0.now.faults, []) }
+    requires legal { IsLegal I.catalog I.parts I.clients I.limit I.opening seat.old.me.0.now.known }
+    requires place { (place ≡ table.now.shared.key.first + length seat.old.me.0.now.known) × (place < 2 ^ 60) }
+    requires more { AllContinue I.catalog I.parts seat.old.me.0.now.known marks.old
+        → IsLegal I.catalog I.parts I.clients I.limit I.opening (added seat.old.me.0.now.known (roles_of marks.old) listed.now) }
+    ensures table { seat.new.table_id ≡ I.table }
+    ensures log { seat.new.me
+        ≡ (log_view (added seat.old.me.0.now.known (roles_of marks.old) listed.now) seat.new.me.0.now.count seat.new.me.0.now.faults, []) }
+    ensures marks { AllKnow (added seat.old.me.0.now.known (roles_of marks.old) listed.now) marks.old marks.new
+        × AllContinue I.catalog I.parts seat.old.me.0.now.known marks.old }
+{
+    let mut own = replace(marks, Seq::new(alloc)).into_vec();
+    add_all(table, seat, &mut own, place, listed);
+    *marks = Seq::from_vec(own);
 }

@@ -7,14 +7,14 @@
 //! Source: S-Store's serial order of transaction executions (Meehan et al., PVLDB 8, 2015, section 2); that threads share
 //! it by tokens is this project's own rule.
 //!
-//! - `log`, `opening`: the calls; `committed`: what a commit answers
+//! - `log`, `opening`: the calls; `placed`: what becomes of an entry; `posted`: what the disk posts
 //! - `token`, `role`: tokens; `blank`: the table before the log has a name
 //! - `desk`, `looking`: what stands behind the lock; `reading`: what is read of it
 //! - `rule`: the rule of the table; `hands`, `notes`: its steps
 //! - `laws`: what callers need to know of lists
 //!
-//! In `specs/`: `Roles`, `Rule` (lists, roles and words), `Meaning`, `Tokens` (what tokens know), `Right` (when an entry may
-//! join), `Reading`, `Committing`.
+//! In `specs/`: `Roles`, `Rule` (lists, roles and words), `Meaning`, `Tokens` (what tokens know), `Growing`
+//! (tokens whose lists go on), `Right` (when an entry may join), `Reading`, `Committing`.
 //!
 //! # What a mark knows
 //!
@@ -44,23 +44,26 @@
 //! behind it they know the log's list. `post` and `see` are steps on words 1 and 2 and take no lock. `close` joins all
 //! tokens for good.
 //!
+//! Each call but `close` is lent its tokens. While a token is in the log's seat a note of one more reader stands in its
+//! place, and while marks are, an empty list. No role but a reader's is many tokens', so such a note takes nothing from
+//! anybody.
+//!
 //! # Promises
 //!
 //! - `commit` (`Commits`): the entry stands at the place that is answered, behind a list that goes on from what each
-//!   mark knew, or the list is as it was. It needs the marks of all that the entry concerns (`Covers`), and an outcome
-//!   and batches that are right on every database whose parts are as the marks' own lists leave them (`IsRight`). Since
-//!   nothing behind a mark's list touches its part, the database of the list behind the lock is one of these; so the
-//!   list always replays (`IsLegal`), whatever the interleaving. Marks that all know one list need the entry's value
-//!   behind that list, and no more (lemma `right_at_one_list`).
+//!   mark knew, or the list is as it was, and the answer says why (`Unlisted`). It needs the marks of all that the entry
+//!   concerns (`Covers`), and an outcome and batches that are right on every database whose parts are as the marks' own
+//!   lists leave them (`IsRight`). Since nothing behind a mark's list touches its part, the database of the list behind
+//!   the lock is one of these; so the list always replays (`IsLegal`), whatever the interleaving. Marks that all know one
+//!   list need the entry's value behind that list, and no more (lemma `right_at_one_list`).
 //! - `look` (`ok`): the batch that a consumer finds; `ready_at` (`ready`): just the procedures of a partition that are
 //!   ready; `tail` (`ok`): the entries from a place on; each of the list that the token then knows (`Follows`).
-//! - `meet` (`one`), `meet_all`, `meet_tail`: these tokens then know one list.
+//! - `meet` (`one`), `meet_all`, `meet_with` (`Met`), `meet_tail`: these tokens then know one list.
 //! - `close`: a list that replays and has its orders (`legal`) and goes on from what each token knew (`list`), with the
 //!   streams after it (`streams`).
 #![tactic(auto)]
 
 mod blank;
-mod committed;
 mod desk;
 mod hands;
 mod laws;
@@ -68,16 +71,19 @@ mod log;
 mod looking;
 mod notes;
 mod opening;
+mod placed;
+mod posted;
 mod reading;
 mod role;
 mod rule;
 mod token;
 
 pub use blank::Blank;
-pub use committed::Committed;
 pub use laws::border_streams_stay;
 pub use log::CommitLog;
-pub use opening::Opened;
+pub use opening::NewLog;
+pub use placed::{Placed, Unlisted};
+pub use posted::Posted;
 pub use role::Role;
 pub use rule::Opening;
 pub use token::{Mark, Marks, Note, Notes, Token};

@@ -11,11 +11,12 @@ ghost use Rattle.ss_commitlog.specs.Meaning.{listed_of, HasClientBelow, HaveClie
 ghost use Rattle.ss_commitlog.specs.Reading.{found_batch, IsReadyAt};
 ghost use Rattle.ss_commitlog.specs.Right.{IsRight, known_database};
 ghost use Rattle.ss_commitlog.specs.Committing.{Commits};
-ghost use Rattle.ss_commitlog.specs.Tokens.{known, roles_of, Covers, Follows, Continues, AllContinue, AllSaw, KnowOne, MeetAll};
+ghost use Rattle.ss_commitlog.specs.Tokens.{known, roles_of, Covers, Follows, Continues, AllContinue, AllSaw, KnowOne, MeetAll, Met};
 
-use crate::committed::Committed;
 use crate::desk::Desk;
 use crate::notes;
+use crate::placed::Unlisted;
+use crate::posted::Posted;
 use crate::rule::LogTable;
 use crate::token::{Mark, Marks, Note};
 use ss_model::{Catalog, Emitted, Life, Listed};
@@ -29,8 +30,9 @@ use std::sync::{Mutex, Wait};
 /// Every call but `post` and `see` takes the lock; none of them calls anybody while it holds it. What they cost under
 /// the lock: `commit` a step for each mark, each batch and each input; `look` a copy of the batch; `tail` and `meet_tail`
 /// a copy of the entries; `ready_at` a look at each procedure's home, and at the inputs of those that are at home there;
-/// `meet` and `meet_all` a step or two for each token. No commit looks at the list. Memory: `commit` an entry's and its
-/// batches' room, made before the first step; `look`, `tail` and `meet_tail` their copies; all others none.
+/// `meet`, `meet_all` and `meet_with` a step or two for each token. No commit looks at the list. Memory: `commit` an
+/// entry's and its batches' room, made before the first step; `look`, `tail` and `meet_tail` their copies; all others
+/// none.
 #[derive(Drop)]
 pub struct CommitLog<I: Life> {
     pub(crate) table: LogTable,
@@ -39,20 +41,22 @@ pub struct CommitLog<I: Life> {
 }
 
 impl<I: Life> CommitLog<I> {
-    /// Adds an entry with its batches, under the marks of all that it concerns. It makes its room first, and then can't fail.
+    /// Adds an entry with its batches, under the marks of all that it concerns, and answers its place. It makes its room
+    /// first, and then can't fail. `NoMemory` where there is none for it, and `ListFull` where the list holds as many
+    /// entries as it may: then the list is as it was, and the entry is let go.
     pub fn commit<R: Wait>(
         &self,
         rt: &R,
         catalog: &Catalog,
-        marks: Marks<I>,
+        marks: &mut Marks<I>,
         listed: Listed,
         emitted: Seq<Emitted>,
-    ) -> Committed<I>
+    ) -> Result<u64, Unlisted>
         requires catalog { catalog.now ≡ I.catalog }
-        requires covers { Covers I.catalog I.parts (roles_of marks) listed.entry }
+        requires covers { Covers I.catalog I.parts (roles_of marks.old) listed.entry }
         requires client { HasClientBelow I.clients listed.entry }
-        requires right { IsRight I.catalog I.parts I.opening marks listed emitted }
-        ensures { Commits I.catalog I.parts I.first I.limit marks listed emitted result }
+        requires right { IsRight I.catalog I.parts I.opening marks.old listed emitted }
+        ensures { Commits I.catalog I.parts I.first I.limit marks.old listed marks.new result }
     {
         self.desk
             .lock(rt)
@@ -64,14 +68,14 @@ impl<I: Life> CommitLog<I> {
         &self,
         rt: &R,
         alloc: Global,
-        mark: Mark<I>,
+        mark: &mut Mark<I>,
         stream: u16,
         consumer: u16,
         r: u64,
-    ) -> (Mark<I>, Result<Option<Rows>, NoMemory>)
+    ) -> Result<Option<Rows>, NoMemory>
         requires takes { procedure_takes I.catalog consumer stream ≡ true }
-        ensures mark { Follows I.catalog I.parts I.limit mark result.0 }
-        ensures ok { IfOk result.1 (λ found. found ≡ found_batch (known_database I.catalog I.opening result.0) stream consumer r) }
+        ensures mark { Follows I.catalog I.parts I.limit mark.old mark.new }
+        ensures ok { IfOk result (λ found. found ≡ found_batch (known_database I.catalog I.opening mark.new) stream consumer r) }
     {
         self.desk
             .lock(rt)
@@ -83,63 +87,64 @@ impl<I: Life> CommitLog<I> {
         &self,
         rt: &R,
         alloc: Global,
-        note: Note<I>,
+        note: &mut Note<I>,
         from: u64,
-    ) -> (Note<I>, Result<Seq<Listed>, NoMemory>)
+    ) -> Result<Seq<Listed>, NoMemory>
         requires from { I.first ≤ from }
-        ensures note { Follows I.catalog I.parts I.limit note result.0 }
-        ensures ok { IfOk result.1 (λ copies. copies ≡ drop (from - I.first) (listed_of result.0.list)) }
+        ensures note { Follows I.catalog I.parts I.limit note.old note.new }
+        ensures ok { IfOk result (λ copies. copies ≡ drop (from - I.first) (listed_of note.new.list)) }
     {
         self.desk.lock(rt).tail(&self.table, alloc, note, from)
     }
 
     /// The procedures that stand at a partition and have their next batch, after the list that the note then knows.
-    pub fn ready_at<R: Wait>(
-        &self,
-        rt: &R,
-        catalog: &Catalog,
-        note: Note<I>,
-        p: u8,
-    ) -> (Note<I>, ProcSet)
+    pub fn ready_at<R: Wait>(&self, rt: &R, catalog: &Catalog, note: &mut Note<I>, p: u8) -> ProcSet
         requires catalog { catalog.now ≡ I.catalog }
-        ensures note { Follows I.catalog I.parts I.limit note result.0 }
-        ensures ready { (q : ℕ) → IsBitSet result.1 q ↔ IsReadyAt I.catalog I.parts (known_database I.catalog I.opening result.0) p q }
+        ensures note { Follows I.catalog I.parts I.limit note.old note.new }
+        ensures ready { (q : ℕ) → IsBitSet result q ↔ IsReadyAt I.catalog I.parts (known_database I.catalog I.opening note.new) p q }
     {
         self.desk.lock(rt).ready_at(&self.table, catalog, note, p)
     }
 
     /// Both tokens then know one list, and have seen the same numbers.
-    pub fn meet<R: Wait>(&self, rt: &R, mark: Mark<I>, note: Note<I>) -> (Mark<I>, Note<I>)
-        ensures mark { Follows I.catalog I.parts I.limit mark result.0 }
-        ensures note { Follows I.catalog I.parts I.limit note result.1 }
-        ensures one { KnowOne result.0 result.1 }
+    pub fn meet<R: Wait>(&self, rt: &R, mark: &mut Mark<I>, note: &mut Note<I>)
+        ensures mark { Follows I.catalog I.parts I.limit mark.old mark.new }
+        ensures note { Follows I.catalog I.parts I.limit note.old note.new }
+        ensures one { KnowOne mark.new note.new }
     {
-        self.desk.lock(rt).meet(&self.table, mark, note)
+        self.desk.lock(rt).meet(&self.table, mark, note);
     }
 
     /// All these tokens then know one list. Takes the lock once, instead of once for each token, so that what the parts
     /// of several partitions are is about one list.
-    pub fn meet_all<R: Wait>(&self, rt: &R, marks: Marks<I>) -> Marks<I>
-        ensures { MeetAll I.catalog I.parts I.limit marks result }
+    pub fn meet_all<R: Wait>(&self, rt: &R, marks: &mut Marks<I>)
+        ensures { MeetAll I.catalog I.parts I.limit marks.old marks.new }
     {
-        self.desk.lock(rt).meet_all(&self.table, marks)
+        self.desk.lock(rt).meet_all(&self.table, marks);
     }
 
-    /// Both tokens then know one list, and have seen the same numbers. With it copies of the entries of that list from a place
+    /// All marks and the note then know one list. Takes the lock once.
+    pub fn meet_with<R: Wait>(&self, rt: &R, marks: &mut Marks<I>, note: &mut Note<I>)
+        ensures { Met I.catalog I.parts I.limit marks.old note.old marks.new note.new }
+    {
+        self.desk.lock(rt).meet_with(&self.table, marks, note);
+    }
+
+    /// Both tokens then know one list, and have seen the same numbers. Gives copies of the entries of that list from a place
     /// on. Takes the lock once.
     pub fn meet_tail<R: Wait>(
         &self,
         rt: &R,
         alloc: Global,
-        mark: Mark<I>,
-        note: Note<I>,
+        mark: &mut Mark<I>,
+        note: &mut Note<I>,
         from: u64,
-    ) -> (Mark<I>, Note<I>, Result<Seq<Listed>, NoMemory>)
+    ) -> Result<Seq<Listed>, NoMemory>
         requires from { I.first ≤ from }
-        ensures mark { Follows I.catalog I.parts I.limit mark result.0 }
-        ensures note { Follows I.catalog I.parts I.limit note result.1 }
-        ensures one { KnowOne result.0 result.1 }
-        ensures ok { IfOk result.2 (λ copies. copies ≡ drop (from - I.first) (listed_of result.1.list)) }
+        ensures mark { Follows I.catalog I.parts I.limit mark.old mark.new }
+        ensures note { Follows I.catalog I.parts I.limit note.old note.new }
+        ensures one { KnowOne mark.new note.new }
+        ensures ok { IfOk result (λ copies. copies ≡ drop (from - I.first) (listed_of note.new.list)) }
     {
         self.desk
             .lock(rt)
@@ -147,20 +152,20 @@ impl<I: Life> CommitLog<I> {
     }
 
     /// Posts a receipted count and the faults of the disk. Needs no lock.
-    pub fn post(&self, note: Note<I>, count: u64, faults: u64) -> Note<I>
-        requires disk { note.role ≡ Disk }
-        requires count { note.count ≤ count }
-        requires faults { (note.faults ≡ 0) ⊎ (note.faults ≡ faults) }
-        ensures { result ≡ known Disk note.list count faults }
+    pub fn post(&self, note: &mut Note<I>, count: u64, faults: u64)
+        requires disk { note.old.role ≡ Disk }
+        requires count { note.old.count ≤ count }
+        requires faults { (note.old.faults ≡ 0) ⊎ (note.old.faults ≡ faults) }
+        ensures { note.new ≡ known Disk note.old.list count faults }
     {
-        notes::post(&self.table, note, count, faults)
+        notes::post(&self.table, note, count, faults);
     }
 
     /// Reads the two posted numbers. Needs no lock.
-    pub fn see(&self, mark: Mark<I>) -> (Mark<I>, u64, u64)
-        ensures seen { result.0 ≡ known mark.role mark.list result.1 result.2 }
-        ensures more { (mark.count ≤ result.1) × ((mark.faults ≡ 0) ⊎ (mark.faults ≡ result.2)) }
-        ensures disk { mark.role ≡ Disk → (result.1 ≡ mark.count) × (result.2 ≡ mark.faults) }
+    pub fn see(&self, mark: &mut Mark<I>) -> Posted
+        ensures seen { mark.new ≡ known mark.old.role mark.old.list result.count result.faults }
+        ensures more { (mark.old.count ≤ result.count) × ((mark.old.faults ≡ 0) ⊎ (mark.old.faults ≡ result.faults)) }
+        ensures disk { mark.old.role ≡ Disk → (result.count ≡ mark.old.count) × (result.faults ≡ mark.old.faults) }
     {
         notes::see(&self.table, mark)
     }

@@ -12,7 +12,7 @@ ghost use Rattle.ss_commitlog.specs.Right.{known_database};
 ghost use Rattle.ss_commitlog.specs.Tokens.{Follows, AllKnow, Continues, AllContinue, AllSaw, SeeOne};
 
 use crate::desk::Desk;
-use crate::hands::show_all;
+use crate::hands::show_marks;
 use crate::notes::{end_all, show, show_two};
 use crate::reading::{batch_for, copy_from, ready_set};
 use crate::rule::LogTable;
@@ -28,20 +28,19 @@ impl<I: Life> Desk<I> {
         &mut self,
         table: &LogTable,
         alloc: Global,
-        mark: Mark<I>,
+        mark: &mut Mark<I>,
         stream: u16,
         consumer: u16,
         r: u64,
-    ) -> (Mark<I>, Result<Option<Rows>, NoMemory>)
+    ) -> Result<Option<Rows>, NoMemory>
         requires table { (table.now.shared.table_id ≡ I.table) × (0 < I.table.words) }
         requires takes { procedure_takes I.catalog consumer stream ≡ true }
-        ensures list { (self.new ≡ self.old) × (result.0.list ≡ self.old) }
-        ensures mark { Follows I.catalog I.parts I.limit mark result.0 }
-        ensures ok { IfOk result.1 (λ found. found ≡ found_batch (known_database I.catalog I.opening result.0) stream consumer r) }
+        ensures list { (self.new ≡ self.old) × (mark.new.list ≡ self.old) }
+        ensures mark { Follows I.catalog I.parts I.limit mark.old mark.new }
+        ensures ok { IfOk result (λ found. found ≡ found_batch (known_database I.catalog I.opening mark.new) stream consumer r) }
     {
-        let mark = show(table, &mut self.seat, mark);
-        let found = batch_for(&self.streams, &self.counts, alloc, stream, consumer, r);
-        (mark, found)
+        show(table, &mut self.seat, mark);
+        batch_for(&self.streams, &self.counts, alloc, stream, consumer, r)
     }
 
     /// Copies of the entries from a place on.
@@ -49,19 +48,18 @@ impl<I: Life> Desk<I> {
         &mut self,
         table: &LogTable,
         alloc: Global,
-        note: Note<I>,
+        note: &mut Note<I>,
         from: u64,
-    ) -> (Note<I>, Result<Seq<Listed>, NoMemory>)
+    ) -> Result<Seq<Listed>, NoMemory>
         requires table { (table.now.shared.table_id ≡ I.table) × (0 < I.table.words) }
         requires from { I.first ≤ from }
-        ensures list { (self.new ≡ self.old) × (result.0.list ≡ self.old) }
-        ensures note { Follows I.catalog I.parts I.limit note result.0 }
-        ensures ok { IfOk result.1 (λ copies. copies ≡ drop (from - I.first) (listed_of result.0.list)) }
+        ensures list { (self.new ≡ self.old) × (note.new.list ≡ self.old) }
+        ensures note { Follows I.catalog I.parts I.limit note.old note.new }
+        ensures ok { IfOk result (λ copies. copies ≡ drop (from - I.first) (listed_of note.new.list)) }
     {
-        let note = show(table, &mut self.seat, note);
+        show(table, &mut self.seat, note);
         let skip = (from - self.first) as usize;
-        let copies = copy_from(alloc, self.list.as_slice(), skip);
-        (note, copies)
+        copy_from(alloc, self.list.as_slice(), skip)
     }
 
     /// The procedures that stand at a partition and have their next batch after the list.
@@ -69,63 +67,70 @@ impl<I: Life> Desk<I> {
         &mut self,
         table: &LogTable,
         catalog: &Catalog,
-        note: Note<I>,
+        note: &mut Note<I>,
         p: u8,
-    ) -> (Note<I>, ProcSet)
+    ) -> ProcSet
         requires table { (table.now.shared.table_id ≡ I.table) × (0 < I.table.words) }
         requires catalog { catalog.now ≡ I.catalog }
-        ensures list { (self.new ≡ self.old) × (result.0.list ≡ self.old) }
-        ensures note { Follows I.catalog I.parts I.limit note result.0 }
-        ensures ready { (q : ℕ) → IsBitSet result.1 q ↔ IsReadyAt I.catalog I.parts (known_database I.catalog I.opening result.0) p q }
+        ensures list { (self.new ≡ self.old) × (note.new.list ≡ self.old) }
+        ensures note { Follows I.catalog I.parts I.limit note.old note.new }
+        ensures ready { (q : ℕ) → IsBitSet result q ↔ IsReadyAt I.catalog I.parts (known_database I.catalog I.opening note.new) p q }
     {
-        let note = show(table, &mut self.seat, note);
-        let ready = ready_set(catalog, &self.streams, &self.counts, &self.homes, p);
-        (note, ready)
+        show(table, &mut self.seat, note);
+        ready_set(catalog, &self.streams, &self.counts, &self.homes, p)
     }
 
     /// Two tokens see the list, and each other's numbers.
-    pub fn meet(&mut self, table: &LogTable, mark: Mark<I>, note: Note<I>) -> (Mark<I>, Note<I>)
+    pub fn meet(&mut self, table: &LogTable, mark: &mut Mark<I>, note: &mut Note<I>)
         requires table { (table.now.shared.table_id ≡ I.table) × (0 < I.table.words) }
-        ensures list { (self.new ≡ self.old) × (result.0.list ≡ self.old) × (result.1.list ≡ self.old) }
-        ensures mark { Follows I.catalog I.parts I.limit mark result.0 }
-        ensures note { Follows I.catalog I.parts I.limit note result.1 }
-        ensures one { SeeOne result.0 result.1 }
+        ensures list { (self.new ≡ self.old) × (mark.new.list ≡ self.old) × (note.new.list ≡ self.old) }
+        ensures mark { Follows I.catalog I.parts I.limit mark.old mark.new }
+        ensures note { Follows I.catalog I.parts I.limit note.old note.new }
+        ensures one { SeeOne mark.new note.new }
     {
-        show_two(table, &mut self.seat, mark, note)
+        show_two(table, &mut self.seat, mark, note);
     }
 
     /// All tokens see the list.
-    pub fn meet_all(&mut self, table: &LogTable, marks: Marks<I>) -> Marks<I>
+    pub fn meet_all(&mut self, table: &LogTable, marks: &mut Marks<I>)
         requires table { (table.now.shared.table_id ≡ I.table) × (0 < I.table.words) }
         ensures list { (self.new ≡ self.old) × (length self.old ≤ I.limit) }
-        ensures marks { AllKnow self.old marks result × AllContinue I.catalog I.parts self.old marks }
+        ensures marks { AllKnow self.old marks.old marks.new × AllContinue I.catalog I.parts self.old marks.old }
     {
-        let mut marks = marks.into_vec();
-        show_all(table, &mut self.seat, &mut marks);
-        Seq::from_vec(marks)
+        show_marks(table, &mut self.seat, self.alloc, marks);
     }
 
-    /// Two tokens see the list, and each other's numbers. With it copies of the entries from a place on.
+    /// All marks and a note see the list.
+    pub fn meet_with(&mut self, table: &LogTable, marks: &mut Marks<I>, note: &mut Note<I>)
+        requires table { (table.now.shared.table_id ≡ I.table) × (0 < I.table.words) }
+        ensures list { (self.new ≡ self.old) × (note.new.list ≡ self.old) }
+        ensures marks { AllKnow note.new.list marks.old marks.new × AllContinue I.catalog I.parts note.new.list marks.old }
+        ensures note { Follows I.catalog I.parts I.limit note.old note.new }
+    {
+        show_marks(table, &mut self.seat, self.alloc, marks);
+        show(table, &mut self.seat, note);
+    }
+
+    /// Two tokens see the list, and each other's numbers. Copies of the entries from a place on.
     pub fn meet_tail(
         &mut self,
         table: &LogTable,
         alloc: Global,
-        mark: Mark<I>,
-        note: Note<I>,
+        mark: &mut Mark<I>,
+        note: &mut Note<I>,
         from: u64,
-    ) -> (Mark<I>, Note<I>, Result<Seq<Listed>, NoMemory>)
+    ) -> Result<Seq<Listed>, NoMemory>
         requires table { (table.now.shared.table_id ≡ I.table) × (0 < I.table.words) }
         requires from { I.first ≤ from }
-        ensures list { (self.new ≡ self.old) × (result.0.list ≡ self.old) × (result.1.list ≡ self.old) }
-        ensures mark { Follows I.catalog I.parts I.limit mark result.0 }
-        ensures note { Follows I.catalog I.parts I.limit note result.1 }
-        ensures one { SeeOne result.0 result.1 }
-        ensures ok { IfOk result.2 (λ copies. copies ≡ drop (from - I.first) (listed_of result.1.list)) }
+        ensures list { (self.new ≡ self.old) × (mark.new.list ≡ self.old) × (note.new.list ≡ self.old) }
+        ensures mark { Follows I.catalog I.parts I.limit mark.old mark.new }
+        ensures note { Follows I.catalog I.parts I.limit note.old note.new }
+        ensures one { SeeOne mark.new note.new }
+        ensures ok { IfOk result (λ copies. copies ≡ drop (from - I.first) (listed_of note.new.list)) }
     {
-        let (mark, note) = show_two(table, &mut self.seat, mark, note);
+        show_two(table, &mut self.seat, mark, note);
         let skip = (from - self.first) as usize;
-        let copies = copy_from(alloc, self.list.as_slice(), skip);
-        (mark, note, copies)
+        copy_from(alloc, self.list.as_slice(), skip)
     }
 
     /// Hands over the list and the streams after it.

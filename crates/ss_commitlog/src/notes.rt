@@ -8,48 +8,40 @@ ghost use Rattle.ss_commitlog.specs.Meaning.{IsLegal};
 ghost use Rattle.ss_commitlog.specs.Tokens.{joined, cut, token, log_view, known, head_or_reader, Knows, AllKnow, Continues, AllContinue, AllSaw};
 
 use crate::hands::take_in_all;
+use crate::posted::Posted;
 use crate::rule::{
-    First, LogSeat, LogTable, Looks, PostsCount, PostsFaults, SeesCount, SeesFaults, TakesIn,
+    First, LogSeat, LogTable, Looks, NewReader, PostsCount, PostsFaults, SeesCount, SeesFaults,
+    TakesIn,
 };
 use crate::token::Token;
 use ss_model::Life;
 use std::marker::PhantomData;
+use std::mem::replace;
 
 /// Reads the two posted numbers.
-pub(crate) fn see<I: Life>(table: &LogTable, token: Token<I>) -> (Token<I>, u64, u64)
+pub(crate) fn see<I: Life>(table: &LogTable, token: &mut Token<I>) -> Posted
     requires { (table.now.shared.table_id ≡ I.table) × (I.table.words ≡ 3) }
-    ensures seen { result.0 ≡ known token.role token.list result.1 result.2 }
-    ensures more { (token.count ≤ result.1) × ((token.faults ≡ 0) ⊎ (token.faults ≡ result.2)) }
-    ensures disk { token.role ≡ Disk → (result.1 ≡ token.count) × (result.2 ≡ token.faults) }
+    ensures seen { token.new ≡ known token.old.role token.old.list result.count result.faults }
+    ensures more { (token.old.count ≤ result.count) × ((token.old.faults ≡ 0) ⊎ (token.old.faults ≡ result.faults)) }
+    ensures disk { token.old.role ≡ Disk → (result.count ≡ token.old.count) × (result.faults ≡ token.old.faults) }
 {
-    let Token { mut seat, of: _ } = token;
-    let count = table.shared.load::<SeesCount>(&mut seat, 1);
-    let faults = table.shared.load::<SeesFaults>(&mut seat, 2);
-    (
-        Token {
-            seat,
-            of: PhantomData,
-        },
-        count,
-        faults,
-    )
+    let count = table.shared.load::<SeesCount>(&mut token.seat, 1);
+    let faults = table.shared.load::<SeesFaults>(&mut token.seat, 2);
+    Posted { count, faults }
 }
 
 /// Posts the two numbers, which the disk's token alone may do.
-pub(crate) fn post<I: Life>(table: &LogTable, token: Token<I>, count: u64, faults: u64) -> Token<I>
+pub(crate) fn post<I: Life>(table: &LogTable, token: &mut Token<I>, count: u64, faults: u64)
     requires table { (table.now.shared.table_id ≡ I.table) × (I.table.words ≡ 3) }
-    requires disk { token.role ≡ Disk }
-    requires count { token.count ≤ count }
-    requires faults { (token.faults ≡ 0) ⊎ (token.faults ≡ faults) }
-    ensures { result ≡ known Disk token.list count faults }
+    requires disk { token.old.role ≡ Disk }
+    requires count { token.old.count ≤ count }
+    requires faults { (token.old.faults ≡ 0) ⊎ (token.old.faults ≡ faults) }
+    ensures { token.new ≡ known Disk token.old.list count faults }
 {
-    let Token { mut seat, of: _ } = token;
-    table.shared.store::<PostsCount>(&mut seat, 1, count);
-    table.shared.store::<PostsFaults>(&mut seat, 2, faults);
-    Token {
-        seat,
-        of: PhantomData,
-    }
+    table.shared.store::<PostsCount>(&mut token.seat, 1, count);
+    table
+        .shared
+        .store::<PostsFaults>(&mut token.seat, 2, faults);
 }
 
 /// A token goes into the log's seat.
@@ -60,6 +52,20 @@ fn take_in<I: Life>(table: &LogTable, seat: &mut LogSeat, token: Token<I>)
 {
     let Token { seat: other, of: _ } = token;
     table.shared.join_seat::<TakesIn>(seat, other);
+}
+
+/// A token that is lent goes into the log's seat. A reader's note stands in its place until it comes out again.
+fn take_in_lent<I: Life>(table: &LogTable, seat: &mut LogSeat, token: &mut Token<I>)
+    requires table { (table.now.shared.table_id ≡ I.table) × (seat.old.table_id ≡ I.table) × (0 < I.table.words) }
+    requires log { In Log seat.old.me.0.now.roles }
+    requires legal { IsLegal I.catalog I.parts I.clients I.limit I.opening seat.old.me.0.now.known }
+    ensures { (seat.new.table_id ≡ I.table) × (seat.new.me ≡ (joined seat.old.me.0 (token.old ∷ []), seat.old.me.1)) }
+{
+    let note = Token {
+        seat: table.shared.split_seat::<NewReader>(seat),
+        of: PhantomData,
+    };
+    take_in(table, seat, replace(token, note));
 }
 
 /// The first role of a seat goes to a token, which knows what the seat knows.
@@ -78,40 +84,40 @@ pub(crate) fn give_one<I: Life>(table: &LogTable, seat: &mut LogSeat) -> Token<I
 }
 
 /// A token sees the list.
-pub(crate) fn show<I: Life>(table: &LogTable, seat: &mut LogSeat, token: Token<I>) -> Token<I>
+pub(crate) fn show<I: Life>(table: &LogTable, seat: &mut LogSeat, token: &mut Token<I>)
     requires table { (table.now.shared.table_id ≡ I.table) × (seat.old.table_id ≡ I.table) × (0 < I.table.words) }
     requires log { seat.old.me ≡ (log_view seat.old.me.0.now.known seat.old.me.0.now.count seat.old.me.0.now.faults, []) }
     requires legal { IsLegal I.catalog I.parts I.clients I.limit I.opening seat.old.me.0.now.known }
     ensures log { (seat.new.table_id ≡ I.table) × (seat.new.me ≡ (log_view seat.old.me.0.now.known seat.new.me.0.now.count seat.new.me.0.now.faults, [])) }
-    ensures token { Knows seat.old.me.0.now.known token result × Continues I.catalog I.parts seat.old.me.0.now.known token }
+    ensures token { Knows seat.old.me.0.now.known token.old token.new × Continues I.catalog I.parts seat.old.me.0.now.known token.old }
 {
-    take_in(table, seat, token);
+    take_in_lent(table, seat, token);
     table.shared.load::<Looks>(seat, 0);
-    give_one(table, seat)
+    *token = give_one(table, seat);
 }
 
 /// Two tokens see the list, and each other's numbers.
 pub(crate) fn show_two<I: Life>(
     table: &LogTable,
     seat: &mut LogSeat,
-    mark: Token<I>,
-    note: Token<I>,
-) -> (Token<I>, Token<I>)
+    mark: &mut Token<I>,
+    note: &mut Token<I>,
+)
     requires table { (table.now.shared.table_id ≡ I.table) × (seat.old.table_id ≡ I.table) × (0 < I.table.words) }
     requires log { seat.old.me ≡ (log_view seat.old.me.0.now.known seat.old.me.0.now.count seat.old.me.0.now.faults, []) }
     requires legal { IsLegal I.catalog I.parts I.clients I.limit I.opening seat.old.me.0.now.known }
     ensures log { (seat.new.table_id ≡ I.table) × (seat.new.me ≡ (log_view seat.old.me.0.now.known seat.new.me.0.now.count seat.new.me.0.now.faults, [])) }
-    ensures tokens { AllKnow seat.old.me.0.now.known (mark ∷ note ∷ []) (result.0 ∷ result.1 ∷ [])
-        × AllContinue I.catalog I.parts seat.old.me.0.now.known (mark ∷ note ∷ []) }
-    ensures one { (result.0.count ≡ result.1.count) × (result.0.faults ≡ result.1.faults) }
-    ensures both { (mark.count ≤ result.1.count) × (mark.faults ≤ result.1.faults) × (note.count ≤ result.0.count) × (note.faults ≤ result.0.faults) }
+    ensures tokens { AllKnow seat.old.me.0.now.known (mark.old ∷ note.old ∷ []) (mark.new ∷ note.new ∷ [])
+        × AllContinue I.catalog I.parts seat.old.me.0.now.known (mark.old ∷ note.old ∷ []) }
+    ensures one { (mark.new.count ≡ note.new.count) × (mark.new.faults ≡ note.new.faults) }
+    ensures both { (mark.old.count ≤ note.new.count) × (mark.old.faults ≤ note.new.faults)
+        × (note.old.count ≤ mark.new.count) × (note.old.faults ≤ mark.new.faults) }
 {
-    take_in(table, seat, note);
-    take_in(table, seat, mark);
+    take_in_lent(table, seat, note);
+    take_in_lent(table, seat, mark);
     table.shared.load::<Looks>(seat, 0);
-    let mark = give_one(table, seat);
-    let note = give_one(table, seat);
-    (mark, note)
+    *mark = give_one(table, seat);
+    *note = give_one(table, seat);
 }
 
 /// All tokens go into the log's seat for good.

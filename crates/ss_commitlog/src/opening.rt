@@ -26,7 +26,7 @@ use std::sync::Mutex;
 
 /// A log that was just opened, with a token for everybody who is to hold one.
 #[derive(Drop)]
-pub struct Opened<I: Life> {
+pub struct NewLog<I: Life> {
     pub log: CommitLog<I>,
     /// The mark of each partition, by number.
     pub parts: Marks<I>,
@@ -84,7 +84,7 @@ impl<I: Life> CommitLog<I> {
         streams: Streams,
         counts: Seq<u64>,
         opening: Opening,
-    ) -> Result<Opened<I>, NoMemory>
+    ) -> Result<NewLog<I>, NoMemory>
         requires blank { (blank.opening ≡ opening) × (blank.table.shared.table_id ≡ I.table) }
         requires numbers { (opening.first ≡ I.first) × (opening.limit ≡ I.limit) × (opening.parts ≡ I.parts) × (opening.clients ≡ I.clients) }
         requires small { opening.first + opening.limit ≤ 2 ^ 60 }
@@ -118,6 +118,7 @@ impl<I: Life> CommitLog<I> {
         give_back(&table, &mut seat, &mut notes, notes_count);
         let disk = give_one(&table, &mut seat);
         let desk = Desk {
+            alloc,
             list: Reserved::new(alloc),
             streams,
             counts,
@@ -127,7 +128,7 @@ impl<I: Life> CommitLog<I> {
             seat,
             of: PhantomData,
         };
-        Ok(Opened {
+        Ok(NewLog {
             log: CommitLog {
                 table,
                 desk: Mutex::new(desk),

@@ -120,6 +120,17 @@ impl Split<View> for First {
     ghost right = { first_alone };
 }
 
+/// A seat of one more reader, which knows what the seat knows. The seat keeps its roles.
+pub struct NewReader;
+
+impl Split<View> for NewReader {
+    ghost use Rattle.ss_commitlog.specs.Rule.{reader_alone};
+
+    ghost left = { λ v. v };
+
+    ghost right = { reader_alone };
+}
+
 /// The log's seat takes in another.
 pub struct TakesIn;
 

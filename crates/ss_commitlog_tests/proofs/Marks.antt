@@ -1,12 +1,11 @@
 -- Marks that change places, are handed back, or popped one after another.
-use Rattle.std.proofs.Common.{◌≡◌, ◌<◌, ◌∙◌, ℕ, List, [], ◌∷◌, ◌++◌, length, refl, sym, ap, subst, arith, Some, None, IfSome, slice_get, slice_set}
-use Rattle.std.specs.declared.option.Option.{Option}
+use Rattle.std.proofs.Common.{◌≡◌, ◌<◌, ◌∙◌, ℕ, List, [], ◌∷◌, ◌++◌, length, refl, sym, ap, subst, arith, Some, Ok, Err, slice_get, slice_set}
+use Rattle.std.specs.declared.result.Result.{Result}
 use Rattle.ss_lemmas.proofs.Ends.{ends_alike}
 use Rattle.ss_model.specs.declared.catalog.Catalog.{Catalog}
-use Rattle.ss_model.specs.declared.entry.Emitted.{Emitted}
 use Rattle.ss_model.specs.declared.entry.Listed.{Listed}
-use Rattle.ss_commitlog.specs.declared.committed.Committed.{Committed}
-use Rattle.ss_commitlog.specs.declared.committed.Committed.TheVariants.{Done}
+use Rattle.ss_commitlog.specs.declared.placed.Unlisted.{Unlisted}
+use Rattle.ss_commitlog.specs.declared.placed.Unlisted.TheVariants.{NoMemory, ListFull}
 use Rattle.ss_commitlog.specs.declared.role.Role.{Role}
 use Rattle.ss_commitlog.specs.declared.role.Role.TheVariants.{Part, Client}
 use Rattle.ss_commitlog.specs.declared.rule.Item.{Item}
@@ -42,13 +41,11 @@ same_roles list [] (l ∷ ls) all = absurd all
 same_roles list (k ∷ ks) [] all = absurd all
 same_roles list (k ∷ ks) (l ∷ ls) all = λ i. all.0.role i ∷ same_roles list ks ls all.1 i
 
--- the marks of a commit that is done have the roles of those that it was given
-pub done_roles : {I : Type 0} (catalog : Catalog) (parts first limit : ℕ) (ks : List Known) (l : Listed) (em : List Emitted) (answer : Committed I) (r : Option (List Known × ℕ)) (roles : List Role)
-    → Commits catalog parts first limit ks l em answer → roles_of ks ≡ roles → IfSome r (λ x. answer ≡ Done x.0 x.1) → IfSome r (λ x. roles_of x.0 ≡ roles)
-done_roles catalog parts first limit ks l em answer None roles commits e is = tt
-done_roles catalog parts first limit ks l em answer (Some x) roles commits e is =
-    let c = subst (Commits catalog parts first limit ks l em) is commits in
-    same_roles _ ks x.0 c.3 ∙ e
+-- the marks of a commit have the roles that they had, whatever is answered
+pub commit_roles : (catalog : Catalog) (parts first limit : ℕ) (ks : List Known) (l : Listed) (ms : List Known) (answer : Result ℕ Unlisted) → Commits catalog parts first limit ks l ms answer → roles_of ms ≡ roles_of ks
+commit_roles catalog parts first limit ks l ms (Ok place) c = same_roles _ ks ms c.3
+commit_roles catalog parts first limit ks l ms (Err NoMemory) c = ap roles_of c
+commit_roles catalog parts first limit ks l ms (Err (ListFull count)) c = same_roles _ ks ms c.3
 
 -- of two tokens the first has the first role
 pub first_role : (a b : Role) (tokens l m : List Known) (w x : Known) → roles_of tokens ≡ a ∷ b ∷ [] → tokens ≡ l ++ w ∷ [] → l ≡ m ++ x ∷ [] → x.role ≡ a

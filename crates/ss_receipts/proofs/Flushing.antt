@@ -11,12 +11,13 @@ use Rattle.ss_model.specs.Database.{Database}
 use Rattle.ss_model.specs.Replays.{after, ReplaysGoOn}
 use Rattle.ss_model.specs.Settling.{kept}
 use Rattle.ss_disk.specs.Files.{Files}
+use Rattle.ss_disk.specs.Kinds.{DiskKind, present}
 use Rattle.ss_disk.specs.Moments.{AnyMoment, LeavesOnly}
 use Rattle.ss_disk.proofs.CallerLemmas.{stays_join}
 use Rattle.ss_cmdlog.specs.declared.log.CmdLog.{CmdLog}
 use Rattle.ss_cmdlog.specs.Generation.{Stood}
 use Rattle.ss_cmdlog.specs.Groups.{groups_of}
-use Rattle.ss_cmdlog.specs.Log.{present, IsOpen, IsReceipted, KeepsReceipts, HasAtLeast, KeepsCounts}
+use Rattle.ss_cmdlog.specs.Log.{IsOpen, IsReceipted, KeepsReceipts, HasAtLeast, KeepsCounts}
 use Rattle.ss_cmdlog.specs.Store.{StandsForPart, count_of, entries_of, with_groups}
 use Rattle.ss_cmdlog.proofs.CallerLemmas.{open_receipted}
 use Rattle.ss_standing.specs.Standing.{listed_entries, Replayed, Prefix, StandsForAtLeast, Receipt, StandsOn}
@@ -48,11 +49,10 @@ pub rest_count : (catalog : Catalog) (db : Database) (first : ℕ) (list : List 
 rest_count catalog db first list count entries rest begun within =
     omega (arith, ap length rest.entries_are, entries_count (drop (count - first) list), length-drop (count - first) list, begun, within)
 
-module _ {D : Type 0} (catalog : Catalog) (db : Database) (first opened before : ℕ) (past : ℕ → List (List ℕ) → Type 0) (tells honest : Type 0) (seen : D → Files) (moment : D → ℕ)
-    (images : D → ℕ → Files → Type 0) (faults : D → ℕ) (honest_tells : honest → tells)
-    (goes_on : ReplaysGoOn) (more : GenerationsGoOn) (over : KeepsOverFlush D moment images) (tell : LogReceiptsTell D (present moment images)) (stand : KeptCountsStandOn D moment images)
+module _ {D : Type 0} (catalog : Catalog) (db : Database) (first opened before : ℕ) (past : ℕ → List (List ℕ) → Type 0) (kind : DiskKind D) (honest_tells : kind.honest → kind.tells)
+    (goes_on : ReplaysGoOn) (more : GenerationsGoOn) (over : KeepsOverFlush D kind.moment kind.images) (tell : LogReceiptsTell D (present kind)) (stand : KeptCountsStandOn D kind.moment kind.images)
     (list : List Listed) (old new : CmdLog D) (count fault : ℕ) (entries : List Entry) (rest : AreRest catalog db first list count entries)
-    (h : Holds catalog db first opened before past tells honest seen moment images faults list old count fault) (none : old.halted ≡ None) where
+    (h : Holds catalog db first opened before past kind list old count fault) (none : old.halted ≡ None) where
   abbrev held : ℕ
   held = count - first
 
@@ -70,43 +70,43 @@ module _ {D : Type 0} (catalog : Catalog) (db : Database) (first opened before :
   left = drop held list
 
   -- what stands behind the lock before the flush, in the words of a run from here
-  keeps : honest → Keeps moment images catalog db first list held s old.disk old.disk
+  keeps : kind.honest → Keeps kind.moment kind.images catalog db first list held s old.disk old.disk
   keeps honestly = record {
     within = held_within;
     generation = subst (λ (n : ℕ). Replayed catalog s n (kept catalog (after catalog db (take held list)))) (sym held_place) ((h.going none).replayed (honest_tells honestly));
-    crashes = nothing_since moment images opened past old.disk (Prefix catalog db first list) (h.crashes honestly);
+    crashes = nothing_since kind.moment kind.images opened past old.disk (Prefix catalog db first list) (h.crashes honestly);
   }
 
-  module _ (moments : honest → LeavesOnly moment images old.disk new.disk (StandsForPart s (groups_of entries))) (counts : honest → KeepsCounts moment images (moment old.disk) new.disk) where
-    crashes : honest → LeavesSince moment images opened past new.disk (Prefix catalog db first list)
-    crashes honestly = since_run moment images opened past old.disk new.disk (Prefix catalog db first list) (h.crashes honestly)
+  module _ (moments : kind.honest → LeavesOnly kind.moment kind.images old.disk new.disk (StandsForPart s (groups_of entries))) (counts : kind.honest → KeepsCounts kind.moment kind.images (kind.moment old.disk) new.disk) where
+    crashes : kind.honest → LeavesSince kind.moment kind.images opened past new.disk (Prefix catalog db first list)
+    crashes honestly = since_run kind.moment kind.images opened past old.disk new.disk (Prefix catalog db first list) (h.crashes honestly)
         (over catalog db first list held s old.disk old.disk new.disk (keeps honestly) rest.replays
-        (subst (λ (es : List Entry). LeavesOnly moment images old.disk new.disk (StandsForPart s (groups_of es))) rest.entries_are (moments honestly)))
+        (subst (λ (es : List Entry). LeavesOnly kind.moment kind.images old.disk new.disk (StandsForPart s (groups_of es))) rest.entries_are (moments honestly)))
 
-    told : (n : ℕ) → honest → IsReceipted (present moment images) n new.disk → Receipt catalog (present moment images) n new.disk
-    told n honestly receipted = tell catalog n new.disk (λ image stays. at_least catalog db first list image (since_now moment images opened past new.disk (Prefix catalog db first list) (crashes honestly) image stays)) receipted
+    told : (n : ℕ) → kind.honest → IsReceipted (present kind) n new.disk → Receipt catalog (present kind) n new.disk
+    told n honestly receipted = tell catalog n new.disk (λ image stays. at_least catalog db first list image (since_now kind.moment kind.images opened past new.disk (Prefix catalog db first list) (crashes honestly) image stays)) receipted
 
     -- each image of the flush stands for something, in the log's words and in those of executions
-    each_has : honest → AnyMoment moment images (moment old.disk) new.disk (HasAtLeast 0)
+    each_has : kind.honest → AnyMoment kind.moment kind.images (kind.moment old.disk) new.disk (HasAtLeast 0)
     each_has honestly t image from to there =
         let part = (moments honestly).each t image from to there in
         (with_groups s (take part.0 (groups_of entries)), part.2, omega arith)
 
-    each_stands : honest → AnyMoment moment images (moment old.disk) new.disk (StandsForAtLeast catalog 0)
+    each_stands : kind.honest → AnyMoment kind.moment kind.images (kind.moment old.disk) new.disk (StandsForAtLeast catalog 0)
     each_stands honestly t image from to there =
         at_least catalog db first list image ((crashes honestly).each t image (omega (arith, from, (h.crashes honestly).later)) to there)
 
     -- what a crash at some moment since the opening could not take, none in the flush takes
-    stands_on : honest → StandsOn catalog moment images opened new.disk
+    stands_on : kind.honest → StandsOn catalog kind.moment kind.images opened new.disk
     stands_on honestly n =
-        stays_join moment images (StandsForAtLeast catalog n) opened old.disk new.disk _ (h.stands_on honestly n) (moments honestly)
-        (stand catalog (moment old.disk) new.disk (each_has honestly) (each_stands honestly) (counts honestly) n)
+        stays_join kind.moment kind.images (StandsForAtLeast catalog n) opened old.disk new.disk _ (h.stands_on honestly n) (moments honestly)
+        (stand catalog (kind.moment old.disk) new.disk (each_has honestly) (each_stands honestly) (counts honestly) n)
 
-    module _ (later : faults old.disk ≤ faults new.disk) where
+    module _ (later : kind.faults old.disk ≤ kind.faults new.disk) where
       -- the first entries of the rest are there
       module _ (going : new.halted ≡ None) (k : ℕ) (few : k ≤ length left) (groups : List (List Entry)) (are : flat_map (λ (es : List Entry). es) groups ≡ listed_entries (take k left))
-          (open' : IsOpen tells honest seen (present moment images) new (with_groups s groups)) (low : count ≤ new.count) (high : new.count ≤ count + length entries) where
-        counted : tells → new.count ≡ count + k
+          (open' : IsOpen kind new (with_groups s groups)) (low : count ≤ new.count) (high : new.count ≤ count + length entries) where
+        counted : kind.tells → new.count ≡ count + k
         counted known = omega (
           arith,
           open'.count known,
@@ -119,13 +119,13 @@ module _ {D : Type 0} (catalog : Catalog) (db : Database) (first opened before :
         )
 
         -- the front that is then written
-        front : tells → take held list ++ take k left ≡ take (new.count - first) list
+        front : kind.tells → take held list ++ take k left ≡ take (new.count - first) list
         front known = sym (take-add held k list) ∙ ap (λ (n : ℕ). take n list) (omega (arith, counted known, h.begun))
 
-        database : tells → after catalog (after catalog db (take held list)) (take k left) ≡ after catalog db (take (new.count - first) list)
+        database : kind.tells → after catalog (after catalog db (take held list)) (take k left) ≡ after catalog db (take (new.count - first) list)
         database known = sym (goes_on catalog db (take held list) (take k left)).ends ∙ ap (after catalog db) (front known)
 
-        ends : tells → entries_of (with_groups s groups) ≡ (h.going none).earlier ++ listed_entries (take (new.count - first) list)
+        ends : kind.tells → entries_of (with_groups s groups) ≡ (h.going none).earlier ++ listed_entries (take (new.count - first) list)
         ends known =
             let earlier = (h.going none).earlier in
             (behind_more s groups (listed_entries (take k left)) are).entries
@@ -134,7 +134,7 @@ module _ {D : Type 0} (catalog : Catalog) (db : Database) (first opened before :
             ∙ ap (λ (es : List Entry). earlier ++ es)
             (sym (map-append (λ (l : Listed). l.entry) (take held list) (take k left)) ∙ ap listed_entries (front known))))
 
-        replayed : tells → Replayed catalog (with_groups s groups) new.count (kept catalog (after catalog db (take (new.count - first) list)))
+        replayed : kind.tells → Replayed catalog (with_groups s groups) new.count (kept catalog (after catalog db (take (new.count - first) list)))
         replayed known =
             let behind = rest_replays goes_on catalog db list held rest.replays in
             let now = more catalog s (with_groups s groups) count (after catalog db (take held list)) (take k left) ((h.going none).replayed known)
@@ -142,7 +142,7 @@ module _ {D : Type 0} (catalog : Catalog) (db : Database) (first opened before :
             subst (λ (d : Database). Replayed catalog (with_groups s groups) new.count (kept catalog d)) (database known)
             (subst (λ (n : ℕ). Replayed catalog (with_groups s groups) n (kept catalog (after catalog (after catalog db (take held list)) (take k left)))) (omega (arith, length-take-le k left few, counted known)) now)
 
-        holds_first : Holds catalog db first opened before past tells honest seen moment images faults list new new.count 0
+        holds_first : Holds catalog db first opened before past kind list new new.count 0
         holds_first = record {
           begun = omega (arith, h.begun, low);
           within = omega (arith, high, rest_count catalog db first list count entries rest h.begun h.within);
@@ -151,41 +151,41 @@ module _ {D : Type 0} (catalog : Catalog) (db : Database) (first opened before :
           halt = inl (going, refl);
           going = λ _. record { generation = with_groups s groups; opened_at = open'; replayed = replayed; earlier = (h.going none).earlier; ends = ends };
           crashes = crashes;
-          receipt = λ honestly. told new.count honestly (open_receipted tells honest seen (present moment images) new (with_groups s groups) open' (honest_tells honestly) honestly new.count refl);
+          receipt = λ honestly. told new.count honestly (open_receipted kind new (with_groups s groups) open' (honest_tells honestly) honestly new.count refl);
           stands_on = stands_on;
         }
 
       -- all of it is written
       pub holds_all : ((es : List Entry) → flat_map (λ (e : List Entry). e) (groups_of es) ≡ es) → new.halted ≡ None → new.count ≡ count + length entries
-          → IsOpen tells honest seen (present moment images) new (with_groups s (groups_of entries))
-          → Holds catalog db first opened before past tells honest seen moment images faults list new new.count 0
+          → IsOpen kind new (with_groups s (groups_of entries))
+          → Holds catalog db first opened before past kind list new new.count 0
       holds_all groups going counts open' =
           holds_first going (length left) (omega arith) (groups_of entries) (groups entries ∙ (rest.entries_are ∙ ap listed_entries (sym (take_all (length left) left (omega arith))))) open' (omega (arith, counts)) (omega (arith, counts))
 
       -- the first groups are
       pub holds_some : ((es : List Entry) (j : ℕ) → (n : ℕ) × (n ≤ length es) × (flat_map (λ (e : List Entry). e) (take j (groups_of es)) ≡ take n es)) → new.halted ≡ None
           → count ≤ new.count → new.count ≤ count + length entries
-          → (j : ℕ) × (j ≤ length (groups_of entries)) × IsOpen tells honest seen (present moment images) new (with_groups s (take j (groups_of entries)))
-          → Holds catalog db first opened before past tells honest seen moment images faults list new new.count 0
+          → (j : ℕ) × (j ≤ length (groups_of entries)) × IsOpen kind new (with_groups s (take j (groups_of entries)))
+          → Holds catalog db first opened before past kind list new new.count 0
       holds_some firsts going low high part =
           let n = firsts entries part.0 in
           holds_first going n.0 (omega (arith, n.1, ap length rest.entries_are, entries_count left)) (take part.0 (groups_of entries))
           (n.2 ∙ (ap (take n.0) rest.entries_are ∙ take-map (λ (l : Listed). l.entry) n.0 left)) part.2 low high
 
       -- the disk failed
-      pub holds_halted : (n : ℕ) → new.halted ≡ Some n → n ≡ faults new.disk → Rose (faults old.disk) (faults new.disk)
-          → (honest → IsReceipted (present moment images) count old.disk → KeepsReceipts moment images count old.disk new.disk)
-          → Holds catalog db first opened before past tells honest seen moment images faults list new count n
+      pub holds_halted : (n : ℕ) → new.halted ≡ Some n → n ≡ kind.faults new.disk → Rose (kind.faults old.disk) (kind.faults new.disk)
+          → (kind.honest → IsReceipted (present kind) count old.disk → KeepsReceipts kind.moment kind.images count old.disk new.disk)
+          → Holds catalog db first opened before past kind list new count n
       holds_halted n halted is rose stays = record {
         begun = h.begun;
         within = h.within;
         counted = λ going. cc;
         later = omega (arith, h.later, later);
-        halt = inr (halted, subst (λ (m : ℕ). Rose before m) (sym is) (rose_from before (faults old.disk) (faults new.disk) h.later rose), omega (arith, is));
+        halt = inr (halted, subst (λ (m : ℕ). Rose before m) (sym is) (rose_from before (kind.faults old.disk) (kind.faults new.disk) h.later rose), omega (arith, is));
         going = λ going. absurd (cc);
         crashes = crashes;
         receipt = λ honestly. told count honestly (λ image there.
-            let run = stays honestly (open_receipted tells honest seen (present moment images) old s (h.going none).opened_at (honest_tells honestly) honestly count (sym (h.counted none))) in
-            run.each (moment new.disk) image run.later (omega arith) there);
+            let run = stays honestly (open_receipted kind old s (h.going none).opened_at (honest_tells honestly) honestly count (sym (h.counted none))) in
+            run.each (kind.moment new.disk) image run.later (omega arith) there);
         stands_on = stands_on;
       }

@@ -6,7 +6,7 @@ use Rattle.ss_model.specs.declared.entry.Entry.{Entry}
 use Rattle.ss_model.specs.declared.entry.Listed.{Listed}
 use Rattle.ss_model.specs.Database.{Database}
 use Rattle.ss_model.specs.Replays.{Replays}
-use Rattle.ss_disk.specs.Files.{Files}
+use Rattle.ss_disk.specs.Kinds.{DiskKind}
 use Rattle.ss_cmdlog.specs.declared.log.CmdLog.{CmdLog}
 use Rattle.ss_cmdlog.specs.declared.log.Receipt.{Receipt}
 use Rattle.ss_commitlog.specs.declared.role.Role.TheVariants.{Disk as DiskRole}
@@ -21,20 +21,19 @@ use Rattle.ss_receipts.specs.Holding.{HaltedAt, Holds, AreRest, KeeperView}
 use Rattle.ss_receipts.specs.Durable.{IsDurable}
 use Rattle.ss_receipts.proofs.Growing.{holds_on}
 
-module _ {D : Type 0} (catalog : Catalog) (db : Database) (first opened before : ℕ) (past : ℕ → List (List ℕ) → Type 0) (tells honest : Type 0) (seen : D → Files) (moment : D → ℕ)
-    (images : D → ℕ → Files → Type 0) (faults : D → ℕ) where
+module _ {D : Type 0} (catalog : Catalog) (db : Database) (first opened before : ℕ) (past : ℕ → List (List ℕ) → Type 0) (kind : DiskKind D) where
   -- the note has met the list
   pub keeper_on : (parts limit : ℕ) (log : CmdLog D) (count : ℕ) (note later : Known) → Follows catalog parts limit note later → note.role ≡ DiskRole → note.count ≡ count
-      → Holds catalog db first opened before past tells honest seen moment images faults (listed_of note.list) log count note.faults
-      → (later.role ≡ DiskRole) × (later.count ≡ count) × Holds catalog db first opened before past tells honest seen moment images faults (listed_of later.list) log count later.faults
+      → Holds catalog db first opened before past kind (listed_of note.list) log count note.faults
+      → (later.role ≡ DiskRole) × (later.count ≡ count) × Holds catalog db first opened before past kind (listed_of later.list) log count later.faults
   keeper_on parts limit log count note later f role counted h =
       let same = f.sees.disk role in
       let list : listed_of note.list ++ listed_of f.goes_on.rest ≡ listed_of later.list = sym (ap listed_of f.goes_on.is ∙ listed_of-append note.list f.goes_on.rest) in (
         f.role ∙ role,
         same.0 ∙ counted,
-        subst (λ (n : ℕ). Holds catalog db first opened before past tells honest seen moment images faults (listed_of later.list) log count n) (sym same.1)
-            (subst (λ (l : List Listed). Holds catalog db first opened before past tells honest seen moment images faults l log count note.faults) list
-            (holds_on catalog db first opened before past tells honest seen moment images faults (listed_of note.list) (listed_of f.goes_on.rest) log count note.faults h)),
+        subst (λ (n : ℕ). Holds catalog db first opened before past kind (listed_of later.list) log count n) (sym same.1)
+            (subst (λ (l : List Listed). Holds catalog db first opened before past kind l log count note.faults) list
+            (holds_on catalog db first opened before past kind (listed_of note.list) (listed_of f.goes_on.rest) log count note.faults h)),
       )
 
 -- the rest of the list that the note knows, where another word for the same was given

@@ -1,5 +1,6 @@
 -- What a log holds of the empty list, where it was just opened.
 use Rattle.std.proofs.Common.{◌≡◌, ◌∙◌, inl, inr, ℕ, ◌-◌, List, [], ◌++◌, length, take, append-nil, refl, sym, ap, subst, arith}
+use Rattle.ss_disk.specs.Kinds.{DiskKind}
 use Rattle.std.proofs.lemmas.List.{take_all}
 use Rattle.ss_model.specs.declared.catalog.Catalog.{Catalog}
 use Rattle.ss_model.specs.declared.entry.Listed.{Listed}
@@ -10,7 +11,7 @@ use Rattle.ss_disk.specs.Files.{Files}
 use Rattle.ss_disk.proofs.CallerLemmas.{no_call, stays_none}
 use Rattle.ss_cmdlog.specs.declared.log.CmdLog.{CmdLog}
 use Rattle.ss_cmdlog.specs.Generation.{Stood}
-use Rattle.ss_cmdlog.specs.Log.{present, IsOpen}
+use Rattle.ss_cmdlog.specs.Log.{IsOpen}
 use Rattle.ss_cmdlog.specs.Store.{entries_of}
 use Rattle.ss_cmdlog.proofs.CallerLemmas.{open_here}
 use Rattle.ss_standing.specs.Standing.{listed_entries, Replayed, Stands, Prefix, StandsForAtLeast}
@@ -22,11 +23,11 @@ use Rattle.ss_receipts.proofs.Since.{since_disk}
 no_front : (n : ℕ) (list : List Listed) → list ≡ [] → take n list ≡ []
 no_front n list none = take_all n list (let many : length list ≡ 0 = ap length none in omega (arith, many)) ∙ none
 
-module _ {D : Type 0} (catalog : Catalog) (db : Database) (first : ℕ) (tells honest : Type 0) (seen : D → Files) (moment : D → ℕ) (images : D → ℕ → Files → Type 0) (faults : D → ℕ)
-    (honest_tells : honest → tells) where
+module _ {D : Type 0} (catalog : Catalog) (db : Database) (first : ℕ) (kind : DiskKind D)
+    (honest_tells : kind.honest → kind.tells) where
   -- where the past is that of its own disk
-  pub holds_at_opening : (log : CmdLog D) (s : Stood) → IsOpen tells honest seen (present moment images) log s → log.count ≡ first → (tells → Replayed catalog s first (kept catalog db))
-      → Holds catalog db first (moment log.disk) (faults log.disk) (past_of images log.disk) tells honest seen moment images faults [] log first 0
+  pub holds_at_opening : (log : CmdLog D) (s : Stood) → IsOpen kind log s → log.count ≡ first → (kind.tells → Replayed catalog s first (kept catalog db))
+      → Holds catalog db first (kind.moment log.disk) (kind.faults log.disk) (past_of kind.images log.disk) kind [] log first 0
   holds_at_opening log s open' counted replayed = record {
     begun = omega arith;
     within = omega arith;
@@ -40,16 +41,16 @@ module _ {D : Type 0} (catalog : Catalog) (db : Database) (first : ℕ) (tells h
       earlier = entries_of s;
       ends = λ told. sym (ap (λ (l : List Listed). entries_of s ++ listed_entries l) (no_front (first - first) [] refl) ∙ append-nil (entries_of s));
     };
-    crashes = λ honestly. since_disk moment images log.disk log.disk (Prefix catalog db first []) (no_call moment images log.disk (Prefix catalog db first []) (λ image left. record {
+    crashes = λ honestly. since_disk kind.moment kind.images log.disk log.disk (Prefix catalog db first []) (no_call kind.moment kind.images log.disk (Prefix catalog db first []) (λ image left. record {
       some = 0;
       within = omega arith;
       enough = omega arith;
       stands = subst (λ (n : ℕ). Stands catalog image n (kept catalog db)) (omega arith) (stands honestly image left);
     }));
     receipt = λ honestly image left. record { count = first; k = kept catalog db; stands = stands honestly image left; enough = omega arith };
-    stands_on = λ honestly n. stays_none moment images (StandsForAtLeast catalog n) (moment log.disk) log.disk (omega arith);
+    stands_on = λ honestly n. stays_none kind.moment kind.images (StandsForAtLeast catalog n) (kind.moment log.disk) log.disk (omega arith);
   }
     where
-      stands : honest → (image : Files) → images log.disk (moment log.disk) image → Stands catalog image first (kept catalog db)
+      stands : kind.honest → (image : Files) → kind.images log.disk (kind.moment log.disk) image → Stands catalog image first (kept catalog db)
       stands honestly image left =
-          inr (record { stood = s; stands = open_here tells honest seen (present moment images) log s open' (honest_tells honestly) honestly image left; replayed = replayed (honest_tells honestly) })
+          inr (record { stood = s; stands = open_here kind log s open' (honest_tells honestly) honestly image left; replayed = replayed (honest_tells honestly) })

@@ -1,5 +1,6 @@
 -- What a command log and its disk hold of a list that began at the opening.
 use Rattle.std.specs.Prelude.{◌≡◌, ◌⊎◌, ℕ, ◌+◌, ◌-◌, ◌≤◌, ◌^◌, List, ◌++◌, length, take, drop, Option, Some, None}
+use Rattle.ss_disk.specs.Kinds.{DiskKind, present}
 use Rattle.ss_model.specs.declared.catalog.Catalog.{Catalog}
 use Rattle.ss_model.specs.declared.entry.Entry.{Entry}
 use Rattle.ss_model.specs.declared.entry.Listed.{Listed}
@@ -7,10 +8,9 @@ use Rattle.ss_model.specs.Database.{Database}
 use Rattle.ss_model.specs.Replays.{Replays, after}
 use Rattle.ss_model.specs.Settling.{kept}
 use Rattle.ss_value.specs.FaultCounts.{Rose}
-use Rattle.ss_disk.specs.Files.{Files}
 use Rattle.ss_cmdlog.specs.declared.log.CmdLog.{CmdLog}
 use Rattle.ss_cmdlog.specs.Generation.{Stood}
-use Rattle.ss_cmdlog.specs.Log.{present, IsOpen}
+use Rattle.ss_cmdlog.specs.Log.{IsOpen}
 use Rattle.ss_cmdlog.specs.Store.{entries_of}
 use Rattle.ss_commitlog.specs.Tokens.{Known}
 use Rattle.ss_standing.specs.Standing.{listed_entries, Replayed, Prefix, Receipt, StandsOn}
@@ -23,27 +23,26 @@ HaltedAt before now halted fault = ((halted ≡ None) × (fault ≡ 0)) ⊎ ((ha
 
 -- the log is open on a generation that stands for this count and for what is kept behind a front of the list, and whose last entries
 -- are those of the front, as far as the disk tells what it has
-pub record GoesOnAt {D : Type 0} (tells honest : Type 0) (seen : D → Files) (present : D → Files → Type 0) (catalog : Catalog) (db : Database) (front : List Listed) (log : CmdLog D) (count : ℕ) : Type 0 where
+pub record GoesOnAt {D : Type 0} (kind : DiskKind D) (catalog : Catalog) (db : Database) (front : List Listed) (log : CmdLog D) (count : ℕ) : Type 0 where
   pub generation : Stood
-  pub opened_at : IsOpen tells honest seen present log generation
-  pub replayed : tells → Replayed catalog generation count (kept catalog (after catalog db front))
+  pub opened_at : IsOpen kind log generation
+  pub replayed : kind.tells → Replayed catalog generation count (kept catalog (after catalog db front))
   pub earlier : List Entry
-  pub ends : tells → entries_of generation ≡ earlier ++ listed_entries front
+  pub ends : kind.tells → entries_of generation ≡ earlier ++ listed_entries front
 
 -- Of the list, which began at this first place behind this database, the log's disk has all entries below the count for good, and
 -- what a crash since the opening leaves is a front of it; what one at some moment since then could not take, one at no later moment
 -- takes. A log that wasn't halted goes on at that count.
-pub record Holds {D : Type 0} (catalog : Catalog) (db : Database) (first opened before : ℕ) (past : ℕ → List (List ℕ) → Type 0) (tells honest : Type 0) (seen : D → Files) (moment : D → ℕ)
-    (images : D → ℕ → Files → Type 0) (faults : D → ℕ) (list : List Listed) (log : CmdLog D) (count fault : ℕ) : Type 0 where
+pub record Holds {D : Type 0} (catalog : Catalog) (db : Database) (first opened before : ℕ) (past : ℕ → List (List ℕ) → Type 0) (kind : DiskKind D) (list : List Listed) (log : CmdLog D) (count fault : ℕ) : Type 0 where
   pub begun : first ≤ count
   pub within : count ≤ first + length list
   pub counted : log.halted ≡ None → log.count ≡ count
-  pub later : before ≤ faults log.disk
-  pub halt : HaltedAt before (faults log.disk) log.halted fault
-  pub going : log.halted ≡ None → GoesOnAt tells honest seen (present moment images) catalog db (take (count - first) list) log count
-  pub crashes : honest → LeavesSince moment images opened past log.disk (Prefix catalog db first list)
-  pub receipt : honest → Receipt catalog (present moment images) count log.disk
-  pub stands_on : honest → StandsOn catalog moment images opened log.disk
+  pub later : before ≤ kind.faults log.disk
+  pub halt : HaltedAt before (kind.faults log.disk) log.halted fault
+  pub going : log.halted ≡ None → GoesOnAt kind catalog db (take (count - first) list) log count
+  pub crashes : kind.honest → LeavesSince kind.moment kind.images opened past log.disk (Prefix catalog db first list)
+  pub receipt : kind.honest → Receipt catalog (present kind) count log.disk
+  pub stands_on : kind.honest → StandsOn catalog kind.moment kind.images opened log.disk
 
 -- the entries are those of a list that replays, from this place on, which has no place above the greatest
 pub record AreRest (catalog : Catalog) (db : Database) (first : ℕ) (list : List Listed) (from : ℕ) (entries : List Entry) : Type 0 where

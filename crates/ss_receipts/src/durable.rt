@@ -3,7 +3,7 @@
 ghost use Rattle.std.specs.Prelude.{◌≡◌, ◌+◌, ◌-◌, ◌≤◌, ◌^◌, length, drop, None, IfOk};
 ghost use Rattle.ss_model.specs.Accepted.{Accepted};
 ghost use Rattle.ss_commitlog.specs.Meaning.{listed_of};
-ghost use Rattle.ss_commitlog.specs.Tokens.{Follows, KnowOne, SeeOne};
+ghost use Rattle.ss_commitlog.specs.Tokens.{Follows, KnowOne};
 ghost use Rattle.ss_standing.specs.Standing.{listed_entries};
 ghost use Rattle.ss_receipts.specs.Durable.{IsDurable};
 
@@ -34,48 +34,46 @@ pub(crate) fn made_durable<I: Life, D: Disk + Drop, R: Wait>(
     rt: &R,
     alloc: Global,
     commits: &CommitLog<I>,
-    keeper: Keeper<I, D>,
-    mark: Mark<I>,
+    keeper: &mut Keeper<I, D>,
+    mark: &mut Mark<I>,
     wanted: u64,
-) -> (Keeper<I, D>, Mark<I>, Result<Receipt, DurableError>)
+) -> Result<Receipt, DurableError>
     requires small { I.first + I.limit ≤ 2 ^ 60 }
     requires accepted { Accepted I.catalog }
-    requires wanted { wanted ≤ I.first + length mark.list }
-    ensures mark { Follows I.catalog I.parts I.limit mark result.1 }
-    ensures answer { IsDurable wanted result.1.count result.1.faults result.2 }
+    requires wanted { wanted ≤ I.first + length mark.old.list }
+    ensures mark { Follows I.catalog I.parts I.limit mark.old mark.new }
+    ensures answer { IsDurable wanted mark.new.count mark.new.faults result }
 {
     if wanted <= keeper.count {
-        let (keeper, mark) = shown_to(rt, commits, keeper, mark);
-        let count = keeper.count;
-        return (keeper, mark, Ok(Receipt { count }));
+        shown_to(rt, commits, keeper, mark);
+        return Ok(Receipt {
+            count: keeper.count,
+        });
     }
     if let Some(faults) = keeper.log.halted() {
-        let (keeper, mark) = shown_to(rt, commits, keeper, mark);
-        return (keeper, mark, Err(DurableError::Halted { faults }));
+        shown_to(rt, commits, keeper, mark);
+        return Err(DurableError::Halted { faults });
     }
-    let (keeper, mark, rest) = with_rest(rt, alloc, commits, keeper, mark);
-    let Ok(rest) = rest else {
-        return (keeper, mark, Err(DurableError::NoMemory));
+    let Ok(rest) = with_rest(rt, alloc, commits, keeper, mark) else {
+        return Err(DurableError::NoMemory);
     };
-    let (keeper, answer) = flushed(commits, keeper, &rest);
-    let (keeper, mark) = shown_to(rt, commits, keeper, mark);
-    (keeper, mark, answer)
+    let answer = flushed(commits, keeper, &rest);
+    shown_to(rt, commits, keeper, mark);
+    answer
 }
 
 /// The mark meets the disk's note.
 fn shown_to<I: Life, D: Disk + Drop, R: Wait>(
     rt: &R,
     commits: &CommitLog<I>,
-    keeper: Keeper<I, D>,
-    mark: Mark<I>,
-) -> (Keeper<I, D>, Mark<I>)
-    ensures keeper { (result.0.log ≡ keeper.log) × (result.0.count ≡ keeper.count) × (result.0.note.faults ≡ keeper.note.faults) }
-    ensures mark { Follows I.catalog I.parts I.limit mark result.1 }
-    ensures seen { SeeOne result.1 result.0.note }
+    keeper: &mut Keeper<I, D>,
+    mark: &mut Mark<I>,
+)
+    ensures keeper { (keeper.new.log ≡ keeper.old.log) × (keeper.new.count ≡ keeper.old.count) × (keeper.new.note.faults ≡ keeper.old.note.faults) }
+    ensures mark { Follows I.catalog I.parts I.limit mark.old mark.new }
+    ensures seen { (mark.new.count ≡ keeper.new.count) × (mark.new.faults ≡ keeper.new.note.faults) }
 {
-    let Keeper { log, count, note } = keeper;
-    let (mark, note) = commits.meet(rt, mark, note);
-    (Keeper { log, count, note }, mark)
+    commits.meet(rt, mark, &mut keeper.note);
 }
 
 /// The mark meets the disk's note, which then knows these entries behind those that the log has.
@@ -83,43 +81,33 @@ fn with_rest<I: Life, D: Disk + Drop, R: Wait>(
     rt: &R,
     alloc: Global,
     commits: &CommitLog<I>,
-    keeper: Keeper<I, D>,
-    mark: Mark<I>,
-) -> (Keeper<I, D>, Mark<I>, Result<Seq<Entry>, NoMemory>)
-    ensures keeper { (result.0.log ≡ keeper.log) × (result.0.count ≡ keeper.count) × (result.0.note.faults ≡ keeper.note.faults) }
-    ensures mark { Follows I.catalog I.parts I.limit mark result.1 }
-    ensures one { KnowOne result.1 result.0.note }
-    ensures rest { IfOk result.2 (λ rest. rest ≡ listed_entries (drop (keeper.count - I.first) (listed_of result.0.note.list))) }
+    keeper: &mut Keeper<I, D>,
+    mark: &mut Mark<I>,
+) -> Result<Seq<Entry>, NoMemory>
+    ensures keeper { (keeper.new.log ≡ keeper.old.log) × (keeper.new.count ≡ keeper.old.count) × (keeper.new.note.faults ≡ keeper.old.note.faults) }
+    ensures mark { Follows I.catalog I.parts I.limit mark.old mark.new }
+    ensures one { KnowOne mark.new keeper.new.note }
+    ensures rest { IfOk result (λ rest. rest ≡ listed_entries (drop (keeper.new.count - I.first) (listed_of keeper.new.note.list))) }
 {
-    let Keeper { log, count, note } = keeper;
-    let (mark, note, tail) = commits.meet_tail(rt, alloc, mark, note, count);
-    let rest = match tail {
-        Ok(tail) => entries_of(alloc, tail),
-        Err(refused) => Err(refused),
-    };
-    (Keeper { log, count, note }, mark, rest)
+    let tail = commits.meet_tail(rt, alloc, mark, &mut keeper.note, keeper.count)?;
+    entries_of(alloc, tail)
 }
 
 /// Writes the rest of the list that the note knows, and posts what has come of it.
 fn flushed<I: Life, D: Disk + Drop>(
     commits: &CommitLog<I>,
-    keeper: Keeper<I, D>,
+    keeper: &mut Keeper<I, D>,
     rest: &Seq<Entry>,
-) -> (Keeper<I, D>, Result<Receipt, DurableError>)
+) -> Result<Receipt, DurableError>
     requires accepted { Accepted I.catalog }
-    requires going { keeper.log.halted ≡ None }
-    requires small { I.first + length keeper.note.list ≤ 2 ^ 60 }
-    requires rest { rest.now ≡ listed_entries (drop (keeper.count - I.first) (listed_of keeper.note.list)) }
-    ensures answer { IsDurable (I.first + length keeper.note.list) result.0.count result.0.note.faults result.1 }
+    requires going { keeper.old.log.halted ≡ None }
+    requires small { I.first + length keeper.old.note.list ≤ 2 ^ 60 }
+    requires rest { rest.now ≡ listed_entries (drop (keeper.old.count - I.first) (listed_of keeper.old.note.list)) }
+    ensures answer { IsDurable (I.first + length keeper.old.note.list) keeper.new.count keeper.new.note.faults result }
 {
-    let Keeper {
-        mut log,
-        count,
-        note,
-    } = keeper;
-    note.knows_what_replays();
-    let done = flush_rest::<I, D>(&mut log, count, rest);
-    let count = done.count;
-    let note = commits.post(note, count, done.faults);
-    (Keeper { log, count, note }, done.answer)
+    keeper.note.knows_what_replays();
+    let done = flush_rest::<I, D>(&mut keeper.log, keeper.count, rest);
+    keeper.count = done.count;
+    commits.post(&mut keeper.note, done.count, done.faults);
+    done.answer
 }

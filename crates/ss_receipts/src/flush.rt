@@ -34,10 +34,10 @@ pub(crate) fn flush_rest<I: Life, D: Disk + Drop>(
     requires accepted { Accepted I.catalog }
     requires going { log.old.halted ≡ None }
     requires rest { (list : List Listed) × (fault : ℕ) × AreRest I.catalog I.opening I.first list count entries.now
-        × Holds I.catalog I.opening I.first I.moment I.faults I.past D.tells D.honest D.seen D.moment D.images D.faults list log.old count fault }
+        × Holds I.catalog I.opening I.first I.moment I.faults I.past D.kind list log.old count fault }
     ensures holds { (list : List Listed) (fault : ℕ) → AreRest I.catalog I.opening I.first list count entries.now
-        → Holds I.catalog I.opening I.first I.moment I.faults I.past D.tells D.honest D.seen D.moment D.images D.faults list log.old count fault
-        → Holds I.catalog I.opening I.first I.moment I.faults I.past D.tells D.honest D.seen D.moment D.images D.faults list log.new result.count result.faults }
+        → Holds I.catalog I.opening I.first I.moment I.faults I.past D.kind list log.old count fault
+        → Holds I.catalog I.opening I.first I.moment I.faults I.past D.kind list log.new result.count result.faults }
     ensures more { count ≤ result.count }
     ensures answer { IsDurable (count + length entries.now) result.count result.faults result.answer }
 {

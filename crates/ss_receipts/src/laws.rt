@@ -8,19 +8,19 @@ use ss_standing::receipts_bound_fronts;
 
 /// What a log holds of a list it holds of each list that goes on from it.
 pub fn holds_go_on<I: Life, D: Disk>()
-    ensures { HoldsGoOn D I.catalog I.opening I.first I.moment I.faults I.past D.tells D.honest D.seen D.moment D.images D.faults }
+    ensures { HoldsGoOn D I.catalog I.opening I.first I.moment I.faults I.past D.kind }
 {}
 
 /// What a crash now leaves is a front of the list that ends at the receipted count at least.
 pub fn held_fronts_stand<I: Life, D: Disk>()
-    ensures { HeldFrontsStand D I.catalog I.opening I.first I.moment I.faults I.past D.tells D.honest D.seen D.moment D.images D.faults }
+    ensures { HeldFrontsStand D I.catalog I.opening I.first I.moment I.faults I.past D.kind }
 {
     receipts_bound_fronts();
 }
 
 /// Where all of the list is receipted, a crash now leaves all of it.
 pub fn all_stands<I: Life, D: Disk>()
-    ensures { AllStands D I.catalog I.opening I.first I.moment I.faults I.past D.tells D.honest D.seen D.moment D.images D.faults }
+    ensures { AllStands D I.catalog I.opening I.first I.moment I.faults I.past D.kind }
 {
     held_fronts_stand::<I, D>();
 }
@@ -28,7 +28,7 @@ pub fn all_stands<I: Life, D: Disk>()
 /// Where a life's past is that of a disk, and its opening that disk's moment, what is left since the opening is what is left
 /// between that disk and the present one.
 pub fn the_past_is_of_the_disk<D: Disk>()
-    ensures { PastIsOfDisk D D.moment D.images }
+    ensures { PastIsOfDisk D D.kind.moment D.kind.images }
 {}
 
 /// The entries of a list that replays have records.

@@ -1,6 +1,6 @@
 //! The disk's lock.
 
-ghost use Rattle.std.specs.Prelude.{◌≡◌, ◌+◌, ◌≤◌, ◌^◌, [], length, IsSome};
+ghost use Rattle.std.specs.Prelude.{◌≡◌, ◌+◌, ◌≤◌, ◌^◌, [], length};
 ghost use Rattle.ss_model.specs.Accepted.{Accepted};
 ghost use Rattle.ss_commitlog.specs.declared.role.Role.TheVariants.{Disk as DiskRole};
 ghost use Rattle.ss_commitlog.specs.Meaning.{listed_of};
@@ -22,52 +22,18 @@ use std::sync::{Mutex, Wait};
 /// Behind the lock the log holds a list that the commit log goes on from: see `specs/Holding`.
 #[derive(Drop)]
 pub struct Receipts<I: Life, D: Disk + Drop> {
-    bench: Mutex<Bench<I, D>>,
-}
-
-// What stands behind the lock between calls. A call takes it out, since it is moved through what the call does.
-#[derive(Drop)]
-struct Bench<I: Life, D: Disk + Drop> {
-    keeper: Option<Keeper<I, D>>,
-    ghost there: { IsSome keeper },
-}
-
-impl<I: Life, D: Disk + Drop> Bench<I, D> {
-    /// The call of `Receipts`, behind the lock.
-    fn ensure_durable<R: Wait>(
-        &mut self,
-        rt: &R,
-        alloc: Global,
-        commits: &CommitLog<I>,
-        mark: Mark<I>,
-        wanted: u64,
-    ) -> (Mark<I>, Result<Receipt, DurableError>)
-        requires small { I.first + I.limit ≤ 2 ^ 60 }
-        requires accepted { Accepted I.catalog }
-        requires wanted { wanted ≤ I.first + length mark.list }
-        ensures mark { Follows I.catalog I.parts I.limit mark result.0 }
-        ensures answer { IsDurable wanted result.0.count result.0.faults result.1 }
-    {
-        let Some(keeper) = self.keeper.take() else {
-            unreachable!()
-        };
-        let (keeper, mark, answer) = made_durable(rt, alloc, commits, keeper, mark, wanted);
-        self.keeper = Some(keeper);
-        (mark, answer)
-    }
+    keeper: Mutex<Keeper<I, D>>,
 }
 
 impl<I: Life, D: Disk + Drop> Receipts<I, D> {
     /// Puts a log that was just opened, with the disk's note of the commit log, behind a lock. Takes no memory.
     pub fn new(log: CmdLog<D>, note: Note<I>) -> Receipts<I, D>
         requires note { note ≡ known DiskRole [] I.first 0 }
-        requires holds { Holds I.catalog I.opening I.first I.moment I.faults I.past D.tells D.honest D.seen D.moment D.images D.faults [] log I.first 0 }
+        requires holds { Holds I.catalog I.opening I.first I.moment I.faults I.past D.kind [] log I.first 0 }
     {
         let count = log.count();
         Receipts {
-            bench: Mutex::new(Bench {
-                keeper: Some(Keeper { log, count, note }),
-            }),
+            keeper: Mutex::new(Keeper { log, count, note }),
         }
     }
 
@@ -87,30 +53,27 @@ impl<I: Life, D: Disk + Drop> Receipts<I, D> {
         rt: &R,
         alloc: Global,
         commits: &CommitLog<I>,
-        mark: Mark<I>,
+        mark: &mut Mark<I>,
         wanted: u64,
-    ) -> (Mark<I>, Result<Receipt, DurableError>)
+    ) -> Result<Receipt, DurableError>
         requires small { I.first + I.limit ≤ 2 ^ 60 }
         requires accepted { Accepted I.catalog }
-        requires wanted { wanted ≤ I.first + length mark.list }
-        ensures mark { Follows I.catalog I.parts I.limit mark result.0 }
-        ensures answer { IsDurable wanted result.0.count result.0.faults result.1 }
+        requires wanted { wanted ≤ I.first + length mark.old.list }
+        ensures mark { Follows I.catalog I.parts I.limit mark.old mark.new }
+        ensures answer { IsDurable wanted mark.new.count mark.new.faults result }
     {
-        self.bench
-            .lock(rt)
-            .ensure_durable(rt, alloc, commits, mark, wanted)
+        let mut keeper = self.keeper.lock(rt);
+        made_durable(rt, alloc, commits, &mut keeper, mark, wanted)
     }
 
     /// The log and the note, where nobody shares the lock any more. Takes no memory and waits for nobody.
     pub fn into_parts(self) -> (CmdLog<D>, Note<I>)
         ensures disk { result.1.role ≡ DiskRole }
-        ensures holds { Holds I.catalog I.opening I.first I.moment I.faults I.past D.tells D.honest D.seen D.moment D.images D.faults
+        ensures holds { Holds I.catalog I.opening I.first I.moment I.faults I.past D.kind
             (listed_of result.1.list) result.0 result.1.count result.1.faults }
     {
-        let Receipts { bench } = self;
-        let Bench { keeper } = bench.into_inner();
-        let Some(keeper) = keeper else { unreachable!() };
-        let Keeper { log, note, .. } = keeper;
+        let Receipts { keeper } = self;
+        let Keeper { log, note, .. } = keeper.into_inner();
         (log, note)
     }
 }

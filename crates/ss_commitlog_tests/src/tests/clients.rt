@@ -5,27 +5,16 @@
 
 ghost use Rattle.std.specs.Prelude.{◌≡◌, ◌≤◌, ◌+◌, [], ◌∷◌, IfSome};
 ghost use Rattle.ss_commitlog.specs.declared.role.Role.TheVariants.{Part, Client, Disk};
-ghost use Rattle.ss_commitlog.specs.declared.committed.Committed.TheVariants.{Done};
 ghost use Rattle.ss_commitlog.specs.Tokens.{known, roles_of};
 ghost use Rattle.ss_commitlog_tests.specs.Workflow.{workflow};
 ghost use Rattle.ss_commitlog_tests.specs.Lives.{IsTestLife, pair_of};
 
 use super::catalog::{batch_of, call_of, catalog, push_of, step_of};
-use ss_commitlog::{CommitLog, Committed, Mark, Marks, Note};
+use ss_commitlog::{CommitLog, Mark, Marks, Note};
 use ss_model::{Catalog, Life};
 use ss_value::Seq;
 use std::alloc::Global;
 use std::sync::Wait;
-
-/// The marks of a commit that is done, and the place of its entry.
-fn done<I: Life>(answer: Committed<I>) -> Option<(Marks<I>, u64)>
-    ensures { IfSome result (λ r. answer ≡ Done r.0 r.1) }
-{
-    match answer {
-        Committed::Done { marks, place } => Some((marks, place)),
-        _ => None,
-    }
-}
 
 /// Adds the push of client 0.
 fn push<I: Life, R: Wait>(
@@ -33,16 +22,16 @@ fn push<I: Life, R: Wait>(
     alloc: Global,
     log: &CommitLog<I>,
     catalog: &Catalog,
-    marks: Marks<I>,
-) -> Option<(Marks<I>, u64)>
+    marks: &mut Marks<I>,
+) -> Option<u64>
     requires life { IsTestLife I.catalog I.opening I.parts I.clients }
     requires catalog { catalog.now ≡ I.catalog }
-    requires marks { marks ≡ pair_of 0 I.first }
-    ensures { IfSome result (λ r. roles_of r.0 ≡ Part 0 ∷ Client 0 ∷ []) }
+    requires marks { marks.old ≡ pair_of 0 I.first }
+    ensures { roles_of marks.new ≡ roles_of marks.old }
 {
     let emitted = batch_of(alloc)?;
     let listed = push_of(alloc)?;
-    done(log.commit(rt, catalog, marks, listed, emitted))
+    log.commit(rt, catalog, marks, listed, emitted).ok()
 }
 
 /// Adds the step on the batch that was pushed, where the mark of its partition finds it.
@@ -51,19 +40,18 @@ fn step<I: Life, R: Wait>(
     alloc: Global,
     log: &CommitLog<I>,
     catalog: &Catalog,
-    mark: Mark<I>,
+    mut mark: Mark<I>,
 ) -> Option<u64>
     requires life { IsTestLife I.catalog I.opening I.parts I.clients }
     requires catalog { catalog.now ≡ I.catalog }
     requires mark { mark.role ≡ Part 0 }
 {
-    let (mark, found) = log.look(rt, alloc, mark, 0, 0, 0);
-    let Ok(Some(_rows)) = found else {
+    let Ok(Some(_rows)) = log.look(rt, alloc, &mut mark, 0, 0, 0) else {
         return None;
     };
-    let marks = one(alloc, mark)?;
-    let (_marks, place) = done(log.commit(rt, catalog, marks, step_of(alloc), Seq::new(alloc)))?;
-    Some(place)
+    let mut marks = one(alloc, mark)?;
+    log.commit(rt, catalog, &mut marks, step_of(alloc), Seq::new(alloc))
+        .ok()
 }
 
 /// A mark alone.
@@ -81,13 +69,14 @@ fn call<I: Life, R: Wait>(
     alloc: Global,
     log: &CommitLog<I>,
     catalog: &Catalog,
-    marks: Marks<I>,
-) -> Option<(Marks<I>, u64)>
+    marks: &mut Marks<I>,
+) -> Option<u64>
     requires life { IsTestLife I.catalog I.opening I.parts I.clients }
     requires catalog { catalog.now ≡ I.catalog }
-    requires marks { marks ≡ pair_of 1 I.first }
+    requires marks { marks.old ≡ pair_of 1 I.first }
 {
-    done(log.commit(rt, catalog, marks, call_of(alloc), Seq::new(alloc)))
+    log.commit(rt, catalog, marks, call_of(alloc), Seq::new(alloc))
+        .ok()
 }
 
 /// Looks until it sees the batch that client 0 pushed.
@@ -100,9 +89,7 @@ fn batch_seen<I: Life, R: Wait>(
     requires { I.catalog ≡ workflow }
 {
     for _ in 0..10_000_000u32 {
-        let (same, found) = log.look(rt, alloc, mark, 0, 0, 0);
-        mark = same;
-        if let Ok(Some(_)) = found {
+        if let Ok(Some(_)) = log.look(rt, alloc, &mut mark, 0, 0, 0) {
             return true;
         }
     }
@@ -112,9 +99,7 @@ fn batch_seen<I: Life, R: Wait>(
 /// Looks until a count above this one is posted.
 fn post_seen<I: Life>(log: &CommitLog<I>, mut mark: Mark<I>, count: u64) -> bool {
     for _ in 0..1_000_000_000u32 {
-        let (same, posted, _faults) = log.see(mark);
-        mark = same;
-        if posted > count {
+        if log.see(&mut mark).count > count {
             return true;
         }
     }
@@ -127,14 +112,14 @@ fn push_then_step<I: Life, R: Wait>(
     alloc: Global,
     log: &CommitLog<I>,
     catalog: &Catalog,
-    marks: Marks<I>,
+    mut marks: Marks<I>,
     first: u64,
 ) -> Option<(u64, u64)>
     requires life { IsTestLife I.catalog I.opening I.parts I.clients }
     requires catalog { catalog.now ≡ I.catalog }
     requires marks { marks ≡ pair_of 0 I.first }
 {
-    let (mut marks, pushed) = push(rt, alloc, log, catalog, marks)?;
+    let pushed = push(rt, alloc, log, catalog, &mut marks)?;
     let client = marks.pop()?;
     let part = marks.pop()?;
     if !post_seen(log, client, first) {
@@ -166,23 +151,24 @@ fn call_then_post<I: Life, R: Wait>(
     alloc: Global,
     log: &CommitLog<I>,
     catalog: &Catalog,
-    marks: Marks<I>,
-    note: Note<I>,
+    mut marks: Marks<I>,
+    note: &mut Note<I>,
     first: u64,
-) -> Option<(Note<I>, u64)>
+) -> Option<u64>
     requires life { IsTestLife I.catalog I.opening I.parts I.clients }
     requires catalog { catalog.now ≡ I.catalog }
     requires marks { marks ≡ pair_of 1 I.first }
-    requires note { note ≡ known Disk [] I.first 0 }
+    requires note { note.old ≡ known Disk [] I.first 0 }
     requires first { (first ≡ I.first) × (first ≤ 100) }
-    ensures { IfSome result (λ r. r.0.role ≡ Disk) }
+    ensures { note.new.role ≡ Disk }
 {
-    let (mut marks, place) = call(rt, alloc, log, catalog, marks)?;
+    let place = call(rt, alloc, log, catalog, &mut marks)?;
     let mark = marks.pop()?;
     if !batch_seen(rt, alloc, log, mark) {
         return None;
     }
-    Some((log.post(note, first + 1, 0), place))
+    log.post(note, first + 1, 0);
+    Some(place)
 }
 
 /// What client 1 does: it calls, looks until it sees the batch, and posts that with the disk's note, which it gives back.
@@ -191,7 +177,7 @@ pub fn call_and_post<I: Life, R: Wait>(
     alloc: Global,
     log: &CommitLog<I>,
     marks: Marks<I>,
-    note: Note<I>,
+    mut note: Note<I>,
     first: u64,
 ) -> Option<(Note<I>, u64)>
     requires life { IsTestLife I.catalog I.opening I.parts I.clients }
@@ -201,5 +187,6 @@ pub fn call_and_post<I: Life, R: Wait>(
     ensures { IfSome result (λ r. r.0.role ≡ Disk) }
 {
     let catalog = catalog(alloc)?;
-    call_then_post(rt, alloc, log, &catalog, marks, note, first)
+    let place = call_then_post(rt, alloc, log, &catalog, marks, &mut note, first)?;
+    Some((note, place))
 }

@@ -13,7 +13,7 @@ ghost use Rattle.ss_commitlog_tests.specs.Lives.{BeginsAt, IsTestLife, pair_of};
 
 use super::catalog::catalog;
 use super::clients::{call_and_post, push_and_step};
-use ss_commitlog::{Blank, CommitLog, Marks, Note, Opened, Opening};
+use ss_commitlog::{Blank, CommitLog, Marks, NewLog, Note, Opening};
 use ss_model::{Catalog, Life, Listed};
 use ss_stream::{Streams, empty_streams};
 use ss_value::Seq;
@@ -111,7 +111,7 @@ fn by_number<I: Life>(mut parts: Marks<I>, mut clients: Marks<I>) -> (Marks<I>, 
 fn run_on<I: Life + Send + Sync, R: Threads + Wait + Sync>(
     rt: &R,
     alloc: Global,
-    opened: Opened<I>,
+    opened: NewLog<I>,
     first: u64,
 ) -> Option<Run>
     requires life { IsTestLife I.catalog I.opening I.parts I.clients }
@@ -121,7 +121,7 @@ fn run_on<I: Life + Send + Sync, R: Threads + Wait + Sync>(
     requires first { (first ≡ I.first) × (first ≤ 100) }
     ensures { IfSome result (λ r. Replays I.catalog I.opening r.list × Orders I.catalog I.opening r.list) }
 {
-    let Opened {
+    let NewLog {
         log,
         parts,
         clients,

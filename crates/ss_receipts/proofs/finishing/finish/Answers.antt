@@ -21,13 +21,13 @@ returns g c = λ count fault h.
           ∙ ap (λ (n : ℕ). listed_entries (drop (c.count-count.result - n) c.args.list.now)) c.requires.first;
     } in
     let same : count ≡ c.count-count.result = sym (h.counted none) ∙ sym c.count-count.ensures in
-    let held = subst (λ (n : ℕ). Holds g.I.Life.catalog g.I.Life.opening g.I.Life.first g.I.Life.moment g.I.Life.faults g.I.Life.past g.D.Disk.tells g.D.Disk.honest g.D.Disk.seen g.D.Disk.moment g.D.Disk.images g.D.Disk.faults c.args.list.now c.args.log.now n fault) same h in
+    let held = subst (λ (n : ℕ). Holds g.I.Life.catalog g.I.Life.opening g.I.Life.first g.I.Life.moment g.I.Life.faults g.I.Life.past g.D.Disk.kind c.args.list.now c.args.log.now n fault) same h in
     record {
       count = c.flush_rest.result.count;
       fault = c.flush_rest.result.faults;
       holds = c.flush_rest.ensures.holds c.args.list.now fault rest held;
       more = omega (arith, same, c.flush_rest.ensures.more);
-      told = inl (going_faults g.I.Life.faults (g.D.Disk.faults c.args.log.now.disk) c.args.log.now.halted fault h.halt none);
+      told = inl (going_faults g.I.Life.faults (g.D.Disk.kind.faults c.args.log.now.disk) c.args.log.now.halted fault h.halt none);
       answer = subst (λ (n : ℕ). IsDurable n c.flush_rest.result.count c.flush_rest.result.faults c.flush_rest.result.answer)
           (rest_count g.I.Life.catalog g.I.Life.opening g.I.Life.first c.args.list.now c.count-count.result c.in-Ok.rest rest held.begun held.within) c.flush_rest.ensures.answer;
     }
