@@ -1,20 +1,18 @@
 -- Tokens that go on: what held by what they knew holds by what they know.
-use Rattle.std.proofs.Common.{◌≡◌, inl, inr, ⊎_elim, ◌≤◌, ℕ, List, [], ◌∷◌, refl, sym, ap, subst, ◌∙◌}
+use Rattle.std.proofs.Common.{◌≡◌, inl, inr, ⊎_elim, ◌≤◌, ℕ, List, [], ◌∷◌, Some, slice_get, slice_set, refl, sym, ap, subst, ◌∙◌}
 use Rattle.ss_model.specs.declared.catalog.Catalog.{Catalog}
 use Rattle.ss_model.specs.Accepted.{Accepted}
 use Rattle.ss_model.specs.Database.{Database}
 use Rattle.ss_model.specs.Partitions.{part}
+use Rattle.ss_commitlog.specs.declared.role.Role.{Role}
 use Rattle.ss_commitlog.specs.declared.role.Role.TheVariants.{Part}
 use Rattle.ss_commitlog.specs.declared.rule.Item.{Item}
 use Rattle.ss_commitlog.specs.Roles.{In}
 use Rattle.ss_commitlog.specs.Right.{AgreesWith, known_database}
-use Rattle.ss_commitlog.specs.Tokens.{Known, roles_of, Continues, AllKnow, AllContinue}
-use Rattle.ss_commitlog.proofs.CallerLemmas.{own_part}
-use Rattle.ss_shard.specs.Parts.{HasParts, HoldsParts}
-use Rattle.ss_shard.specs.ShardValue.{ShardValue}
-use Rattle.ss_shard.specs.Unions.{numbers_of, AreShells}
+use Rattle.ss_commitlog.specs.Tokens.{Known, roles_of, Continues, Follows, AllKnow, AllContinue}
+use Rattle.ss_commitlog.proofs.CallerLemmas.{on_itself, own_part}
 use Rattle.ss_hand.specs.declared.hand.Hand.{Hand}
-use Rattle.ss_hand.specs.Hands.{IsInHand, SameButMarks}
+use Rattle.ss_hand.specs.Hands.{IsInHand}
 use Rattle.ss_hand.specs.Meetings.{AllGoOn}
 
 -- the same tokens have the same roles
@@ -55,18 +53,34 @@ module _ (catalog : Catalog) (accepted : Accepted catalog) (n : ℕ) (some : 1 �
       agrees p k there (sym same ∙ is) ∙ sym (own_stays k l p (sym same ∙ is) more)
 
   -- a hand is still one where its marks go on
-  pub in_hand_on : {I : Type 0} (held : List ℕ) (old new : Hand I) → SameButMarks old new → roles_of new.marks ≡ roles_of old.marks → AllGoOn catalog n old.marks new.marks
-      → IsInHand catalog n db held old → IsInHand catalog n db held new
-  in_hand_on held old new same roles on hand = record {
-    rising = hand.rising;
-    run = hand.run;
-    numbers = ap (λ (h : ShardValue). h.number ∷ numbers_of new.shells.items) same.whole ∙ ap (λ (ss : List ShardValue). old.whole.number ∷ numbers_of ss) same.shells ∙ hand.numbers;
-    parts = subst (HasParts catalog n held) (sym same.whole) hand.parts;
-    left = subst (λ (ss : List ShardValue). AreShells catalog n ss) (sym same.shells) hand.left;
-    roles = roles ∙ hand.roles;
-    of_one = record {
-      database = (hand.of_one).database;
-      holds = subst (λ (h : ShardValue). HoldsParts catalog n held h (hand.of_one).database) (sym same.whole) (hand.of_one).holds;
-      agrees = agrees_on old.marks new.marks (hand.of_one).database on (hand.of_one).agrees;
-    };
+  pub in_hand_on : {I : Type 0} (held : List ℕ) (hand : Hand I) (ks : List Known) → roles_of ks ≡ roles_of hand.marks → AllGoOn catalog n hand.marks ks → IsInHand catalog n db held hand
+      → IsInHand catalog n db held (record hand { marks = ks })
+  in_hand_on held hand ks roles on is = record {
+    rising = is.rising;
+    run = is.run;
+    numbers = is.numbers;
+    parts = is.parts;
+    left = is.left;
+    roles = roles ∙ is.roles;
+    of_one = record { database = (is.of_one).database; holds = (is.of_one).holds; agrees = agrees_on hand.marks ks (is.of_one).database on (is.of_one).agrees };
   }
+
+-- ---- the first mark goes on
+
+module _ (catalog : Catalog) (n : ℕ) where
+  pub first_goes_on : (limit : ℕ) (ks : List Known) (k l : Known) → slice_get ks 0 ≡ Some k → Follows catalog n limit k l → AllGoOn catalog n ks (slice_set ks 0 l)
+  first_goes_on limit [] k l first f m i = absurd (cc)
+  first_goes_on limit (x ∷ ks) k l first f m i =
+      let here : k ≡ x = cc in
+      let on : Continues catalog n l.list x = subst (λ (y : Known). Continues catalog n l.list y) here f.goes_on in
+      let same : l.role ≡ x.role = f.role ∙ ap (λ (y : Known). y.role) here in
+      ⊎_elim (λ (e : m ≡ l). (x, inl refl, ap (λ (y : Known). y.role) e ∙ same, subst (λ (y : Known). Continues catalog n y.list x) (sym e) on))
+      (λ (j : In m ks). (m, inr j, refl, (on_itself catalog n m).on)) i
+
+pub first_roles : (ks : List Known) (k l : Known) → slice_get ks 0 ≡ Some k → l.role ≡ k.role → roles_of (slice_set ks 0 l) ≡ roles_of ks
+first_roles [] k l first same = refl
+first_roles (x ∷ ks) k l first same = let here : k ≡ x = cc in ap (λ (r : Role). r ∷ roles_of ks) (same ∙ ap (λ (y : Known). y.role) here)
+
+pub first_in : (ks : List Known) (k : Known) → slice_get ks 0 ≡ Some k → In k ks
+first_in [] k first = absurd (cc)
+first_in (x ∷ ks) k first = inl (cc)

@@ -16,7 +16,7 @@ use Rattle.ss_shard.specs.Unions.{numbers_of, HoldTheirOwn, AreApart, WereUnited
 use Rattle.ss_hand.specs.declared.hand.Hand.{Hand}
 use Rattle.ss_hand.specs.Apart.{ArePartitions}
 use Rattle.ss_hand.specs.Hands.{IsInHand, KnowsWith}
-use Rattle.ss_hand.specs.Meetings.{Met}
+use Rattle.ss_commitlog.specs.Tokens.{Met}
 use Rattle.ss_hand.proofs.GoingOn.{agrees_on, all_go_on, same_roles}
 use Rattle.ss_hand.proofs.Partitions.{all_run, fresh, have_own, hold_own, partitions_of, roles_are}
 use Rattle.ss_hand.proofs.Tokens.{know_one}
@@ -53,7 +53,7 @@ module _ (catalog : Catalog) (accepted : Accepted catalog) (n : ℕ) (some : 1 �
         database = (one, hold.0, hold.1);
       }
 
-  pub in_hand : {I : Type 0} (hand : Hand I) → hand.marks ≡ ls → IsStrictlyIncreasing (numbers_of (first ∷ others)) → WereUnited catalog n (first.number ∷ []) first others hand.whole hand.shells.items
+  pub in_hand : {I : Type 0} (hand : Hand I) → hand.marks ≡ ls → IsStrictlyIncreasing (numbers_of (first ∷ others)) → WereUnited catalog n (first.number ∷ []) first others hand.shard hand.shells.items
       → KnowsWith catalog n db (numbers_of (first ∷ others)) new hand
   in_hand hand is up w = record {
     in_hand = record {
@@ -83,20 +83,20 @@ module _ (catalog : Catalog) (accepted : Accepted catalog) (n : ℕ) (some : 1 �
       )
 
 module _ {I : Type 0} (catalog : Catalog) (n : ℕ) (db : Database) (held : List ℕ) (hand : Hand I) (is : IsInHand catalog n db held hand) where
-  pub may_part : MayPart catalog n (hand.whole.number ∷ []) hand.whole hand.shells.items
+  pub may_part : MayPart catalog n (hand.shard.number ∷ []) hand.shard hand.shells.items
   may_part = record {
-    parts = subst (λ (ps : List ℕ). HasParts catalog n ps hand.whole) (sym is.numbers) is.parts;
+    parts = subst (λ (ps : List ℕ). HasParts catalog n ps hand.shard) (sym is.numbers) is.parts;
     some = omega arith;
-    fresh = fresh (hand.whole.number ∷ []) (numbers_of hand.shells.items) (AllPairs-from_increasing (hand.whole.number ∷ numbers_of hand.shells.items) (subst IsStrictlyIncreasing (sym is.numbers) is.rising));
+    fresh = fresh (hand.shard.number ∷ []) (numbers_of hand.shells.items) (AllPairs-from_increasing (hand.shard.number ∷ numbers_of hand.shells.items) (subst IsStrictlyIncreasing (sym is.numbers) is.rising));
     lent = is.left;
   }
 
-  pub parted : (first : ShardValue) (backs : List ShardValue) → WereParted catalog n (hand.whole.number ∷ []) hand.whole hand.shells.items first backs
+  pub parted : (first : ShardValue) (backs : List ShardValue) → WereParted catalog n (hand.shard.number ∷ []) hand.shard hand.shells.items first backs
       → ArePartitions catalog n db (first ∷ backs) hand.marks × (numbers_of (first ∷ backs) ≡ held)
   parted first backs w =
       let one = (is.of_one).database in
-      let both = w.holds one (subst (λ (ps : List ℕ). HoldsParts catalog n ps hand.whole one) (sym is.numbers) (is.of_one).holds) in
-      let same : numbers_of (first ∷ backs) ≡ held = ap (λ (p : ℕ). p ∷ numbers_of backs) w.number ∙ ap (λ (ps : List ℕ). hand.whole.number ∷ ps) w.numbers ∙ is.numbers in (
+      let both = w.holds one (subst (λ (ps : List ℕ). HoldsParts catalog n ps hand.shard one) (sym is.numbers) (is.of_one).holds) in
+      let same : numbers_of (first ∷ backs) ≡ held = ap (λ (p : ℕ). p ∷ numbers_of backs) w.number ∙ ap (λ (ps : List ℕ). hand.shard.number ∷ ps) w.numbers ∙ is.numbers in (
         partitions_of catalog n db one (first ∷ backs) hand.marks
             (subst (AllByRecursion (λ (p : ℕ). p < n)) (sym same) is.run)
             (is.roles ∙ ap (map Part) (sym same))

@@ -17,9 +17,9 @@ use Rattle.ss_hand.specs.declared.hand.Hand.{Hand}
 
 -- there is a database of which the shard has the parts of these partitions, and each mark's own list leaves its partition's part as
 -- it is there
-pub record AreOfOne (catalog : Catalog) (n : ℕ) (db : Database) (held : List ℕ) (whole : ShardValue) (marks : List Known) : Type 0 where
+pub record AreOfOne (catalog : Catalog) (n : ℕ) (db : Database) (held : List ℕ) (shard : ShardValue) (marks : List Known) : Type 0 where
   pub database : Database
-  pub holds : HoldsParts catalog n held whole database
+  pub holds : HoldsParts catalog n held shard database
   pub agrees : AgreesWith catalog n db marks database
 
 -- the partitions in hand, in rising order: one shard with all their parts, whose number is the least, the shells of the others, and
@@ -27,11 +27,11 @@ pub record AreOfOne (catalog : Catalog) (n : ℕ) (db : Database) (held : List �
 pub record IsInHand {I : Type 0} (catalog : Catalog) (n : ℕ) (db : Database) (held : List ℕ) (hand : Hand I) : Type 0 where
   pub rising : IsStrictlyIncreasing held
   pub run : AllByRecursion (λ p. p < n) held
-  pub numbers : hand.whole.number ∷ numbers_of hand.shells.items ≡ held
-  pub parts : HasParts catalog n held hand.whole
+  pub numbers : hand.shard.number ∷ numbers_of hand.shells.items ≡ held
+  pub parts : HasParts catalog n held hand.shard
   pub left : AreShells catalog n hand.shells.items
   pub roles : roles_of hand.marks ≡ map Part held
-  pub of_one : AreOfOne catalog n db held hand.whole hand.marks
+  pub of_one : AreOfOne catalog n db held hand.shard hand.marks
 
 -- just these partitions are in hand, and the marks know the list that the note knows
 pub record KnowsWith {I : Type 0} (catalog : Catalog) (n : ℕ) (db : Database) (held : List ℕ) (note : Known) (hand : Hand I) : Type 0 where
@@ -45,8 +45,3 @@ pub record WereTaken {I : Type 0} (catalog : Catalog) (n : ℕ) (db : Database) 
   pub in_hand : IsInHand catalog n db held hand
   pub turns_are : turns ≡ map (turn_of bays) held
   pub know_one : AllByRecursion (λ k. k.list ≡ note.list) hand.marks
-
--- two hands differ in their marks at most
-pub record SameButMarks {I : Type 0} (old new : Hand I) : Type 0 where
-  pub whole : new.whole ≡ old.whole
-  pub shells : new.shells.items ≡ old.shells.items

@@ -20,11 +20,11 @@ use ss_value::{NoMemory, Seq};
 use std::alloc::Global;
 use std::sync::Wait;
 
-/// The partitions of a list apart, in its order. Out of memory drops them.
-fn set_apart<I: Life>(alloc: Global, partitions: Seq<Partition<I>>) -> Result<Apart<I>, NoMemory>
+/// The partitions of a list in one hand, in its order, each with its own part still. Out of memory drops them.
+fn set_apart<I: Life>(alloc: Global, partitions: Seq<Partition<I>>) -> Result<Hand<I>, NoMemory>
     requires { 1 ≤ length partitions }
-    ensures are { IfOk result (λ apart. AreSetApart I.catalog I.parts I.opening apart) }
-    ensures numbers { IfOk result (λ apart. numbers_in apart ≡ map number_of partitions) }
+    ensures are { IfOk result (λ hand. AreSetApart I.catalog I.parts I.opening hand) }
+    ensures numbers { IfOk result (λ hand. numbers_in hand ≡ map number_of partitions) }
 {
     let mut list = partitions.into_vec();
     let room = make_room(alloc, list.len())?;
@@ -36,7 +36,7 @@ fn set_apart<I: Life>(alloc: Global, partitions: Seq<Partition<I>>) -> Result<Ap
     while let Some(partition) = list.pop() {
         apart.add(partition);
     }
-    Ok(apart)
+    Ok(apart.into_hand())
 }
 
 /// All partitions, as `Bays::close` gives them, in one hand: their marks and the note know one list, and one shard has all parts.
@@ -51,22 +51,17 @@ pub fn in_one_hand<I: Life, R: Wait>(
     catalog: &Catalog,
     parts: u8,
     partitions: Seq<Partition<I>>,
-    note: Note<I>,
-) -> (Note<I>, Result<Hand<I>, NoMemory>)
+    note: &mut Note<I>,
+) -> Result<Hand<I>, NoMemory>
     requires catalog { catalog.now ≡ I.catalog }
     requires accepted { Accepted I.catalog }
     requires parts { (parts ≡ I.parts) × (1 ≤ parts) }
     requires all { TagsFrom number_of 0 partitions × (length partitions ≡ I.parts) }
-    ensures note { MayFollow I.catalog I.parts I.limit note result.0 }
-    ensures follows { OnOk result.1 (Follows I.catalog I.parts I.limit note result.0) }
-    ensures ok { IfOk result.1 (λ hand. KnowsWith I.catalog I.parts I.opening (range_with_len 0 I.parts) result.0 hand) }
+    ensures note { MayFollow I.catalog I.parts I.limit note.old note.new }
+    ensures follows { OnOk result (Follows I.catalog I.parts I.limit note.old note.new) }
+    ensures ok { IfOk result (λ hand. KnowsWith I.catalog I.parts I.opening (range_with_len 0 I.parts) note.new hand) }
 {
-    let Ok(apart) = set_apart(alloc, partitions) else {
-        return (note, Err(NoMemory));
-    };
-    let (note, joined) = join_all(rt, alloc, log, catalog, parts, apart, note);
-    match joined {
-        Ok(hand) => (note, Ok(hand)),
-        Err(_) => (note, Err(NoMemory)),
-    }
+    let mut hand = set_apart(alloc, partitions)?;
+    join_all(rt, alloc, log, catalog, parts, &mut hand, note)?;
+    Ok(hand)
 }

@@ -16,7 +16,7 @@ use ss_shard::Shard;
 #[derive(Drop)]
 pub struct Hand<I: Life> {
     /// The shard with all the parts. Its number is the least one.
-    pub whole: Shard,
+    pub shard: Shard,
     /// What is left of the shards of the other partitions.
     pub shells: Vec<Shard>,
     /// The mark of each partition.

@@ -1,71 +1,41 @@
-//! Partitions that come into one hand.
+//! Shards in hand that become one.
 
-ghost use Rattle.std.specs.Prelude.{◌≡◌, ◌≤◌, IfOk, IfErr, OnOk};
+ghost use Rattle.std.specs.Prelude.{◌≡◌, ◌≤◌, OnOk, OnErr};
 ghost use Rattle.std.specs.List.Sorted.{IsStrictlyIncreasing};
 ghost use Rattle.ss_model.specs.Accepted.{Accepted};
 ghost use Rattle.ss_commitlog.specs.Tokens.{Follows};
 ghost use Rattle.ss_hand.specs.Apart.{numbers_in, AreSetApart};
 ghost use Rattle.ss_hand.specs.Hands.{KnowsWith};
-ghost use Rattle.ss_hand.specs.Meetings.{MayFollow};
 
-use crate::apart::Apart;
 use crate::hand::Hand;
-use crate::meeting::meet;
 use ss_commitlog::{CommitLog, Note};
 use ss_model::{Catalog, Life};
 use ss_shard::unite;
-use ss_value::Seq;
+use ss_value::NoMemory;
 use std::alloc::Global;
 use std::sync::Wait;
 
-/// The marks and the note know one list, and then one shard has all parts. Out of memory leaves the partitions apart.
+/// The marks in hand and the note know one list, and then one shard in hand has all parts. Out of memory leaves the shards
+/// apart, with marks that went on.
 pub(crate) fn join_all<I: Life, R: Wait>(
     rt: &R,
     alloc: Global,
     log: &CommitLog<I>,
     catalog: &Catalog,
     parts: u8,
-    apart: Apart<I>,
-    note: Note<I>,
-) -> (Note<I>, Result<Hand<I>, Apart<I>>)
+    hand: &mut Hand<I>,
+    note: &mut Note<I>,
+) -> Result<(), NoMemory>
     requires catalog { catalog.now ≡ I.catalog }
     requires accepted { Accepted I.catalog }
     requires parts { (parts ≡ I.parts) × (1 ≤ parts) }
-    requires are { AreSetApart I.catalog I.parts I.opening apart }
-    requires rising { IsStrictlyIncreasing (numbers_in apart) }
-    ensures note { MayFollow I.catalog I.parts I.limit note result.0 }
-    ensures follows { OnOk result.1 (Follows I.catalog I.parts I.limit note result.0) }
-    ensures ok { IfOk result.1 (λ hand. KnowsWith I.catalog I.parts I.opening (numbers_in apart) result.0 hand) }
-    ensures err { IfErr result.1 (λ still. AreSetApart I.catalog I.parts I.opening still × (numbers_in still ≡ numbers_in apart)) }
+    requires are { AreSetApart I.catalog I.parts I.opening hand.old }
+    requires rising { IsStrictlyIncreasing (numbers_in hand.old) }
+    ensures note { Follows I.catalog I.parts I.limit note.old note.new }
+    ensures ok { OnOk result (KnowsWith I.catalog I.parts I.opening (numbers_in hand.old) note.new hand.new) }
+    ensures err { OnErr result (AreSetApart I.catalog I.parts I.opening hand.new × (numbers_in hand.new ≡ numbers_in hand.old)) }
 {
-    let Apart {
-        mut first,
-        mut others,
-        marks,
-    } = apart;
-    let (marks, note, met) = meet(rt, log, Seq::from_vec(marks), note);
-    let Ok(()) = met else {
-        let marks = marks.into_vec();
-        let still = Apart {
-            first,
-            others,
-            marks,
-        };
-        return (note, Err(still));
-    };
-    let Ok(()) = unite(alloc, catalog, parts, &mut first, others.as_mut_slice()) else {
-        let marks = marks.into_vec();
-        let still = Apart {
-            first,
-            others,
-            marks,
-        };
-        return (note, Err(still));
-    };
-    let hand = Hand {
-        whole: first,
-        shells: others,
-        marks,
-    };
-    (note, Ok(hand))
+    log.meet_with(rt, &mut hand.marks, note);
+    let others = hand.shells.as_mut_slice();
+    unite(alloc, catalog, parts, &mut hand.shard, others)
 }

@@ -12,8 +12,8 @@
 //!
 //! - `partition`: what a bay has; `hand`: what is in hand
 //! - `taking`, `putting`: the two calls; `closing`: all partitions, once there are no bays any more
-//! - `meeting`: marks in hand that go on to the log's list
-//! - `apart`, `joining`: partitions beside one another, and how they come into one hand
+//! - `meeting`: a note that comes to know what ran on the parts in hand
+//! - `apart`, `joining`: partitions that come together, and shards in hand that become one
 //!
 //! In `specs/`: `Partitions` (what a bay has), `Apart` (partitions beside one another), `Meetings` (tokens that go on),
 //! `Hands` (what is in hand).
@@ -23,7 +23,7 @@
 //! - `take_parts` (`ok`: `WereTaken`): just the partitions of a set, in one shard that has all their parts, and the
 //!   turns of their bays; out of memory has put back what it took. `put_parts` puts them back, and by its premise
 //!   (`in_hand`) only what is right for each bay.
-//! - `meet_note` (`ok`: `Met`): the marks in hand and the note know one list; it is in hand what was (`in_hand`).
+//! - `show_note` (`note`, `one`): the note knows what a mark in hand knew; it is in hand what was (`in_hand`).
 //! - `in_one_hand` (`ok`: `KnowsWith`): all partitions, once the bays are closed.
 #![tactic(auto)]
 
@@ -38,7 +38,7 @@ mod taking;
 
 pub use closing::in_one_hand;
 pub use hand::Hand;
-pub use meeting::meet_note;
+pub use meeting::show_note;
 pub use partition::Partition;
 pub use putting::put_parts;
 pub use taking::take_parts;

@@ -6,7 +6,6 @@ ghost use Rattle.ss_party.specs.Turns.{turn_of};
 ghost use Rattle.ss_hand.specs.Apart.{numbers_in, AreSetApart};
 ghost use Rattle.ss_hand.specs.Hands.{IsInHand};
 
-use crate::apart::Apart;
 use crate::hand::Hand;
 use crate::partition::Partition;
 use ss_model::{Catalog, Life};
@@ -14,21 +13,20 @@ use ss_party::{Bays, Turn};
 use ss_shard::part;
 use std::alloc::Global;
 
-/// Puts each partition into its bay, the last one first. Takes no memory and waits for nobody.
+/// Puts each partition in hand into its bay, the last one first. Takes no memory and waits for nobody.
 pub(crate) fn put_back<I: Life>(
     bays: &Bays<Partition<I>>,
-    apart: Apart<I>,
-    turns: Vec<Turn<Partition<I>>>,
+    hand: Hand<I>,
+    mut turns: Vec<Turn<Partition<I>>>,
 )
-    requires are { AreSetApart I.catalog I.parts I.opening apart }
-    requires turns { turns.items ≡ map (turn_of bays.now) (numbers_in apart) }
+    requires are { AreSetApart I.catalog I.parts I.opening hand }
+    requires turns { turns.items ≡ map (turn_of bays.now) (numbers_in hand) }
 {
-    let Apart {
-        first,
-        mut others,
+    let Hand {
+        shard: first,
+        shells: mut others,
         mut marks,
-    } = apart;
-    let mut turns = turns;
+    } = hand;
     while let Some(shard) = others.pop() {
         let Some(mark) = marks.pop() else {
             unreachable!()
@@ -57,7 +55,7 @@ pub fn put_parts<I: Life>(
     catalog: &Catalog,
     parts: u8,
     bays: &Bays<Partition<I>>,
-    hand: Hand<I>,
+    mut hand: Hand<I>,
     turns: Vec<Turn<Partition<I>>>,
 )
     requires catalog { catalog.now ≡ I.catalog }
@@ -65,16 +63,7 @@ pub fn put_parts<I: Life>(
     requires parts { (parts ≡ I.parts) × (1 ≤ parts) }
     requires in_hand { (held : List ℕ) × IsInHand I.catalog I.parts I.opening held hand × (turns.items ≡ map (turn_of bays.now) held) }
 {
-    let Hand {
-        mut whole,
-        mut shells,
-        marks,
-    } = hand;
-    part(alloc, catalog, parts, &mut whole, shells.as_mut_slice());
-    let apart = Apart {
-        first: whole,
-        others: shells,
-        marks: marks.into_vec(),
-    };
-    put_back(bays, apart, turns);
+    let shells = hand.shells.as_mut_slice();
+    part(alloc, catalog, parts, &mut hand.shard, shells);
+    put_back(bays, hand, turns);
 }

@@ -29,7 +29,7 @@ fn take_out<I: Life, R: Wait>(
     parts: u8,
     bays: &Bays<Partition<I>>,
     set: PartSet,
-) -> Result<(Apart<I>, Vec<Turn<Partition<I>>>), NoMemory>
+) -> Result<(Hand<I>, Vec<Turn<Partition<I>>>), NoMemory>
     requires bays { bay_count bays.now ≡ parts }
     requires some { (p : ℕ) × IsBitSet set p }
     requires below { (p : ℕ) → IsBitSet set p → p < parts }
@@ -54,7 +54,7 @@ fn take_out<I: Life, R: Wait>(
         turns.push_reserved(turn);
     }
     list.destroy_empty();
-    Ok((apart, turns))
+    Ok((apart.into_hand(), turns))
 }
 
 /// Takes the partitions of a set out of their bays, in rising order, and waits at each whose bay is empty. Then their marks and
@@ -71,30 +71,24 @@ pub fn take_parts<I: Life, R: Wait>(
     parts: u8,
     bays: &Bays<Partition<I>>,
     set: PartSet,
-    note: Note<I>,
-) -> (
-    Note<I>,
-    Result<(Hand<I>, Vec<Turn<Partition<I>>>), NoMemory>,
-)
+    note: &mut Note<I>,
+) -> Result<(Hand<I>, Vec<Turn<Partition<I>>>), NoMemory>
     requires catalog { catalog.now ≡ I.catalog }
     requires accepted { Accepted I.catalog }
     requires parts { (parts ≡ I.parts) × (1 ≤ parts) }
     requires bays { bay_count bays.now ≡ I.parts }
     requires some { (p : ℕ) × IsBitSet set p }
     requires below { (p : ℕ) → IsBitSet set p → p < I.parts }
-    ensures note { MayFollow I.catalog I.parts I.limit note result.0 }
-    ensures follows { OnOk result.1 (Follows I.catalog I.parts I.limit note result.0) }
-    ensures ok { IfOk result.1 (λ taken. WereTaken I.catalog I.parts I.opening bays.now set result.0 taken.0 taken.1.items) }
+    ensures note { MayFollow I.catalog I.parts I.limit note.old note.new }
+    ensures follows { OnOk result (Follows I.catalog I.parts I.limit note.old note.new) }
+    ensures ok { IfOk result (λ taken. WereTaken I.catalog I.parts I.opening bays.now set note.new taken.0 taken.1.items) }
 {
-    let Ok((apart, turns)) = take_out(rt, alloc, parts, bays, set) else {
-        return (note, Err(NoMemory));
-    };
-    let (note, joined) = join_all(rt, alloc, log, catalog, parts, apart, note);
-    match joined {
-        Ok(hand) => (note, Ok((hand, turns))),
-        Err(apart) => {
-            put_back(bays, apart, turns);
-            (note, Err(NoMemory))
+    let (mut hand, turns) = take_out(rt, alloc, parts, bays, set)?;
+    match join_all(rt, alloc, log, catalog, parts, &mut hand, note) {
+        Ok(()) => Ok((hand, turns)),
+        Err(NoMemory) => {
+            put_back(bays, hand, turns);
+            Err(NoMemory)
         }
     }
 }

@@ -4,8 +4,6 @@
 pub use Rattle.ss_lanes.proofs.Coming.{came_back, submitted}
 -- All but a few of a client's entries stand below a count.
 pub use Rattle.ss_lanes.proofs.Dues.{few_open_on, none_open}
--- Tokens that go on.
-pub use Rattle.ss_lanes.proofs.Growing.{follows_on, on_and_on, on_itself, on_longer}
 -- The entries of a client in lists that go on.
 pub use Rattle.ss_lanes.proofs.Mines.{mine_in-append, mine_own, mine_shorter}
 -- A lane that asks for a receipt, once its mark has met the disk's note and its own, and what a request needs then.

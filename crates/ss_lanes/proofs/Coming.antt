@@ -1,5 +1,5 @@
 -- A lane whose mark came back with a reply of its own, and met the lane's note.
-use Rattle.std.proofs.Common.{◌≡◌, ◌≢◌, inl, ℕ, ◌+◌, ◌<◌, ◌≤◌, List, [], ◌∷◌, ◌++◌, length, refl, sym, ap, ◌∙◌, subst, arith, append-nil}
+use Rattle.std.proofs.Common.{◌≡◌, ◌≢◌, inl, ℕ, ◌+◌, ◌<◌, ◌≤◌, List, [], ◌∷◌, ◌++◌, length, refl, sym, ap, ◌∙◌, subst, arith, append-nil, Result, Ok, Err}
 use Rattle.ss_value.specs.Reserved.{ReservedList}
 use Rattle.ss_model.specs.declared.catalog.Catalog.{Catalog}
 use Rattle.ss_model.specs.declared.entry.Answer.{Answer}
@@ -8,45 +8,46 @@ use Rattle.ss_model.specs.declared.entry.Asked.{Asked}
 use Rattle.ss_model.specs.declared.entry.Entry.{Entry}
 use Rattle.ss_model.specs.Report.{asked_entry}
 use Rattle.ss_report_laws.specs.Replies.{listed_at}
+use Rattle.ss_commitlog.specs.declared.placed.Placed.{Placed}
+use Rattle.ss_commitlog.specs.declared.placed.Unlisted.{Unlisted}
+use Rattle.ss_commitlog.specs.declared.placed.Unlisted.TheVariants.{NoMemory, ListFull}
 use Rattle.ss_commitlog.specs.declared.role.Role.TheVariants.{Client}
 use Rattle.ss_commitlog.specs.declared.rule.Item.{Item}
+use Rattle.ss_commitlog.specs.Growing.{GoesOn}
 use Rattle.ss_commitlog.specs.Tokens.{Known, Follows, KnowOne}
+use Rattle.ss_commitlog.proofs.CallerLemmas.{follows_on, on_and_on, on_longer}
 use Rattle.ss_lanes.specs.declared.due.Due.{Due}
-use Rattle.ss_lanes.specs.declared.reply.Said.{Said}
-use Rattle.ss_lanes.specs.declared.reply.Said.TheVariants.{Listed, NoMemory, ListFull}
 use Rattle.ss_lanes.specs.declared.ticket.Ticket.{Ticket}
-use Rattle.ss_lanes.specs.Mines.{Placed, mine_in}
-use Rattle.ss_lanes.specs.Growing.{GoesOn}
+use Rattle.ss_lanes.specs.Mines.{Mine, mine_in}
 use Rattle.ss_lanes.specs.Answered.{answer_of, IsAfter, IsAnswered}
 use Rattle.ss_lanes.specs.Dues.{due_after}
 use Rattle.ss_lanes.specs.Lanes.{LaneView, lane_view, IsLane, IsRightAnswer, IsSubmitted}
 use Rattle.ss_lanes.specs.Owning.{IsOwnSaid, IsOwn}
 use Rattle.ss_lanes.specs.Replies.{ReplyView, IsSaid, IsReply}
 use Rattle.ss_lanes.proofs.Dues.{due_on}
-use Rattle.ss_lanes.proofs.Growing.{follows_on, on_and_on, on_longer}
 use Rattle.ss_lanes.proofs.Mines.{mine_own, no_more, just_one}
 use Rattle.ss_lanes.proofs.Telling.{few_more}
 
 -- the client's entries in a list that went on, by what was said of what the mark had known
-said_after : (first limit : ℕ) (t : Ticket) (due : Due) (what : Asked) (note : Known) (as' : ReservedList Answer) (own new rest : List Item) (count : ℕ) (said : Said) → t.index ≡ length as'.items
+said_after : (first limit : ℕ) (t : Ticket) (due : Due) (what : Asked) (note : Known) (as' : ReservedList Answer) (own new rest : List Item) (count : ℕ) (said : Result Placed Unlisted) → t.index ≡ length as'.items
     → new ≡ note.list ++ rest → length own ≤ length new → length new ≤ limit → mine_in t.client first new ≡ mine_in t.client first own
     → t.count ≡ length (mine_in t.client first note.list) → count ≡ length (mine_in t.client first own) → IsSaid first limit t.client own said → IsOwnSaid t what count said
     → IsAfter (mine_in t.client first note.list) (mine_in t.client first new) said × IsRightAnswer first limit (lane_view t due note as') what new (answer_of said)
-said_after first limit t due what note as' own new rest count (Listed place l) index is longer short same counted count_is said own_said =
-    let many : length (mine_in t.client first new) ≡ length (mine_in t.client first note.list) + 1 = (let a = ap (λ (x : List Placed). length x) same in let b = own_said.0 in omega arith) in
-    let o = just_one t.client first new note.list rest is said.0 (place, l) many (same ∙ said.1) in
-    ((o.0, said.2), (o.0 ∙ ap (λ (e : Entry). mine_in t.client first note.list ++ listed_at place l.outcome e ∷ []) (own_said.1 ∙ ap (λ n. asked_entry t.client n what) index), o.1))
-said_after first limit t due what note as' own new rest count NoMemory index is longer short same counted count_is said own_said =
-    let many : length (mine_in t.client first new) ≡ length (mine_in t.client first note.list) = (let a = ap (λ (x : List Placed). length x) same in omega arith) in
+said_after first limit t due what note as' own new rest count (Ok p) index is longer short same counted count_is said own_said =
+    let many : length (mine_in t.client first new) ≡ length (mine_in t.client first note.list) + 1 = (let a = ap (λ (x : List Mine). length x) same in let b = own_said.0 in omega arith) in
+    let o = just_one t.client first new note.list rest is said.0 (p.place, p.listed) many (same ∙ said.1) in
+    ((o.0, said.2), (o.0 ∙ ap (λ (e : Entry). mine_in t.client first note.list ++ listed_at p.place p.listed.outcome e ∷ []) (own_said.1 ∙ ap (λ n. asked_entry t.client n what) index), o.1))
+said_after first limit t due what note as' own new rest count (Err NoMemory) index is longer short same counted count_is said own_said =
+    let many : length (mine_in t.client first new) ≡ length (mine_in t.client first note.list) = (let a = ap (λ (x : List Mine). length x) same in omega arith) in
     let o = no_more t.client first new note.list rest is many in
     (o, o)
-said_after first limit t due what note as' own new rest count (ListFull limit') index is longer short same counted count_is said own_said =
-    let many : length (mine_in t.client first new) ≡ length (mine_in t.client first note.list) = (let a = ap (λ (x : List Placed). length x) same in omega arith) in
+said_after first limit t due what note as' own new rest count (Err (ListFull limit')) index is longer short same counted count_is said own_said =
+    let many : length (mine_in t.client first new) ≡ length (mine_in t.client first note.list) = (let a = ap (λ (x : List Mine). length x) same in omega arith) in
     let o = no_more t.client first new note.list rest is many in
     (o, (o, (let b = said.0 in omega arith), said.1))
 
 -- the lane as it is to be answered, and what the answer is worth
-pub record Came (catalog : Catalog) (parts clients first limit : ℕ) (t : Ticket) (due : Due) (what : Asked) (note x y : Known) (as' : ReservedList Answer) (said : Said) : Type 0 where
+pub record Came (catalog : Catalog) (parts clients first limit : ℕ) (t : Ticket) (due : Due) (what : Asked) (note x y : Known) (as' : ReservedList Answer) (said : Result Placed Unlisted) : Type 0 where
   pub answered : IsAnswered clients first t due x y as'.items said
   pub on : GoesOn catalog parts note y
   pub right : IsRightAnswer first limit (lane_view t due note as') what y.list (answer_of said)
@@ -85,7 +86,7 @@ came_back catalog parts clients first limit t due what as' mark note awaited x y
     }
 
 -- the lane as it is to be answered where nothing was sent, or came back unsent
-pub as_before : (clients first : ℕ) (t : Ticket) (due : Due) (mark note : Known) (as' : List Answer) → IsLane clients first t due mark note as' → IsAnswered clients first t due mark note as' NoMemory
+pub as_before : (clients first : ℕ) (t : Ticket) (due : Due) (mark note : Known) (as' : List Answer) → IsLane clients first t due mark note as' → IsAnswered clients first t due mark note as' (Err NoMemory)
 as_before clients first t due mark note as' lane = record {
   client_is = lane.client_is;
   mark_is = lane.mark_is;
@@ -102,7 +103,7 @@ as_before clients first t due mark note as' lane = record {
 }
 
 -- the lane with one answer more, as its caller sees it
-pub submitted : (catalog : Catalog) (parts first limit : ℕ) (t : Ticket) (due : Due) (what : Asked) (as' : ReservedList Answer) (note y : Known) (old new : LaneView) (said : Said)
+pub submitted : (catalog : Catalog) (parts first limit : ℕ) (t : Ticket) (due : Due) (what : Asked) (as' : ReservedList Answer) (note y : Known) (old new : LaneView) (said : Result Placed Unlisted)
     → lane_view t due note as' ≡ old → due.faults ≡ 0 → new.client ≡ t.client → (new.list ≡ y.list) × (new.count ≡ y.count) → new.due ≡ due_after due (answer_of said)
     → new.answers ≡ as'.items ++ answer_of said ∷ [] → new.spare + 1 ≡ as'.spare → GoesOn catalog parts note y → IsRightAnswer first limit (lane_view t due note as') what y.list (answer_of said)
     → IsSubmitted first limit old what new
@@ -121,20 +122,21 @@ submitted catalog parts first limit t due what as' note y old new said was going
     })
 
 -- the lane that is told again that the disk has failed
-pub halted_again : (first limit : ℕ) (t : Ticket) (due : Due) (what : Asked) (as' : ReservedList Answer) (note : Known) (old new : LaneView)
-    → lane_view t due note as' ≡ old → old.due.faults ≢ 0 → new.client ≡ t.client → (new.list ≡ note.list) × (new.count ≡ note.count) → new.due ≡ due
-    → new.answers ≡ as'.items ++ variants.Halted due.faults ∷ [] → new.spare + 1 ≡ as'.spare → IsSubmitted first limit old what new
-halted_again first limit t due what as' note old new was some client now same answers spare =
+pub halted_again : (first limit : ℕ) (t next : Ticket) (due : Due) (what : Asked) (as' more : ReservedList Answer) (note : Known) (old new : LaneView)
+    → lane_view t due note as' ≡ old → old.due.faults ≢ 0 → more.items ≡ as'.items ++ variants.Halted due.faults ∷ [] → more.spare + 1 ≡ as'.spare → next.client ≡ t.client → new ≡ lane_view next due note more
+    → IsSubmitted first limit old what new
+halted_again first limit t next due what as' more note old new was some answers spare client is =
     let failed : due.faults ≢ 0 = subst (λ (o : LaneView). o.due.faults ≢ 0) (sym was) some in
-    subst (λ (o : LaneView). IsSubmitted first limit o what new) was (record {
+    let submitted : IsSubmitted first limit (lane_view t due note as') what (lane_view next due note more) = record {
       client_is = client;
       rest = [];
-      begins = now.0 ∙ sym (append-nil note.list);
-      seen = (let a = now.1 in omega arith);
+      begins = sym (append-nil note.list);
+      seen = omega arith;
       answer = variants.Halted due.faults;
       answers = answers;
-      right = (now.0, refl, failed);
+      right = (refl, refl, failed);
       halts = λ more. refl;
-      due_is = same;
+      due_is = refl;
       spare_is = spare;
-    })
+    } in
+    subst (λ (n : LaneView). IsSubmitted first limit old what n) (sym is) (subst (λ (o : LaneView). IsSubmitted first limit o what (lane_view next due note more)) was submitted)

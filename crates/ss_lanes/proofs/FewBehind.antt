@@ -5,20 +5,20 @@ use Rattle.ss_model.specs.declared.entry.Listed.{Listed}
 use Rattle.ss_report_laws.specs.Replies.{mine}
 use Rattle.ss_commitlog.specs.Roles.{In}
 use Rattle.ss_lanes.specs.Dues.{FewOpen, StandBelow, entries_from}
-use Rattle.ss_lanes.specs.Mines.{Placed}
+use Rattle.ss_lanes.specs.Mines.{Mine}
 use Rattle.ss_lanes.proofs.Mines.{mine-append, mine_from}
 
 -- each of these entries stands at a count or behind it
-abbrev StandFrom : ℕ → List Placed → Type 0
-StandFrom count entries = AllByRecursion (λ (p : Placed). count ≤ p.0) entries
+abbrev StandFrom : ℕ → List Mine → Type 0
+StandFrom count entries = AllByRecursion (λ (p : Mine). count ≤ p.0) entries
 
-stand_from : (count : ℕ) (entries : List Placed) → ((p : Placed) → In p entries → count ≤ p.0) → StandFrom count entries
+stand_from : (count : ℕ) (entries : List Mine) → ((p : Mine) → In p entries → count ≤ p.0) → StandFrom count entries
 stand_from count [] each = tt
 stand_from count (p ∷ ps) each = (each p (inl refl), stand_from count ps (λ q i. each q (inr i)))
 
 -- what stands at a count and behind it is no longer than what follows all that stand below it
-end_is_short : (count : ℕ) (safe rest front end : List Placed) → safe ++ rest ≡ front ++ end → StandBelow count safe → StandFrom count end → length end ≤ length rest
-end_is_short count [] rest front end same below above = omega (arith, ap (λ (l : List Placed). length l) same, length-append front end)
+end_is_short : (count : ℕ) (safe rest front end : List Mine) → safe ++ rest ≡ front ++ end → StandBelow count safe → StandFrom count end → length end ≤ length rest
+end_is_short count [] rest front end same below above = omega (arith, ap (λ (l : List Mine). length l) same, length-append front end)
 end_is_short count (s ∷ safe) rest [] end same below above =
     let here = (subst (StandFrom count) (sym same) above).0 in
     let low : s.0 < count = below.0 in

@@ -18,7 +18,7 @@ use Rattle.ss_lanes.specs.declared.ticket.Ticket.{Ticket}
 use Rattle.ss_lanes.specs.Apart.{AreMarksOf, IsMarkOf, IsOfLane}
 use Rattle.ss_lanes.specs.Dues.{FewOpen}
 use Rattle.ss_lanes.specs.Lanes.{LaneView, lane_view, HasSeen, IsLane}
-use Rattle.ss_lanes.specs.Mines.{Placed, mine_in}
+use Rattle.ss_lanes.specs.Mines.{Mine, mine_in}
 use Rattle.ss_lanes.proofs.Dues.{all_still_halted, few_open_on}
 use Rattle.ss_lanes.proofs.Mines.{mine_own}
 
@@ -101,7 +101,7 @@ of_lane catalog n first disk lanes ms rest list answers are on saw is k lane the
       answers_are = ap (λ (xs : List (List Answer)). slice_get xs k) is ∙ (slice_get-map (λ (l : LaneView). l.answers) lanes k ∙ ap (option_map (λ (l : LaneView). l.answers)) there);
       seen = seen;
       few_open = few_open_on (mine k first (listed_of list)) lane.count disk.count lane.due.pending 16 seen.count_is of.due_is.few
-          (subst (λ (ps : List Placed). FewOpen ps lane.count lane.due.pending) entries of.due_is.few_open);
+          (subst (λ (ps : List Mine). FewOpen ps lane.count lane.due.pending) entries of.due_is.few_open);
       halted = all_still_halted lane.due.faults disk.faults seen.faults_are lane.answers of.due_is.halted;
     }
 

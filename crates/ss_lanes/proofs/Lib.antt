@@ -1,5 +1,4 @@
 pub mod Mines
-pub mod Growing
 pub mod Dues
 pub mod Telling
 pub mod Coming

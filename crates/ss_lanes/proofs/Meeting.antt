@@ -14,12 +14,12 @@ use Rattle.ss_lanes.specs.declared.due.Due.{Due}
 use Rattle.ss_lanes.specs.declared.ticket.Ticket.{Ticket}
 use Rattle.ss_lanes.specs.Between.{HasRequested, KeepsAnswers}
 use Rattle.ss_lanes.specs.Dues.{AllBelow, IsDue, failed_at, receipted}
-use Rattle.ss_lanes.specs.Growing.{GoesOn}
+use Rattle.ss_commitlog.specs.Growing.{GoesOn}
 use Rattle.ss_lanes.specs.Lanes.{LaneView, lane_view, HasSeen, IsLane, IsSubmitted}
-use Rattle.ss_lanes.specs.Mines.{Placed, mine_in}
+use Rattle.ss_lanes.specs.Mines.{Mine, mine_in}
 use Rattle.ss_lanes.specs.Told.{told, outcomes}
 use Rattle.ss_lanes.proofs.Dues.{all_below_on, due_failed, due_on, due_receipted}
-use Rattle.ss_lanes.proofs.Growing.{follows_on, on_and_on, on_longer}
+use Rattle.ss_commitlog.proofs.CallerLemmas.{follows_on, on_and_on, on_longer}
 use Rattle.ss_lanes.proofs.Mines.{mine_own}
 
 -- ---- the lane keeps its answers
@@ -63,7 +63,7 @@ module _ (catalog : Catalog) (parts clients first limit : ℕ) (t : Ticket) (due
   still_due =
       let long = longer in
       let up = note_on.sees.count in
-      subst (λ (ps : List Placed). IsDue ps (first + length n.list) n.count due as'.items) (sym own)
+      subst (λ (ps : List Mine). IsDue ps (first + length n.list) n.count due as'.items) (sym own)
       (due_on (mine_in t.client first note.list) (first + length note.list) (first + length n.list) note.count n.count due as'.items (omega arith) (omega arith) lane.due_is)
 
   lane_with : (later : Due) → HasSeen n.count later m → IsDue (mine_in t.client first n.list) (first + length n.list) n.count later as'.items → IsLane clients first t later m n as'.items
@@ -74,7 +74,7 @@ module _ (catalog : Catalog) (parts clients first limit : ℕ) (t : Ticket) (due
     one_list = one.0;
     seen = seen;
     all_told = ap outcomes own ∙ lane.all_told;
-    counted = lane.counted ∙ sym (ap (λ (ps : List Placed). length ps) own);
+    counted = lane.counted ∙ sym (ap (λ (ps : List Mine). length ps) own);
     index_is = lane.index_is;
     due_is = is;
   }

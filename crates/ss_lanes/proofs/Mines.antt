@@ -14,10 +14,10 @@ use Rattle.ss_commitlog.specs.Meaning.{concerns, is_of_client, listed_of}
 use Rattle.ss_commitlog.specs.Roles.{In}
 use Rattle.ss_commitlog.specs.Tokens.{Known, Continues}
 use Rattle.ss_commitlog.proofs.CallerLemmas.{length-listed_of, listed_of-append}
-use Rattle.ss_lanes.specs.Mines.{Placed, mine_in}
+use Rattle.ss_lanes.specs.Mines.{Mine, mine_in}
 
-kept_first : (b : Bool) (p : Placed) (both xs ys : List Placed) → both ≡ xs ++ ys → cond b (p ∷ both) both ≡ cond b (p ∷ xs) xs ++ ys
-kept_first true p both xs ys e = ap (λ (l : List Placed). p ∷ l) e
+kept_first : (b : Bool) (p : Mine) (both xs ys : List Mine) → both ≡ xs ++ ys → cond b (p ∷ both) both ≡ cond b (p ∷ xs) xs ++ ys
+kept_first true p both xs ys e = ap (λ (l : List Mine). p ∷ l) e
 kept_first false p both xs ys e = e
 
 -- of two lists, the second of which begins behind the first
@@ -52,23 +52,23 @@ mine_own catalog parts c first list k on own =
     ∙ (ap (λ l. mine_in c first k.list ++ l) (mine_spared catalog parts c (first + length k.list) on.rest (subst (λ (r : Role). (j : Item) → In j on.rest → concerns catalog parts j.listed.entry r ≡ false) own on.quiet))
     ∙ append-nil (mine_in c first k.list)))
 
-more_places : (b : Bool) (p : Placed) (ps : List Placed) (n : ℕ) → n ≤ p.0 → ((q : Placed) → In q ps → n ≤ q.0) → (q : Placed) → In q (cond b (p ∷ ps) ps) → n ≤ q.0
-more_places true p ps n here there q i = ⊎_elim (λ (e : q ≡ p). subst (λ (x : Placed). n ≤ x.0) (sym e) here) (λ j. there q j) i
+more_places : (b : Bool) (p : Mine) (ps : List Mine) (n : ℕ) → n ≤ p.0 → ((q : Mine) → In q ps → n ≤ q.0) → (q : Mine) → In q (cond b (p ∷ ps) ps) → n ≤ q.0
+more_places true p ps n here there q i = ⊎_elim (λ (e : q ≡ p). subst (λ (x : Mine). n ≤ x.0) (sym e) here) (λ j. there q j) i
 more_places false p ps n here there q i = there q i
 
 -- no entry stands before the list's first place
-pub mine_from : (c first : ℕ) (list : List Listed) (q : Placed) → In q (mine c first list) → first ≤ q.0
+pub mine_from : (c first : ℕ) (list : List Listed) (q : Mine) → In q (mine c first list) → first ≤ q.0
 mine_from c first [] q i = absurd i
 mine_from c first (x ∷ xs) q i =
     more_places (is_of c x.entry) (first, x) (mine c (first + 1) xs) first (omega arith) (λ p j. let a = mine_from c (first + 1) xs p j in omega arith) q i
 
 -- nor behind its end
-pub mine_below : (c first : ℕ) (list : List Listed) (q : Placed) → In q (mine c first list) → q.0 < first + length list
+pub mine_below : (c first : ℕ) (list : List Listed) (q : Mine) → In q (mine c first list) → q.0 < first + length list
 mine_below c first [] q i = absurd i
 mine_below c first (x ∷ xs) q i = by (is_of c x.entry) (λ k. let a = mine_below c (first + 1) xs q k in omega arith) i
   where
     by : (b : Bool) → (In q (mine c (first + 1) xs) → q.0 < first + length (x ∷ xs)) → In q (cond b ((first, x) ∷ mine c (first + 1) xs) (mine c (first + 1) xs)) → q.0 < first + length (x ∷ xs)
-    by true later j = ⊎_elim (λ (e : q ≡ (first, x)). subst (λ (y : Placed). y.0 < first + length (x ∷ xs)) (sym e) (omega arith)) later j
+    by true later j = ⊎_elim (λ (e : q ≡ (first, x)). subst (λ (y : Mine). y.0 < first + length (x ∷ xs)) (sym e) (omega arith)) later j
     by false later j = later j
 
 one_more : {A : Type 0} (xs : List A) → length xs ≡ 1 → (x : A) × (xs ≡ x ∷ [])
@@ -83,23 +83,23 @@ module _ (c first : ℕ) (list old rest : List Item) (is : list ≡ old ++ rest)
   -- the list went on from an old one, with as many entries of the client
   pub no_more : length (mine_in c first list) ≡ length (mine_in c first old) → mine_in c first list ≡ mine_in c first old
   no_more same =
-      let m = ap (λ (z : List Placed). length z) split in
+      let m = ap (λ (z : List Mine). length z) split in
       let n = length-append (mine_in c first old) (mine_in c (first + length old) rest) in
       split ∙ (ap (λ z. mine_in c first old ++ z) (nil_from_length (mine_in c (first + length old) rest) (omega arith)) ∙ append-nil (mine_in c first old))
 
   -- the list went on from an old one, with one entry of the client more, which is the client's last
-  pub just_one : (front : List Placed) (p : Placed) → length (mine_in c first list) ≡ length (mine_in c first old) + 1 → mine_in c first list ≡ front ++ p ∷ []
+  pub just_one : (front : List Mine) (p : Mine) → length (mine_in c first list) ≡ length (mine_in c first old) + 1 → mine_in c first list ≡ front ++ p ∷ []
       → (mine_in c first list ≡ mine_in c first old ++ p ∷ []) × (first + length old ≤ p.0)
   just_one front p count ends =
-      let m = ap (λ (z : List Placed). length z) split in
+      let m = ap (λ (z : List Mine). length z) split in
       let n = length-append (mine_in c first old) (mine_in c (first + length old) rest) in
       let o = one_more (mine_in c (first + length old) rest) (omega arith) in
       let whole : mine_in c first list ≡ mine_in c first old ++ o.0 ∷ [] = split ∙ ap (λ z. mine_in c first old ++ z) o.1 in
       let same : o.0 ≡ p = (ends_alike (mine_in c first old) front o.0 p (sym whole ∙ ends)).1 in
       let here : In o.0 (mine_in c (first + length old) rest) = subst (In o.0) (sym o.1) (inl refl) in
-      (whole ∙ ap (λ (q : Placed). mine_in c first old ++ q ∷ []) same, subst (λ (q : Placed). first + length old ≤ q.0) same (mine_from c (first + length old) (listed_of rest) o.0 here))
+      (whole ∙ ap (λ (q : Mine). mine_in c first old ++ q ∷ []) same, subst (λ (q : Mine). first + length old ≤ q.0) same (mine_from c (first + length old) (listed_of rest) o.0 here))
 
-shorter_first : (b : Bool) (p : Placed) (ps : List Placed) (n : ℕ) → length ps ≤ n → length (cond b (p ∷ ps) ps) ≤ suc n
+shorter_first : (b : Bool) (p : Mine) (ps : List Mine) (n : ℕ) → length ps ≤ n → length (cond b (p ∷ ps) ps) ≤ suc n
 shorter_first true p ps n l = omega arith
 shorter_first false p ps n l = omega arith
 

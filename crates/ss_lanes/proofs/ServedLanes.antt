@@ -8,7 +8,7 @@ use Rattle.ss_model.specs.Report.{asked_entry}
 use Rattle.ss_report_laws.specs.Replies.{expected_entries, listed_at}
 use Rattle.ss_report_laws.proofs.CallerLemmas.{expected_more}
 use Rattle.ss_commitlog.specs.declared.rule.Item.{Item}
-use Rattle.ss_lanes.specs.Mines.{Placed, mine_in}
+use Rattle.ss_lanes.specs.Mines.{Mine, mine_in}
 use Rattle.ss_lanes.specs.Lanes.{LaneView, IsFresh, IsRightAnswer, IsSubmitted}
 use Rattle.ss_lanes.specs.Served.{IsServed, LanesServe}
 
@@ -25,7 +25,7 @@ served_more first limit requests r old new served more = record {
   many = (let a = ap (λ (l : List Answer). length l) more.answers in let b = length_push old.answers more.answer in let d = length_push requests r in let e = served.many in omega arith);
   entries = ap (λ c. mine_in c first new.list) more.client_is
       ∙ (one_more first limit old r new.list more.answer more.right
-      ∙ (ap (λ (l : List Placed). l ++ expected_entries old.client (0 + length old.answers) (r ∷ []) (more.answer ∷ [])) served.entries
+      ∙ (ap (λ (l : List Mine). l ++ expected_entries old.client (0 + length old.answers) (r ∷ []) (more.answer ∷ [])) served.entries
       ∙ (sym (expected_more old.client 0 requests old.answers r more.answer served.many)
       ∙ (ap (λ (l : List Answer). expected_entries old.client 0 (requests ++ r ∷ []) l) (sym more.answers) ∙ ap (λ c. expected_entries c 0 (requests ++ r ∷ []) new.answers) (sym more.client_is)))));
 }

@@ -7,7 +7,7 @@ use Rattle.ss_model.specs.declared.entry.Outcome.{Outcome}
 use Rattle.ss_model.specs.declared.entry.Listed.{Listed}
 use Rattle.ss_report_laws.specs.Replies.{mine}
 use Rattle.ss_lanes.specs.declared.due.Due.{Due}
-use Rattle.ss_lanes.specs.Mines.{Placed}
+use Rattle.ss_lanes.specs.Mines.{Mine}
 use Rattle.ss_lanes.specs.Told.{told}
 
 -- before the first answer
@@ -41,13 +41,13 @@ abbrev pub AllBelow : ℕ → List (ℕ × Outcome) → Type 0
 AllBelow above places = AllByRecursion (λ (p : ℕ × Outcome). p.0 < above) places
 
 -- each of these entries stands below a count
-abbrev pub StandBelow : ℕ → List Placed → Type 0
-StandBelow count entries = AllByRecursion (λ (p : Placed). p.0 < count) entries
+abbrev pub StandBelow : ℕ → List Mine → Type 0
+StandBelow count entries = AllByRecursion (λ (p : Mine). p.0 < count) entries
 
 -- of some entries all but the last so many stand below a count
-pub record FewOpen (entries : List Placed) (count most : ℕ) : Type 0 where
-  pub safe : List Placed
-  pub unsafe : List Placed
+pub record FewOpen (entries : List Mine) (count most : ℕ) : Type 0 where
+  pub safe : List Mine
+  pub unsafe : List Mine
   pub parts : entries ≡ safe ++ unsafe
   pub below : StandBelow count safe
   pub few : length unsafe ≤ most
@@ -68,7 +68,7 @@ AreHaltedAt faults answers = AllByRecursion (IsHaltedAt faults) answers
 
 -- of a client with these entries, in a list that ends at this place: all but those that wait for a receipt stand below the count that
 -- was seen, at most 16 wait, no listed place is missed, and each answer that the disk has failed carries what the client was told
-pub record IsDue (entries : List Placed) (end count : ℕ) (due : Due) (answers : List Answer) : Type 0 where
+pub record IsDue (entries : List Mine) (end count : ℕ) (due : Due) (answers : List Answer) : Type 0 where
   pub few_open : FewOpen entries count due.pending
   pub few : due.pending ≤ 16
   pub reached : due.above ≤ end

@@ -41,6 +41,10 @@ pub record HasSeen (count : ℕ) (due : Due) (k : Known) : Type 0 where
   pub count_is : count ≤ k.count
   pub faults_are : (due.faults ≡ 0) ⊎ (due.faults ≡ k.faults)
 
+-- the numbers of a client's next request, which stands behind these answers
+abbrev pub next_ticket : ℕ → ℕ → List Answer → Ticket
+next_ticket client count answers = record { client = client; index = length answers; count = count }
+
 -- mark and note know one list, and the mark has seen no less; of the client's entries that list has just those that the answers tell,
 -- each once; and the ticket has the numbers of the next request
 pub record IsLane (clients first : ℕ) (ticket : Ticket) (due : Due) (mark note : Known) (answers : List Answer) : Type 0 where

@@ -1,7 +1,6 @@
 pub mod Mines
 pub mod Told
 pub mod Dues
-pub mod Growing
 pub mod Lanes
 pub mod Replies
 pub mod Owning

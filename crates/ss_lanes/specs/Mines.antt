@@ -5,10 +5,10 @@ use Rattle.ss_report_laws.specs.Replies.{mine}
 use Rattle.ss_commitlog.specs.declared.rule.Item.{Item}
 use Rattle.ss_commitlog.specs.Meaning.{listed_of}
 
--- a place, and the entry that stands there, with its outcome
-abbrev pub Placed : Type 0
-Placed = ℕ × Listed
+-- an entry of a client, with its outcome, behind the place where it stands
+abbrev pub Mine : Type 0
+Mine = ℕ × Listed
 
 -- those of a client, in a list that begins at a place
-abbrev pub mine_in : ℕ → ℕ → List Item → List Placed
+abbrev pub mine_in : ℕ → ℕ → List Item → List Mine
 mine_in client first list = mine client first (listed_of list)

@@ -8,10 +8,10 @@ ghost use Rattle.ss_lanes.specs.Replies.{MaySay};
 use crate::inbox::SharedInbox;
 use crate::job::Job;
 use crate::lookers::Lookers;
-use crate::reply::{Reply, Said, reply_of};
+use crate::reply::{Reply, reply_of};
 use crate::slot::Slot;
 use crate::ticket::Ticket;
-use ss_commitlog::{CommitLog, Mark};
+use ss_commitlog::{CommitLog, Mark, Placed, Unlisted};
 use ss_model::{Asked, Life};
 use ss_sched::Work;
 use ss_value::NoMemory;
@@ -88,7 +88,13 @@ impl<I: Life> Hub<I> {
     }
 
     /// Puts the reply to what went out with a ticket into its client's slot, and wakes the client.
-    pub fn reply<R: Wait>(&self, rt: &R, ticket: Ticket, mark: Mark<I>, said: Said)
+    pub fn reply<R: Wait>(
+        &self,
+        rt: &R,
+        ticket: Ticket,
+        mark: Mark<I>,
+        said: Result<Placed, Unlisted>,
+    )
         requires client { ticket.client < I.clients }
         requires mark { mark.role ≡ Client ticket.client }
         requires may_say { MaySay I.first I.limit ticket mark.list said }
@@ -100,7 +106,7 @@ impl<I: Life> Hub<I> {
     /// Gives a job back unrun: its client is answered that there was no memory for it.
     pub fn refuse<R: Wait>(&self, rt: &R, job: Job<I>) {
         let Job { ticket, mark, .. } = job;
-        self.reply(rt, ticket, mark, Said::NoMemory);
+        self.reply(rt, ticket, mark, Err(Unlisted::NoMemory));
     }
 
     /// Takes the reply out of its client's slot where it answers what was asked for with this ticket, and else leaves it.

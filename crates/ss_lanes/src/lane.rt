@@ -1,18 +1,17 @@
 //! A client's side of the engine.
 
-ghost use Rattle.std.specs.Prelude.{◌≡◌, ◌≢◌, ℕ, ◌+◌, ◌<◌, ◌≤◌, [], ◌∷◌, ◌++◌, OnOk};
+ghost use Rattle.std.specs.Prelude.{◌≡◌, ◌≢◌, ℕ, ◌+◌, ◌<◌, ◌≤◌, [], ◌∷◌, ◌++◌, length, OnOk};
 ghost use Rattle.ss_model.specs.declared.entry.Asked.{Asked};
 ghost use Rattle.ss_commitlog.specs.declared.role.Role.TheVariants.{Reader, Client};
 ghost use Rattle.ss_commitlog.specs.Tokens.{known};
 ghost use Rattle.ss_lanes.specs.Answered.{IsAnswered, answer_of};
 ghost use Rattle.ss_lanes.specs.Dues.{due_after};
-ghost use Rattle.ss_lanes.specs.Lanes.{IsFresh, IsSubmitted};
+ghost use Rattle.ss_lanes.specs.Lanes.{IsFresh, IsLane, IsSubmitted, lane_view, next_ticket};
 ghost use Rattle.ss_lanes.specs.Replies.{more_entries};
 
 use crate::due::Due;
-use crate::reply::Said;
 use crate::ticket::Ticket;
-use ss_commitlog::{Mark, Note};
+use ss_commitlog::{Mark, Note, Placed, Unlisted};
 use ss_model::{Answer, Life};
 use ss_value::{NoMemory, Reserved};
 use std::alloc::Global;
@@ -121,6 +120,26 @@ impl<I: Life> Lane<I> {
     }
 }
 
+/// The lane of its parts. Takes no memory.
+pub fn lane_of<I: Life>(
+    ticket: Ticket,
+    due: Due,
+    mark: Mark<I>,
+    note: Note<I>,
+    answers: Reserved<Answer>,
+) -> Lane<I>
+    requires { IsLane I.clients I.first ticket due mark note answers.items }
+    ensures { result ≡ lane_view ticket due note answers }
+{
+    Lane {
+        ticket,
+        due,
+        mark,
+        note,
+        answers,
+    }
+}
+
 /// The lane with one answer more, once its mark has come back and met its note. Takes no memory.
 pub fn answered<I: Life>(
     ticket: Ticket,
@@ -128,7 +147,7 @@ pub fn answered<I: Life>(
     mark: Mark<I>,
     note: Note<I>,
     mut answers: Reserved<Answer>,
-    said: Said,
+    said: Result<Placed, Unlisted>,
 ) -> Lane<I>
     requires answered { IsAnswered I.clients I.first ticket due mark note answers.items said }
     requires spare { 1 ≤ answers.spare }
@@ -142,19 +161,8 @@ pub fn answered<I: Life>(
     let answer = answer_of(said);
     let due = due.after(&answer);
     answers.add(answer);
-    // The number of the next request is that of the answers.
-    let next = Ticket {
-        client: ticket.client,
-        index: answers.len() as u64,
-        count: ticket.count + more,
-    };
-    Lane {
-        ticket: next,
-        due,
-        mark,
-        note,
-        answers,
-    }
+    let next = next_ticket(ticket, more, &answers);
+    lane_of(next, due, mark, note, answers)
 }
 
 /// The lane whose request was not sent: it is answered that there was no memory for it. Takes none.
@@ -170,7 +178,7 @@ pub fn unsent<I: Life>(lane: Lane<I>) -> Lane<I>
         note,
         answers,
     } = lane;
-    answered(ticket, due, mark, note, answers, Said::NoMemory)
+    answered(ticket, due, mark, note, answers, Err(Unlisted::NoMemory))
 }
 
 /// The lane whose request was not sent: it is answered that the disk has failed, as the client was told. Takes no memory.
@@ -187,40 +195,42 @@ pub fn halted<I: Life>(lane: Lane<I>) -> Lane<I>
         mut answers,
     } = lane;
     answers.add(Answer::Halted { faults: due.faults });
-    let next = Ticket {
+    let next = next_ticket(ticket, 0, &answers);
+    lane_of(next, due, mark, note, answers)
+}
+
+/// The ticket of a client's next request, which stands behind these answers, with so many more entries.
+fn next_ticket(ticket: Ticket, more: u64, answers: &Reserved<Answer>) -> Ticket
+    requires { ticket.count + more ≤ length answers.now.items }
+    ensures { result ≡ next_ticket ticket.client (ticket.count + more) answers.now.items }
+{
+    Ticket {
         client: ticket.client,
         index: answers.len() as u64,
-        count: ticket.count,
-    };
-    Lane {
-        ticket: next,
-        due,
-        mark,
-        note,
-        answers,
+        count: ticket.count + more,
     }
 }
 
 /// What the client is answered. Takes no memory.
-fn answer_of(said: Said) -> Answer
+fn answer_of(said: Result<Placed, Unlisted>) -> Answer
     ensures { result ≡ answer_of said }
 {
     match said {
-        Said::Listed { place, listed } => Answer::Listed {
+        Ok(Placed { place, listed }) => Answer::Listed {
             place,
             outcome: listed.outcome,
         },
-        Said::NoMemory => Answer::NoMemory,
-        Said::ListFull { count } => Answer::ListFull { count },
+        Err(Unlisted::NoMemory) => Answer::NoMemory,
+        Err(Unlisted::ListFull { count }) => Answer::ListFull { count },
     }
 }
 
 /// How many entries of the client there are more than before.
-fn more_entries(said: &Said) -> u64
+fn more_entries(said: &Result<Placed, Unlisted>) -> u64
     ensures { result ≡ more_entries said.now }
 {
     match said {
-        Said::Listed { .. } => 1,
-        _ => 0,
+        Ok(_) => 1,
+        Err(_) => 0,
     }
 }

@@ -20,7 +20,7 @@
 //! - `apart`: lanes taken apart at the end, into the `room` that was made for that before the first request
 //!
 //! In `specs/`: `Mines` and `Told` (the entries of a client, and what answers tell of them), `Dues`, `Lanes`, `Replies`, `Owning`,
-//! `Answered`, `Served`, `Growing` (tokens whose lists go on), `Between` (a lane between two requests), `Clients`, `Apart`.
+//! `Answered`, `Served`, `Between` (a lane between two requests), `Clients`, `Apart`.
 //!
 //! # Promises
 //!
@@ -64,9 +64,9 @@ pub use due::{Due, MOST_PENDING};
 pub use fresh::fresh_lanes;
 pub use hub::Hub;
 pub use job::Job;
-pub use lane::{Lane, answered, halted, unsent};
+pub use lane::{Lane, answered, halted, lane_of, unsent};
 pub use laws::lanes_serve;
-pub use reply::{Reply, Said};
+pub use reply::Reply;
 pub use room::Room;
 pub use ticket::Ticket;
-pub use told::{failed, lane_of};
+pub use told::failed;

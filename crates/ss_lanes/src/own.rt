@@ -5,7 +5,7 @@ ghost use Rattle.ss_model.specs.declared.entry.Entry.TheVariants.{Call, Push};
 ghost use Rattle.ss_model.specs.Report.{asked_entry};
 ghost use Rattle.ss_lanes.specs.Owning.{IsOwn};
 
-use crate::reply::{Reply, Said};
+use crate::reply::Reply;
 use crate::ticket::Ticket;
 use ss_model::{Asked, Entry, Life};
 use ss_value::{Name, Row, Rows};
@@ -101,11 +101,11 @@ pub(crate) fn is_own<I: Life>(reply: &Reply<I>, ticket: &Ticket, what: &Asked) -
         return false;
     }
     match &reply.said {
-        Said::Listed { listed, .. } => {
+        Ok(placed) => {
             reply.ticket.count > ticket.count
                 && reply.ticket.count - ticket.count == 1
-                && is_entry_of(&listed.entry, ticket.client, ticket.index, what)
+                && is_entry_of(&placed.listed.entry, ticket.client, ticket.index, what)
         }
-        _ => reply.ticket.count == ticket.count,
+        Err(_) => reply.ticket.count == ticket.count,
     }
 }

@@ -5,20 +5,9 @@ ghost use Rattle.ss_commitlog.specs.declared.role.Role.TheVariants.{Client};
 ghost use Rattle.ss_lanes.specs.Replies.{MaySay};
 
 use crate::ticket::Ticket;
-use ss_commitlog::Mark;
-use ss_model::{Life, Listed};
+use ss_commitlog::{Mark, Placed, Unlisted};
+use ss_model::Life;
 use std::marker::Model;
-
-/// What became of a request.
-#[derive(Drop)]
-pub enum Said {
-    /// Its entry stands at this place, with this outcome.
-    Listed { place: u64, listed: Listed },
-    /// There was no memory for it, and it changed nothing.
-    NoMemory,
-    /// The list holds as many entries as it may, which is `count`.
-    ListFull { count: u64 },
-}
 
 /// A client's mark comes back, with the ticket and with what became of the request.
 ///
@@ -29,8 +18,8 @@ pub struct Reply<I: Life> {
     pub ticket: Ticket,
     /// The client's mark.
     pub mark: Mark<I>,
-    /// What became of the request.
-    pub said: Said,
+    /// What became of the request: where its entry stands, or why it stands nowhere.
+    pub said: Result<Placed, Unlisted>,
 }
 
 impl<I: Life> Model for Reply<I> {
@@ -44,15 +33,15 @@ impl<I: Life> Model for Reply<I> {
 }
 
 /// The reply to what went out with this ticket. Takes no memory.
-pub fn reply_of<I: Life>(ticket: Ticket, mark: Mark<I>, said: Said) -> Reply<I>
+pub fn reply_of<I: Life>(ticket: Ticket, mark: Mark<I>, said: Result<Placed, Unlisted>) -> Reply<I>
     requires mark { mark.role ≡ Client ticket.client }
     requires may_say { MaySay I.first I.limit ticket mark.list said }
     ensures numbers { (result.ticket.client ≡ ticket.client) × (result.ticket.index ≡ ticket.index) }
     ensures moved { (result.mark ≡ mark) × (result.said ≡ said) }
 {
     let count = match &said {
-        Said::Listed { .. } => ticket.count + 1,
-        _ => ticket.count,
+        Ok(_) => ticket.count + 1,
+        Err(_) => ticket.count,
     };
     let Ticket { client, index, .. } = ticket;
     Reply {

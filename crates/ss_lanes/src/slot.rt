@@ -75,10 +75,9 @@ fn taken<I: Life>(found: &mut Option<Reply<I>>, ticket: &Ticket, what: &Asked) -
     ensures own { IfSome result (λ r. IsOwn ticket.now what.now r × (found.old ≡ Some r) × (found.new ≡ None)) }
     ensures left { IfNone result ((found.new ≡ found.old) × IfSome found.old (λ r. IsOwn ticket.now what.now r → ⊥)) }
 {
-    let reply = found.take()?;
-    if is_own(&reply, ticket, what) {
-        return Some(reply);
+    let Some(reply) = &*found else { return None };
+    if !is_own(reply, ticket, what) {
+        return None;
     }
-    *found = Some(reply);
-    None
+    found.take()
 }

@@ -5,38 +5,18 @@ ghost use Rattle.ss_lanes.specs.Dues.{failed_at};
 ghost use Rattle.ss_lanes.specs.Lanes.{IsLane, lane_view};
 
 use crate::due::Due;
-use crate::lane::Lane;
+use crate::lane::{Lane, lane_of};
 use crate::ticket::Ticket;
 use ss_commitlog::{CommitLog, Mark, Note};
 use ss_model::{Answer, Life};
 use ss_value::Reserved;
-
-/// The lane of its parts. Takes no memory.
-pub fn lane_of<I: Life>(
-    ticket: Ticket,
-    due: Due,
-    mark: Mark<I>,
-    note: Note<I>,
-    answers: Reserved<Answer>,
-) -> Lane<I>
-    requires { IsLane I.clients I.first ticket due mark note answers.items }
-    ensures { result ≡ lane_view ticket due note answers }
-{
-    Lane {
-        ticket,
-        due,
-        mark,
-        note,
-        answers,
-    }
-}
 
 /// The lane that is told at which faults the disk has failed, with these. Takes no lock and no memory.
 pub fn failed<I: Life>(
     log: &CommitLog<I>,
     ticket: Ticket,
     due: Due,
-    mark: Mark<I>,
+    mut mark: Mark<I>,
     note: Note<I>,
     answers: Reserved<Answer>,
 ) -> (Lane<I>, u64)
@@ -46,7 +26,7 @@ pub fn failed<I: Life>(
     ensures some { result.1 ≢ 0 }
     ensures lane { result.0 ≡ lane_view ticket (failed_at result.1 due) note answers }
 {
-    let (mark, _, faults) = log.see(mark);
-    let due = due.failed_at(faults);
-    (lane_of(ticket, due, mark, note, answers), faults)
+    let posted = log.see(&mut mark);
+    let due = due.failed_at(posted.faults);
+    (lane_of(ticket, due, mark, note, answers), posted.faults)
 }

@@ -14,7 +14,7 @@ ghost use Rattle.ss_commitlog.specs.Tokens.{known, at_opening};
 ghost use Rattle.ss_lanes.specs.Lanes.{AreFresh};
 
 use crate::bays::bays_of;
-use ss_commitlog::{Blank, CommitLog, Marks, Note, Notes, Opened, Opening};
+use ss_commitlog::{Blank, CommitLog, Marks, NewLog, Note, Notes, Opening};
 use ss_hand::Partition;
 use ss_lanes::{Hub, Lane, Room, fresh_lanes};
 use ss_model::{Catalog, Life};
@@ -74,7 +74,7 @@ pub fn begin<I: Life>(
     ensures notes { IfOk result (λ b. b.notes ≡ at_opening I.first (numbered reader 0 I.parts [])) }
     ensures disk { IfOk result (λ b. b.disk ≡ known Disk [] I.first 0) }
 {
-    let Opened {
+    let NewLog {
         log,
         parts,
         clients,
@@ -104,7 +104,7 @@ fn log_of<I: Life>(
     whole: &Shard,
     streams: Streams,
     opening: Opening,
-) -> Result<Opened<I>, NoMemory>
+) -> Result<NewLog<I>, NoMemory>
     requires blank { (blank.opening ≡ opening) × (blank.table.shared.table_id ≡ I.table) }
     requires numbers { (opening.first ≡ I.first) × (opening.limit ≡ I.limit) × (opening.parts ≡ I.parts) × (opening.clients ≡ I.clients) }
     requires small { opening.first + opening.limit ≤ 2 ^ 60 }

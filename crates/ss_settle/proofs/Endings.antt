@@ -1,5 +1,5 @@
 -- How settling ended, said of the list that is handed over.
-use Rattle.std.proofs.Common.{◌≡◌, ◌≤◌, ◌<◌, ◌∙◌, ℕ, Bool, true, false, List, refl, slice_get}
+use Rattle.std.proofs.Common.{◌≡◌, ◌≤◌, ◌<◌, ◌∙◌, ℕ, Bool, true, false, List, Result, Ok, Err, refl, slice_get}
 use Rattle.ss_model.specs.declared.catalog.Catalog.{Catalog}
 use Rattle.ss_model.specs.Accepted.{Accepted}
 use Rattle.ss_model.specs.Database.{Database}
@@ -9,11 +9,11 @@ use Rattle.ss_model.specs.Settled as model
 use Rattle.ss_model.specs.Settling.{is_ready_now}
 use Rattle.ss_model.proofs.CallerLemmas.{home_below}
 use Rattle.ss_model_laws.proofs.CallerLemmas.{at_rest, in_step_after}
+use Rattle.ss_commitlog.specs.declared.placed.Unlisted.{Unlisted}
+use Rattle.ss_commitlog.specs.declared.placed.Unlisted.TheVariants.{NoMemory, ListFull}
 use Rattle.ss_commitlog.specs.declared.rule.Item.{Item}
 use Rattle.ss_commitlog.specs.Meaning.{listed_of}
 use Rattle.ss_commitlog.proofs.CallerLemmas.{length-listed_of}
-use Rattle.ss_settle.specs.declared.settling.Settling.{Settling}
-use Rattle.ss_settle.specs.declared.settling.Settling.TheVariants.{Done, NoMemory, ListFull}
 use Rattle.ss_settle.specs.Ready.{NoneReady}
 use Rattle.ss_settle.specs.Settlings.{EndedWith, SettledTo}
 
@@ -27,10 +27,10 @@ module _ (catalog : Catalog) (accepted : Accepted catalog) (n : ℕ) (some : 1 �
       by false not_ready = not_ready
 
   -- how it ended
-  pub ended : (db : Database) (limit : ℕ) (list : List Item) (end : Settling) → SettledTo catalog n db limit list end → EndedWith catalog db limit (listed_of list) end
-  ended db limit list Done settled =
+  pub ended : (db : Database) (limit : ℕ) (list : List Item) (end : Result (Unit {0}) Unlisted) → SettledTo catalog n db limit list end → EndedWith catalog db limit (listed_of list) end
+  ended db limit list (Ok done) settled =
       let d = after catalog db (listed_of list) in
       let none = none_at_home d settled in
       (none, λ in_step. (at_rest catalog accepted d (in_step_after catalog accepted.structure.streams.wired db (listed_of list) in_step)).drained.1 none)
-  ended db limit list NoMemory settled = tt
-  ended db limit list (ListFull count) settled = (length-listed_of list ∙ settled.0, settled.1, settled.2)
+  ended db limit list (Err NoMemory) settled = tt
+  ended db limit list (Err (ListFull count)) settled = (length-listed_of list ∙ settled.0, settled.1, settled.2)

@@ -13,10 +13,11 @@ use Rattle.ss_commitlog.specs.Reading.{IsReadyAt}
 use Rattle.ss_commitlog.specs.Right.{known_database}
 use Rattle.ss_commitlog.specs.Tokens.{Known}
 use Rattle.ss_settle.specs.Ready.{NoneReady, StepsWhenFound, WasFirst, WasIdle}
-use Rattle.ss_lanes.specs.Growing.{GoesOn}
+use Rattle.ss_commitlog.specs.Growing.{GoesOn}
 use Rattle.ss_settle.specs.Members.{NoneBelow}
-use Rattle.ss_settle.specs.Ranking.{IsFirstRanked, settling_place}
-use Rattle.ss_lanes.proofs.CallerLemmas.{on_and_on, on_itself}
+use Rattle.ss_settle.specs.Ranking.{IsFirstRanked, StandsBefore}
+use Rattle.ss_commitlog.proofs.CallerLemmas.{on_and_on, on_itself}
+use Rattle.ss_settle.proofs.Ranked.{stands_through}
 
 -- a procedure that is ready at a partition takes steps
 pub ready_fits : (catalog : Catalog) (n : ℕ) (d : Database) (p q : ℕ) → IsReadyAt catalog n d p q → fits_entry catalog (StepEntry q 0) ≡ true
@@ -77,7 +78,7 @@ module _ (catalog : Catalog) (n : ℕ) (db : Database) (p : ℕ) (mark : Known) 
         first = λ x ready. is.before_set x (ready_below catalog accepted n (known_database catalog db mark) p x ready) ((tells x).1 ready);
       }
 
-      earlier : (o : Option ℕ) → IfSome o (λ b. (r : ℕ) → r < p → WasFirst catalog n db ranks r old mid b) → IfNone o ((r : ℕ) → r < p → WasIdle catalog n db r old mid) → IfSome o (λ b. settling_place ranks q ≤ settling_place ranks b)
+      earlier : (o : Option ℕ) → IfSome o (λ b. (r : ℕ) → r < p → WasFirst catalog n db ranks r old mid b) → IfNone o ((r : ℕ) → r < p → WasIdle catalog n db r old mid) → IfSome o (StandsBefore ranks q)
           → (r : ℕ) → r < p → WasFirst catalog n db ranks r old mark q
       earlier None was idle before r low =
           let w = idle r low in record { between = w.between; since = w.since; till = on_and_on catalog n w.between mid mark w.till next; first = λ x ready. absurd (w.idle x ready) }
@@ -87,7 +88,7 @@ module _ (catalog : Catalog) (n : ℕ) (db : Database) (p : ℕ) (mark : Known) 
             between = w.between;
             since = w.since;
             till = on_and_on catalog n w.between mid mark w.till next;
-            first = λ x ready. (let nearer : settling_place ranks q ≤ settling_place ranks b = before in let far : settling_place ranks b ≤ settling_place ranks x = w.first x ready in omega (arith, nearer, far));
+            first = λ x ready. stands_through ranks q b x before (w.first x ready);
           }
 
 -- what is first is below 64

@@ -1,9 +1,27 @@
 -- The first in the order of settling, member by member.
-use Rattle.std.proofs.Common.{◌≡◌, ◌<◌, ◌≤◌, ◌+◌, ◌⊎◌, inl, inr, ⊎_elim, ℕ, List, Some, None, IfSome, IfNone, sym, subst, arith, below_more}
+use Rattle.std.proofs.Common.{◌≡◌, ◌<◌, ◌+◌, ◌⊎◌, inl, inr, ⊎_elim, ℕ, List, Some, None, IfSome, IfNone, refl, sym, ◌∙◌, subst, arith, below_more, get_or}
 use Rattle.std.specs.Int.{IsBitSet}
 use Rattle.std.specs.declared.option.Option.{Option}
 use Rattle.ss_settle.specs.Members.{NoneBelow}
-use Rattle.ss_settle.specs.Ranking.{IsFirstRanked, IsSooner, settling_place}
+use Rattle.ss_settle.specs.Ranking.{ComesBefore, IsFirstRanked, IsSooner, StandsBefore}
+
+-- ---- the order
+
+pub comes_itself : (a p : ℕ) → ComesBefore a p a p
+comes_itself a p = inr (refl, omega arith)
+
+pub comes_through : (a b c p q r : ℕ) → ComesBefore a p b q → ComesBefore b q c r → ComesBefore a p c r
+comes_through a b c p q r (inl low) (inl lower) = inl (omega (arith, low, lower))
+comes_through a b c p q r (inl low) (inr same) = inl (let e = same.0 in omega (arith, low, e))
+comes_through a b c p q r (inr same) (inl lower) = inl (let e = same.0 in omega (arith, lower, e))
+comes_through a b c p q r (inr same) (inr too) = inr (same.0 ∙ too.0, (let x = same.1 in let y = too.1 in omega (arith, x, y)))
+
+module _ (ranks : List ℕ) where
+  pub stands_itself : (q : ℕ) → StandsBefore ranks q q
+  stands_itself q = comes_itself (get_or ranks q 0) q
+
+  pub stands_through : (p q r : ℕ) → StandsBefore ranks p q → StandsBefore ranks q r → StandsBefore ranks p r
+  stands_through p q r = comes_through (get_or ranks p 0) (get_or ranks q 0) (get_or ranks r 0) p q r
 
 module _ (ranks : List ℕ) (set : ℕ) (found : Option ℕ) where
   -- before the first member
@@ -13,7 +31,7 @@ module _ (ranks : List ℕ) (set : ℕ) (found : Option ℕ) where
     low = low;
     one = inr (sym is);
     before_set = λ r below. absurd (omega (arith, below));
-    before_found = subst (λ o. IfSome o (λ r. settling_place ranks q ≤ settling_place ranks r)) is (omega arith);
+    before_found = subst (λ o. IfSome o (StandsBefore ranks q)) is (stands_itself ranks q);
   }
 
   pub at_first_none : (o : Option ℕ) → o ≡ found → IfNone o (NoneBelow 0 set × (found ≡ None))
@@ -38,7 +56,7 @@ module _ (ranks : List ℕ) (set : ℕ) (found : Option ℕ) where
         by (Some q) is = record {
           low = is.low;
           one = is.one;
-          before_set = below_more (λ r. IsBitSet set r → settling_place ranks q ≤ settling_place ranks r) n is.before_set (λ has. absurd (not has));
+          before_set = below_more (λ r. IsBitSet set r → StandsBefore ranks q r) n is.before_set (λ has. absurd (not has));
           before_found = is.before_found;
         }
 
@@ -59,18 +77,16 @@ module _ (ranks : List ℕ) (set : ℕ) (found : Option ℕ) where
             record {
               low = subst (λ x. x < 64) (sym here) low;
               one = inl (subst (IsBitSet set) (sym here) has);
-              before_set = below_more (λ r. IsBitSet set r → settling_place ranks q ≤ settling_place ranks r) n (λ r below member. absurd (empty.0 r below member)) (λ member. so.before_next);
-              before_found = subst (λ o. IfSome o (λ r. settling_place ranks q ≤ settling_place ranks r)) (sym empty.1) tt;
+              before_set = below_more (λ r. IsBitSet set r → StandsBefore ranks q r) n (λ r below member. absurd (empty.0 r below member)) (λ member. so.before_next);
+              before_found = subst (λ o. IfSome o (StandsBefore ranks q)) (sym empty.1) tt;
             }
-        by (Some b) before empty so =
-            let nearer : settling_place ranks q ≤ settling_place ranks b = so.before_found in
-            record {
-              low = ⊎_elim (λ (e : q ≡ n). subst (λ x. x < 64) (sym e) low) (λ (e : Some b ≡ Some q). let same : b ≡ q = cc in subst (λ x. x < 64) same before.low) so.one;
-              one = ⊎_elim (λ (e : q ≡ n). inl (subst (IsBitSet set) (sym e) has)) (λ (e : Some b ≡ Some q). let same : b ≡ q = cc in subst (λ x. IsBitSet set x ⊎ (found ≡ Some x)) same before.one) so.one;
-              before_set = below_more (λ r. IsBitSet set r → settling_place ranks q ≤ settling_place ranks r) n (λ r below member. let far = before.before_set r below member in omega (arith, nearer, far)) (λ member. so.before_next);
-              before_found = nearer_than found before.before_found nearer;
-            }
+        by (Some b) before empty so = record {
+          low = ⊎_elim (λ (e : q ≡ n). subst (λ x. x < 64) (sym e) low) (λ (e : Some b ≡ Some q). let same : b ≡ q = cc in subst (λ x. x < 64) same before.low) so.one;
+          one = ⊎_elim (λ (e : q ≡ n). inl (subst (IsBitSet set) (sym e) has)) (λ (e : Some b ≡ Some q). let same : b ≡ q = cc in subst (λ x. IsBitSet set x ⊎ (found ≡ Some x)) same before.one) so.one;
+          before_set = below_more (λ r. IsBitSet set r → StandsBefore ranks q r) n (λ r below member. stands_through ranks q b r so.before_found (before.before_set r below member)) (λ member. so.before_next);
+          before_found = through found before.before_found;
+        }
           where
-            nearer_than : (o : Option ℕ) → IfSome o (λ r. settling_place ranks b ≤ settling_place ranks r) → settling_place ranks q ≤ settling_place ranks b → IfSome o (λ r. settling_place ranks q ≤ settling_place ranks r)
-            nearer_than None far near = tt
-            nearer_than (Some r) far near = omega (arith, far, near)
+            through : (o : Option ℕ) → IfSome o (StandsBefore ranks b) → IfSome o (StandsBefore ranks q)
+            through None far = tt
+            through (Some r) far = stands_through ranks q b r so.before_found far

@@ -1,5 +1,5 @@
 -- Lists that go on by the steps of settling, while all partitions are in hand.
-use Rattle.std.proofs.Common.{◌≡◌, ◌≤◌, ◌<◌, ◌+◌, ◌^◌, ℕ, List, [], ◌∷◌, ◌++◌, map, length, refl, sym, ap, ◌∙◌, subst, arith, append_assoc, append-nil, length-append, Some, None, IfErr, IfOk, Ok, Err, Result, true, false, true≢false, slice_get}
+use Rattle.std.proofs.Common.{◌≡◌, ◌≤◌, ◌<◌, ◌+◌, ◌^◌, ℕ, List, [], ◌∷◌, ◌++◌, map, length, refl, sym, ap, ◌∙◌, subst, arith, append_assoc, length-append, Some, None, IsSome, is_some, Ok, Err, Result, false, true≢false, slice_get}
 use Rattle.std.proofs.lemmas.Bool.Decides.{Decides-eqb}
 use Rattle.std.specs.declared.option.Option.{Option}
 use Rattle.ss_lemmas.proofs.Bools.{first_of_two, second_of_two}
@@ -17,24 +17,21 @@ use Rattle.ss_model.proofs.CallerLemmas.{tested}
 use Rattle.ss_model_laws.proofs.CallerLemmas.{loop_settles, next_is_ready}
 use Rattle.ss_report_laws.proofs.CallerLemmas.{applied_of}
 use Rattle.ss_shard.specs.Parts.{all_partitions}
+use Rattle.ss_commitlog.specs.declared.placed.Placed.{Placed}
+use Rattle.ss_commitlog.specs.declared.placed.Unlisted.{Unlisted}
+use Rattle.ss_commitlog.specs.declared.placed.Unlisted.TheVariants.{NoMemory, ListFull}
 use Rattle.ss_commitlog.specs.declared.role.Role.TheVariants.{Log, Part}
 use Rattle.ss_commitlog.specs.declared.rule.Item.{Item}
 use Rattle.ss_commitlog.specs.Meaning.{listed_of}
 use Rattle.ss_commitlog.specs.Roles.{In}
 use Rattle.ss_commitlog.specs.Rule.{item}
 use Rattle.ss_commitlog.specs.Tokens.{Known, roles_of}
-use Rattle.ss_commitlog.proofs.CallerLemmas.{after-append, length-listed_of, listed_of-append}
-use Rattle.ss_lanes.proofs.CallerLemmas.{on_longer}
-use Rattle.ss_turns.specs.declared.execution.Stepped.{Stepped}
-use Rattle.ss_turns.specs.declared.execution.Stepped.TheVariants.{Ran, NotReady, NoMemory, ListFull}
+use Rattle.ss_commitlog.proofs.CallerLemmas.{after-append, length-listed_of, listed_of-append, on_longer}
 use Rattle.ss_turns.specs.Executed.{IsStepped}
 use Rattle.ss_turns.specs.Stepping.{AllGoOn}
-use Rattle.ss_turns.proofs.CallerLemmas.{all_met}
-use Rattle.ss_turns.proofs.MarksOn.{went_in}
-use Rattle.ss_settle.specs.declared.settling.Settling.{Settling}
-use Rattle.ss_settle.specs.declared.settling.Settling.TheVariants as settling
+use Rattle.ss_turns.proofs.CallerLemmas.{all_met, went_in}
 use Rattle.ss_settle.specs.Ready.{FoundNext}
-use Rattle.ss_settle.specs.Settlings.{AreSettling, SettledFrom, SettledInOrder, SettlesFrom, entries_of, settling_of}
+use Rattle.ss_settle.specs.Settlings.{AreSettling, EndedWith, SettledFrom, SettledInOrder, SettlesFrom, entries_of}
 use Rattle.ss_settle.proofs.WholeList.{known_at, all_know, mark_of, whole_before, whole_with}
 
 entries_of-append : (xs ys : List Listed) → entries_of (xs ++ ys) ≡ entries_of xs ++ entries_of ys
@@ -53,10 +50,6 @@ next_number catalog d q r outcome e = let (a, is) = applied_of (apply catalog d 
     by : (o : Option Procedure) (a : Applied) → apply_step catalog d q r o ≡ Some a → r ≡ batch_count d q
     by None a is = cc
     by (Some p) a is = sym ((Decides-eqb (batch_count d q) r).0 (second_of_two _ _ (first_of_two _ _ (tested (is_ready d q r p) _ a is))))
-
--- no step yet
-pub none_yet : (catalog : Catalog) (n : ℕ) (db : Database) (ks : List Known) → SettlesFrom catalog n db ks ks 0
-none_yet catalog n db ks = λ list may. record { before = list; whole = may; steps = []; splits = sym (append-nil list); many = refl; in_order = tt }
 
 -- marks that went on meanwhile
 pub settles_on : (catalog : Catalog) (n : ℕ) (db : Database) (old ks ls : List Known) (ran : ℕ) → AllGoOn catalog n ks ls → SettlesFrom catalog n db old ks ran → SettlesFrom catalog n db old ls ran
@@ -93,19 +86,18 @@ module _ (catalog : Catalog) (n : ℕ) (db : Database) (old : List Known) (ran :
       by (Some q) is = absurd (true≢false (sym ((next_is_ready catalog (after catalog db (listed_of list))).some q is) ∙ none q))
 
   -- how it ended
-  pub ended_in_order : (end : Settling) → (end ≡ settling.Done → model.NoneReady catalog (after catalog db (listed_of list))) → SettledInOrder catalog db (listed_of list) ran end
-  ended_in_order end at_done = record {
+  pub ended_in_order : (limit : ℕ) (end : Result (Unit {0}) Unlisted) → EndedWith catalog db limit (listed_of list) end → SettledInOrder catalog db (listed_of list) ran end
+  ended_in_order limit end ended = record {
     before = listed_of far.before;
     steps = listed_of far.steps;
     splits = ap listed_of far.splits ∙ listed_of-append far.before far.steps;
     many = length-listed_of far.steps ∙ far.many;
-    in_order = by end at_done;
+    in_order = by end ended;
   }
     where
-      by : (e : Settling) → (e ≡ settling.Done → model.NoneReady catalog (after catalog db (listed_of list))) → AreSettling catalog (after catalog db (listed_of far.before)) (entries_of (listed_of far.steps)) e
-      by settling.Done done = (loop_settles catalog (after catalog db (listed_of far.before)) (entries_of (listed_of far.steps))).ends far.in_order (ap (next_settled catalog) at_end ∙ none_next (done refl))
-      by settling.NoMemory done = far.in_order
-      by (settling.ListFull count) done = far.in_order
+      by : (e : Result (Unit {0}) Unlisted) → EndedWith catalog db limit (listed_of list) e → AreSettling catalog (after catalog db (listed_of far.before)) (entries_of (listed_of far.steps)) e
+      by (Ok done) ended = (loop_settles catalog (after catalog db (listed_of far.before)) (entries_of (listed_of far.steps))).ends far.in_order (ap (next_settled catalog) at_end ∙ none_next ended.0)
+      by (Err unlisted) ended = far.in_order
 
 -- ---- how long the list is
 
@@ -123,20 +115,25 @@ all_have catalog n count ks ls on have l there =
 -- ---- a step that was tried
 
 -- so many steps more are those of settling, and no more than the list has entries
-pub record WentOn (catalog : Catalog) (n : ℕ) (db : Database) (old ls : List Known) (ran steps : ℕ) : Type 0 where
-  pub far : SettlesFrom catalog n db old ls (ran + steps)
-  pub have : AllHave (ran + steps) ls
-  pub small : ran < 2 ^ 64 → ran + steps < 2 ^ 64
+pub record WentOn (catalog : Catalog) (n : ℕ) (db : Database) (old ls : List Known) (ran : ℕ) : Type 0 where
+  pub far : SettlesFrom catalog n db old ls ran
+  pub have : AllHave ran ls
+
+-- marks that went on
+pub went_on : (catalog : Catalog) (n : ℕ) (db : Database) (old ks ls : List Known) (ran : ℕ) → AllGoOn catalog n ks ls → WentOn catalog n db old ks ran → WentOn catalog n db old ls ran
+went_on catalog n db old ks ls ran on was = record { far = settles_on catalog n db old ks ls ran on was.far; have = all_have catalog n ran ks ls on was.have }
 
 module _ (catalog : Catalog) (n : ℕ) (some : 1 ≤ n) (db : Database) (old ks ls : List Known) (roles : roles_of ks ≡ map Part (all_partitions n)) (new_roles : roles_of ls ≡ map Part (all_partitions n))
-    (first limit q : ℕ) (found : FoundNext catalog n db ks q) (ran : ℕ) (far : SettlesFrom catalog n db old ks ran) (have : AllHave ran ks) where
+    (first limit q : ℕ) (found : FoundNext catalog n db ks q) (ran : ℕ) (was : WentOn catalog n db old ks ran) where
   -- it ran
-  ran_on : (place : ℕ) (l : Listed) → IsStepped catalog n first limit q ks ls (Ran place l) → WentOn catalog n db old ls ran 1
-  ran_on place l stepped =
+  pub ran_on : (o : Option Placed) → IsSome o → IsStepped catalog n first limit q ks ls (Ok o) → WentOn catalog n db old ls (ran + 1)
+  ran_on None is stepped = absurd (true≢false (sym is))
+  ran_on (Some placed) is stepped =
       let (mid, r, at, small, step, know, on) = stepped in
+      let l = placed.listed in
       let i : Item = item l (roles_of ks ++ Log ∷ []) in
       let (k, there, role) = mark_of catalog n some 0 some ks roles in
-      let long : ran ≤ length mid = (let a = have k there in let b = on_longer catalog n mid k (on k there) in omega arith) in
+      let long : ran ≤ length mid = (let a = was.have k there in let b = on_longer catalog n mid k (on k there) in omega arith) in
       record {
         far = λ list may.
             let w = whole_with catalog n some db list mid i ks ls new_roles know on may in
@@ -144,34 +141,25 @@ module _ (catalog : Catalog) (n : ℕ) (some : 1 ≤ n) (db : Database) (old ks 
             = subst (λ (e : Entry). entry_outcome catalog (after catalog db (listed_of mid)) e ≡ Some l.outcome) step w.outcome in
             let number = next_number catalog (after catalog db (listed_of mid)) q r l.outcome outcome in
             subst (λ (x : List Item). SettledFrom catalog n db old (ran + 1) x) (sym w.is)
-            (one_more catalog n db old ran mid (far mid w.whole) i q (found.next mid w.whole) (step ∙ ap (λ (x : ℕ). StepEntry q x) number));
+            (one_more catalog n db old ran mid (was.far mid w.whole) i q (found.next mid w.whole) (step ∙ ap (λ (x : ℕ). StepEntry q x) number));
         have = λ m m_in. (let e = ap (λ (x : List Item). length x) (known_at (mid ++ i ∷ []) ls (all_know (mid ++ i ∷ []) ks ls know) m m_in) in let f = length-append mid (i ∷ []) in omega arith);
-        small = λ fits. omega arith;
       }
 
-  -- marks that went on alone
-  stood_still : AllGoOn catalog n ks ls → WentOn catalog n db old ls ran 0
-  stood_still on = record {
-    far = subst (SettlesFrom catalog n db old ls) (let e : ran ≡ ran + 0 = omega arith in e) (settles_on catalog n db old ks ls ran on far);
-    have = subst (λ (c : ℕ). AllHave c ls) (let e : ran ≡ ran + 0 = omega arith in e) (all_have catalog n ran ks ls on have);
-    small = λ fits. omega (arith, fits);
-  }
+  -- its count fits
+  pub few_ran : (o : Option Placed) → IsSome o → IsStepped catalog n first limit q ks ls (Ok o) → ran + 1 < 2 ^ 64
+  few_ran None is stepped = absurd (true≢false (sym is))
+  few_ran (Some placed) is stepped =
+      let (mid, r, at, small, step, know, on) = stepped in
+      let (k, there, role) = mark_of catalog n some 0 some ks roles in
+      let a = was.have k there in
+      let b = on_longer catalog n mid k (on k there) in
+      omega arith
 
-  -- settling goes on behind it, or ended by it
-  goes : (s : Stepped) → IsStepped catalog n first limit q ks ls s → IfOk (settling_of s) (WentOn catalog n db old ls ran)
-  goes (Ran place l) stepped = ran_on place l stepped
-  goes NotReady stepped = stood_still stepped
-  goes NoMemory stepped = tt
-  goes (ListFull count) stepped = tt
+  -- it didn't, and settling goes on, or ended by it
+  pub stood_still : (o : Option Placed) → is_some o ≡ false → IsStepped catalog n first limit q ks ls (Ok o) → WentOn catalog n db old ls ran
+  stood_still None is on = went_on catalog n db old ks ls ran on was
+  stood_still (Some placed) is stepped = absurd (true≢false is)
 
-  stops : (s : Stepped) → IsStepped catalog n first limit q ks ls s → IfErr (settling_of s) (λ end. SettlesFrom catalog n db old ls ran)
-  stops (Ran place l) stepped = tt
-  stops NotReady stepped = tt
-  stops NoMemory stepped = settles_on catalog n db old ks ls ran stepped far
-  stops (ListFull count) stepped = let (mid, count_is, full, know, on) = stepped in settles_on catalog n db old ks ls ran (all_met catalog n mid ks ls know on) far
-
-  pub went_on : (s : Stepped) → IsStepped catalog n first limit q ks ls s → (told : Result ℕ Settling) → told ≡ settling_of s → (steps : ℕ) → told ≡ Ok steps → WentOn catalog n db old ls ran steps
-  went_on s stepped told same steps is = subst (λ (r : Result ℕ Settling). IfOk r (WentOn catalog n db old ls ran)) (sym same ∙ is) (goes s stepped)
-
-  pub stopped : (s : Stepped) → IsStepped catalog n first limit q ks ls s → (told : Result ℕ Settling) → told ≡ settling_of s → (end : Settling) → told ≡ Err end → SettlesFrom catalog n db old ls ran
-  stopped s stepped told same end is = subst (λ (r : Result ℕ Settling). IfErr r (λ e. SettlesFrom catalog n db old ls ran)) (sym same ∙ is) (stops s stepped)
+  pub stopped : (why : Unlisted) → IsStepped catalog n first limit q ks ls (Err why) → SettlesFrom catalog n db old ls ran
+  stopped NoMemory on = settles_on catalog n db old ks ls ran on was.far
+  stopped (ListFull count) stepped = let (mid, count_is, full, know, on) = stepped in settles_on catalog n db old ks ls ran (all_met catalog n mid ks ls know on) was.far

@@ -2,7 +2,7 @@
 --
 -- Each entry touches some partition, and the list has none behind what the mark of that partition knew. So where the marks of all
 -- partitions know one list, nothing stands behind it: that is the whole list, until a step under these marks joins it.
-use Rattle.std.proofs.Common.{◌≡◌, ◌≢◌, ◌==◌, ◌≤◌, ◌<◌, ◌+◌, ◌⊎◌, inl, inr, ⊎_elim, ℕ, zero, suc, nat_lt, Bool, true, false, List, [], ◌∷◌, ◌++◌, map, drop, length, slice_get, refl, sym, ap, ◌∙◌, subst, arith, length-append, append_assoc, append-nil, true≢false, IfNone, IfSome, None, Some, IfErr, Result, Err}
+use Rattle.std.proofs.Common.{◌≡◌, ◌≢◌, ◌==◌, ◌≤◌, ◌<◌, ◌+◌, ◌⊎◌, inl, inr, ⊎_elim, ℕ, zero, suc, nat_lt, Bool, true, false, List, [], ◌∷◌, ◌++◌, map, drop, length, slice_get, slice_set, refl, sym, ap, ◌∙◌, subst, arith, length-append, append_assoc, append-nil, true≢false, IfNone, IfSome, None, Some, Err}
 use Rattle.std.proofs.lemmas.Bool.{ltb-true, ltb-false}
 use Rattle.std.proofs.lemmas.Bool.Decides.{eqb_tells}
 use Rattle.std.proofs.lemmas.List.{append_cancel_left}
@@ -11,7 +11,6 @@ use Rattle.std.specs.declared.option.Option.{Option}
 use Rattle.ss_model.specs.declared.catalog.Catalog.{Catalog}
 use Rattle.ss_model.specs.declared.entry.Entry.TheVariants.{Step as StepEntry}
 use Rattle.ss_model.specs.Database.{Database}
-use Rattle.ss_model.specs.Accepted.{Accepted}
 use Rattle.ss_model.specs.Partitions.{home_of}
 use Rattle.ss_model.specs.Replays.{Replays, after, entry_outcome}
 use Rattle.ss_model.specs.Settling.{is_ready_now, next_settled}
@@ -19,29 +18,26 @@ use Rattle.ss_model.proofs.CallerLemmas.{goes_on, home_below}
 use Rattle.ss_model_laws.proofs.CallerLemmas.{next_is_ready, touched_run}
 use Rattle.ss_shard.specs.Parts.{all_partitions}
 use Rattle.ss_shard.proofs.AllPartitions.{among_all}
+use Rattle.ss_commitlog.specs.declared.placed.Unlisted.{Unlisted}
+use Rattle.ss_commitlog.specs.declared.placed.Unlisted.TheVariants.{NoMemory, ListFull}
 use Rattle.ss_commitlog.specs.declared.role.Role.{Role}
 use Rattle.ss_commitlog.specs.declared.role.Role.TheVariants.{Part}
 use Rattle.ss_commitlog.specs.declared.rule.Item.{Item}
+use Rattle.ss_commitlog.specs.Growing.{GoesOn}
 use Rattle.ss_commitlog.specs.Meaning.{concerns, listed_of}
 use Rattle.ss_commitlog.specs.Roles.{In}
 use Rattle.ss_commitlog.specs.Tokens.{Known, Continues, AllContinue, AllKnow, MeetAll, roles_of}
-use Rattle.ss_commitlog.proofs.CallerLemmas.{in_left, in_right, listed_of-append, token_of}
+use Rattle.ss_commitlog.proofs.CallerLemmas.{in_left, in_right, listed_of-append, on_and_on, token_of}
 use Rattle.ss_sched.specs.Ranks.{AreRanks}
 use Rattle.ss_hand.specs.Hands.{IsInHand}
 use Rattle.ss_hand.specs.declared.hand.Hand.{Hand}
-use Rattle.ss_turns.specs.declared.execution.Stepped.{Stepped}
-use Rattle.ss_turns.specs.declared.execution.Stepped.TheVariants.{Ran, NotReady, NoMemory, ListFull}
-use Rattle.ss_settle.specs.declared.settling.Settling.{Settling}
-use Rattle.ss_settle.specs.declared.settling.Settling.TheVariants as settling
 use Rattle.ss_settle.specs.Ready.{FoundNext, NoneReady, NoneReadyBehind, StepsWhenFound, WasFirst, WasIdle}
-use Rattle.ss_settle.specs.Settlings.{SettledTo, settling_of}
+use Rattle.ss_settle.specs.Settlings.{SettledTo}
 use Rattle.ss_settle.specs.Wholes.{AllAt, EachTouches, MayBeWhole}
 use Rattle.ss_turns.specs.Executed.{HoldsFor, IsStepped}
-use Rattle.ss_lanes.specs.Growing.{GoesOn}
 use Rattle.ss_turns.specs.Stepping.{AllGoOn}
-use Rattle.ss_lanes.proofs.CallerLemmas.{on_and_on}
 use Rattle.ss_settle.proofs.FirstIsNext.{first_is_next}
-use Rattle.ss_turns.proofs.CallerLemmas.{all_met, all_on_and_on, continue_through, last_goes_on, reaching, roles_go_on}
+use Rattle.ss_turns.proofs.CallerLemmas.{all_met, all_on_and_on, continue_through, first_goes_on, first_in, reaching, roles_go_on}
 
 -- ---- marks that know one list
 
@@ -49,16 +45,21 @@ pub known_at : (list : List Item) (ks : List Known) → AllAt list ks → (k : K
 known_at list [] all k i = absurd i
 known_at list (x ∷ xs) all k i = ⊎_elim (λ (e : k ≡ x). ap (λ (y : Known). y.list) e ∙ all.0) (λ j. known_at list xs all.1 k j) i
 
+known_first : (list : List Item) (ks : List Known) → AllAt list ks → (k : Known) → slice_get ks 0 ≡ Some k → k.list ≡ list
+known_first list [] all k is = absurd (cc)
+known_first list (x ∷ xs) all k is = let same : k ≡ x = cc in ap (λ (y : Known). y.list) same ∙ all.0
+
 pub all_know : (list : List Item) (ks ls : List Known) → AllKnow list ks ls → AllAt list ls
 all_know list [] [] all = tt
 all_know list [] (l ∷ ls) all = absurd all
 all_know list (k ∷ ks) [] all = absurd all
 all_know list (k ∷ ks) (l ∷ ls) all = (all.0.list_is, all_know list ks ls all.1)
 
--- there are as many as there were
-pub none_met : (catalog : Catalog) (n limit : ℕ) (ks ms : List Known) → MeetAll catalog n limit ks ms → ms ≡ [] → ks ≡ []
-none_met catalog n limit [] ms met none = refl
-none_met catalog n limit (k ∷ ks) ms (list, short, know, on) none = absurd (subst (AllKnow list (k ∷ ks)) none know)
+-- where there was one, there still is
+pub first_met : (catalog : Catalog) (n limit : ℕ) (ks ms : List Known) → MeetAll catalog n limit ks ms → (ks ≡ [] → ⊥) → 0 < length ms
+first_met catalog n limit [] ms met some = absurd (some refl)
+first_met catalog n limit (k ∷ ks) [] (list, short, know, on) some = absurd know
+first_met catalog n limit (k ∷ ks) (m ∷ ms) met some = omega arith
 
 -- a list that may be the whole one for later marks may be so for earlier ones
 pub whole_before : (catalog : Catalog) (n : ℕ) (db : Database) (list : List Item) (ks ls : List Known) → AllGoOn catalog n ks ls → MayBeWhole catalog n db list ls → MayBeWhole catalog n db list ks
@@ -203,47 +204,46 @@ ready_behind catalog n db list old new q w at on =
     subst (λ (x : List Item). is_ready_now catalog (after catalog db (listed_of x)) q ≡ true) (whole_between catalog n list old w.between new w.since w.till at on) w.ready
 
 -- what was first of all that were ready at each partition is the next one of settling
-next_behind : (catalog : Catalog) (accepted : Accepted catalog) (n : ℕ) → 1 ≤ n → (ranks : List ℕ) → AreRanks catalog ranks → (db : Database) (list : List Item) (old new : Known) (q : ℕ) → StepsWhenFound catalog n db old new q
+next_behind : (catalog : Catalog) (n : ℕ) → 1 ≤ n → (ranks : List ℕ) → AreRanks catalog ranks → (db : Database) (list : List Item) (old new : Known) (q : ℕ) → StepsWhenFound catalog n db old new q
     → ((p : ℕ) → p < n → WasFirst catalog n db ranks p old new q) → old.list ≡ list → Continues catalog n list new → next_settled catalog (after catalog db (listed_of list)) ≡ Some q
-next_behind catalog accepted n some ranks are db list old new q w first at on =
-    first_is_next catalog accepted ranks are (after catalog db (listed_of list)) q (ready_behind catalog n db list old new q w at on) (λ r ready. let f = first (home_of catalog n r) (home_below n (slice_get catalog.procedures r) some) in f.first r (refl, subst (λ (x : List Item). is_ready_now catalog (after catalog db (listed_of x)) r ≡ true) (sym (whole_between catalog n list old f.between new f.since f.till at on)) ready))
+next_behind catalog n some ranks are db list old new q w first at on =
+    first_is_next catalog ranks are (after catalog db (listed_of list)) q (ready_behind catalog n db list old new q w at on) (λ r ready. let f = first (home_of catalog n r) (home_below n (slice_get catalog.procedures r) some) in f.first r (refl, subst (λ (x : List Item). is_ready_now catalog (after catalog db (listed_of x)) r ≡ true) (sym (whole_between catalog n list old f.between new f.since f.till at on)) ready))
 
--- marks that met, the last of which then looked
-module _ (catalog : Catalog) (n limit : ℕ) (ks ms ls front : List Known) (k l : Known) (met : MeetAll catalog n limit ks ms) (went : ms ≡ front ++ k ∷ []) (came : ls ≡ front ++ l ∷ []) (goes : GoesOn catalog n k l) where
+-- marks that met, the first of which then looked
+module _ (catalog : Catalog) (n limit : ℕ) (ks ms : List Known) (k l : Known) (met : MeetAll catalog n limit ks ms) (looks : slice_get ms 0 ≡ Some k) (goes : GoesOn catalog n k l) where
   -- they went on
-  pub looked_on : AllGoOn catalog n ks ls
-  looked_on = let (list, short, know, on) = met in all_on_and_on catalog n ks ms ls (all_met catalog n list ks ms know on) (last_goes_on catalog n ms ls front k l went came goes)
+  pub looked_on : AllGoOn catalog n ks (slice_set ms 0 l)
+  looked_on = let (list, short, know, on) = met in all_on_and_on catalog n ks ms (slice_set ms 0 l) (all_met catalog n list ks ms know on) (first_goes_on catalog n ms k l looks goes)
 
   module _ (some : 1 ≤ n) (roles : roles_of ks ≡ map Part (all_partitions n)) where
     -- they all knew the whole list
-    knew_whole : (db : Database) (whole : List Item) → MayBeWhole catalog n db whole ls → (k.list ≡ whole) × Continues catalog n whole l
+    knew_whole : (db : Database) (whole : List Item) → MayBeWhole catalog n db whole (slice_set ms 0 l) → (k.list ≡ whole) × Continues catalog n whole l
     knew_whole db whole may =
         let (list, short, know, on) = met in
         let same_roles : roles_of ms ≡ map Part (all_partitions n) = roles_go_on catalog n ks ms (all_met catalog n list ks ms know on) ∙ roles in
         let at : AllAt list ms = all_know list ks ms know in
-        let same : whole ≡ list = no_more catalog n some db whole list ms same_roles at (whole_before catalog n db whole ms ls (last_goes_on catalog n ms ls front k l went came goes) may) in
-        let first : In k ms = subst (In k) (sym went) (in_right k front (k ∷ []) (inl refl)) in
-        (known_at list ms at k first ∙ sym same, may.on l (subst (In l) (sym came) (in_right l front (l ∷ []) (inl refl))))
+        let same : whole ≡ list = no_more catalog n some db whole list ms same_roles at (whole_before catalog n db whole ms (slice_set ms 0 l) (first_goes_on catalog n ms k l looks goes) may) in
+        (known_first list ms at k looks ∙ sym same, may.on l (first_in ms k l looks))
 
     -- where the look found nothing, no procedure is ready behind it
-    pub none_found : (db : Database) (found : Option ℕ) → IfNone found ((p : ℕ) → p < n → WasIdle catalog n db p k l) → IfNone found ((list : List Item) → MayBeWhole catalog n db list ls → NoneReadyBehind catalog n db list)
+    pub none_found : (db : Database) (found : Option ℕ) → IfNone found ((p : ℕ) → p < n → WasIdle catalog n db p k l) → IfNone found ((list : List Item) → MayBeWhole catalog n db list (slice_set ms 0 l) → NoneReadyBehind catalog n db list)
     none_found db (Some q) was = tt
     none_found db None was = λ whole may. let (at, on) = knew_whole db whole may in idle_behind catalog n db whole k l was at on
 
     -- and what it found first is the next one of settling
-    pub some_found : Accepted catalog → (ranks : List ℕ) → AreRanks catalog ranks → (db : Database) (found : Option ℕ) → IfSome found (StepsWhenFound catalog n db k l) → IfSome found (λ q. (p : ℕ) → p < n → WasFirst catalog n db ranks p k l q)
-        → IfSome found (FoundNext catalog n db ls)
-    some_found accepted ranks are db None was first = tt
-    some_found accepted ranks are db (Some q) was first = record {
+    pub some_found : (ranks : List ℕ) → AreRanks catalog ranks → (db : Database) (found : Option ℕ) → IfSome found (StepsWhenFound catalog n db k l) → IfSome found (λ q. (p : ℕ) → p < n → WasFirst catalog n db ranks p k l q)
+        → IfSome found (FoundNext catalog n db (slice_set ms 0 l))
+    some_found ranks are db None was first = tt
+    some_found ranks are db (Some q) was first = record {
       fits = was.fits;
-      next = λ whole may. let (at, on) = knew_whole db whole may in next_behind catalog accepted n some ranks are db whole k l q was first at on;
+      next = λ whole may. let (at, on) = knew_whole db whole may in next_behind catalog n some ranks are db whole k l q was first at on;
     }
 
 -- ---- settling
 
 module _ {I : Type 0} (catalog : Catalog) (n : ℕ) (some : 1 ≤ n) (db : Database) (hand kept : Hand I) (kept_in : IsInHand catalog n db (all_partitions n) kept) (first limit q : ℕ) (found : FoundNext catalog n db hand.marks q) where
   -- the list is full, and the procedure still ready
-  full_on : (count : ℕ) → IsStepped catalog n first limit q hand.marks kept.marks (ListFull count) → (list : List Item) → MayBeWhole catalog n db list kept.marks → SettledTo catalog n db limit list (settling.ListFull count)
+  full_on : (count : ℕ) → IsStepped catalog n first limit q hand.marks kept.marks (Err (ListFull count)) → (list : List Item) → MayBeWhole catalog n db list kept.marks → SettledTo catalog n db limit list (Err (ListFull count))
   full_on count stepped list may =
       let (mid, count_is, full, all, before) = stepped in
       let whole : list ≡ mid = no_more catalog n some db list mid kept.marks kept_in.roles (all_know mid hand.marks kept.marks all) may in (
@@ -256,19 +256,7 @@ module _ {I : Type 0} (catalog : Catalog) (n : ℕ) (some : 1 ≤ n) (db : Datab
         ),
       )
 
-  ends : (s : Stepped) → IsStepped catalog n first limit q hand.marks kept.marks s → IfErr (settling_of s) (λ end. (list : List Item) → MayBeWhole catalog n db list kept.marks → SettledTo catalog n db limit list end)
-  ends (Ran place l) stepped = tt
-  ends NotReady stepped = tt
-  ends NoMemory stepped = λ list may. tt
-  ends (ListFull count) stepped = λ list may. full_on count stepped list may
-
-  -- a step was tried, and settling ended by it
-  pub ended_with : (s : Stepped) → IsStepped catalog n first limit q hand.marks kept.marks s → (told : Result ℕ Settling) → told ≡ settling_of s → (end : Settling) → told ≡ Err end
-      → (list : List Item) → MayBeWhole catalog n db list kept.marks → SettledTo catalog n db limit list end
-  ended_with s stepped told same end is =
-      subst (λ (r : Result ℕ Settling). IfErr r (λ e. (list : List Item) → MayBeWhole catalog n db list kept.marks → SettledTo catalog n db limit list e)) (sym same ∙ is) (ends s stepped)
-
--- none is ready: so it is done
-pub done_with : {I : Type 0} (catalog : Catalog) (n : ℕ) (db : Database) (limit : ℕ) (hand : Hand I) (found : Option ℕ) → IfNone found ((list : List Item) → MayBeWhole catalog n db list hand.marks → NoneReadyBehind catalog n db list) → found ≡ None
-    → (list : List Item) → MayBeWhole catalog n db list hand.marks → SettledTo catalog n db limit list settling.Done
-done_with catalog n db limit hand found idle none = subst (λ (o : Option ℕ). IfNone o ((whole : List Item) → MayBeWhole catalog n db whole hand.marks → NoneReadyBehind catalog n db whole)) none idle
+  -- a step had no place in the list, and settling ended by it
+  pub ended_with : (why : Unlisted) → IsStepped catalog n first limit q hand.marks kept.marks (Err why) → (list : List Item) → MayBeWhole catalog n db list kept.marks → SettledTo catalog n db limit list (Err why)
+  ended_with NoMemory stepped list may = tt
+  ended_with (ListFull count) stepped list may = full_on count stepped list may

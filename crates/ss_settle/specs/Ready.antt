@@ -1,5 +1,5 @@
 -- Which procedures are ready, and which of them settling runs next.
-use Rattle.std.specs.Prelude.{◌≡◌, ◌<◌, ◌≤◌, ℕ, true, List, Some}
+use Rattle.std.specs.Prelude.{◌≡◌, ◌<◌, ℕ, true, List, Some}
 use Rattle.ss_model.specs.declared.catalog.Catalog.{Catalog}
 use Rattle.ss_model.specs.declared.entry.Entry.TheVariants.{Step as StepEntry}
 use Rattle.ss_model.specs.Database.{Database, fits_entry}
@@ -10,8 +10,8 @@ use Rattle.ss_commitlog.specs.Meaning.{listed_of}
 use Rattle.ss_commitlog.specs.Reading.{IsReadyAt}
 use Rattle.ss_commitlog.specs.Right.{known_database}
 use Rattle.ss_commitlog.specs.Tokens.{Known}
-use Rattle.ss_lanes.specs.Growing.{GoesOn}
-use Rattle.ss_settle.specs.Ranking.{settling_place}
+use Rattle.ss_commitlog.specs.Growing.{GoesOn}
+use Rattle.ss_settle.specs.Ranking.{StandsBefore}
 use Rattle.ss_settle.specs.Wholes.{MayBeWhole}
 
 -- no procedure at home on partition p is ready
@@ -49,7 +49,7 @@ pub record WasFirst (catalog : Catalog) (n : ℕ) (db : Database) (ranks : List 
   pub between : Known
   pub since : GoesOn catalog n old between
   pub till : GoesOn catalog n between new
-  pub first : (r : ℕ) → IsReadyAt catalog n (known_database catalog db between) p r → settling_place ranks q ≤ settling_place ranks r
+  pub first : (r : ℕ) → IsReadyAt catalog n (known_database catalog db between) p r → StandsBefore ranks q r
 
 -- a procedure takes steps, and is the next one of settling behind the list that all of these marks may know
 pub record FoundNext (catalog : Catalog) (n : ℕ) (db : Database) (marks : List Known) (q : ℕ) : Type 0 where

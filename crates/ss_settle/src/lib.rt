@@ -12,8 +12,8 @@
 //!
 //! # Promises
 //!
-//! - `settle` (`settled`: `SettledTo`): behind a list that may be whole no procedure is ready any more; or memory ran out; or the
-//!   list is full, and some procedure is ready.
+//! - `settle` (`settled`: `SettledTo`): behind a list that may be whole no procedure is ready any more; or there was no memory for
+//!   a step; or the list is full, and some procedure is ready.
 //! - `settle` (`in_order`: `SettlesFrom`): such a list is the one that was whole before, with as many steps behind it as were
 //!   counted, each of them the next one of settling at its place.
 //! - The same partitions are in hand (`in_hand`: `IsInHand`).
@@ -30,4 +30,4 @@ mod ranking;
 mod settling;
 
 pub use gate::{Gate, NoGate};
-pub use settling::{Settling, settle};
+pub use settling::{Settled, settle};

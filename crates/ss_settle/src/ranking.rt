@@ -1,18 +1,20 @@
 //! Which of the procedures that are ready settling runs next.
 
-ghost use Rattle.std.specs.Prelude.{◌≡◌, ◌<◌, IfSome, IfNone, None};
+ghost use Rattle.std.specs.Prelude.{◌≡◌, ◌<◌, ◌↔◌, IfSome, IfNone, IsTrue, None};
 ghost use Rattle.ss_settle.specs.Members.{NoneBelow};
-ghost use Rattle.ss_settle.specs.Ranking.{IsFirstRanked, IsSooner, settling_place};
+ghost use Rattle.ss_settle.specs.Ranking.{IsFirstRanked, IsSooner, StandsBefore};
 
 use ss_sched::Ranks;
 use ss_value::ProcSet;
 
-/// Where a procedure stands in the order of settling: by rank, and of equal ranks by number.
-fn settling_place(ranks: &Ranks, procedure: u16) -> u16
-    requires { procedure < 64 }
-    ensures { result ≡ settling_place ranks.now procedure }
+/// Whether a procedure stands before another in the order of settling, or is the same: by rank, and of equal ranks by number.
+fn stands_before(ranks: &Ranks, procedure: u16, other: u16) -> bool
+    requires { (procedure < 64) × (other < 64) }
+    ensures { IsTrue result ↔ StandsBefore ranks.now procedure other }
 {
-    u16::from(ranks.of_procedure(procedure)) * 64 + procedure
+    let rank = ranks.of_procedure(procedure);
+    let other_rank = ranks.of_procedure(other);
+    rank < other_rank || (rank == other_rank && procedure <= other)
 }
 
 /// Which of a procedure found so far, if any, and a next one stands first in the order of settling.
@@ -22,7 +24,7 @@ fn sooner(ranks: &Ranks, found: Option<u16>, next: u16) -> u16
     ensures { IsSooner ranks.now found next result }
 {
     match found {
-        Some(best) if settling_place(ranks, best) <= settling_place(ranks, next) => best,
+        Some(best) if stands_before(ranks, best, next) => best,
         _ => next,
     }
 }

@@ -5,4 +5,4 @@ pub use Rattle.ss_turns.proofs.InHand.{holds_behind}
 -- There is a mark in hand.
 pub use Rattle.ss_turns.proofs.Marks.{some_marks}
 -- Marks that go on, one by one or all together.
-pub use Rattle.ss_turns.proofs.MarksOn.{all_met, all_on_and_on, continue_through, last_goes_on, looked_in_hand, reaching, roles_go_on}
+pub use Rattle.ss_turns.proofs.MarksOn.{all_met, all_on_and_on, all_on_itself, continue_through, first_goes_on, first_in, looked_in_hand, reaching, roles_go_on, went_in}

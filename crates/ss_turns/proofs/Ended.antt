@@ -1,5 +1,6 @@
 -- A run that ends by a commit.
-use Rattle.std.proofs.Common.{◌≡◌, ℕ, List, refl, sym, subst, ◌∙◌, map}
+use Rattle.std.proofs.Common.{◌≡◌, ℕ, List, refl, sym, subst, ◌∙◌, map, Ok}
+use Rattle.std.specs.declared.result.Result.{Result}
 use Rattle.ss_value.specs.Rows.{Rows}
 use Rattle.ss_model.specs.declared.catalog.Catalog.{Catalog}
 use Rattle.ss_model.specs.declared.entry.Emitted.{Emitted}
@@ -12,8 +13,8 @@ use Rattle.ss_shard.specs.Shards.{IsCommitted}
 use Rattle.ss_shard.specs.ShardValue.{ShardValue}
 use Rattle.ss_shard.specs.Windows.{HoldsDatabase}
 use Rattle.ss_shard.proofs.CallerLemmas.{still_dealt}
-use Rattle.ss_lanes.specs.declared.reply.Said.{Said}
-use Rattle.ss_lanes.specs.declared.reply.Said.TheVariants.{Listed as ListedSaid}
+use Rattle.ss_commitlog.specs.declared.placed.Placed.{Placed}
+use Rattle.ss_commitlog.specs.declared.placed.Unlisted.{Unlisted}
 use Rattle.ss_turns.specs.Runs.{HasRun, HasCommitted, SaysOnly, EndedAsSaid}
 
 module _ (catalog : Catalog) (n : ℕ) (old now new : ShardValue) (l : Listed) (batches : List Rows) (emitted : List Emitted) (run : HasRun catalog n old now l batches emitted) where
@@ -30,9 +31,9 @@ module _ (catalog : Catalog) (n : ℕ) (old now new : ShardValue) (l : Listed) (
         };
   }
 
-  -- what is said to be listed was committed
-  pub listed_so : (said : Said) (place : ℕ) (copy : Listed) → said ≡ ListedSaid place copy → SaysOnly l said → Commits catalog copy.entry copy.outcome now new → new.number ≡ now.number → map dealing_of new.tables ≡ map dealing_of now.tables
+  -- what has a place was committed
+  pub listed_so : (said : Result Placed Unlisted) (placed : Placed) → said ≡ Ok placed → SaysOnly l said → Commits catalog placed.listed.entry placed.listed.outcome now new → new.number ≡ now.number → map dealing_of new.tables ≡ map dealing_of now.tables
       → IsCommitted catalog new → EndedAsSaid catalog n old new l.entry batches said
-  listed_so said place copy is says keeps number dealt committed =
-      let same : copy ≡ l = subst (SaysOnly l) is says in
+  listed_so said placed is says keeps number dealt committed =
+      let same : placed.listed ≡ l = subst (SaysOnly l) is says in
       subst (EndedAsSaid catalog n old new l.entry batches) (sym is) (committed_so (subst (λ (x : Listed). Commits catalog x.entry x.outcome now new) same keeps) number dealt committed)

@@ -1,12 +1,11 @@
 -- The batches of a step, as they are found.
-use Rattle.std.proofs.Common.{inl, inr, zero, suc, arith, ◌+◌, false, take, get_or, IfOk, ◌≡◌, ◌==◌, ◌||◌, ⊎_elim, ◌<◌, ℕ, Bool, true, nat_lt, List, [], ◌∷◌, ◌++◌, map, length, slice_get, refl, sym, ap, subst, ◌∙◌, Some, None}
+use Rattle.std.proofs.Common.{inl, inr, zero, suc, arith, ◌+◌, take, get_or, IfOk, ◌≡◌, ◌==◌, ◌||◌, ⊎_elim, ◌<◌, ℕ, Bool, true, nat_lt, List, [], ◌∷◌, ◌++◌, map, length, slice_get, refl, sym, ap, subst, ◌∙◌, Some, None}
 use Rattle.std.proofs.lemmas.Bool.Decides.{Decides-eqb}
 use Rattle.std.proofs.lemmas.List.{map-append, map_more}
 use Rattle.std.proofs.lemmas.Option.{slice_get_within}
 use Rattle.std.specs.declared.option.Option.{Option}
 use Rattle.std.specs.declared.result.Result.{Result}
-use Rattle.std.specs.Prelude.{Ok, Err, OnOk}
-use Rattle.std.specs.Result.{is_err}
+use Rattle.std.specs.Prelude.{Ok, Err}
 use Rattle.std.specs.List.{AllByRecursion, list_any}
 use Rattle.ss_lemmas.proofs.Bools.{chosen, some_same}
 use Rattle.ss_value.specs.Rows.{Rows}
@@ -25,8 +24,6 @@ use Rattle.ss_commitlog.specs.Right.{known_database}
 use Rattle.ss_commitlog.specs.Roles.{In}
 use Rattle.ss_commitlog.specs.Tokens.{Known, Continues}
 use Rattle.ss_commitlog.proofs.CallerLemmas.{after_rest}
-use Rattle.ss_turns.specs.declared.stepping.Found.{Found}
-use Rattle.ss_turns.specs.declared.stepping.Found.TheVariants.{All, NotReady, NoMemory}
 use Rattle.ss_turns.specs.Runs.{AreGiven}
 use Rattle.ss_turns.specs.Stepping.{AreFound, AreFoundFor}
 
@@ -72,16 +69,12 @@ in_at (s ∷ ss) zero below = inl refl
 in_at (s ∷ ss) (suc i) below = inr (in_at ss i (omega arith))
 
 pub lacks_one : {E : Type 0} (d : Database) (q r i : ℕ) (ss : List ℕ) → i < length ss → (x : Result (Option Rows) E) (found : Option Rows) → IfOk x (λ y. y ≡ found_batch d (get_or ss i 0) q r) → x ≡ Ok found → found ≡ None
-    → AreFound d q r ss NotReady
+    → (s : ℕ) × In s ss × (found_batch d s q r ≡ None)
 lacks_one d q r i ss below x found looked was none = (get_or ss i 0, in_at ss i below, sym (subst (λ (z : Result (Option Rows) _). IfOk z (λ y. y ≡ found_batch d (get_or ss i 0) q r)) was looked) ∙ none)
 
--- what was found, and what was pushed
+-- what was found
 pub looked_so : {E : Type 0} (o : Option Rows) (r : Result (Option Rows) E) (found : Option Rows) (batch : Rows) → IfOk r (λ x. x ≡ o) → r ≡ Ok found → found ≡ Some batch → o ≡ Some batch
 looked_so o r found batch looked was some = sym (subst (λ (x : Result (Option Rows) _). IfOk x (λ y. y ≡ o)) was looked) ∙ some
-
-pub pushed_so : {A E : Type 0} (P : Type 0) (r : Result A E) → false ≡ is_err r → OnOk r P → P
-pushed_so P (Ok x) none p = p
-pushed_so P (Err x) none p = absurd (cc)
 
 -- ---- the batches of a step
 
@@ -110,10 +103,10 @@ module _ (catalog : Catalog) (q r : ℕ) (p : Procedure) (named : slice_get cata
     at_hand = λ d same. hand_of d batches (same_at d (known_database catalog db k) r p.inputs (same p named) ∙ e);
   }
 
-  pub found_for : (db : Database) (ks : List Known) (k : Known) → In k ks → (found : Found) → AreFound (known_database catalog db k) q r p.inputs found → AreFoundFor catalog db ks q r found
-  found_for db ks k i (All batches) are = given_step db ks k i batches are
-  found_for db ks k i NotReady are = record { mark = k; one_of = i; procedure = p; named = named; stream = are.0; input = are.1; none = are.2 }
-  found_for db ks k i NoMemory are = tt
+  pub found_for : {E : Type 0} (db : Database) (ks : List Known) (k : Known) → In k ks → (found : Result (Option (List Rows)) E) → AreFound (known_database catalog db k) q r p.inputs found → AreFoundFor catalog db ks q r found
+  found_for db ks k i (Ok (Some batches)) are = given_step db ks k i batches are
+  found_for db ks k i (Ok None) are = record { mark = k; one_of = i; procedure = p; named = named; stream = are.0; input = are.1; none = are.2 }
+  found_for db ks k i (Err e) are = tt
 
   later : (x s : ℕ) (xs : List ℕ) → list_any (λ i. i == s) xs ≡ true → list_any (λ i. i == s) (x ∷ xs) ≡ true
   later x s xs any = by (x == s)

@@ -1,5 +1,6 @@
 pub mod Parting
 pub mod Marks
+pub mod Begun
 pub mod Ended
 pub mod InHand
 pub mod FoundBatches

@@ -101,5 +101,5 @@ same_held catalog n db held ks roles x y agrees_x agrees_y p h =
 -- a hand has marks
 pub some_marks : {I : Type 0} (catalog : Catalog) (n : ℕ) (db : Database) (held : List ℕ) (hand : Hand I) → IsInHand catalog n db held hand → hand.marks ≡ [] → ⊥
 some_marks catalog n db held hand in_hand none =
-    let e : roles_of [] ≡ map Part (hand.whole.number ∷ numbers_of hand.shells.items) = ap roles_of (sym none) ∙ in_hand.roles ∙ ap (map Part) (sym in_hand.numbers) in
+    let e : roles_of [] ≡ map Part (hand.shard.number ∷ numbers_of hand.shells.items) = ap roles_of (sym none) ∙ in_hand.roles ∙ ap (map Part) (sym in_hand.numbers) in
     absurd (cc)

@@ -1,5 +1,5 @@
 -- Marks that go on, and a commit of them.
-use Rattle.std.proofs.Common.{◌≡◌, inl, inr, ⊎_elim, ◌≤◌, ℕ, List, [], ◌∷◌, ◌++◌, refl, sym, subst, ◌∙◌, arith}
+use Rattle.std.proofs.Common.{◌≡◌, inl, inr, ⊎_elim, ◌≤◌, ℕ, List, [], ◌∷◌, refl, sym, subst, ◌∙◌, arith, slice_get, slice_set, Some}
 use Rattle.ss_model.specs.declared.catalog.Catalog.{Catalog}
 use Rattle.ss_model.specs.Accepted.{Accepted}
 use Rattle.ss_model.specs.Database.{Database}
@@ -11,9 +11,9 @@ use Rattle.ss_commitlog.specs.Tokens.{Known, AllContinue, AllKnow, Continues, Kn
 use Rattle.ss_commitlog.proofs.CallerLemmas.{own_part}
 use Rattle.ss_hand.specs.declared.hand.Hand.{Hand}
 use Rattle.ss_hand.specs.Hands.{IsInHand}
-use Rattle.ss_lanes.specs.Growing.{GoesOn}
+use Rattle.ss_commitlog.specs.Growing.{GoesOn}
 use Rattle.ss_turns.specs.Stepping.{AllGoOn}
-use Rattle.ss_lanes.proofs.CallerLemmas.{on_and_on, on_itself}
+use Rattle.ss_commitlog.proofs.CallerLemmas.{on_and_on, on_itself}
 
 -- marks that came back as they were
 pub all_on_itself : (catalog : Catalog) (parts : ℕ) (ks : List Known) → AllGoOn catalog parts ks ks
@@ -37,13 +37,16 @@ all_met catalog parts list (k ∷ ks) (l ∷ ls) know on = (
   all_met catalog parts list ks ls know.1 (λ m i. on m (inr i)),
 )
 
-go_on_last : (catalog : Catalog) (parts : ℕ) (ks : List Known) (k l : Known) → GoesOn catalog parts k l → AllGoOn catalog parts (ks ++ k ∷ []) (ks ++ l ∷ [])
-go_on_last catalog parts [] k l on = (on, tt)
-go_on_last catalog parts (x ∷ ks) k l on = (on_itself catalog parts x, go_on_last catalog parts ks k l on)
+-- the first mark of some goes on
+pub first_goes_on : (catalog : Catalog) (parts : ℕ) (ks : List Known) (k l : Known) → slice_get ks 0 ≡ Some k → GoesOn catalog parts k l → AllGoOn catalog parts ks (slice_set ks 0 l)
+first_goes_on catalog parts [] k l first on = absurd (cc)
+first_goes_on catalog parts (x ∷ ks) k l first on =
+    let here : k ≡ x = cc in
+    (subst (λ (y : Known). GoesOn catalog parts y l) here on, all_on_itself catalog parts ks)
 
--- the last mark of some goes on
-pub last_goes_on : (catalog : Catalog) (parts : ℕ) (ks ls front : List Known) (k l : Known) → ks ≡ front ++ k ∷ [] → ls ≡ front ++ l ∷ [] → GoesOn catalog parts k l → AllGoOn catalog parts ks ls
-last_goes_on catalog parts ks ls front k l went came on = subst (λ (x : List Known). AllGoOn catalog parts ks x) (sym came) (subst (λ (x : List Known). AllGoOn catalog parts x (front ++ l ∷ [])) (sym went) (go_on_last catalog parts front k l on))
+pub first_in : (ks : List Known) (k l : Known) → slice_get ks 0 ≡ Some k → In l (slice_set ks 0 l)
+first_in [] k l first = absurd (cc)
+first_in (x ∷ ks) k l first = inl refl
 
 pub roles_go_on : (catalog : Catalog) (parts : ℕ) (ks ls : List Known) → AllGoOn catalog parts ks ls → roles_of ls ≡ roles_of ks
 roles_go_on catalog parts [] [] all = refl

@@ -1,12 +1,15 @@
 -- Marks that are taken apart after a commit.
-use Rattle.std.proofs.Common.{◌≡◌, ℕ, ◌+◌, ◌<◌, ◌^◌, List, [], ◌∷◌, ◌++◌, length, refl, sym, ◌∙◌, subst}
+use Rattle.std.proofs.Common.{◌≡◌, ℕ, List, [], ◌∷◌, ◌++◌, refl, sym, ◌∙◌, Ok, Err}
+use Rattle.std.specs.declared.result.Result.{Result}
 use Rattle.ss_lemmas.proofs.Ends.{ends_alike}
 use Rattle.ss_model.specs.declared.catalog.Catalog.{Catalog}
-use Rattle.ss_model.specs.declared.entry.Listed as model
+use Rattle.ss_model.specs.declared.entry.Listed.{Listed}
+use Rattle.ss_commitlog.specs.declared.placed.Placed.{Placed}
+use Rattle.ss_commitlog.specs.declared.placed.Unlisted.{Unlisted}
+use Rattle.ss_commitlog.specs.declared.placed.Unlisted.TheVariants.{NoMemory, ListFull}
 use Rattle.ss_commitlog.specs.declared.rule.Item.{Item}
-use Rattle.ss_commitlog.specs.Tokens.{Known, AllContinue, AllKnow, Knows, added, roles_of}
-use Rattle.ss_lanes.specs.declared.reply.Said.TheVariants.{Listed, ListFull}
-use Rattle.ss_turns.specs.Commits.{with_client, CommitsAsked}
+use Rattle.ss_commitlog.specs.Tokens.{Known, AllKnow, Knows, added, roles_of}
+use Rattle.ss_turns.specs.Commits.{with_client, CommitsAsked, CommitsListed}
 
 -- as many come back as went in
 none_more : (list : List Item) (ls : List Known) (l : Known) → AllKnow list [] (ls ++ l ∷ []) → ⊥
@@ -30,27 +33,27 @@ some_known list [] marks all some none = some refl
 some_known list (k ∷ ks) [] all some none = all
 some_known list (k ∷ ks) (l ∷ ls) all some none = absurd (cc)
 
--- the marks that went into a commit, and those that came back
-module _ (ks : List Known) (k : Known) (ms marks : List Known) (went : ms ≡ with_client ks k) where
-  module _ (ps : List Known) (m : Known) (came : marks ≡ with_client ps m) where
-    apart : (list : List Item) → AllKnow list ms marks → AllKnow list ks ps × Knows list k m
-    apart list all = know_apart list ks k ps m (subst (AllKnow list (with_client ks k)) came (subst (λ (z : List Known). AllKnow list z marks) went all))
+-- with the client's there are some
+pub some_with_client : (ks : List Known) (k : Known) (ms : List Known) → ms ≡ with_client ks k → ms ≡ [] → ⊥
+some_with_client [] k ms is none = absurd (cc)
+some_with_client (x ∷ ks) k ms is none = absurd (cc)
 
-    pub done_apart : (catalog : Catalog) (parts first limit place : ℕ) (l copy : model.Listed) → copy ≡ l
-        → ((list : List Item) × (place ≡ first + length list) × (place < 2 ^ 60) × AllKnow (added list (roles_of ms) l) ms marks × AllContinue catalog parts list ms)
-        → CommitsAsked catalog parts first limit ks k l ps m (Listed place copy)
-    done_apart catalog parts first limit place l copy same done =
-        let (list, at, small, all, on_all) = done in
-        let known = subst (λ (z : List Known). AllKnow (added list (roles_of z) l) ks ps × Knows (added list (roles_of z) l) k m) went (apart (added list (roles_of ms) l) all) in
-        (list, at, small, same, known.0, known.1, subst (AllContinue catalog parts list) went on_all)
+module _ (catalog : Catalog) (parts first limit : ℕ) (l : Listed) where
+  -- so after each commit under some marks there are some
+  pub some_behind : (ms marks : List Known) (said : Result Placed Unlisted) → CommitsListed catalog parts first limit ms l marks said → (ms ≡ [] → ⊥) → marks ≡ [] → ⊥
+  some_behind ms marks (Ok placed) done some = let (list, at, small, same, all, on_all) = done in some_known (added list (roles_of ms) l) ms marks all some
+  some_behind ms marks (Err NoMemory) done some = λ none. some (sym done ∙ none)
+  some_behind ms marks (Err (ListFull count)) done some = let (list, count_is, long, all, on_all) = done in some_known list ms marks all some
 
-    pub same_apart : marks ≡ ms → (ps ≡ ks) × (m ≡ k)
-    same_apart same = ends_alike ps ks m k (sym came ∙ same ∙ went)
-
-    pub full_apart : (catalog : Catalog) (parts first limit count : ℕ) (l : model.Listed)
-        → ((list : List Item) × (count ≡ limit) × (length list ≡ limit) × AllKnow list ms marks × AllContinue catalog parts list ms)
-        → CommitsAsked catalog parts first limit ks k l ps m (ListFull count)
-    full_apart catalog parts first limit count l full =
-        let (list, count_is, long, all, on_all) = full in
-        let known = apart list all in
-        (list, count_is, long, known.0, known.1, subst (AllContinue catalog parts list) went on_all)
+  -- a commit under marks of partitions and of a client, as each of them sees it
+  pub asked_apart : (ks : List Known) (k : Known) (ps : List Known) (m : Known) (said : Result Placed Unlisted) → CommitsListed catalog parts first limit (with_client ks k) l (with_client ps m) said
+      → CommitsAsked catalog parts first limit ks k l ps m said
+  asked_apart ks k ps m (Ok placed) done =
+      let (list, at, small, same, all, on_all) = done in
+      let known : AllKnow (added list (roles_of (with_client ks k)) l) ks ps × Knows (added list (roles_of (with_client ks k)) l) k m = know_apart (added list (roles_of (with_client ks k)) l) ks k ps m all in
+      (list, at, small, same, known.0, known.1, on_all)
+  asked_apart ks k ps m (Err NoMemory) done = ends_alike ps ks m k done
+  asked_apart ks k ps m (Err (ListFull count)) done =
+      let (list, count_is, long, all, on_all) = done in
+      let known = know_apart list ks k ps m all in
+      (list, count_is, long, known.0, known.1, on_all)

@@ -1,16 +1,18 @@
 -- What a client asks for, run on the parts in hand.
-use Rattle.std.proofs.Common.{◌≡◌, ℕ, List, [], ◌∷◌, refl, sym, subst}
+use Rattle.std.proofs.Common.{◌≡◌, ℕ, List, [], ◌∷◌, refl, sym, subst, Ok, Err}
+use Rattle.std.specs.declared.result.Result.{Result}
 use Rattle.ss_value.specs.Rows.{Rows}
 use Rattle.ss_model.specs.declared.catalog.Catalog.{Catalog}
 use Rattle.ss_model.specs.declared.entry.Entry.{Entry}
 use Rattle.ss_model.specs.declared.entry.Entry.TheVariants.{Call, Push, Step as StepEntry}
 use Rattle.ss_model.specs.declared.entry.Listed.{Listed}
 use Rattle.ss_model.specs.Database.{Database}
+use Rattle.ss_commitlog.specs.declared.placed.Placed.{Placed}
+use Rattle.ss_commitlog.specs.declared.placed.Unlisted.{Unlisted}
+use Rattle.ss_commitlog.specs.declared.placed.Unlisted.TheVariants.{NoMemory, ListFull}
 use Rattle.ss_commitlog.specs.declared.role.Role.{Role}
 use Rattle.ss_commitlog.specs.Tokens.{Known, roles_of}
 use Rattle.ss_commitlog.proofs.CallerLemmas.{in_left}
-use Rattle.ss_lanes.specs.declared.reply.Said.{Said}
-use Rattle.ss_lanes.specs.declared.reply.Said.TheVariants.{Listed as ListedSaid, NoMemory, ListFull}
 use Rattle.ss_turns.specs.Commits.{with_client, CommitsAsked}
 use Rattle.ss_turns.specs.Executed.{IsOfRole}
 use Rattle.ss_turns.specs.Runs.{AreGiven, SaysOnly}
@@ -27,16 +29,15 @@ given_asked catalog db ks role e is batches none = subst (AreGiven catalog db ks
 
 -- what its commit says, and the marks of the partitions as they come back
 module _ (catalog : Catalog) (n first limit : ℕ) (ks : List Known) (k : Known) (l : Listed) (ks' : List Known) (k' : Known) where
-  pub says_asked : (said : Said) → CommitsAsked catalog n first limit ks k l ks' k' said → SaysOnly l said
-  says_asked (ListedSaid place copy) done = let (list, at, small, same, know, knows, all) = done in same
-  says_asked NoMemory done = tt
-  says_asked (ListFull count) done = tt
+  pub says_asked : (said : Result Placed Unlisted) → CommitsAsked catalog n first limit ks k l ks' k' said → SaysOnly l said
+  says_asked (Ok placed) done = let (list, at, small, same, know, knows, all) = done in same
+  says_asked (Err unlisted) done = tt
 
-  pub came_asked : (said : Said) → CommitsAsked catalog n first limit ks k l ks' k' said → Came catalog n ks l ks' said
-  came_asked (ListedSaid place copy) done =
+  pub came_asked : (said : Result Placed Unlisted) → CommitsAsked catalog n first limit ks k l ks' k' said → Came catalog n ks l ks' said
+  came_asked (Ok placed) done =
       let (list, at, small, same, know, knows, all) = done in
       (list, roles_of (with_client ks k), know, λ x i. all x (in_left x ks (k ∷ []) i))
-  came_asked NoMemory done = done.0
-  came_asked (ListFull count) done =
+  came_asked (Err NoMemory) done = done.0
+  came_asked (Err (ListFull count)) done =
       let (list, count_is, full, know, knows, all) = done in
       (list, know, λ x i. all x (in_left x ks (k ∷ []) i))

@@ -1,11 +1,16 @@
 -- An entry that ran on the parts in hand.
-use Rattle.std.specs.Prelude.{◌≡◌, ℕ, ◌+◌, ◌<◌, ◌^◌, List, length}
+use Rattle.std.specs.Prelude.{◌≡◌, ℕ, ◌+◌, ◌<◌, ◌^◌, List, length, Some, None, Ok, Err}
+use Rattle.std.specs.declared.option.Option.{Option}
+use Rattle.std.specs.declared.result.Result.{Result}
 use Rattle.ss_model.specs.declared.catalog.Catalog.{Catalog}
 use Rattle.ss_model.specs.declared.entry.Entry.{Entry}
 use Rattle.ss_model.specs.declared.entry.Entry.TheVariants.{Call, Push, Step as StepEntry}
 use Rattle.ss_model.specs.declared.entry.Listed.{Listed}
 use Rattle.ss_model.specs.Database.{Database}
 use Rattle.ss_model.specs.parts.HeldParts.{HoldsTouched}
+use Rattle.ss_commitlog.specs.declared.placed.Placed.{Placed}
+use Rattle.ss_commitlog.specs.declared.placed.Unlisted.{Unlisted}
+use Rattle.ss_commitlog.specs.declared.placed.Unlisted.TheVariants.{NoMemory, ListFull}
 use Rattle.ss_commitlog.specs.declared.role.Role.{Role}
 use Rattle.ss_commitlog.specs.declared.role.Role.TheVariants.{Client}
 use Rattle.ss_commitlog.specs.declared.rule.Item.{Item}
@@ -13,9 +18,6 @@ use Rattle.ss_commitlog.specs.Tokens.{Known, AllContinue, AllKnow, added, roles_
 use Rattle.ss_hand.specs.Hands.{IsInHand}
 use Rattle.ss_hand.specs.declared.hand.Hand.{Hand}
 use Rattle.ss_shard.specs.Parts.{is_among}
-use Rattle.ss_turns.specs.declared.execution.Stepped.{Stepped}
-use Rattle.ss_turns.specs.declared.execution.Stepped.TheVariants.{Ran, NotReady, NoMemory, ListFull}
-use Rattle.ss_lanes.specs.declared.reply.Said.{Said}
 use Rattle.ss_turns.specs.Commits.{CommitsAsked}
 use Rattle.ss_turns.specs.Stepping.{AllGoOn}
 
@@ -36,18 +38,18 @@ abbrev pub StaysInHand : {I : Type 0} → Catalog → ℕ → Database → Hand 
 StaysInHand catalog n db old new = (held : List ℕ) → IsInHand catalog n db held old → IsInHand catalog n db held new
 
 -- an entry ran under the marks of its partitions and of its client, and these marks as they come back with what was said
-pub record RanAsked (catalog : Catalog) (n first limit : ℕ) (e : Entry) (ks : List Known) (k : Known) (ks' : List Known) (k' : Known) (said : Said) : Type 0 where
+pub record RanAsked (catalog : Catalog) (n first limit : ℕ) (e : Entry) (ks : List Known) (k : Known) (ks' : List Known) (k' : Known) (said : Result Placed Unlisted) : Type 0 where
   pub listed : Listed
   pub entry_is : listed.entry ≡ e
   pub commits : CommitsAsked catalog n first limit ks k listed ks' k' said
 
 -- the next step of a procedure under the marks of its partitions, and these marks as they come back: it joined the list at its
 -- place, behind a list that goes on from what each mark knew; or, where it did not run, the marks know no less than before
-abbrev pub IsStepped : Catalog → ℕ → ℕ → ℕ → ℕ → List Known → List Known → Stepped → Type 0
-IsStepped catalog n first limit q ks ks' (Ran place l) =
-    (list : List Item) × (r : ℕ) × (place ≡ first + length list) × (place < 2 ^ 60) × (l.entry ≡ StepEntry q r)
-    × AllKnow (added list (roles_of ks) l) ks ks' × AllContinue catalog n list ks
-IsStepped catalog n first limit q ks ks' NotReady = AllGoOn catalog n ks ks'
-IsStepped catalog n first limit q ks ks' NoMemory = AllGoOn catalog n ks ks'
-IsStepped catalog n first limit q ks ks' (ListFull count) =
+abbrev pub IsStepped : Catalog → ℕ → ℕ → ℕ → ℕ → List Known → List Known → Result (Option Placed) Unlisted → Type 0
+IsStepped catalog n first limit q ks ks' (Ok (Some placed)) =
+    (list : List Item) × (r : ℕ) × (placed.place ≡ first + length list) × (placed.place < 2 ^ 60) × (placed.listed.entry ≡ StepEntry q r)
+    × AllKnow (added list (roles_of ks) placed.listed) ks ks' × AllContinue catalog n list ks
+IsStepped catalog n first limit q ks ks' (Ok None) = AllGoOn catalog n ks ks'
+IsStepped catalog n first limit q ks ks' (Err NoMemory) = AllGoOn catalog n ks ks'
+IsStepped catalog n first limit q ks ks' (Err (ListFull count)) =
     (list : List Item) × (count ≡ limit) × (length list ≡ limit) × AllKnow list ks ks' × AllContinue catalog n list ks

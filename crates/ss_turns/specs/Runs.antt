@@ -1,5 +1,6 @@
 -- A shard with parts of a database on which an entry runs: while the run waits for its end, and behind it.
-use Rattle.std.specs.Prelude.{◌≡◌, ℕ, List, Some}
+use Rattle.std.specs.Prelude.{◌≡◌, ℕ, List, Some, Ok, Err}
+use Rattle.std.specs.declared.result.Result.{Result}
 use Rattle.ss_value.specs.Rows.{Rows}
 use Rattle.ss_model.specs.declared.catalog.Catalog.{Catalog}
 use Rattle.ss_model.specs.declared.entry.Emitted.{Emitted}
@@ -10,13 +11,13 @@ use Rattle.ss_model.specs.parts.HeldParts.{HoldsTouched}
 use Rattle.ss_model.specs.parts.Locality.{SameInputs}
 use Rattle.ss_proc.specs.Entries.{AreAtHand, EntryHasSource, IsCountable}
 use Rattle.ss_proc.specs.Parts.{RanOnParts}
+use Rattle.ss_commitlog.specs.declared.placed.Placed.{Placed}
+use Rattle.ss_commitlog.specs.declared.placed.Unlisted.{Unlisted}
 use Rattle.ss_commitlog.specs.Right.{HasInputs, IsKnownTo}
 use Rattle.ss_commitlog.specs.Tokens.{Known}
 use Rattle.ss_shard.specs.Parts.{is_among, HasParts, HoldsParts}
 use Rattle.ss_shard.specs.Shards.{CanRollBack, IsCommitted, IsOf}
 use Rattle.ss_shard.specs.ShardValue.{ShardValue}
-use Rattle.ss_lanes.specs.declared.reply.Said.{Said}
-use Rattle.ss_lanes.specs.declared.reply.Said.TheVariants.{Listed as ListedSaid, NoMemory, ListFull}
 
 -- these are the batches that an entry takes, on each database that has the same inputs for it as one that some mark knows
 pub record AreGiven (catalog : Catalog) (db : Database) (ks : List Known) (e : Entry) (batches : List Rows) : Type 0 where
@@ -53,25 +54,23 @@ pub record HasCommitted (catalog : Catalog) (n : ℕ) (old new : ShardValue) (e 
   pub parts : (held : List ℕ) → HasParts catalog n held old → HasParts catalog n held new
   pub holds : (held : List ℕ) → HoldsTouched catalog n (is_among held) e → (db : Database) → HoldsParts catalog n held old db → AreAtHand catalog db e batches → HoldsAfter catalog n held new db e
 
--- what is said to be listed, if anything is, is this
-abbrev pub SaysOnly : Listed → Said → Type 0
-SaysOnly l (ListedSaid place copy) = copy ≡ l
-SaysOnly l NoMemory = Unit {0}
-SaysOnly l (ListFull count) = Unit {0}
+-- what has a place, if anything has, is this
+abbrev pub SaysOnly : Listed → Result Placed Unlisted → Type 0
+SaysOnly l (Ok placed) = placed.listed ≡ l
+SaysOnly l (Err unlisted) = Unit {0}
 
 -- some run that waits for its end, of which this is said
-abbrev pub MayEnd : ShardValue → Said → Type 0
+abbrev pub MayEnd : ShardValue → Result Placed Unlisted → Type 0
 MayEnd now said =
     (catalog : Catalog) × (n : ℕ) × (old : ShardValue) × (l : Listed) × (batches : List Rows) × (emitted : List Emitted) × HasRun catalog n old now l batches emitted × SaysOnly l said
 
--- what is said to be listed was committed, and all else was rolled back
-abbrev pub EndedAsSaid : Catalog → ℕ → ShardValue → ShardValue → Entry → List Rows → Said → Type 0
-EndedAsSaid catalog n old new e batches (ListedSaid place copy) = HasCommitted catalog n old new e batches
-EndedAsSaid catalog n old new e batches NoMemory = HasStayed catalog n old new
-EndedAsSaid catalog n old new e batches (ListFull count) = HasStayed catalog n old new
+-- what has a place was committed, and all else was rolled back
+abbrev pub EndedAsSaid : Catalog → ℕ → ShardValue → ShardValue → Entry → List Rows → Result Placed Unlisted → Type 0
+EndedAsSaid catalog n old new e batches (Ok placed) = HasCommitted catalog n old new e batches
+EndedAsSaid catalog n old new e batches (Err unlisted) = HasStayed catalog n old new
 
 -- so each run that waited has ended
-abbrev pub HasEnded : ShardValue → ShardValue → Said → Type 0
+abbrev pub HasEnded : ShardValue → ShardValue → Result Placed Unlisted → Type 0
 HasEnded now new said =
     (catalog : Catalog) (n : ℕ) (old : ShardValue) (l : Listed) (batches : List Rows) (emitted : List Emitted) →
     HasRun catalog n old now l batches emitted → SaysOnly l said → EndedAsSaid catalog n old new l.entry batches said

@@ -5,15 +5,16 @@
 //! not seen here, nor who asked: that is `ss_engine`.
 //!
 //! - `execution`: an entry that a client asks for, or the next step of a procedure, on the parts in hand
-//! - `running`: its run and its end; `asking`: the commit of what a client asked for
-//! - `stepping`: the batches and the commit of a step
+//! - `running`: its run, its commit and its end; `asking`: the commit of what a client asked for
+//! - `stepping`: the batches of a step, and its run
+//! - `works`: what each execution of an engine is given
 //!
 //! In `specs/`: `Runs` (a run that waits for its end, and behind it), `Commits`, `Stepping`, `Executed`.
 //!
 //! # Promises
 //!
 //! - `execute_asked` (`ran`: `RanAsked`): the entry stands in the list behind all that each mark knew, and all marks know the list that
-//!   ends with it; or there was no memory, or the list is full, and nothing has changed. Its client's mark comes back.
+//!   ends with it; or there was no memory, or the list is full, and nothing has changed. Hand and mark are lent.
 //! - `execute_step` (`stepped`: `IsStepped`): the same of the next step of a procedure; where some input has no batch for it,
 //!   that is what one of the marks saw (`not_ready`).
 //! - Whatever came of it, the same partitions are in hand (`in_hand`: `StaysInHand`), so each bay gets back what it needs.
@@ -32,5 +33,7 @@ mod asking;
 mod execution;
 mod running;
 mod stepping;
+mod works;
 
-pub use execution::{Stepped, execute_asked, execute_step};
+pub use execution::{execute_asked, execute_step};
+pub use works::Works;

@@ -1,7 +1,7 @@
 use Rattle.std.proofs.Common.{◌≡◌, ℕ, suc, List, [], ◌∷◌, ◌++◌, map, reverse, length, length-append, refl, sym, ap, ◌∙◌, subst, arith, append-nil}
 use Rattle.std.proofs.lemmas.List.{with_items_is}
 use Rattle.ss_shard.specs.Unions.{numbers_of}
-use Rattle.ss_hand.specs.Apart.{shards_of, numbers_in, HasRoom}
+use Rattle.ss_hand.specs.Apart.{shards_of, HasRoom}
 use Rattle.ss_hand.specs.Partitions.{PartitionView, number_of}
 use Rattle.ss_hand.proofs.Turned.{turned, turned_more, empty, numbers_on, less_room}
 use Rattle.ss_hand.proofs.closing.set_apart.Goals as goal
@@ -45,6 +45,7 @@ returns-clause-numbers g c =
     let back : c.reverse.new.self ≡ reverse c.args.partitions = c.reverse.ensures.after ∙ ap reverse (c.as_mut_slice.ensures.value ∙ c.into_vec-list.ensures) in
     let is : c.args.partitions ≡ first ∷ reverse rest = turned c.args.partitions c.reverse.new.self rest first back (sym (with_items_is c.into_vec-list.result c.reverse.new.self same) ∙ c.in-Some.ensures.items) in
     let none : c.loop-partition.list.items ≡ [] = empty c.loop-partition.list.items (sym c.loop-partition.list.ok.0 ∙ c.in_default-pop.ensures.cases.0) in
-    sym (append-nil (numbers_in apart)) ∙ ap (λ (l : List PartitionView). numbers_in apart ++ map number_of (reverse l)) (sym none) ∙ i.all
+    ap numbers_of c.into_hand.ensures.shards ∙ sym (append-nil (numbers_of (shards_of apart)))
+    ∙ ap (λ (l : List PartitionView). numbers_of (shards_of apart) ++ map number_of (reverse l)) (sym none) ∙ i.all
     ∙ numbers_on (shards_of c.of_one-apart.result) [] first.shard (number_of first) (map number_of (reverse rest)) c.of_one-apart.ensures.shards refl
     ∙ ap (λ (l : List PartitionView). map number_of l) (sym is)

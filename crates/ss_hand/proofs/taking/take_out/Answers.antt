@@ -103,13 +103,15 @@ returns g c =
     let own : PartitionView × TurnValue → Type 0 = λ one. IsTaken number_of bays one.1.bay one in
     let taken : IsTaken number_of bays turn.bay (first, turn) = first_has own (first, turn) (reverse rest) gathered is c.in-Ok.ensures.ok.own in
     let none : c.loop-partition.list.items ≡ [] = empty c.loop-partition.list.items (sym c.loop-partition.list.ok.0 ∙ c.in_default-pop-2.ensures.cases.0) in
-    let numbers : numbers_in apart ≡ bays_of gathered =
-    sym (append-nil (numbers_in apart)) ∙ ap (λ (l : List (PartitionView × TurnValue)). numbers_in apart ++ bays_of (reverse l)) (sym none) ∙ i.all
+    let joined : numbers_of (shards_of apart) ≡ bays_of gathered =
+    sym (append-nil (numbers_of (shards_of apart))) ∙ ap (λ (l : List (PartitionView × TurnValue)). numbers_of (shards_of apart) ++ bays_of (reverse l)) (sym none) ∙ i.all
     ∙ numbers_on (shards_of c.of_one-apart.result) [] first.shard turn.bay (bays_of (reverse rest)) c.of_one-apart.ensures.shards taken.own
     ∙ ap (λ (l : List (PartitionView × TurnValue)). bays_of l) (sym is) in
+    let same_shards = c.into_hand.ensures.shards in
+    let numbers : numbers_in c.into_hand.result ≡ bays_of gathered = ap numbers_of same_shards ∙ joined in
     record {
       members = λ p. subst (λ (l : List ℕ). IsBitSet c.args.set p ↔ Contains l p) (sym numbers) (c.in-Ok.ensures.ok.members p);
       rising = subst IsStrictlyIncreasing (sym numbers) c.in-Ok.ensures.ok.rising;
-      are = i.are;
-      turns_are = i.turns_are;
+      are = c.into_hand.ensures.are;
+      turns_are = i.turns_are ∙ ap (λ (l : List ShardValue). map (turn_of bays) (numbers_of l)) (sym same_shards);
     }

@@ -1,4 +1,4 @@
-use Rattle.std.proofs.Common.{◌<◌, ◌+◌, ℕ, List, sym, subst, arith}
+use Rattle.std.proofs.Common.{◌<◌, ◌+◌, ℕ, List, [], ◌∷◌, ◌++◌, sym, subst, arith}
 use Rattle.std.proofs.lemmas.List.{nil_from_length}
 use Rattle.ss_lanes.specs.Lanes.{LaneView, AreFresh}
 use Rattle.ss_lanes.proofs.FreshLanes.{mark_left, note_left, next_left, fresh_more}
@@ -36,7 +36,7 @@ loop-client-preserved g c =
     c.loop-client.invariant.left c.in-Some.ensures.items c.in-Some-pop.ensures.some in
     record {
       left = next.left;
-      fresh = subst (λ (lanes : List LaneView). AreFresh g.I.Life.first (c.loop-client.client + 1) lanes) (sym c.push_reserved.ensures.items)
+      fresh = subst (λ (lanes : List LaneView). AreFresh g.I.Life.first (c.loop-client.client + 1) lanes) (sym {A = List LaneView} {a = c.push_reserved.new.self.items} {b = c.loop-client.lanes.items ++ c.new.result ∷ []} c.push_reserved.ensures.items)
           (fresh_more g.I.Life.first c.loop-client.client c.loop-client.lanes.items c.new.result c.loop-client.invariant.fresh c.new.ensures);
       room = (let e = c.push_reserved.ensures.capacity in let r = c.loop-client.invariant.room in omega arith);
     }

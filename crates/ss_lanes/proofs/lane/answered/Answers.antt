@@ -1,29 +1,32 @@
-use Rattle.std.proofs.Common.{rules, ◌≡◌, ◌+◌, ◌<◌, ◌^◌, IfSome, ◌∙◌, sym, subst, ap, List, [], ◌∷◌, ◌++◌, length}
+use Rattle.std.proofs.Common.{◌+◌, ◌<◌, ◌^◌, IfSome, ◌∙◌, sym, subst, ap, arith, List, [], ◌∷◌, ◌++◌, length}
 use Rattle.std.proofs.lemmas.List.{length_push}
 use Rattle.ss_model.specs.declared.entry.Answer.{Answer}
 use Rattle.ss_lanes.specs.declared.due.Due.{Due}
 use Rattle.ss_lanes.specs.declared.ticket.Ticket.{Ticket}
-use Rattle.ss_lanes.specs.Answered.{answer_of}
 use Rattle.ss_lanes.specs.Dues.{due_after, place_of}
-use Rattle.ss_lanes.specs.Lanes.{IsLane}
+use Rattle.ss_lanes.specs.Lanes.{IsLane, next_ticket}
 use Rattle.ss_lanes.proofs.Telling.{few_more, lane_more, listed_few, small_place}
 use Rattle.ss_lanes.proofs.lane.answered.Goals as goal
 
-pub invariant_of-result : goal.invariant_of-result
-invariant_of-result g c =
-    let later : c.after-due.result ≡ due_after c.args.due (answer_of c.args.said) = c.after-due.ensures ∙ ap (due_after c.args.due) c.answer_of-answer.ensures in
-    let next : Ticket = record { client = c.args.ticket.client; index = c.len.result; count = c.args.ticket.count + c.more_entries-more.result } in
-    subst (λ (d : Due). IsLane g.I.Life.clients g.I.Life.first next d c.args.mark c.args.note c.add.new.self.items) (sym later)
-    (lane_more g.I.Life.clients g.I.Life.first c.args.ticket c.args.due c.args.mark c.args.note c.args.answers.items c.args.said c.len.result c.more_entries-more.result c.add.new.self.items c.requires.answered
-    c.more_entries-more.ensures (c.add.ensures.items ∙ ap (λ (a : Answer). c.args.answers.items ++ a ∷ []) c.answer_of-answer.ensures) c.len.ensures)
-
-pub overflow_add-next : goal.overflow_add-next
-overflow_add-next g c =
-    let few = listed_few g.I.Life.clients g.I.Life.first c.args.ticket c.args.due c.args.mark c.args.note c.args.answers.items c.args.said c.requires.answered in
+pub next_ticket-next-requires : goal.next_ticket-next-requires
+next_ticket-next-requires g c =
+    let a = c.requires.answered in
+    let few = listed_few c.args.ticket.count a.olds c.args.answers.items a.counted a.all_told in
     let one = few_more c.args.said in
+    let more = c.more_entries-more.ensures in
     let many = ap (λ (l : List Answer). length l) {x = c.add.new.self.items} c.add.ensures.items in
     let push = length_push c.args.answers.items c.answer_of-answer.result in
-    search (rules, few, one, many, push)
+    omega arith
+
+pub lane_of-requires : goal.lane_of-requires
+lane_of-requires g c =
+    let later = c.after-due.ensures ∙ ap (due_after c.args.due) c.answer_of-answer.ensures in
+    let news = c.add.new.self.items in
+    let next = next_ticket c.args.ticket.client (c.args.ticket.count + c.more_entries-more.result) news in
+    subst (λ (t : Ticket). IsLane g.I.Life.clients g.I.Life.first t c.after-due.result c.args.mark c.args.note news) (sym c.next_ticket-next.ensures)
+    (subst (λ (d : Due). IsLane g.I.Life.clients g.I.Life.first next d c.args.mark c.args.note news) (sym later)
+    (lane_more g.I.Life.clients g.I.Life.first c.args.ticket c.args.due c.args.mark c.args.note c.args.answers.items c.args.said c.more_entries-more.result news c.requires.answered
+    c.more_entries-more.ensures (c.add.ensures.items ∙ ap (λ (a : Answer). c.args.answers.items ++ a ∷ []) c.answer_of-answer.ensures)))
 
 pub after-due-requires-clause-small : goal.after-due-requires-clause-small
 after-due-requires-clause-small g c =

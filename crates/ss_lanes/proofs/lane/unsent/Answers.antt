@@ -1,8 +1,8 @@
-use Rattle.std.proofs.Common.{◌∙◌, ap, refl}
-use Rattle.ss_lanes.specs.declared.reply.Said.TheVariants.{NoMemory}
+use Rattle.std.proofs.Common.{◌∙◌, ap, refl, Err}
+use Rattle.ss_commitlog.specs.declared.placed.Unlisted.TheVariants.{NoMemory}
 use Rattle.ss_lanes.specs.Lanes.{LaneView}
 use Rattle.ss_lanes.proofs.Coming.{as_before, submitted}
-use Rattle.ss_lanes.proofs.Growing.{on_itself}
+use Rattle.ss_commitlog.proofs.CallerLemmas.{on_itself}
 use Rattle.ss_lanes.proofs.lane.unsent.Goals as goal
 
 pub answered-requires-clause-answered : goal.answered-requires-clause-answered
@@ -10,5 +10,5 @@ answered-requires-clause-answered g c = as_before g.I.Life.clients g.I.Life.firs
 
 pub returns : goal.returns
 returns g c = λ limit what.
-    submitted g.I.Life.catalog g.I.Life.parts g.I.Life.first limit c.lane.inside.ticket c.lane.inside.due what c.lane.inside.answers c.lane.inside.note c.lane.inside.note c.args.lane c.answered.result NoMemory
+    submitted g.I.Life.catalog g.I.Life.parts g.I.Life.first limit c.lane.inside.ticket c.lane.inside.due what c.lane.inside.answers c.lane.inside.note c.lane.inside.note c.args.lane c.answered.result (Err NoMemory)
     c.lane.view_is (ap (λ (l : LaneView). l.due.faults) c.lane.view_is ∙ c.requires.going) c.answered.ensures.client c.answered.ensures.note c.answered.ensures.due c.answered.ensures.answers c.answered.ensures.spare (on_itself g.I.Life.catalog g.I.Life.parts c.lane.inside.note) refl

@@ -1,6 +1,6 @@
 use Rattle.std.proofs.Common.{◌<◌, ℕ, IfSome, IfNone}
 use Rattle.ss_settle.specs.Ready.{StepsWhenFound, WasFirst, WasIdle}
-use Rattle.ss_lanes.specs.Growing.{GoesOn}
+use Rattle.ss_commitlog.specs.Growing.{GoesOn}
 use Rattle.ss_settle.proofs.settling.next_ready.Given as goal
 
 -- what was found was ready behind some list on the way, and first of those that were so at each partition so far; where nothing was

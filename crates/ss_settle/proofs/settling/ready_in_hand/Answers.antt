@@ -1,34 +1,31 @@
-use Rattle.std.proofs.Common.{◌≤◌, ◌∙◌, ℕ, sym, subst}
+use Rattle.std.proofs.Common.{◌∙◌, is_some, sym, ap, true≢false}
 use Rattle.ss_shard.specs.Parts.{all_partitions}
 use Rattle.ss_turns.proofs.CallerLemmas.{looked_in_hand, some_marks}
-use Rattle.ss_settle.proofs.WholeList.{looked_on, none_found, none_met, some_found}
+use Rattle.ss_settle.proofs.WholeList.{first_met, looked_on, none_found, some_found}
 use Rattle.ss_settle.proofs.settling.ready_in_hand.Goals as goal
 
 pub unreachable-requires : goal.unreachable-requires
 unreachable-requires g c =
-    some_marks g.I.Life.catalog g.I.Life.parts g.I.Life.opening (all_partitions g.I.Life.parts) c.args.hand c.requires.in_hand
-    (none_met g.I.Life.catalog g.I.Life.parts g.I.Life.limit c.args.hand.marks c.meet_all-met.result c.meet_all-met.ensures (sym c.from_seq-marks.ensures ∙ c.in_default.ensures.none.0))
+    let there = first_met g.I.Life.catalog g.I.Life.parts g.I.Life.limit c.args.hand.now.marks c.meet_all.new.marks c.meet_all.ensures
+    (some_marks g.I.Life.catalog g.I.Life.parts g.I.Life.opening (all_partitions g.I.Life.parts) c.args.hand.now c.requires.in_hand) in
+    true≢false (sym (c.get_mut.ensures.within.1 there) ∙ ap is_some c.in_default.is)
 
 pub returns-clause-in_hand : goal.returns-clause-in_hand
 returns-clause-in_hand g c =
-    let some : 1 ≤ g.I.Life.parts = subst (λ (n : ℕ). 1 ≤ n) c.requires.parts.0 c.requires.parts.1 in
-    looked_in_hand g.I.Life.catalog c.requires.accepted g.I.Life.parts some g.I.Life.opening (all_partitions g.I.Life.parts) c.args.hand c.into_seq.result
-    (looked_on g.I.Life.catalog g.I.Life.parts g.I.Life.limit c.args.hand.marks c.meet_all-met.result c.into_seq.result c.pop.new.self.items c.in-Some.mark c.next_ready-mark.result.0 c.meet_all-met.ensures
-    (sym c.from_seq-marks.ensures ∙ c.in-Some.ensures.some.0) (c.into_seq.ensures ∙ c.add.ensures.items) c.next_ready-mark.ensures.mark) c.requires.in_hand
+    looked_in_hand g.I.Life.catalog c.requires.accepted g.I.Life.parts c.args.works.now.some g.I.Life.opening (all_partitions g.I.Life.parts) c.args.hand.now _
+    (looked_on g.I.Life.catalog g.I.Life.parts g.I.Life.limit c.args.hand.now.marks c.meet_all.new.marks c.in-Some.mark.now c.next_ready.new.mark c.meet_all.ensures c.in-Some.ensures.item c.next_ready.ensures.mark)
+    c.requires.in_hand
 
 pub returns-clause-marks : goal.returns-clause-marks
 returns-clause-marks g c =
-    looked_on g.I.Life.catalog g.I.Life.parts g.I.Life.limit c.args.hand.marks c.meet_all-met.result c.into_seq.result c.pop.new.self.items c.in-Some.mark c.next_ready-mark.result.0 c.meet_all-met.ensures
-    (sym c.from_seq-marks.ensures ∙ c.in-Some.ensures.some.0) (c.into_seq.ensures ∙ c.add.ensures.items) c.next_ready-mark.ensures.mark
+    looked_on g.I.Life.catalog g.I.Life.parts g.I.Life.limit c.args.hand.now.marks c.meet_all.new.marks c.in-Some.mark.now c.next_ready.new.mark c.meet_all.ensures c.in-Some.ensures.item c.next_ready.ensures.mark
 
 pub returns-clause-some : goal.returns-clause-some
 returns-clause-some g c =
-    let some : 1 ≤ g.I.Life.parts = subst (λ (n : ℕ). 1 ≤ n) c.requires.parts.0 c.requires.parts.1 in
-    some_found g.I.Life.catalog g.I.Life.parts g.I.Life.limit c.args.hand.marks c.meet_all-met.result c.into_seq.result c.pop.new.self.items c.in-Some.mark c.next_ready-mark.result.0 c.meet_all-met.ensures
-    (sym c.from_seq-marks.ensures ∙ c.in-Some.ensures.some.0) (c.into_seq.ensures ∙ c.add.ensures.items) c.next_ready-mark.ensures.mark some c.requires.in_hand.roles c.requires.accepted c.args.ranks.now c.requires.ranks g.I.Life.opening c.next_ready-mark.result.1 c.next_ready-mark.ensures.some c.next_ready-mark.ensures.first
+    some_found g.I.Life.catalog g.I.Life.parts g.I.Life.limit c.args.hand.now.marks c.meet_all.new.marks c.in-Some.mark.now c.next_ready.new.mark c.meet_all.ensures c.in-Some.ensures.item c.next_ready.ensures.mark
+    c.args.works.now.some c.requires.in_hand.roles c.args.ranks.now c.requires.ranks g.I.Life.opening c.next_ready.result c.next_ready.ensures.some c.next_ready.ensures.first
 
 pub returns-clause-none : goal.returns-clause-none
 returns-clause-none g c =
-    let some : 1 ≤ g.I.Life.parts = subst (λ (n : ℕ). 1 ≤ n) c.requires.parts.0 c.requires.parts.1 in
-    none_found g.I.Life.catalog g.I.Life.parts g.I.Life.limit c.args.hand.marks c.meet_all-met.result c.into_seq.result c.pop.new.self.items c.in-Some.mark c.next_ready-mark.result.0 c.meet_all-met.ensures
-    (sym c.from_seq-marks.ensures ∙ c.in-Some.ensures.some.0) (c.into_seq.ensures ∙ c.add.ensures.items) c.next_ready-mark.ensures.mark some c.requires.in_hand.roles g.I.Life.opening c.next_ready-mark.result.1 c.next_ready-mark.ensures.none
+    none_found g.I.Life.catalog g.I.Life.parts g.I.Life.limit c.args.hand.now.marks c.meet_all.new.marks c.in-Some.mark.now c.next_ready.new.mark c.meet_all.ensures c.in-Some.ensures.item c.next_ready.ensures.mark
+    c.args.works.now.some c.requires.in_hand.roles g.I.Life.opening c.next_ready.result c.next_ready.ensures.none

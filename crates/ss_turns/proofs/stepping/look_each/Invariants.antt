@@ -1,7 +1,7 @@
 use Rattle.std.proofs.Common.{◌≡◌, map, take, slice_get, Some}
 use Rattle.ss_model.specs.Database.{stream_batches}
 use Rattle.ss_commitlog.specs.Right.{known_database}
-use Rattle.ss_lanes.specs.Growing.{GoesOn}
+use Rattle.ss_commitlog.specs.Growing.{GoesOn}
 use Rattle.ss_turns.proofs.stepping.look_each.Given as goal
 
 abbrev pub invariant-loop-stream : goal.invariant-loop-stream

@@ -5,5 +5,5 @@ use Rattle.ss_turns.proofs.stepping.run_step.Goals as goal
 
 pub returns-clause-ok : goal.returns-clause-ok
 returns-clause-ok g c =
-    subst (λ (batches : List Rows). IfOk c.run.result (λ x. (n : ℕ) → 1 ≤ n → HasRun c.args.catalog.now n c.args.whole.now c.run.new.whole (record { entry = c.args.entry.now; outcome = x.outcome }) batches x.emitted))
-    c.in-Ok.ensures c.run.ensures.ok
+    subst (λ (batches : List Rows). IfOk c.run.result (λ x. (n : ℕ) → 1 ≤ n → HasRun g.I.Life.catalog n c.args.shard.now c.run.new.shard (record { entry = c.args.entry.now; outcome = x.outcome }) batches x.emitted))
+    c.in_ok-batches.ensures c.run.ensures.ok
