@@ -1,5 +1,6 @@
 -- What a run's log holds, once what the run added is flushed.
 use Rattle.std.proofs.Common.{◌≡◌, ◌⊎◌, ℕ, ◌+◌, ◌≤◌, List, ◌++◌, length, sym, ap, ◌∙◌, subst, arith, Result, Ok, Err, IfOk}
+use Rattle.ss_disk.specs.Kinds.{DiskKind}
 use Rattle.ss_model.specs.declared.catalog.Catalog.{Catalog}
 use Rattle.ss_model.specs.declared.entry.Listed.{Listed}
 use Rattle.ss_model.specs.declared.entry.Request.{Request}
@@ -17,8 +18,8 @@ use Rattle.ss_receipts.specs.Holding.{Holds}
 use Rattle.ss_receipts.specs.Laws.{AllStands, HeldFrontsStand, HoldsGoOn}
 use Rattle.ss_receipts.specs.Past.{past_of}
 use Rattle.ss_receipts.proofs.CallerLemmas.{disk_since}
-use Rattle.ss_engine.specs.declared.closing.Closed.{Closed}
-use Rattle.ss_engine.specs.declared.session.Finished.{Finished}
+use Rattle.ss_engine.specs.declared.session.close.Closed.{Closed}
+use Rattle.ss_engine.specs.declared.session.run.Finished.{Finished}
 use Rattle.ss_engine.specs.Sessions.{Ends, EndsOnDisk, IsFlushed, IsRun}
 use Rattle.ss_lanes.proofs.CallerLemmas.{few_open_on}
 use Rattle.ss_lanes.proofs.CallerLemmas.{few_from, still_unlisted}
@@ -46,11 +47,11 @@ run_on catalog db first limit clients requests count more faults later closed up
 front_less : (catalog : Catalog) (db : Database) (first : ℕ) (list : List Listed) (m n : ℕ) (image : Files) → m ≤ n → StandsForFront catalog db first list n image → StandsForFront catalog db first list m image
 front_less catalog db first list m n image less front = record { some = front.some; within = front.within; enough = (let e = front.enough in omega arith); stands = front.stands }
 
-module _ {D : Type 0} (tells honest : Type 0) (seen : D → Files) (moment : D → ℕ) (images : D → ℕ → Files → Type 0) (faults : D → ℕ) (catalog : Catalog) (db : Database) (first opened before : ℕ) (past : ℕ → List (List ℕ) → Type 0) where
-  module _ (closed : Closed) (log : CmdLog D) (old_count old_fault : ℕ) (answer : Result ReceiptValue DurableError) (f : Finishes catalog db first opened before past tells honest seen moment images faults closed.list log old_count old_fault answer) where
+module _ {D : Type 0} (kind : DiskKind D) (catalog : Catalog) (db : Database) (first opened before : ℕ) (past : ℕ → List (List ℕ) → Type 0) where
+  module _ (closed : Closed) (log : CmdLog D) (old_count old_fault : ℕ) (answer : Result ReceiptValue DurableError) (f : Finishes catalog db first opened before past kind closed.list log old_count old_fault answer) where
     -- all is flushed
     pub flushed_ok : (receipt : ReceiptValue) → answer ≡ Ok receipt
-        → IsFlushed tells honest seen moment images faults catalog db first opened before past old_count old_fault (record { closed = closed; log = log; receipted = receipt.count; flushed = Ok receipt })
+        → IsFlushed kind catalog db first opened before past old_count old_fault (record { closed = closed; log = log; receipted = receipt.count; flushed = Ok receipt })
     flushed_ok receipt is =
         let durable : IsDurable (first + length closed.list) f.count f.fault (Ok receipt) = subst (IsDurable (first + length closed.list) f.count f.fault) is f.answer in
         record {
@@ -66,7 +67,7 @@ module _ {D : Type 0} (tells honest : Type 0) (seen : D → Files) (moment : D �
 
     -- not all is, and the count that had receipts has them
     pub flushed_err : (refused : DurableError) → answer ≡ Err refused
-        → IsFlushed tells honest seen moment images faults catalog db first opened before past old_count old_fault (record { closed = closed; log = log; receipted = old_count; flushed = Err refused })
+        → IsFlushed kind catalog db first opened before past old_count old_fault (record { closed = closed; log = log; receipted = old_count; flushed = Err refused })
     flushed_err refused is = record {
       count = f.count;
       fault = f.fault;
@@ -81,9 +82,9 @@ module _ {D : Type 0} (tells honest : Type 0) (seen : D → Files) (moment : D �
   -- the run that was flushed
   pub run_ends : (limit clients : ℕ) (requests : List Request) (closed : Closed) (old_count old_fault : ℕ) (ended : Finished D) → ended.closed ≡ closed → first ≤ old_count
       → IsRun catalog db first limit clients requests old_count old_fault closed
-      → IsFlushed tells honest seen moment images faults catalog db first opened before past old_count old_fault ended
-      → HeldFrontsStand D catalog db first opened before past tells honest seen moment images faults → AllStands D catalog db first opened before past tells honest seen moment images faults
-      → Ends tells honest seen moment images faults catalog db first limit clients opened before past requests ended
+      → IsFlushed kind catalog db first opened before past old_count old_fault ended
+      → HeldFrontsStand D catalog db first opened before past kind → AllStands D catalog db first opened before past kind
+      → Ends kind catalog db first limit clients opened before past requests ended
   run_ends limit clients requests closed old_count old_fault ended same begun run flushed held all_held = record {
     count = flushed.count;
     fault = flushed.fault;
@@ -99,12 +100,12 @@ module _ {D : Type 0} (tells honest : Type 0) (seen : D → Files) (moment : D �
   }
 
 -- the same, where the past is that of the disk at the opening
-pub ends_on_disk : {D : Type 0} (tells honest : Type 0) (seen : D → Files) (moment : D → ℕ) (images : D → ℕ → Files → Type 0) (faults : D → ℕ) (catalog : Catalog) (db : Database) (first limit clients : ℕ) (requests : List Request)
-    (old : CmdLog D) (ended : Finished D) → Ends tells honest seen moment images faults catalog db first limit clients (moment old.disk) (faults old.disk) (past_of images old.disk) requests ended
-    → EndsOnDisk tells honest seen moment images faults catalog db first limit clients requests old ended
-ends_on_disk tells honest seen moment images faults catalog db first limit clients requests old ended ends = record {
+pub ends_on_disk : {D : Type 0} (kind : DiskKind D) (catalog : Catalog) (db : Database) (first limit clients : ℕ) (requests : List Request)
+    (old : CmdLog D) (ended : Finished D) → Ends kind catalog db first limit clients (kind.moment old.disk) (kind.faults old.disk) (past_of kind.images old.disk) requests ended
+    → EndsOnDisk kind catalog db first limit clients requests old ended
+ends_on_disk kind catalog db first limit clients requests old ended ends = record {
   ends = ends;
-  crashes = λ good. disk_since moment images old.disk ended.log.disk _ (ends.holds.crashes good);
+  crashes = λ good. disk_since kind.moment kind.images old.disk ended.log.disk _ (ends.holds.crashes good);
   stands_on = λ good. ends.holds.stands_on good;
   receipt = λ good image now. fewer (ends.holds.receipt good image now);
   few_behind = λ client. few_from client first ended.receipted 16 ended.closed.list ends.begun (let a = ends.within in let b = ends.holds.within in omega arith) (ends.run.few_behind client);
@@ -113,11 +114,11 @@ ends_on_disk tells honest seen moment images faults catalog db first limit clien
     fewer : {image : Files} → StandsForAtLeast catalog ends.count image → StandsForAtLeast catalog ended.receipted image
     fewer s = record { count = s.count; k = s.k; stands = s.stands; enough = (let e = s.enough in let w = ends.within in omega arith) }
 
-pub ends_if_ok : {D E : Type 0} (tells honest : Type 0) (seen : D → Files) (moment : D → ℕ) (images : D → ℕ → Files → Type 0) (faults : D → ℕ) (catalog : Catalog) (db : Database) (first limit clients : ℕ) (requests : List Request)
-    (old : CmdLog D) (result : Result (Finished D) E) → IfOk result (Ends tells honest seen moment images faults catalog db first limit clients (moment old.disk) (faults old.disk) (past_of images old.disk) requests)
-    → IfOk result (EndsOnDisk tells honest seen moment images faults catalog db first limit clients requests old)
-ends_if_ok tells honest seen moment images faults catalog db first limit clients requests old (Ok ended) ends = ends_on_disk tells honest seen moment images faults catalog db first limit clients requests old ended ends
-ends_if_ok tells honest seen moment images faults catalog db first limit clients requests old (Err e) ends = tt
+pub ends_if_ok : {D E : Type 0} (kind : DiskKind D) (catalog : Catalog) (db : Database) (first limit clients : ℕ) (requests : List Request)
+    (old : CmdLog D) (result : Result (Finished D) E) → IfOk result (Ends kind catalog db first limit clients (kind.moment old.disk) (kind.faults old.disk) (past_of kind.images old.disk) requests)
+    → IfOk result (EndsOnDisk kind catalog db first limit clients requests old)
+ends_if_ok kind catalog db first limit clients requests old (Ok ended) ends = ends_on_disk kind catalog db first limit clients requests old ended ends
+ends_if_ok kind catalog db first limit clients requests old (Err e) ends = tt
 
 -- ---- the disk's note, as it came back from behind the lock, and as it was looked at
 
@@ -130,12 +131,12 @@ module _ (disk looked : Known) (count posted : ℕ) (is : looked ≡ known disk.
       (subst (λ (f : ℕ). IsRun catalog db first limit clients requests looked.count f closed) (ap (λ (k : Known). k.faults) is ∙ same.1) run)
 
   -- and the log holds the run's list up to there
-  pub holds_looked : {D : Type 0} (tells honest : Type 0) (seen : D → Files) (moment : D → ℕ) (images : D → ℕ → Files → Type 0) (faults : D → ℕ) (catalog : Catalog) (db : Database) (first opened before : ℕ) (past : ℕ → List (List ℕ) → Type 0)
-      (log : CmdLog D) (list rest : List Listed) → HoldsGoOn D catalog db first opened before past tells honest seen moment images faults
-      → list ≡ listed_of looked.list ++ rest → Holds catalog db first opened before past tells honest seen moment images faults (listed_of disk.list) log disk.count disk.faults
-      → Holds catalog db first opened before past tells honest seen moment images faults list log count disk.faults
-  holds_looked tells honest seen moment images faults catalog db first opened before past log list rest on begins holds =
+  pub holds_looked : {D : Type 0} (kind : DiskKind D) (catalog : Catalog) (db : Database) (first opened before : ℕ) (past : ℕ → List (List ℕ) → Type 0)
+      (log : CmdLog D) (list rest : List Listed) → HoldsGoOn D catalog db first opened before past kind
+      → list ≡ listed_of looked.list ++ rest → Holds catalog db first opened before past kind (listed_of disk.list) log disk.count disk.faults
+      → Holds catalog db first opened before past kind list log count disk.faults
+  holds_looked kind catalog db first opened before past log list rest on begins holds =
       let whole : list ≡ listed_of disk.list ++ rest = begins ∙ ap (λ (k : Known). listed_of k.list ++ rest) is in
-      subst (λ (l : List Listed). Holds catalog db first opened before past tells honest seen moment images faults l log count disk.faults) (sym whole)
-      (subst (λ (n : ℕ). Holds catalog db first opened before past tells honest seen moment images faults (listed_of disk.list ++ rest) log n disk.faults) (sym same.0)
+      subst (λ (l : List Listed). Holds catalog db first opened before past kind l log count disk.faults) (sym whole)
+      (subst (λ (n : ℕ). Holds catalog db first opened before past kind (listed_of disk.list ++ rest) log n disk.faults) (sym same.0)
       (on (listed_of disk.list) rest log disk.count disk.faults holds))

@@ -1,23 +1,23 @@
 -- What a client asked for, which ran on the partitions in hand.
-use Rattle.std.proofs.Common.{◌≡◌, ℕ, true, List, length, sym, ap, ◌∙◌, subst}
+use Rattle.std.proofs.Common.{◌≡◌, ℕ, true, List, length, sym, ap, ◌∙◌, subst, Result, Ok, Err, IfOk}
 use Rattle.ss_model.specs.declared.catalog.Catalog.{Catalog}
 use Rattle.ss_model.specs.declared.entry.Entry.{Entry}
 use Rattle.ss_model.specs.declared.entry.Listed as model
-use Rattle.ss_model.specs.Database.{Database}
+use Rattle.ss_model.specs.Database.{Database, fits_entry}
 use Rattle.ss_report_laws.specs.Replies.{is_of}
+use Rattle.ss_commitlog.specs.declared.placed.Placed.{Placed}
+use Rattle.ss_commitlog.specs.declared.placed.Unlisted.{Unlisted}
 use Rattle.ss_commitlog.specs.declared.role.Role.TheVariants.{Client}
 use Rattle.ss_commitlog.specs.Tokens.{Known, Follows, KnowOne}
 use Rattle.ss_hand.specs.declared.hand.Hand.{Hand}
-use Rattle.ss_engine.specs.declared.pump.Pumped.{Pumped}
-use Rattle.ss_lanes.specs.declared.reply.Said.{Said}
-use Rattle.ss_lanes.specs.declared.reply.Said.TheVariants.{Listed}
+use Rattle.ss_engine.specs.declared.partition.pumped.Pumped.{Pumped}
 use Rattle.ss_lanes.specs.declared.ticket.Ticket.{Ticket}
 use Rattle.ss_turns.specs.Executed.{HoldsFor, RanAsked}
 use Rattle.ss_lanes.specs.Mines.{mine_in}
 use Rattle.ss_engine.specs.Pumped.{IsLeastOf, IsPumped, pumped_of}
 use Rattle.ss_lanes.specs.Replies.{MaySay}
 use Rattle.ss_engine.specs.Serving.{ServesHere}
-use Rattle.ss_lanes.proofs.CallerLemmas.{follows_on, on_itself}
+use Rattle.ss_commitlog.proofs.CallerLemmas.{follows_on, on_itself}
 use Rattle.ss_engine.proofs.Pumps.{commit_pumps}
 use Rattle.ss_engine.proofs.Saying.{may_say}
 use Rattle.ss_engine.proofs.Touching.{some_mark, of_mark}
@@ -26,18 +26,17 @@ pub holds_for : {I : Type 0} (catalog : Catalog) (parts : ℕ) (db : Database) (
     → HoldsFor catalog parts db hand e
 holds_for catalog parts db p held note hand e serves = record { held = held; in_hand = serves.in_hand; touched = serves.touched }
 
--- what is said to be listed is the entry
-pub said_entry : (catalog : Catalog) (parts first limit : ℕ) (e : Entry) (ks : List Known) (k : Known) (ks' : List Known) (k' : Known) (said : Said) → RanAsked catalog parts first limit e ks k ks' k' said
-    → (place : ℕ) (l : model.Listed) → said ≡ Listed place l → l.entry ≡ e
-said_entry catalog parts first limit e ks k ks' k' (Listed at copy) ran place l is =
-    let same : copy ≡ l = cc in
-    let (list, at_is, small, copied, all, knows, on) = ran.commits in
-    ap (λ (x : model.Listed). x.entry) (sym same ∙ copied) ∙ ran.entry_is
-said_entry catalog parts first limit e ks k ks' k' _ ran place l is = cc
+-- what is said to be listed is the entry, which fits
+pub said_fits : (catalog : Catalog) (parts first limit : ℕ) (e : Entry) (ks : List Known) (k : Known) (ks' : List Known) (k' : Known) (said : Result Placed Unlisted)
+    → RanAsked catalog parts first limit e ks k ks' k' said → fits_entry catalog e ≡ true → IfOk said (λ placed. fits_entry catalog placed.listed.entry ≡ true)
+said_fits catalog parts first limit e ks k ks' k' (Ok placed) ran fits =
+    let (list, at, small, copied, all, knows, on) = ran.commits in
+    ap (λ (l : model.Listed). fits_entry catalog l.entry) copied ∙ ap (fits_entry catalog) ran.entry_is ∙ fits
+said_fits catalog parts first limit e ks k ks' k' (Err why) ran fits = tt
 
 -- its note knew what the marks in hand knew; note and the client's mark met behind the run
 module _ {I : Type 0} (catalog : Catalog) (parts : ℕ) (db : Database) (first limit p : ℕ) (held : List ℕ) (note : Known) (hand : Hand I) (e : Entry) (serves : ServesHere catalog parts db p held note hand e)
-    (k k' x end : Known) (ks' : List Known) (said : Said) (ran : RanAsked catalog parts first limit e hand.marks k ks' k' said)
+    (k k' x end : Known) (ks' : List Known) (said : Result Placed Unlisted) (ran : RanAsked catalog parts first limit e hand.marks k ks' k' said)
     (to_x : Follows catalog parts limit k' x) (to_end : Follows catalog parts limit note end) (one : KnowOne x end) where
   pub run_pumps : (did : Pumped) → did ≡ pumped_of said → IsPumped catalog parts db first limit p note end did
   run_pumps did is =

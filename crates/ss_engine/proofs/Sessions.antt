@@ -16,13 +16,13 @@ use Rattle.ss_report_laws.specs.Replies.{answers_of, expected_entries, is_of, mi
 use Rattle.ss_commitlog.specs.Meaning.{HasClientBelow, HaveClientsBelow}
 use Rattle.ss_commitlog.specs.Tokens.{Known}
 use Rattle.ss_shard.specs.declared.database.Database as shard
-use Rattle.ss_engine.specs.declared.closing.Closed.{Closed}
+use Rattle.ss_engine.specs.declared.session.close.Closed.{Closed}
 use Rattle.ss_lanes.specs.Clients.{AreListedOr, EachAt, HasMade}
 use Rattle.ss_engine.specs.Closings.{IsClosed, IsLeft}
 use Rattle.ss_lanes.specs.Apart as lanes_of_clients
 use Rattle.ss_lanes.specs.Dues.{FewOpen}
 use Rattle.ss_lanes.specs.Lanes.{LaneView, AreFresh, IsFresh}
-use Rattle.ss_lanes.specs.Mines.{Placed, mine_in}
+use Rattle.ss_lanes.specs.Mines.{Mine, mine_in}
 use Rattle.ss_engine.specs.Sessions.{AreOfClients, IsLeftOver, IsRun}
 use Rattle.ss_lanes.proofs.CallerLemmas.{few_open_on, none_open, still_unlisted}
 
@@ -83,7 +83,7 @@ module _ (catalog : Catalog) (n : ℕ) (db : Database) (first limit clients : �
         each = no_entry clients k first outside closed.list end.of_clients ∙ sym (ap (λ (l : List Request). expected_entries k 0 l (answers_of closed.answers k)) none);
         others = subst (AreListedOr limit (length closed.list) disk.faults) (sym answers) tt;
         few_behind = few_open_on (mine k first closed.list) disk.count disk.count 0 16 (omega arith) (omega arith)
-            (subst (λ (ps : List Placed). FewOpen ps disk.count 0) (sym (no_entry clients k first outside closed.list end.of_clients)) (none_open [] disk.count tt));
+            (subst (λ (ps : List Mine). FewOpen ps disk.count 0) (sym (no_entry clients k first outside closed.list end.of_clients)) (none_open [] disk.count tt));
       }
 
   told : (k : ℕ) → IsTold first limit requests disk closed k

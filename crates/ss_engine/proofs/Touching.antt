@@ -121,7 +121,7 @@ first_mark (k ∷ ks) r rs e = (k, inl refl)
 
 -- there is one
 pub some_mark : {I : Type 0} (catalog : Catalog) (n : ℕ) (db : Database) (held : List ℕ) (hand : Hand I) → IsInHand catalog n db held hand → (k : Known) × In k hand.marks
-some_mark catalog n db held hand h = first_mark hand.marks (Part hand.whole.number) (map Part (numbers_of hand.shells.items)) (h.roles ∙ ap (map Part) (sym h.numbers))
+some_mark catalog n db held hand h = first_mark hand.marks (Part hand.shard.number) (map Part (numbers_of hand.shells.items)) (h.roles ∙ ap (map Part) (sym h.numbers))
 
 -- what holds of each mark
 pub of_mark : (P : Known → Type 0) (ks : List Known) (k : Known) → AllByRecursion P ks → In k ks → P k

@@ -1,5 +1,5 @@
 -- The next step of a procedure, which is tried.
-use Rattle.std.proofs.Common.{⊎_elim, ◌≡◌, ℕ, ◌≤◌, ◌<◌, true, slice_get, Result, Ok, IfOk, List, [], ◌∷◌, ◌++◌, length, sym, ap, ◌∙◌, subst, arith, append_assoc, IfSome, Some, None}
+use Rattle.std.proofs.Common.{⊎_elim, ◌≡◌, ℕ, ◌≤◌, ◌<◌, true, slice_get, Result, Ok, Err, IfOk, List, [], ◌∷◌, ◌++◌, length, sym, ap, ◌∙◌, subst, arith, append_assoc, IfSome, Some, None}
 use Rattle.std.specs.declared.option.Option.{Option}
 use Rattle.ss_model.specs.declared.catalog.Catalog.{Catalog}
 use Rattle.ss_model.specs.declared.catalog.Procedure.{Procedure}
@@ -9,20 +9,21 @@ use Rattle.ss_model.specs.Database.{Database, has_step, is_streaming}
 use Rattle.ss_model.specs.Orders.{procedure_has}
 use Rattle.ss_model.proofs.CallerLemmas.{few_procedures, home_below, procedure_there}
 use Rattle.ss_model.specs.Accepted.{Accepted}
+use Rattle.ss_commitlog.specs.declared.placed.Placed.{Placed}
+use Rattle.ss_commitlog.specs.declared.placed.Unlisted.{Unlisted}
+use Rattle.ss_commitlog.specs.declared.placed.Unlisted.TheVariants.{NoMemory, ListFull}
 use Rattle.ss_commitlog.specs.declared.role.Role.TheVariants.{Log}
 use Rattle.ss_commitlog.specs.declared.rule.Item.{Item}
 use Rattle.ss_commitlog.specs.Reading.{IsReadyAt}
 use Rattle.ss_commitlog.specs.Roles.{In}
 use Rattle.ss_commitlog.specs.Rule.{item}
 use Rattle.ss_commitlog.specs.Tokens.{Known, AllContinue, AllKnow, Continues, roles_of}
-use Rattle.ss_turns.specs.declared.execution.Stepped.{Stepped}
-use Rattle.ss_turns.specs.declared.execution.Stepped.TheVariants.{Ran, NotReady, NoMemory, ListFull}
-use Rattle.ss_engine.specs.declared.pump.Pumped.{Pumped}
+use Rattle.ss_engine.specs.declared.partition.pumped.Pumped.{Pumped}
 use Rattle.ss_turns.specs.Executed.{IsStepped}
-use Rattle.ss_lanes.specs.Growing.{GoesOn}
+use Rattle.ss_commitlog.specs.Growing.{GoesOn}
 use Rattle.ss_engine.specs.Pumped.{IsLeastOf, IsPumped, AfterPump}
 use Rattle.ss_engine.specs.Tried.{StepsAt, tried_of, IsOfProcedure, IsTried}
-use Rattle.ss_lanes.proofs.CallerLemmas.{on_and_on, on_longer}
+use Rattle.ss_commitlog.proofs.CallerLemmas.{on_and_on, on_longer}
 use Rattle.ss_settle.proofs.CallerLemmas.{ready_fits}
 use Rattle.ss_engine.proofs.Pumps.{after_later, pumped_later}
 
@@ -51,11 +52,10 @@ each_knows list [] (l ∷ ls) m all i = absurd all
 each_knows list (k ∷ ks) [] m all i = absurd all
 each_knows list (k ∷ ks) (l ∷ ls) m all i = ⊎_elim (λ (e : m ≡ l). ap (λ (x : Known). x.list) e ∙ all.0.list_is) (λ (j : In m ls). each_knows list ks ls m all.1 j) i
 
-pub own_procedure : (catalog : Catalog) (n first limit q : ℕ) (ks ls : List Known) (s : Stepped) → IsStepped catalog n first limit q ks ls s → IsOfProcedure q s
-own_procedure catalog n first limit q ks ls (Ran place l) done = let (list, r, at, small, step, all, on) = done in (r, step)
-own_procedure catalog n first limit q ks ls NotReady done = tt
-own_procedure catalog n first limit q ks ls NoMemory done = tt
-own_procedure catalog n first limit q ks ls (ListFull count) done = tt
+pub own_procedure : (catalog : Catalog) (n first limit q : ℕ) (ks ls : List Known) (s : Result (Option Placed) Unlisted) → IsStepped catalog n first limit q ks ls s → IsOfProcedure q s
+own_procedure catalog n first limit q ks ls (Ok (Some placed)) done = let (list, r, at, small, step, all, on) = done in (r, step)
+own_procedure catalog n first limit q ks ls (Ok None) done = tt
+own_procedure catalog n first limit q ks ls (Err why) done = tt
 
 -- a note knew what the marks in hand knew, and met one of them again behind the step
 module _ (catalog : Catalog) (n : ℕ) (db : Database) (first limit p q : ℕ) (ks ls : List Known) (k shown end : Known) (least : (r : ℕ) → IsLeastOf catalog n (StepEntry q r) p)
@@ -63,18 +63,18 @@ module _ (catalog : Catalog) (n : ℕ) (db : Database) (first limit p q : ℕ) (
   begins : (list : List Item) → AllContinue catalog n list ks → length shown.list ≤ length list
   begins list on = let a = on_longer catalog n list k (on k one_of) in let b : length k.list ≡ length shown.list = ap (λ (z : List Item). length z) met in omega arith
 
-  tried_is : (s : Stepped) → IsStepped catalog n first limit q ks ls s → IfSome (tried_of s) (AfterPump catalog n db first limit p shown end)
-  tried_is (Ran place l) done =
+  tried_is : (s : Result (Option Placed) Unlisted) → IsStepped catalog n first limit q ks ls s → IfSome (tried_of s) (AfterPump catalog n db first limit p shown end)
+  tried_is (Ok (Some placed)) done =
       let (list, r, at, small, step, all, on) = done in
-      let it : Item = item l (roles_of ks ++ Log ∷ []) in
+      let it : Item = item placed.listed (roles_of ks ++ Log ∷ []) in
       let (m, m_in, more) = last in
       let m_is : m.list ≡ list ++ it ∷ [] = each_knows (list ++ it ∷ []) ks ls m all m_in in
       let whole : end.list ≡ list ++ it ∷ more.rest = more.is ∙ ap (λ (z : List Item). z ++ more.rest) m_is ∙ append_assoc list (it ∷ []) more.rest in
       let a = begins list on in
       ((list, it, more.rest, whole, at, subst (λ (e : Entry). IsLeastOf catalog n e p) (sym step) (least r)), omega arith)
-  tried_is NotReady done = tt
-  tried_is NoMemory done = tt
-  tried_is (ListFull count) done =
+  tried_is (Ok None) done = tt
+  tried_is (Err NoMemory) done = tt
+  tried_is (Err (ListFull count)) done =
       let (list, count_is, full, all, on) = done in
       let (m, m_in, more) = last in
       let m_is : m.list ≡ list = each_knows list ks ls m all m_in in
@@ -82,7 +82,7 @@ module _ (catalog : Catalog) (n : ℕ) (db : Database) (first limit p q : ℕ) (
       let b : length m.list ≡ length list = ap (λ (z : List Item). length z) m_is in
       (omega arith, count_is)
 
-  pub step_tried : GoesOn catalog n shown end → (s : Stepped) → IsStepped catalog n first limit q ks ls s → (did : Option Pumped) → did ≡ tried_of s → IsTried catalog n db first limit p shown end did
+  pub step_tried : GoesOn catalog n shown end → (s : Result (Option Placed) Unlisted) → IsStepped catalog n first limit q ks ls s → (did : Option Pumped) → did ≡ tried_of s → IsTried catalog n db first limit p shown end did
   step_tried to_end s done did same = subst (λ (o : Option Pumped). IsTried catalog n db first limit p shown end o) (sym same) (record { on = to_end; did_is = tried_is s done })
 
 -- the note had gone on before

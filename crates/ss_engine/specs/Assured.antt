@@ -8,6 +8,12 @@ use Rattle.ss_lanes.specs.Dues.{AllBelow, failed_at, receipted}
 use Rattle.ss_lanes.specs.Lanes.{LaneView}
 use Rattle.ss_lanes.specs.Told.{told}
 
+-- a refusal that tells of the disk's faults tells of these
+abbrev pub with_faults : ℕ → DurableError → DurableError
+with_faults faults NoMemory = NoMemory
+with_faults faults DiskFault = DiskFault
+with_faults faults (Halted other) = Halted faults
+
 -- the lane is then told of these faults, of which there are some
 abbrev pub IsToldOf : ℕ → LaneView → LaneView → Type 0
 IsToldOf faults old new = (faults ≢ 0) × (new.due ≡ failed_at faults old.due)

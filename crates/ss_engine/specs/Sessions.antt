@@ -1,5 +1,6 @@
 -- What a run of clients in threads comes to, and what its disk then has.
-use Rattle.std.specs.Prelude.{◌≡◌, ◌⊎◌, ◌≤◌, ◌<◌, ◌+◌, ℕ, List, length, IfSome, IfNone, IsOk}
+use Rattle.std.specs.Prelude.{◌≡◌, ◌⊎◌, ◌≤◌, ◌<◌, ◌+◌, ℕ, List, length, IfSome, IfNone, IsOk, Err}
+use Rattle.ss_disk.specs.Kinds.{DiskKind, present}
 use Rattle.std.specs.List.{AllByRecursion}
 use Rattle.ss_model.specs.declared.catalog.Catalog.{Catalog}
 use Rattle.ss_model.specs.declared.entry.Request.{Request}
@@ -15,15 +16,15 @@ use Rattle.ss_shard.specs.Shards.{IsCommitted}
 use Rattle.ss_shard.specs.declared.database.Database as shard
 use Rattle.ss_cmdlog.specs.declared.log.CmdLog.{CmdLog}
 use Rattle.ss_cmdlog.specs.Generation.{Stood}
-use Rattle.ss_cmdlog.specs.Log.{present, IsOpen}
+use Rattle.ss_cmdlog.specs.Log.{IsOpen}
+use Rattle.ss_commitlog.specs.declared.placed.Unlisted.TheVariants.{NoMemory}
 use Rattle.ss_commitlog.specs.Meaning.{HaveClientsBelow}
 use Rattle.ss_standing.specs.Standing.{Prefix, Receipt, Replayed, StandsForAll, StandsForFront, StandsOn}
 use Rattle.ss_receipts.specs.Durable.{IsDurable}
 use Rattle.ss_receipts.specs.Holding.{Holds}
 use Rattle.ss_receipts.specs.Past.{past_of}
-use Rattle.ss_engine.specs.declared.closing.Closed.{Closed}
-use Rattle.ss_engine.specs.declared.session.Finished.{Finished}
-use Rattle.ss_settle.specs.declared.settling.Settling.TheVariants.{NoMemory}
+use Rattle.ss_engine.specs.declared.session.close.Closed.{Closed}
+use Rattle.ss_engine.specs.declared.session.run.Finished.{Finished}
 use Rattle.ss_lanes.specs.Clients.{AreListedOr}
 use Rattle.ss_settle.specs.Settlings.{EndedWith, SettledInOrder}
 use Rattle.ss_lanes.specs.Dues.{FewOpen, entries_from}
@@ -53,33 +54,33 @@ pub record IsRun (catalog : Catalog) (db : Database) (first limit clients : ℕ)
   pub few_behind : (client : ℕ) → FewOpen (mine client first closed.list) count 16
   -- the database after the list, where there was memory to have it in one shard, and how settling ended on it
   pub left : IfSome closed.database (IsLeftOver catalog (after catalog db closed.list))
-  pub lost : IfNone closed.database (closed.end ≡ NoMemory)
+  pub lost : IfNone closed.database (closed.settling ≡ Err NoMemory)
   pub catalog_is : closed.catalog ≡ catalog
-  pub end : EndedWith catalog db limit closed.list closed.end
+  pub end : EndedWith catalog db limit closed.list closed.settling
   -- its last entries are the steps by which the database before them settles, in the model's order
-  pub settled : SettledInOrder catalog db closed.list closed.settled closed.end
+  pub settled : SettledInOrder catalog db closed.list closed.settled closed.settling
 
 -- ---- with a disk
 
-module _ {D : Type 0} (tells honest : Type 0) (seen : D → Files) (moment : D → ℕ) (images : D → ℕ → Files → Type 0) where
+module _ {D : Type 0} (kind : DiskKind D) where
   -- the log is open on a generation that stands for what is kept of a database, at this place
   pub record OpensOn (catalog : Catalog) (db : Database) (first : ℕ) (log : CmdLog D) : Type 0 where
     pub stood : Stood
-    pub going : IsOpen tells honest seen (present moment images) log stood
+    pub going : IsOpen kind log stood
     pub count : log.count ≡ first
-    pub replayed : tells → Replayed catalog stood first (kept catalog db)
+    pub replayed : kind.tells → Replayed catalog stood first (kept catalog db)
 
   -- a crash now leaves what has P
   abbrev pub LeavesNow : D → (Files → Type 0) → Type 0
-  LeavesNow disk P = honest → (image : Files) → present moment images disk image → P image
+  LeavesNow disk P = kind.honest → (image : Files) → present kind disk image → P image
 
-  module _ (faults : D → ℕ) (catalog : Catalog) (db : Database) (first : ℕ) where
+  module _ (catalog : Catalog) (db : Database) (first : ℕ) where
     -- a run's list was flushed behind a receipted count, and where faults were told of before, they are the same. The disk was at this
     -- moment at the opening, with these faults and this past
     pub record IsFlushed (opened before : ℕ) (past : ℕ → List (List ℕ) → Type 0) (old_count old_fault : ℕ) (ended : Finished D) : Type 0 where
       pub count : ℕ
       pub fault : ℕ
-      pub holds : Holds catalog db first opened before past tells honest seen moment images faults ended.closed.list ended.log count fault
+      pub holds : Holds catalog db first opened before past kind ended.closed.list ended.log count fault
       pub more : old_count ≤ ended.receipted
       pub within : ended.receipted ≤ count
       pub told : (old_fault ≡ 0) ⊎ (old_fault ≡ fault)
@@ -92,7 +93,7 @@ module _ {D : Type 0} (tells honest : Type 0) (seen : D → Files) (moment : D �
       pub count : ℕ
       pub fault : ℕ
       pub run : IsRun catalog db first limit clients requests ended.receipted fault ended.closed
-      pub holds : Holds catalog db first opened before past tells honest seen moment images faults ended.closed.list ended.log count fault
+      pub holds : Holds catalog db first opened before past kind ended.closed.list ended.log count fault
       pub begun : first ≤ ended.receipted
       pub within : ended.receipted ≤ count
       pub flushed : IsDurable (first + length ended.closed.list) count fault ended.flushed
@@ -102,8 +103,8 @@ module _ {D : Type 0} (tells honest : Type 0) (seen : D → Files) (moment : D �
     -- the same with the log at the opening: a crash at any moment since then leaves a front of the list, and takes nothing that one at an
     -- earlier moment could not take; what is below the count that is told stands for good, and of each client at most 16 entries stand from there on
     pub record EndsOnDisk (limit clients : ℕ) (requests : List Request) (old : CmdLog D) (ended : Finished D) : Type 0 where
-      pub ends : Ends limit clients (moment old.disk) (faults old.disk) (past_of images old.disk) requests ended
-      pub crashes : honest → LeavesOnly moment images old.disk ended.log.disk (Prefix catalog db first ended.closed.list)
-      pub stands_on : honest → StandsOn catalog moment images (moment old.disk) ended.log.disk
-      pub receipt : honest → Receipt catalog (present moment images) ended.receipted ended.log.disk
+      pub ends : Ends limit clients (kind.moment old.disk) (kind.faults old.disk) (past_of kind.images old.disk) requests ended
+      pub crashes : kind.honest → LeavesOnly kind.moment kind.images old.disk ended.log.disk (Prefix catalog db first ended.closed.list)
+      pub stands_on : kind.honest → StandsOn catalog kind.moment kind.images (kind.moment old.disk) ended.log.disk
+      pub receipt : kind.honest → Receipt catalog (present kind) ended.receipted ended.log.disk
       pub few_behind : (client : ℕ) → entries_from client ended.receipted first ended.closed.list ≤ 16

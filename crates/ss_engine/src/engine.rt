@@ -6,8 +6,11 @@ use ss_model::{Catalog, Life};
 use ss_party::Bays;
 use ss_proc::Runner;
 use ss_settle::Gate;
+use ss_turns::Works;
 use ss_value::Seq;
+use std::alloc::Global;
 use std::marker::Model;
+use std::sync::Wait;
 
 /// A database in partitions, whose executions are one list whatever threads run them.
 ///
@@ -39,4 +42,18 @@ impl<I: Life, N: Runner + Drop, G: Gate + Drop> Model for Engine<I, N, G> {
     ghost view = { λ e. e.bays };
 
     ghost invariant = { λ e. IsEngine I.catalog I.parts I.first I.limit e.catalog e.homes e.parts e.bays };
+}
+
+impl<I: Life, N: Runner + Drop, G: Gate + Drop> Engine<I, N, G> {
+    /// What each execution of this engine is given.
+    pub(crate) fn works<'a, R: Wait>(&'a self, rt: &'a R, alloc: Global) -> Works<'a, I, N, R> {
+        Works {
+            rt,
+            alloc,
+            log: &self.hub.log,
+            catalog: &self.catalog,
+            runner: &self.runner,
+            parts: self.parts,
+        }
+    }
 }

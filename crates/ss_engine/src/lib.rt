@@ -8,12 +8,19 @@
 //! Source: S-Store's clients and partition engines, whose triggered work goes ahead of client work (Meehan et al., PVLDB 8,
 //! 2015, section 3).
 //!
-//! - `engine`: what threads share; `opening`: one with an empty list, and a lane for each client; `closing`: what it leaves
-//! - `submitting`: its calls for clients, which `awaiting` has answered; `assuring`: receipts for them
-//! - `pumping`: it runs the work of its inboxes
-//! - `requesting`: a client's requests; `clients`: clients and executors in threads; `session`: a whole run
-//! - `serving`: a job; `hints`: a procedure that may be ready; `waking`: hints of what an entry may have made ready
-//! - `pump`: what the work of an inbox came to; `holding`: partitions in and out of bays; `least`: small sets
+//! # Rooms
+//!
+//! `engine` is what threads share: the hub, the bays, the catalogue, the runner and the gate. Who acts on it has a folder:
+//!
+//! - `client`, a client's side. It touches its lane, the hub and the lock of `ss_receipts`, and no partition: what it asks for it
+//!   sends. `submit` takes one request and `send` waits for its answer; `receipt` asks that answers be durable; `requests` makes
+//!   those of one client in order. Threads of clients call it; while it waits it pumps an inbox that has no executor.
+//! - `partition`, a partition's side. It alone takes partitions out of their bays and puts them back. `pump` takes what waits in an
+//!   inbox: `serve` serves a job, `follow` a hint, and `wake` puts hints; `touched` takes partitions and puts them back, `least`
+//!   finds the first of a small set, and `pumped` is what a pump came to. Executors call it, and clients that wait.
+//! - `session`, a run from end to end. `open` makes an engine with a lane for each client, `threads` lets clients and executors at
+//!   it, `close` takes it apart with all partitions in one hand, and `run` is all three, with the last flush. What stands above this
+//!   crate calls it.
 //!
 //! In `specs/`: `Pumped`, `Engines`, `Serving`, `Tried`, `Least`, `Assured`, `Closings`, `Clients`, `Sessions`.
 //!
@@ -58,27 +65,16 @@
 //!   leaving it to one search from here down, because that search gives up on the way to the trees of SQL.
 #![tactic(auto)]
 
-mod assuring;
-mod awaiting;
-mod clients;
-mod closing;
+mod client;
 mod engine;
-mod hints;
-mod holding;
-mod least;
-mod opening;
-mod pump;
-mod pumping;
-mod requesting;
-mod serving;
+mod partition;
 mod session;
-mod submitting;
-mod waking;
 
-pub use closing::Closed;
 pub use engine::Engine;
-pub use opening::Opened;
-pub use pump::Pumped;
-pub use session::{Finished, run_session};
+pub use partition::pumped::Pumped;
+pub use session::close::Closed;
+pub use session::open::NewEngine;
+pub use session::run::{Finished, run_session};
+pub use ss_commitlog::Unlisted;
 pub use ss_lanes::{Due, Hub, Lane, Room, lanes_serve};
-pub use ss_settle::{Gate, NoGate, Settling};
+pub use ss_settle::{Gate, NoGate};

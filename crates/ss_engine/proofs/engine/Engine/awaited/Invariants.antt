@@ -1,4 +1,4 @@
-use Rattle.ss_lanes.specs.Growing.{GoesOn}
+use Rattle.ss_commitlog.specs.Growing.{GoesOn}
 use Rattle.ss_engine.proofs.engine.Engine.awaited.Given as goal
 
 -- the note is the one that was lent, and its list goes on

@@ -8,14 +8,14 @@ pub answered-requires-clause-answered : goal.answered-requires-clause-answered
 answered-requires-clause-answered g c =
     let r : ReplyView = record { ticket = c.reply.inside.ticket; mark = c.reply.inside.mark; said = c.reply.inside.said } in
     let own = subst (IsOwn c.args.ticket c.args.what.now) (sym c.reply.view_is) c.awaited-reply.ensures.own in
-    (came_back g.I.Life.catalog g.I.Life.parts g.I.Life.clients g.I.Life.first g.I.Life.limit c.args.ticket c.args.due c.args.what.now c.args.answers c.requires.lane.0 c.args.note c.awaited-reply.result.1 c.meet-mark.result.0 c.meet-mark.result.1 r
-    c.requires.lane.1 c.requires.going c.reply.invariant own c.awaited-reply.ensures.note c.meet-mark.ensures.mark c.meet-mark.ensures.note c.meet-mark.ensures.one).answered
+    (came_back g.I.Life.catalog g.I.Life.parts g.I.Life.clients g.I.Life.first g.I.Life.limit c.args.ticket c.args.due c.args.what.now c.args.answers c.requires.lane.0 c.args.note c.awaited-reply.new.note c.meet.new.mark c.meet.new.note r
+    c.requires.lane.1 c.requires.going c.reply.invariant own c.awaited-reply.ensures.note c.meet.ensures.mark c.meet.ensures.note c.meet.ensures.one).answered
 
 pub returns : goal.returns
 returns g c =
     let r : ReplyView = record { ticket = c.reply.inside.ticket; mark = c.reply.inside.mark; said = c.reply.inside.said } in
     let own = subst (IsOwn c.args.ticket c.args.what.now) (sym c.reply.view_is) c.awaited-reply.ensures.own in
-    let came = came_back g.I.Life.catalog g.I.Life.parts g.I.Life.clients g.I.Life.first g.I.Life.limit c.args.ticket c.args.due c.args.what.now c.args.answers c.requires.lane.0 c.args.note c.awaited-reply.result.1 c.meet-mark.result.0 c.meet-mark.result.1 r
-    c.requires.lane.1 c.requires.going c.reply.invariant own c.awaited-reply.ensures.note c.meet-mark.ensures.mark c.meet-mark.ensures.note c.meet-mark.ensures.one in
-    submitted g.I.Life.catalog g.I.Life.parts g.I.Life.first g.I.Life.limit c.args.ticket c.args.due c.args.what.now c.args.answers c.args.note c.meet-mark.result.1 _ c.answered.result c.reply.inside.said
+    let came = came_back g.I.Life.catalog g.I.Life.parts g.I.Life.clients g.I.Life.first g.I.Life.limit c.args.ticket c.args.due c.args.what.now c.args.answers c.requires.lane.0 c.args.note c.awaited-reply.new.note c.meet.new.mark c.meet.new.note r
+    c.requires.lane.1 c.requires.going c.reply.invariant own c.awaited-reply.ensures.note c.meet.ensures.mark c.meet.ensures.note c.meet.ensures.one in
+    submitted g.I.Life.catalog g.I.Life.parts g.I.Life.first g.I.Life.limit c.args.ticket c.args.due c.args.what.now c.args.answers c.args.note c.meet.new.note _ c.answered.result c.reply.inside.said
     refl c.requires.going.0 c.answered.ensures.client c.answered.ensures.note c.answered.ensures.due c.answered.ensures.answers c.answered.ensures.spare came.on came.right

@@ -1,0 +1,69 @@
+//! The engine's calls for clients, and for the threads that serve its inboxes.
+
+ghost use Rattle.std.specs.Prelude.{◌≡◌, ◌<◌, ◌≤◌, true, length};
+ghost use Rattle.ss_model.specs.Database.{fits_entry};
+ghost use Rattle.ss_model.specs.Report.{asked_entry};
+ghost use Rattle.ss_lanes.specs.Lanes.{IsSubmitted};
+
+use crate::engine::Engine;
+use ss_lanes::{Lane, halted, unsent};
+use ss_model::{Life, Request, asked_entry};
+use ss_proc::Runner;
+use ss_settle::Gate;
+use ss_value::Copies;
+use std::alloc::Global;
+use std::sync::Wait;
+
+impl<I: Life, N: Runner + Drop, G: Gate + Drop> Engine<I, N, G> {
+    /// Sends a request to the inbox of the least partition that its entry touches, and waits for its answer. Where that inbox
+    /// has no executor, it pumps it meanwhile.
+    ///
+    /// It copies what is asked for. A lane whose request was listed knows a list with its entry; whatever the answer is, of
+    /// its client's entries that list has just those of its listed answers. NoMemory and ListFull have changed nothing.
+    ///
+    /// A lane that was told that the disk has failed is answered so at once, and nothing is sent. Fewer than 16 of its listed
+    /// answers may wait for a receipt.
+    pub fn submit<R: Wait>(
+        &self,
+        rt: &R,
+        alloc: Global,
+        lane: Lane<I>,
+        request: &Request,
+    ) -> Lane<I>
+        requires spare { 1 ≤ lane.spare }
+        requires few { lane.due.pending < 16 }
+        requires own { request.now.client ≡ lane.client }
+        requires fits { fits_entry I.catalog (asked_entry lane.client (length lane.answers) request.now.what) ≡ true }
+        ensures { IsSubmitted I.first I.limit lane request.now.what result }
+    {
+        if lane.faults() != 0 {
+            return halted(lane);
+        }
+        let Ok(what) = request.what.duplicate(alloc) else {
+            return unsent(lane);
+        };
+        let entry = asked_entry(request.client, lane.answers().len() as u64, what);
+        let (p, _) = self.touched(&entry);
+        self.send(rt, alloc, lane, p, entry, &request.what)
+    }
+
+    /// Waits while the inbox of a partition is empty and `stop` wasn't called. Takes no memory.
+    pub fn rest<R: Wait>(&self, rt: &R, p: u8)
+        requires { p < I.parts }
+    {
+        self.hub.rest(rt, p);
+    }
+
+    /// Ends every rest at an inbox, those to come too. Takes no memory.
+    pub fn stop<R: Wait>(&self, rt: &R) {
+        self.hub.stop(rt);
+    }
+
+    /// Tells that the inbox of a partition has no executor. From then on whoever waits for an answer from it pumps it. Takes
+    /// no memory and no lock.
+    pub fn no_executor(&self, p: u8)
+        requires { p < I.parts }
+    {
+        self.hub.no_executor(p);
+    }
+}

@@ -1,0 +1,55 @@
+//! The engine runs the work of its inboxes.
+
+ghost use Rattle.std.specs.Prelude.{◌<◌};
+ghost use Rattle.ss_engine.specs.Pumped.{IsPumped};
+ghost use Rattle.ss_engine.specs.Tried.{IsTried};
+
+use crate::engine::Engine;
+use crate::partition::pumped::Pumped;
+use ss_commitlog::Note;
+use ss_model::Life;
+use ss_proc::Runner;
+use ss_sched::Work;
+use ss_settle::Gate;
+use ss_turns::Works;
+use std::alloc::Global;
+use std::sync::Wait;
+
+impl<I: Life, N: Runner + Drop, G: Gate + Drop> Engine<I, N, G> {
+    /// Takes one item of this partition's inbox and runs it: first the hints, then the jobs, and where nothing waits the first
+    /// procedure that is ready at home there. A hint whose procedure isn't ready is dropped, and the next item taken.
+    ///
+    /// It answers for the list that the lent note then knows (`IsPumped`), instead of for what was in the inbox,
+    /// because that stands behind a lock.
+    ///
+    /// Whoever waits for an answer may lend it a note.
+    pub fn pump<R: Wait>(&self, rt: &R, alloc: Global, note: &mut Note<I>, p: u8) -> Pumped
+        requires { p < I.parts }
+        ensures { IsPumped I.catalog I.parts I.opening I.first I.limit p note.old note.new result }
+    {
+        let works = self.works(rt, alloc);
+        for _ in rt.forever() {
+            if let Some(did) = self.pump_once(&works, note, p) {
+                return did;
+            }
+        }
+        unreachable!()
+    }
+
+    /// The same with one item alone. None: it was a hint whose procedure isn't ready, or what was ready is so no more.
+    fn pump_once<R: Wait>(
+        &self,
+        works: &Works<I, N, R>,
+        note: &mut Note<I>,
+        p: u8,
+    ) -> Option<Pumped>
+        requires { p < I.parts }
+        ensures { IsTried I.catalog I.parts I.opening I.first I.limit p note.old note.new result }
+    {
+        match self.hub.take(works.rt, p) {
+            Some(Work::Job(job)) => Some(self.serve(works, note, p, job)),
+            Some(Work::Hint(procedure)) => self.follow(works, note, p, procedure),
+            None => self.look_around(works, note, p),
+        }
+    }
+}

@@ -1,0 +1,231 @@
+//! A whole run in threads, on an opened log.
+
+ghost use Rattle.std.specs.Prelude.{◌≡◌, ◌≤◌, ◌+◌, ◌^◌, ℕ, [], length, IfOk, IfErr};
+ghost use Rattle.ss_model.specs.Accepted.{Accepted};
+ghost use Rattle.ss_model.specs.Database.{Database as ModelDatabase, stream_batches};
+ghost use Rattle.ss_model.specs.Orders.{MatchesCounts};
+ghost use Rattle.ss_model.specs.Replays.{Replays};
+ghost use Rattle.ss_stream.specs.OfDatabase.{AreStreamsOf};
+ghost use Rattle.ss_shard.specs.Parts.{IsWholeShard};
+ghost use Rattle.ss_shard.specs.Windows.{HoldsDatabase};
+ghost use Rattle.ss_commitlog.specs.Committing.{IsOpening};
+ghost use Rattle.ss_receipts.specs.Holding.{Holds};
+ghost use Rattle.ss_engine.specs.Clients.{AllFit};
+ghost use Rattle.ss_engine.specs.Sessions.{AreOfClients, Ends, EndsOnDisk, IsFlushed, OpensOn};
+
+use crate::engine::Engine;
+use crate::session::close::Closed;
+use crate::session::open::NewEngine;
+use crate::session::threads::run_clients;
+use ss_cmdlog::{CmdLog, Receipt};
+use ss_commitlog::{Blank, Opening};
+use ss_disk::Disk;
+use ss_lanes::with_room;
+use ss_model::{Catalog, Life, Request};
+use ss_proc::Runner;
+use ss_receipts::{DurableError, Receipts, all_stands, finish, held_fronts_stand, holds_go_on};
+use ss_settle::Gate;
+use ss_shard::Shard;
+use ss_stream::Streams;
+use ss_value::{NoMemory, Seq};
+use std::alloc::Global;
+use std::marker::Brand;
+use std::sync::Wait;
+use std::thread::Threads;
+
+/// What a run leaves.
+#[derive(Drop)]
+pub struct Finished<D: Disk + Drop> {
+    /// The list, with the database and the answers.
+    pub closed: Closed,
+    /// The log, with its disk.
+    pub log: CmdLog<D>,
+    /// All places below this count are on the disk: all of the list where the last flush went well, else those of the
+    /// receipts before it. The log's own count isn't told then, because a flush that failed may have written groups
+    /// that nobody has a receipt of.
+    pub receipted: u64,
+    /// How the last flush ended, which follows settling.
+    pub flushed: Result<Receipt, DurableError>,
+}
+
+/// One incarnation: opens an engine under a name, lets all clients make their requests, closes it, and flushes what has no
+/// receipt yet.
+fn incarnation<
+    I: Life + Send + Sync,
+    N: Runner + Drop + Sync,
+    G: Gate + Drop + Sync,
+    R: Threads + Wait + Sync,
+    D: Disk + Drop + Send,
+>(
+    rt: &R,
+    alloc: Global,
+    blank: Blank,
+    command_log: CmdLog<D>,
+    catalog: Catalog,
+    whole: Shard,
+    streams: Streams,
+    runner: N,
+    gate: G,
+    requests: &Seq<Request>,
+    opening: Opening,
+) -> Result<Finished<D>, (NoMemory, CmdLog<D>)>
+    requires blank { (blank.opening ≡ opening) × (blank.table.shared.table_id ≡ I.table) }
+    requires numbers { (opening.first ≡ I.first) × (opening.limit ≡ I.limit) × (opening.parts ≡ I.parts) × (opening.clients ≡ I.clients) }
+    requires small { opening.first + opening.limit ≤ 2 ^ 60 }
+    requires parts { (1 ≤ I.parts) × (I.parts ≤ 8) }
+    requires clients { (1 ≤ I.clients) × (I.clients ≤ 8) }
+    requires catalog { catalog ≡ I.catalog }
+    requires opening { IsOpening I.catalog I.parts I.opening }
+    requires whole { IsWholeShard I.catalog I.parts whole }
+    requires holds { HoldsDatabase I.catalog whole I.opening }
+    requires streams { AreStreamsOf I.catalog I.opening streams.streams }
+    requires few { (s : ℕ) → length (stream_batches I.opening s) ≤ opening.first }
+    requires log { Holds I.catalog I.opening I.first I.moment I.faults I.past D.kind [] command_log I.first 0 }
+    requires fit { AllFit I.catalog requests.now }
+    requires asked { AreOfClients I.clients requests.now }
+    ensures ok { IfOk result (Ends D.kind I.catalog I.opening I.first
+        I.limit I.clients I.moment I.faults I.past requests.now) }
+    ensures err { IfErr result (λ e. e.1 ≡ command_log) }
+{
+    let Ok(opened) = Engine::<I, N, G>::open(
+        blank, alloc, catalog, whole, streams, runner, gate, opening,
+    ) else {
+        return Err((NoMemory, command_log));
+    };
+    let NewEngine {
+        engine,
+        lanes,
+        notes,
+        disk_note,
+        room,
+    } = opened;
+    let Ok(ready) = with_room(alloc, lanes, requests.as_slice()) else {
+        return Err((NoMemory, command_log));
+    };
+    // Laws of what a log holds, which do nothing.
+    holds_go_on::<I, D>();
+    held_fronts_stand::<I, D>();
+    all_stands::<I, D>();
+    let receipts = Receipts::new(command_log, disk_note);
+    let lanes = run_clients(
+        rt,
+        alloc,
+        &engine,
+        &receipts,
+        ready,
+        notes,
+        requests.as_slice(),
+    );
+    let (command_log, mut disk_note) = receipts.into_parts();
+    // The disk's own note tells what was posted last.
+    let posted = engine.hub.log.see(&mut disk_note);
+    let closed = engine.close(rt, alloc, lanes, room, disk_note);
+    Ok(flushed_at_last::<I, D>(alloc, closed, command_log, posted.count, opening.first))
+}
+
+/// The last flush, of what a run's list has behind the receipted count.
+fn flushed_at_last<I: Life, D: Disk + Drop>(
+    alloc: Global,
+    closed: Closed,
+    mut command_log: CmdLog<D>,
+    receipted: u64,
+    first: u64,
+) -> Finished<D>
+    requires first { first ≡ I.first }
+    requires accepted { Accepted I.catalog }
+    requires small { I.first + length closed.list ≤ 2 ^ 60 }
+    requires replays { Replays I.catalog I.opening closed.list }
+    requires holds { (fault : ℕ)
+        × Holds I.catalog I.opening I.first I.moment I.faults I.past D.kind closed.list command_log receipted fault }
+    ensures closed { result.closed ≡ closed }
+    ensures flushed { (fault : ℕ)
+        → Holds I.catalog I.opening I.first I.moment I.faults I.past D.kind closed.list command_log receipted fault
+        → IsFlushed D.kind I.catalog I.opening I.first
+        I.moment I.faults I.past receipted fault result }
+{
+    match finish::<I, D>(alloc, &mut command_log, &closed.list, first) {
+        Ok(receipt) => Finished {
+            closed,
+            log: command_log,
+            receipted: receipt.count,
+            flushed: Ok(receipt),
+        },
+        Err(refused) => Finished {
+            closed,
+            log: command_log,
+            receipted,
+            flushed: Err(refused),
+        },
+    }
+}
+
+/// Makes all requests on an opened log, those of each client in order and those of different clients at the same time, then
+/// settles, and flushes what has no receipt by then. `opening` has the place of the first entry, which is the log's count, and
+/// how many entries there may be, how many partitions run and how many clients ask. Shard and streams stand for a database `db`
+/// that is in step, at which the log's disk stands.
+///
+/// Whatever the threads do, all executions are one list, whose outcomes are those that they have one after another. The last of
+/// them are the steps of settling, in the model's order. A request for which there is no memory, or no place in the list, or no
+/// disk any more, has no entry and changes nothing. Wherever a crash falls, it leaves a front of the list, which has all places
+/// below the count that is told; of each client at most 16 entries stand behind that.
+///
+/// The run fails only where there is no memory to open the engine, or for the answers before the first request; then the log is
+/// handed back as it was.
+///
+/// A request costs its execution, and copies of what is asked for and of its reply; a receipt is asked for once in 16 listed
+/// answers. Each client looks at all requests.
+///
+/// Source: clients and partitions of H-Store run in threads of their own (Stonebraker et al., The End of an Architectural Era,
+/// VLDB 2007); S-Store's triggered work goes ahead of client work, and its command log commits in groups (Meehan et al., PVLDB 8,
+/// 2015, section 3).
+pub fn run_session<
+    N: Runner + Drop + Sync,
+    G: Gate + Drop + Sync,
+    R: Threads + Wait + Sync,
+    D: Disk + Drop + Send,
+>(
+    rt: &R,
+    alloc: Global,
+    command_log: CmdLog<D>,
+    catalog: Catalog,
+    whole: Shard,
+    streams: Streams,
+    runner: N,
+    gate: G,
+    requests: &Seq<Request>,
+    opening: Opening,
+) -> Result<Finished<D>, (NoMemory, CmdLog<D>)>
+    ghost db: { ModelDatabase }
+    requires accepted { Accepted catalog }
+    requires parts { (1 ≤ opening.parts) × (opening.parts ≤ 8) }
+    requires clients { (1 ≤ opening.clients) × (opening.clients ≤ 8) }
+    requires small { opening.first + opening.limit ≤ 2 ^ 60 }
+    requires matches { MatchesCounts catalog db }
+    requires few { (s : ℕ) → length (stream_batches db s) ≤ opening.first }
+    requires whole { IsWholeShard catalog opening.parts whole }
+    requires holds { HoldsDatabase catalog whole db }
+    requires streams { AreStreamsOf catalog db streams.streams }
+    requires log { OpensOn D.kind catalog db opening.first command_log }
+    requires fit { AllFit catalog requests.now }
+    requires asked { AreOfClients opening.clients requests.now }
+    ensures ok { IfOk result (EndsOnDisk D.kind catalog db opening.first
+        opening.limit opening.clients requests.now command_log) }
+    ensures err { IfErr result (λ e. e.1 ≡ command_log) }
+{
+    let Ok(blank) = Blank::new(alloc, &opening) else {
+        return Err((NoMemory, command_log));
+    };
+    incarnation::<Brand, N, G, R, D>(
+        rt,
+        alloc,
+        blank,
+        command_log,
+        catalog,
+        whole,
+        streams,
+        runner,
+        gate,
+        requests,
+        opening,
+    )
+}
