@@ -1,6 +1,6 @@
 -- The premises of the laws of an input.
 use Rattle.std.proofs.Common.{[], refl, arith}
-use Rattle.ss_refusals.specs.declared.input.ReadError.TheVariants.{NoCatalog}
+use Rattle.ss_refusals.specs.declared.input.InputError.TheVariants.{NoCatalog}
 use Rattle.ss_refusals.specs.Inputs.{HasRefusal}
 
 -- the empty input has a refusal: the catalogue is missing

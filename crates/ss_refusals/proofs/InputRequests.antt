@@ -10,7 +10,7 @@ use Rattle.ss_model.specs.declared.entry.Asked.TheVariants.{Call, Push}
 use Rattle.ss_model.specs.declared.entry.Request.{Request}
 use Rattle.ss_model.specs.Database.{fits_entry}
 use Rattle.ss_model.specs.Report.{asked_entries, asked_entry, entries_behind}
-use Rattle.ss_refusals.specs.declared.input.ReadError.{ReadError}
+use Rattle.ss_refusals.specs.declared.input.InputError.{InputError}
 use Rattle.ss_refusals.specs.Starts.{AsksFor, AskInOrder}
 use Rattle.ss_refusals.specs.Refused.{RefusesLater, RefusesAmong}
 
@@ -36,7 +36,7 @@ parts_at (y ∷ xs) zero x h is = ap (λ z. z ∷ xs) (sym is)
 parts_at (y ∷ xs) (suc i) x h is = ap (λ zs. y ∷ zs) (parts_at xs i x (omega arith) is)
 
 -- the line at an index is the first that is refused
-pub refused_among : (catalog : Catalog) (ls : List Line) (i : ℕ) (rs : List Request) (l : Line) (e : ReadError) → i < length ls → l ≡ get_or ls i l → AskInOrder catalog (take i ls) rs → RefusesLater catalog l e → RefusesAmong catalog ls e
+pub refused_among : (catalog : Catalog) (ls : List Line) (i : ℕ) (rs : List Request) (l : Line) (e : InputError) → i < length ls → l ≡ get_or ls i l → AskInOrder catalog (take i ls) rs → RefusesLater catalog l e → RefusesAmong catalog ls e
 refused_among catalog ls i rs l e h is fine refused = record { before = take i ls; line = l; behind = drop (suc i) ls; parts = parts_at ls i l h is; requests = rs; fine = fine; refused = refused }
 
 -- ---- what fits

@@ -18,8 +18,8 @@ use Rattle.ss_catalog.specs.Answers.{IsReadOrRefused}
 use Rattle.ss_catalog_requests.specs.declared.request.RequestError.{RequestError}
 use Rattle.ss_catalog_requests.specs.declared.request.RequestError.TheVariants as request
 use Rattle.ss_catalog_requests.specs.Requests.{request_of, RefusesAs as RefusesRequestAs}
-use Rattle.ss_refusals.specs.declared.input.ReadError.{ReadError}
-use Rattle.ss_refusals.specs.declared.input.ReadError.TheVariants.{Line as OfLine, NoCatalog, Catalog as OfCatalog, Request as OfRequest}
+use Rattle.ss_refusals.specs.declared.input.InputError.{InputError}
+use Rattle.ss_refusals.specs.declared.input.InputError.TheVariants.{Line as OfLine, NoCatalog, Catalog as OfCatalog, Request as OfRequest}
 use Rattle.ss_refusals.specs.Starts.{SaysCatalog, AsksFor, AskInOrder, StartLines, Starts}
 use Rattle.ss_refusals.specs.Refused.{RefusesCatalog, RefusesFirst, RefusesRequest, RefusesLater, RefusesAmong, RefusesLines, IsRefusedBy}
 use Rattle.ss_refusals.specs.Inputs.{says_nothing, HasOneStart, StartsOrRefused, HasOneRefusal}
@@ -35,7 +35,7 @@ pub record InputLaws : Type 0 where
 -- ---- what says nothing
 
 -- a refusal doesn't both say something and say nothing
-says_both : (e : ReadError) → says_nothing e ≡ true → says_nothing e ≡ false → ⊥
+says_both : (e : InputError) → says_nothing e ≡ true → says_nothing e ≡ false → ⊥
 says_both e h k = false≢true (sym k ∙ h)
 
 -- a refusal of a line's bytes that says something is what they mean
@@ -88,7 +88,7 @@ said_or_refused laws l c n m e says p h =
     catalog_means m e p (laws.either says.value c e says.reads (subst (λ (d : Data). Refuses d e) (one_value l h.value says.value h.json says.json) h.refused))
 
 -- a line that says a catalogue isn't refused
-pub first_is_fine : InputLaws → (l : Line) (c : Catalog) (e : ReadError) → SaysCatalog l c → says_nothing e ≡ false → RefusesFirst l e → ⊥
+pub first_is_fine : InputLaws → (l : Line) (c : Catalog) (e : InputError) → SaysCatalog l c → says_nothing e ≡ false → RefusesFirst l e → ⊥
 first_is_fine laws l c (OfLine e) says p h = has_value l says.value e says.json p h
 first_is_fine laws l c (OfCatalog n e) says p h = said_or_refused laws l c n n e says p h
 first_is_fine laws l c NoCatalog says p h = h
@@ -102,7 +102,7 @@ one_of_catalog laws l n m e f p q h k =
     cc
 
 -- the catalogue's line has one refusal
-one_first : InputLaws → (l : Line) (e f : ReadError) → says_nothing e ≡ false → says_nothing f ≡ false → RefusesFirst l e → RefusesFirst l f → e ≡ f
+one_first : InputLaws → (l : Line) (e f : InputError) → says_nothing e ≡ false → says_nothing f ≡ false → RefusesFirst l e → RefusesFirst l f → e ≡ f
 one_first laws l (OfLine e) (OfLine f) p q h k = one_of_bytes l e f p q h k
 one_first laws l (OfLine e) (OfCatalog m f) p q h k = absurd (has_value l k.value e k.json p h)
 one_first laws l (OfLine e) NoCatalog p q h k = absurd k
@@ -128,7 +128,7 @@ asked_or_refused c l r e asks p h =
     (request_means (request_of c l.number h.value) e p h.refused)
 
 -- a line that asks for a request isn't refused
-pub later_is_fine : (c : Catalog) (l : Line) (r : Request) (e : ReadError) → AsksFor c l r → says_nothing e ≡ false → RefusesLater c l e → ⊥
+pub later_is_fine : (c : Catalog) (l : Line) (r : Request) (e : InputError) → AsksFor c l r → says_nothing e ≡ false → RefusesLater c l e → ⊥
 later_is_fine c l r (OfLine e) asks p h = has_value l asks.value e asks.json p h
 later_is_fine c l r (OfRequest e) asks p h = asked_or_refused c l r e asks p h
 later_is_fine c l r NoCatalog asks p h = h
@@ -141,7 +141,7 @@ one_of_request c l e f p q h k =
     ap OfRequest (err_same (request_of c l.number k.value) e f means (request_means (request_of c l.number k.value) f q k.refused))
 
 -- a request's line has one refusal
-one_later : (c : Catalog) (l : Line) (e f : ReadError) → says_nothing e ≡ false → says_nothing f ≡ false → RefusesLater c l e → RefusesLater c l f → e ≡ f
+one_later : (c : Catalog) (l : Line) (e f : InputError) → says_nothing e ≡ false → says_nothing f ≡ false → RefusesLater c l e → RefusesLater c l f → e ≡ f
 one_later c l (OfLine e) (OfLine f) p q h k = one_of_bytes l e f p q h k
 one_later c l (OfLine e) (OfRequest f) p q h k = absurd (has_value l k.value e k.json p h)
 one_later c l (OfLine e) NoCatalog p q h k = absurd k
@@ -179,7 +179,7 @@ one_list c (l ∷ ls) (x ∷ xs) (y ∷ ys) h k =
     cc
 
 -- where all lines ask, none is refused
-all_fine : (c : Catalog) (before : List Line) (l : Line) (behind : List Line) (rs : List Request) (e : ReadError)
+all_fine : (c : Catalog) (before : List Line) (l : Line) (behind : List Line) (rs : List Request) (e : InputError)
     → AskInOrder c (before ++ l ∷ behind) rs → says_nothing e ≡ false → RefusesLater c l e → ⊥
 all_fine c [] l behind rs e all p h =
     let first : AsksFirst c l behind = asks_first c l behind rs all in
@@ -189,7 +189,7 @@ all_fine c (x ∷ before) l behind rs e all p h =
     all_fine c before l behind first.rest e first.behind p h
 
 -- the first of them that is refused has one place, and one refusal
-one_place : (c : Catalog) (bs cs : List Line) (l m : Line) (ls ms : List Line) (xs ys : List Request) (e f : ReadError) → bs ++ l ∷ ls ≡ cs ++ m ∷ ms
+one_place : (c : Catalog) (bs cs : List Line) (l m : Line) (ls ms : List Line) (xs ys : List Request) (e f : InputError) → bs ++ l ∷ ls ≡ cs ++ m ∷ ms
     → AskInOrder c bs xs → AskInOrder c cs ys → says_nothing e ≡ false → says_nothing f ≡ false → RefusesLater c l e → RefusesLater c m f → e ≡ f
 one_place c [] [] l m ls ms xs ys e f parts a b p q h k =
     let same : l ≡ m = cc in
@@ -206,13 +206,13 @@ one_place c (x ∷ bs) (y ∷ cs) l m ls ms xs ys e f parts a b p q h k =
     let behind : bs ++ l ∷ ls ≡ cs ++ m ∷ ms = cc in
     one_place c bs cs l m ls ms (asks_first c x bs xs a).rest (asks_first c y cs ys b).rest e f behind (asks_first c x bs xs a).behind (asks_first c y cs ys b).behind p q h k
 
-one_among : (c : Catalog) (ls : List Line) (e f : ReadError) → says_nothing e ≡ false → says_nothing f ≡ false → RefusesAmong c ls e → RefusesAmong c ls f → e ≡ f
+one_among : (c : Catalog) (ls : List Line) (e f : InputError) → says_nothing e ≡ false → says_nothing f ≡ false → RefusesAmong c ls e → RefusesAmong c ls f → e ≡ f
 one_among c ls e f p q h k = one_place c h.before k.before h.line k.line h.behind k.behind h.requests k.requests e f (sym h.parts ∙ k.parts) h.fine k.fine p q h.refused k.refused
 
 -- ---- lines
 
 -- lines that start aren't refused
-lines_fine : InputLaws → (ls : List Line) (c : Catalog) (rs : List Request) (e : ReadError) → StartLines ls c rs → says_nothing e ≡ false → RefusesLines ls e → ⊥
+lines_fine : InputLaws → (ls : List Line) (c : Catalog) (rs : List Request) (e : InputError) → StartLines ls c rs → says_nothing e ≡ false → RefusesLines ls e → ⊥
 lines_fine laws [] c rs e start p h = start
 lines_fine laws (l ∷ ls) c rs e start p (inl h) = first_is_fine laws l c e start.0 p h
 lines_fine laws (l ∷ ls) c rs e start p (inr h) =
@@ -221,7 +221,7 @@ lines_fine laws (l ∷ ls) c rs e start p (inr h) =
     all_fine c among.before among.line among.behind rs e (subst (λ (xs : List Line). AskInOrder c xs rs) among.parts start.1) p among.refused
 
 -- lines have one refusal
-one_of_lines : InputLaws → (ls : List Line) (e f : ReadError) → says_nothing e ≡ false → says_nothing f ≡ false → RefusesLines ls e → RefusesLines ls f → e ≡ f
+one_of_lines : InputLaws → (ls : List Line) (e f : InputError) → says_nothing e ≡ false → says_nothing f ≡ false → RefusesLines ls e → RefusesLines ls f → e ≡ f
 one_of_lines laws [] e f p q h k = h ∙ sym k
 one_of_lines laws (l ∷ ls) e f p q (inl h) (inl k) = one_first laws l e f p q h k
 one_of_lines laws (l ∷ ls) e f p q (inl h) (inr k) = absurd (first_is_fine laws l k.catalog e k.says p h)
@@ -239,10 +239,10 @@ one_start_of laws (l ∷ ls) a b xs ys h k =
 -- ---- inputs
 
 -- an input is refused as too long, or within its length by its lines
-abbrev LongOrLines : List ℕ → ReadError → Type 0
+abbrev LongOrLines : List ℕ → InputError → Type 0
 LongOrLines input e = ((e ≡ OfLine cause.InputTooLong) × (max_input < length input)) ⊎ ((length input ≤ max_input) × RefusesLines (lines_of input) e)
 
-long_or_lines : (input : List ℕ) (e : ReadError) → says_nothing e ≡ false → IsRefusedBy input e → LongOrLines input e
+long_or_lines : (input : List ℕ) (e : InputError) → says_nothing e ≡ false → IsRefusedBy input e → LongOrLines input e
 long_or_lines input (OfLine cause.NoMemory) p h = absurd (false≢true (sym p))
 long_or_lines input (OfLine cause.ReadFault) p h = absurd (false≢true (sym p))
 long_or_lines input (OfLine cause.InputTooLong) p h = inl (refl, h)
@@ -252,11 +252,11 @@ long_or_lines input NoCatalog p h = inr h
 long_or_lines input (OfCatalog n e) p h = inr h
 long_or_lines input (OfRequest e) p h = inr h
 
-start_or_refused : InputLaws → (input : List ℕ) (c : Catalog) (rs : List Request) (e : ReadError) → Starts input c rs → says_nothing e ≡ false → LongOrLines input e → ⊥
+start_or_refused : InputLaws → (input : List ℕ) (c : Catalog) (rs : List Request) (e : InputError) → Starts input c rs → says_nothing e ≡ false → LongOrLines input e → ⊥
 start_or_refused laws input c rs e start p (inl h) = let long : max_input < length input = h.1 in let short : length input ≤ max_input = start.within in omega arith
 start_or_refused laws input c rs e start p (inr h) = lines_fine laws (lines_of input) c rs e start.lines p h.1
 
-one_of_input : InputLaws → (input : List ℕ) (e f : ReadError) → says_nothing e ≡ false → says_nothing f ≡ false → LongOrLines input e → LongOrLines input f → e ≡ f
+one_of_input : InputLaws → (input : List ℕ) (e f : InputError) → says_nothing e ≡ false → says_nothing f ≡ false → LongOrLines input e → LongOrLines input f → e ≡ f
 one_of_input laws input e f p q (inl h) (inl k) = h.0 ∙ sym k.0
 one_of_input laws input e f p q (inl h) (inr k) = let long : max_input < length input = h.1 in let short : length input ≤ max_input = k.0 in absurd (omega arith)
 one_of_input laws input e f p q (inr h) (inl k) = let long : max_input < length input = k.1 in let short : length input ≤ max_input = h.0 in absurd (omega arith)

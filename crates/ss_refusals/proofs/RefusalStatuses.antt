@@ -4,8 +4,8 @@ use Rattle.ss_value.specs.FaultCounts.{Rose}
 use Rattle.ss_lines.specs.declared.line.LineError.TheVariants as cause
 use Rattle.ss_catalog.specs.declared.error.CatalogError.TheVariants as catalog
 use Rattle.ss_catalog_requests.specs.declared.request.RequestError.TheVariants as request
-use Rattle.ss_refusals.specs.declared.input.ReadError.{ReadError}
-use Rattle.ss_refusals.specs.declared.input.ReadError.TheVariants.{Line as OfLine, NoCatalog, Catalog as OfCatalog, Request as OfRequest}
+use Rattle.ss_refusals.specs.declared.input.InputError.{InputError}
+use Rattle.ss_refusals.specs.declared.input.InputError.TheVariants.{Line as OfLine, NoCatalog, Catalog as OfCatalog, Request as OfRequest}
 use Rattle.ss_refusals.specs.declared.status.Status.{Status}
 use Rattle.ss_refusals.specs.declared.status.Status.TheVariants.{Done, Usage, Input, ReadFault, WriteFault, Disk, NoMemory, Foreign, OtherCatalog, Limit, Differs}
 use Rattle.ss_refusals.specs.Statuses.{no_memory_text, read_fault_text, refusal_text, refusal_status}
@@ -27,7 +27,7 @@ OfRefusal Foreign = ⊥
 OfRefusal OtherCatalog = ⊥
 OfRefusal Limit = ⊥
 
-pub refusals_have : (e : ReadError) → OfRefusal (refusal_status e)
+pub refusals_have : (e : InputError) → OfRefusal (refusal_status e)
 refusals_have (OfLine cause.NoMemory) = tt
 refusals_have (OfLine cause.ReadFault) = tt
 refusals_have (OfLine (cause.LineTooLong n)) = tt
@@ -40,13 +40,13 @@ refusals_have (OfRequest request.NoMemory) = tt
 refusals_have (OfRequest e) = tt
 
 -- so it has none of the others
-pub never : {P : Type 0} (e : ReadError) (other : Status) → refusal_status e ≡ other → (OfRefusal other → ⊥) → P
+pub never : {P : Type 0} (e : InputError) (other : Status) → refusal_status e ≡ other → (OfRefusal other → ⊥) → P
 never e other is none = absurd (none (subst OfRefusal is (refusals_have e)))
 
 -- ---- what is written
 
 -- only out of memory has its status, and so its text
-pub memory_text_is : (e : ReadError) → refusal_status e ≡ NoMemory → refusal_text e ≡ no_memory_text
+pub memory_text_is : (e : InputError) → refusal_status e ≡ NoMemory → refusal_text e ≡ no_memory_text
 memory_text_is (OfLine cause.NoMemory) is = refl
 memory_text_is (OfLine cause.ReadFault) is = cc
 memory_text_is (OfLine (cause.LineTooLong line)) is = cc
@@ -59,7 +59,7 @@ memory_text_is (OfRequest request.NoMemory) is = refl
 memory_text_is (OfRequest e) is = cc
 
 -- only a fault of the source has its status, and so its text
-pub read_fault_text_is : (e : ReadError) → refusal_status e ≡ ReadFault → refusal_text e ≡ read_fault_text
+pub read_fault_text_is : (e : InputError) → refusal_status e ≡ ReadFault → refusal_text e ≡ read_fault_text
 read_fault_text_is (OfLine cause.NoMemory) is = cc
 read_fault_text_is (OfLine cause.ReadFault) is = refl
 read_fault_text_is (OfLine (cause.LineTooLong line)) is = cc
@@ -72,13 +72,13 @@ read_fault_text_is (OfRequest request.NoMemory) is = cc
 read_fault_text_is (OfRequest e) is = cc
 
 -- a fault of the source, written as such, is reported as its refusal
-pub read_fault_ends : (e : ReadError) (w : SinkChange) → ReadFault ≡ refusal_status e → Writes read_fault_text w → ExitsRefused e ReadFault w
+pub read_fault_ends : (e : InputError) (w : SinkChange) → ReadFault ≡ refusal_status e → Writes read_fault_text w → ExitsRefused e ReadFault w
 read_fault_ends e w is reported = inl (record { is = is; reported = subst (λ text. Writes text w) (sym (read_fault_text_is e (sym is))) reported })
 
 -- ---- what is counted
 
 -- only where a fault of the source was counted is an input refused for one
-pub fault_rose : (e : ReadError) (faults now : ℕ) (before left : Option (List ℕ)) → LeavesOfRefusedSource e faults now before left → refusal_status e ≡ ReadFault → Rose faults now
+pub fault_rose : (e : InputError) (faults now : ℕ) (before left : Option (List ℕ)) → LeavesOfRefusedSource e faults now before left → refusal_status e ≡ ReadFault → Rose faults now
 fault_rose (OfLine cause.ReadFault) faults now before left leaves is = leaves
 fault_rose (OfLine cause.NoMemory) faults now before left leaves is = let no : ⊥ = cc in absurd no
 fault_rose (OfLine (cause.LineTooLong line)) faults now before left leaves is = let no : ⊥ = cc in absurd no

@@ -8,8 +8,8 @@ use Rattle.ss_model.specs.declared.catalog.Catalog.{Catalog}
 use Rattle.ss_model.specs.declared.entry.Request.{Request}
 use Rattle.ss_catalog.specs.declared.error.CatalogError.TheVariants as catalog
 use Rattle.ss_catalog_requests.specs.declared.request.RequestError.TheVariants as request
-use Rattle.ss_refusals.specs.declared.input.ReadError.{ReadError}
-use Rattle.ss_refusals.specs.declared.input.ReadError.TheVariants.{Line as OfLine, Catalog as OfCatalog, Request as OfRequest}
+use Rattle.ss_refusals.specs.declared.input.InputError.{InputError}
+use Rattle.ss_refusals.specs.declared.input.InputError.TheVariants.{Line as OfLine, Catalog as OfCatalog, Request as OfRequest}
 use Rattle.ss_refusals.specs.declared.status.Status.{Status}
 use Rattle.ss_refusals.specs.declared.status.Status.TheVariants.{Done, Input, ReadFault, NoMemory, Foreign, OtherCatalog, Limit}
 use Rattle.ss_refusals.specs.Refused.{IsRefusedBy}
@@ -17,7 +17,7 @@ use Rattle.ss_refusals.specs.Starts.{Starts}
 use Rattle.ss_refusals.specs.Statuses.{refusal_status}
 
 -- whether a refusal says nothing of the input: out of memory, wherever it came, and a fault of the source
-abbrev pub says_nothing : ReadError → Bool
+abbrev pub says_nothing : InputError → Bool
 says_nothing (OfLine cause.NoMemory) = true
 says_nothing (OfLine cause.ReadFault) = true
 says_nothing (OfCatalog line catalog.NoMemory) = true
@@ -25,7 +25,7 @@ says_nothing (OfRequest request.NoMemory) = true
 says_nothing _ = false
 
 -- the input is refused so, and this says something of it
-pub record HasRefusal (input : List ℕ) (e : ReadError) : Type 0 where
+pub record HasRefusal (input : List ℕ) (e : InputError) : Type 0 where
   pub first : IsRefusedBy input e
   pub says : says_nothing e ≡ false
 
@@ -37,11 +37,11 @@ HasOneStart = (input : List ℕ) (a b : Catalog) (xs ys : List Request) → Star
 
 -- law: whatever refuses an input that starts says nothing of it
 abbrev pub StartsOrRefused : Type 0
-StartsOrRefused = (input : List ℕ) (c : Catalog) (rs : List Request) (e : ReadError) → Starts input c rs → IsRefusedBy input e → says_nothing e ≡ true
+StartsOrRefused = (input : List ℕ) (c : Catalog) (rs : List Request) (e : InputError) → Starts input c rs → IsRefusedBy input e → says_nothing e ≡ true
 
 -- law: an input has one refusal
 abbrev pub HasOneRefusal : Type 0
-HasOneRefusal = (input : List ℕ) (e f : ReadError) → HasRefusal input e → HasRefusal input f → e ≡ f
+HasOneRefusal = (input : List ℕ) (e f : InputError) → HasRefusal input e → HasRefusal input f → e ≡ f
 
 -- ---- how an input ends
 
@@ -58,7 +58,7 @@ DidNotRise before now = Rose before now → ⊥
 
 -- an input with a refusal ends with the status of the refusal, or at out of memory
 abbrev pub ExitsAsRefused : List ℕ → Status → Type 0
-ExitsAsRefused input ended = (e : ReadError) → HasRefusal input e → (ended ≡ refusal_status e) ⊎ (ended ≡ NoMemory)
+ExitsAsRefused input ended = (e : InputError) → HasRefusal input e → (ended ≡ refusal_status e) ⊎ (ended ≡ NoMemory)
 
 -- the statuses of an input that starts, where no fault is counted
 abbrev pub OfStarted : Status → Type 0

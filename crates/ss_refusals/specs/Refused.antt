@@ -12,8 +12,8 @@ use Rattle.ss_catalog.specs.declared.error.CatalogError.{CatalogError}
 use Rattle.ss_catalog.specs.Reads.{Refuses}
 use Rattle.ss_catalog_requests.specs.declared.request.RequestError.{RequestError}
 use Rattle.ss_catalog_requests.specs.Requests.{request_of, RefusesAs as RefusesRequestAs}
-use Rattle.ss_refusals.specs.declared.input.ReadError.{ReadError}
-use Rattle.ss_refusals.specs.declared.input.ReadError.TheVariants.{Line as OfLine, NoCatalog, Catalog as OfCatalog, Request as OfRequest}
+use Rattle.ss_refusals.specs.declared.input.InputError.{InputError}
+use Rattle.ss_refusals.specs.declared.input.InputError.TheVariants.{Line as OfLine, NoCatalog, Catalog as OfCatalog, Request as OfRequest}
 use Rattle.ss_refusals.specs.Starts.{SaysCatalog, AskInOrder}
 
 -- ---- the catalogue's line
@@ -26,7 +26,7 @@ pub record RefusesCatalog (l : Line) (line : ℕ) (e : CatalogError) : Type 0 wh
   pub refused : Refuses value e
 
 -- the catalogue's line is refused so: for its bytes, then for its value
-abbrev pub RefusesFirst : Line → ReadError → Type 0
+abbrev pub RefusesFirst : Line → InputError → Type 0
 RefusesFirst l (OfLine e) = RefusesAs (value_at l) e
 RefusesFirst l (OfCatalog line e) = RefusesCatalog l line e
 RefusesFirst l NoCatalog = ⊥
@@ -41,14 +41,14 @@ pub record RefusesRequest (catalog : Catalog) (l : Line) (e : RequestError) : Ty
   pub refused : RefusesRequestAs (request_of catalog l.number value) e
 
 -- a request's line is refused so, in the same order
-abbrev pub RefusesLater : Catalog → Line → ReadError → Type 0
+abbrev pub RefusesLater : Catalog → Line → InputError → Type 0
 RefusesLater catalog l (OfLine e) = RefusesAs (value_at l) e
 RefusesLater catalog l (OfRequest e) = RefusesRequest catalog l e
 RefusesLater catalog l NoCatalog = ⊥
 RefusesLater catalog l (OfCatalog line e) = ⊥
 
 -- one of the lines is refused so, and all lines before it ask for requests
-pub record RefusesAmong (catalog : Catalog) (lines : List Line) (e : ReadError) : Type 0 where
+pub record RefusesAmong (catalog : Catalog) (lines : List Line) (e : InputError) : Type 0 where
   pub before : List Line
   pub line : Line
   pub behind : List Line
@@ -60,25 +60,25 @@ pub record RefusesAmong (catalog : Catalog) (lines : List Line) (e : ReadError) 
 -- ---- inputs
 
 -- the first line is a catalogue, and one behind it is refused so
-pub record RefusesBehind (l : Line) (ls : List Line) (e : ReadError) : Type 0 where
+pub record RefusesBehind (l : Line) (ls : List Line) (e : InputError) : Type 0 where
   pub catalog : Catalog
   pub says : SaysCatalog l catalog
   pub refused : RefusesAmong catalog ls e
 
 -- the first refusal of lines; where there are none, the catalogue is missing
-abbrev pub RefusesLines : List Line → ReadError → Type 0
+abbrev pub RefusesLines : List Line → InputError → Type 0
 RefusesLines [] e = e ≡ NoCatalog
 RefusesLines (l ∷ ls) e = RefusesFirst l e ⊎ RefusesBehind l ls e
 
 -- the first refusal of the bytes: of their length, and then of their lines; out of memory and a fault of the source say nothing of them
-abbrev pub IsRefusedBy : List ℕ → ReadError → Type 0
+abbrev pub IsRefusedBy : List ℕ → InputError → Type 0
 IsRefusedBy input (OfLine cause.NoMemory) = Unit {0}
 IsRefusedBy input (OfLine cause.ReadFault) = Unit {0}
 IsRefusedBy input (OfLine cause.InputTooLong) = max_input < length input
 IsRefusedBy input e = (length input ≤ max_input) × RefusesLines (lines_of input) e
 
 -- the refusals that lines can have once they are there
-abbrev pub ComesOfLines : ReadError → Type 0
+abbrev pub ComesOfLines : InputError → Type 0
 ComesOfLines (OfLine cause.ReadFault) = ⊥
 ComesOfLines (OfLine cause.InputTooLong) = ⊥
 ComesOfLines _ = Unit {0}

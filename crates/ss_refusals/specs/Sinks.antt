@@ -2,10 +2,11 @@
 use Rattle.std.specs.Prelude.{◌≡◌, ◌≤◌, ◌<◌, ◌⊎◌, ℕ, List, length, take, Option, IfSome}
 use Rattle.std.specs.Io.KnownBytes.{Appends, IsAtEnd}
 use Rattle.ss_value.specs.FaultCounts.{Rose}
+use Rattle.ss_lines.specs.Kinds.{SourceKind, SinkKind}
 use Rattle.ss_lines.specs.declared.line.LineError.TheVariants as cause
 use Rattle.ss_lines.specs.Lines.{max_input}
-use Rattle.ss_refusals.specs.declared.input.ReadError.{ReadError}
-use Rattle.ss_refusals.specs.declared.input.ReadError.TheVariants.{Line as OfLine}
+use Rattle.ss_refusals.specs.declared.input.InputError.{InputError}
+use Rattle.ss_refusals.specs.declared.input.InputError.TheVariants.{Line as OfLine}
 use Rattle.ss_refusals.specs.declared.status.Status.{Status}
 use Rattle.ss_refusals.specs.declared.status.Status.TheVariants.{NoMemory}
 use Rattle.ss_refusals.specs.Inputs.{DidNotRise}
@@ -20,8 +21,8 @@ pub record SinkChange : Type 0 where
   pub faults_now : ℕ
 
 -- the sink that was so before, and is so now
-abbrev pub sink_of : Option (List ℕ) → Option (List ℕ) → ℕ → ℕ → SinkChange
-sink_of before now faults_before faults_now = record { before = before; now = now; faults_before = faults_before; faults_now = faults_now }
+abbrev pub sink_of : {K : Type 0} → SinkKind K → K → K → SinkChange
+sink_of kind before now = record { before = kind.written before; now = kind.written now; faults_before = kind.faults before; faults_now = kind.faults now }
 
 -- some first bytes of the text were written
 pub record WritesPrefix (text : List ℕ) (w : SinkChange) : Type 0 where
@@ -48,11 +49,11 @@ abbrev pub SinkHeld : SinkChange → Type 0
 SinkHeld w = DidNotRise w.faults_before w.faults_now
 
 -- the refusal was reported with its status, or that there was no memory for it
-abbrev pub ExitsRefused : ReadError → Status → SinkChange → Type 0
+abbrev pub ExitsRefused : InputError → Status → SinkChange → Type 0
 ExitsRefused refusal ended w = ExitsAs (refusal_status refusal) ended (refusal_text refusal) w ⊎ ExitsAs NoMemory ended no_memory_text w
 
 -- what reading leaves of the source where it is refused so, and that a fault of the source was counted
-abbrev pub LeavesOfRefusedSource : ReadError → ℕ → ℕ → Option (List ℕ) → Option (List ℕ) → Type 0
+abbrev pub LeavesOfRefusedSource : InputError → ℕ → ℕ → Option (List ℕ) → Option (List ℕ) → Type 0
 LeavesOfRefusedSource (OfLine cause.NoMemory) faults_before faults_now before now = Unit {0}
 LeavesOfRefusedSource (OfLine cause.ReadFault) faults_before faults_now before now = Rose faults_before faults_now
 LeavesOfRefusedSource (OfLine cause.InputTooLong) faults_before faults_now before now = IfSome before (λ input. max_input < length input)
@@ -60,7 +61,7 @@ LeavesOfRefusedSource _ faults_before faults_now before now = IsAtEnd now
 
 -- the input is refused with this status, by its first refusal where its bytes are known, and the refusal was reported
 pub record IsRefused (input : Option (List ℕ)) (status : Status) (w : SinkChange) : Type 0 where
-  pub refusal : ReadError
+  pub refusal : InputError
   pub first : IfSome input (λ bytes. IsRefusedBy bytes refusal)
   pub is : refusal_status refusal ≡ status
   pub reported : Writes (refusal_text refusal) w
@@ -75,8 +76,8 @@ pub record SourceChange : Type 0 where
   pub faults_now : ℕ
 
 -- the source that was so before, and is so now
-abbrev pub source_of : Option (List ℕ) → Option (List ℕ) → ℕ → ℕ → SourceChange
-source_of before now faults_before faults_now = record { before = before; now = now; faults_before = faults_before; faults_now = faults_now }
+abbrev pub source_of : {S : Type 0} → SourceKind S → S → S → SourceChange
+source_of kind before now = record { before = kind.left before; now = kind.left now; faults_before = kind.faults before; faults_now = kind.faults now }
 
 -- no fault of the source was counted
 abbrev pub SourceHeld : SourceChange → Type 0

@@ -12,8 +12,8 @@ use Rattle.ss_catalog.specs.declared.error.CatalogError.{CatalogError}
 use Rattle.ss_catalog.specs.declared.error.CatalogError.TheVariants as catalog
 use Rattle.ss_catalog_requests.specs.declared.request.RequestError.{RequestError}
 use Rattle.ss_catalog_requests.specs.declared.request.RequestError.TheVariants as request
-use Rattle.ss_refusals.specs.declared.input.ReadError.{ReadError}
-use Rattle.ss_refusals.specs.declared.input.ReadError.TheVariants.{Line as OfLine, NoCatalog, Catalog as OfCatalog, Request as OfRequest}
+use Rattle.ss_refusals.specs.declared.input.InputError.{InputError}
+use Rattle.ss_refusals.specs.declared.input.InputError.TheVariants.{Line as OfLine, NoCatalog, Catalog as OfCatalog, Request as OfRequest}
 use Rattle.ss_refusals.specs.declared.status.Status.{Status}
 use Rattle.ss_refusals.specs.declared.status.Status.TheVariants.{Done, Usage, Input, ReadFault, WriteFault, Disk, NoMemory, Foreign, OtherCatalog, Limit, Differs}
 
@@ -118,7 +118,7 @@ request_refusal (request.Arguments line) = input_text line (codes "C13") []
 request_refusal (request.TooManyRows line) = input_text line (codes "C14") []
 
 -- the bytes of a refusal; where there is no catalogue, that is refused as a whole, on line 1
-abbrev pub refusal_text : ReadError → List ℕ
+abbrev pub refusal_text : InputError → List ℕ
 refusal_text (OfLine e) = bytes_refusal e
 refusal_text NoCatalog = input_text 1 (codes "C1") (string (codes "$") ∷ [])
 refusal_text (OfCatalog line e) = catalog_refusal line e
@@ -143,7 +143,7 @@ request_status request.NoMemory = NoMemory
 request_status _ = Input
 
 -- the status of a refusal
-abbrev pub refusal_status : ReadError → Status
+abbrev pub refusal_status : InputError → Status
 refusal_status (OfLine e) = bytes_status e
 refusal_status NoCatalog = Input
 refusal_status (OfCatalog line e) = catalog_status e

@@ -15,10 +15,10 @@ use std::io;
 /// Out of memory is reported as such. Any other error, as of a word that isn't UTF-8, is a faulty command line.
 pub fn refuse_words<K: Sink>(error: &io::Error, sink: &mut K) -> Status
     ensures status { result ≡ words_status (error_kind error.now) }
-    ensures usage_line { result ≡ Status.Usage → Writes usage_text (sink_of (K.written sink.old) (K.written sink.new) (K.faults sink.old) (K.faults sink.new)) }
+    ensures usage_line { result ≡ Status.Usage → Writes usage_text (sink_of K.kind sink.old sink.new) }
     ensures memory_line { result ≡ Status.NoMemory → Writes no_memory_text
-        (sink_of (K.written sink.old) (K.written sink.new) (K.faults sink.old) (K.faults sink.new)) }
-    ensures counts { K.faults sink.old ≤ K.faults sink.new }
+        (sink_of K.kind sink.old sink.new) }
+    ensures counts { K.kind.faults sink.old ≤ K.kind.faults sink.new }
 {
     match error.kind() {
         io::ErrorKind::OutOfMemory => {

@@ -21,7 +21,7 @@ use std::alloc::Global;
 
 /// Why an input isn't read.
 #[derive(Drop)]
-pub enum ReadError {
+pub enum InputError {
     /// A line, or the whole input, is refused before a value is looked at; or the source failed; or out of memory.
     Line(LineError),
     /// There is no line, and so no catalogue.
@@ -44,7 +44,7 @@ pub struct ParsedInput {
 }
 
 /// The catalogue of the first line, or the line's first refusal. Costs what `read_catalog` costs.
-pub fn catalog_at(alloc: Global, line: &Line) -> Result<Catalog, ReadError>
+pub fn catalog_at(alloc: Global, line: &Line) -> Result<Catalog, InputError>
     ensures ok { IfOk result (SaysCatalog line.now) }
     ensures own { IfOk result IsOwnCatalog }
     ensures refused { IfErr result (RefusesFirst line.now) }
@@ -52,16 +52,16 @@ pub fn catalog_at(alloc: Global, line: &Line) -> Result<Catalog, ReadError>
 {
     let value = match line_value(alloc, line) {
         Ok(value) => value,
-        Err(error) => return Err(ReadError::Line(error)),
+        Err(error) => return Err(InputError::Line(error)),
     };
-    read_catalog(alloc, &value).map_err(|error| ReadError::Catalog {
+    read_catalog(alloc, &value).map_err(|error| InputError::Catalog {
         line: line.number,
         error,
     })
 }
 
 /// The request that a later line asks for, or the line's first refusal.
-fn request_at(alloc: Global, catalog: &Catalog, line: &Line) -> Result<Request, ReadError>
+fn request_at(alloc: Global, catalog: &Catalog, line: &Line) -> Result<Request, InputError>
     ensures ok { IfOk result (AsksFor catalog.now line.now) }
     ensures fits { IfOk result (λ r. fits_entry catalog.now (asked_entry r.client 0 r.what) ≡ true) }
     ensures refused { IfErr result (RefusesLater catalog.now line.now) }
@@ -69,13 +69,13 @@ fn request_at(alloc: Global, catalog: &Catalog, line: &Line) -> Result<Request, 
 {
     let value = match line_value(alloc, line) {
         Ok(value) => value,
-        Err(error) => return Err(ReadError::Line(error)),
+        Err(error) => return Err(InputError::Line(error)),
     };
-    request_of(alloc, catalog, line.number, &value).map_err(ReadError::Request)
+    request_of(alloc, catalog, line.number, &value).map_err(InputError::Request)
 }
 
 /// The requests of all later lines, or the first refusal.
-fn requests_at(alloc: Global, catalog: &Catalog, lines: &[Line]) -> Result<Seq<Request>, ReadError>
+fn requests_at(alloc: Global, catalog: &Catalog, lines: &[Line]) -> Result<Seq<Request>, InputError>
     ensures ok { IfOk result (AskInOrder catalog.now lines.now) }
     ensures fit { IfOk result (λ requests. list_all (fits_entry catalog.now) (asked_entries requests) ≡ true) }
     ensures refused { IfErr result (RefusesAmong catalog.now lines.now) }
@@ -84,9 +84,9 @@ fn requests_at(alloc: Global, catalog: &Catalog, lines: &[Line]) -> Result<Seq<R
     let mut requests = Seq::new(alloc);
     for line in lines {
         let request = request_at(alloc, catalog, line)?;
-        // Out of memory is reported alike by each kind of `ReadError` that has it.
+        // Out of memory is reported alike by each kind of `InputError` that has it.
         if requests.push(request).is_err() {
-            return Err(ReadError::Line(LineError::NoMemory));
+            return Err(InputError::Line(LineError::NoMemory));
         }
     }
     Ok(requests)
@@ -100,7 +100,7 @@ fn requests_at(alloc: Global, catalog: &Catalog, lines: &[Line]) -> Result<Seq<R
 /// nor an input that is too long is answered here.
 ///
 /// Costs what `read_catalog` and `request_of` cost, and time linear in the bytes of the lines.
-fn parse_input(alloc: Global, lines: &[Line]) -> Result<ParsedInput, ReadError>
+fn parse_input(alloc: Global, lines: &[Line]) -> Result<ParsedInput, InputError>
     ensures ok { IfOk result (λ p. StartLines lines.now p.catalog p.requests) }
     ensures own { IfOk result (λ p. IsOwnCatalog p.catalog) }
     ensures fit { IfOk result (λ p. list_all (fits_entry p.catalog) (asked_entries p.requests) ≡ true) }
@@ -108,7 +108,7 @@ fn parse_input(alloc: Global, lines: &[Line]) -> Result<ParsedInput, ReadError>
     ensures others { IfErr result ComesOfLines }
 {
     let Some((first, rest)) = lines.split_first() else {
-        return Err(ReadError::NoCatalog);
+        return Err(InputError::NoCatalog);
     };
     let catalog = catalog_at(alloc, first)?;
     let requests = requests_at(alloc, &catalog, rest)?;
@@ -120,19 +120,20 @@ fn parse_input(alloc: Global, lines: &[Line]) -> Result<ParsedInput, ReadError>
 /// A fault of the source and an input that is too long come before anything is said of a line. The lines are freed when it
 /// returns, before the run. Takes their memory and that of the values. Costs what `read_catalog` and
 /// `request_of` cost, and time linear in the bytes.
-pub fn read_input<S: Source>(alloc: Global, source: &mut S) -> Result<ParsedInput, ReadError>
-    ensures taken { TakesAtMost (max_input + 1) (S.left source.old) (S.left source.new) }
-    ensures counts { S.faults source.old ≤ S.faults source.new }
-    ensures end { OnOk result (IsAtEnd (S.left source.new)) }
-    ensures ok { IfOk result (λ p. IfSome (S.left source.old) (λ input. Starts input p.catalog p.requests)) }
+pub fn read_input<S: Source>(alloc: Global, source: &mut S) -> Result<ParsedInput, InputError>
+    ensures taken { TakesAtMost (max_input + 1) (S.kind.left source.old) (S.kind.left source.new) }
+    ensures counts { S.kind.faults source.old ≤ S.kind.faults source.new }
+    ensures end { OnOk result (IsAtEnd (S.kind.left source.new)) }
+    ensures ok { IfOk result (λ p. IfSome (S.kind.left source.old) (λ input. Starts input p.catalog p.requests)) }
     ensures own { IfOk result (λ p. IsOwnCatalog p.catalog) }
     ensures fit { IfOk result (λ p. list_all (fits_entry p.catalog) (asked_entries p.requests) ≡ true) }
-    ensures refused { IfErr result (λ e. IfSome (S.left source.old) (λ input. IsRefusedBy input e)) }
-    ensures leaves { IfErr result (λ e. LeavesOfRefusedSource e (S.faults source.old) (S.faults source.new) (S.left source.old) (S.left source.new)) }
+    ensures refused { IfErr result (λ e. IfSome (S.kind.left source.old) (λ input. IsRefusedBy input e)) }
+    ensures leaves { IfErr result (λ e. LeavesOfRefusedSource e (S.kind.faults source.old) (S.kind.faults source.new)
+        (S.kind.left source.old) (S.kind.left source.new)) }
 {
     let lines = match read_lines(alloc, source) {
         Ok(lines) => lines,
-        Err(e) => return Err(ReadError::Line(e)),
+        Err(e) => return Err(InputError::Line(e)),
     };
     parse_input(alloc, lines.as_slice())
 }

@@ -45,7 +45,7 @@ mod status;
 mod store_refusals;
 
 pub use command_line::refuse_words;
-pub use input::{ParsedInput, ReadError, catalog_at, read_input};
+pub use input::{InputError, ParsedInput, catalog_at, read_input};
 pub use laws::an_input_has_one_answer;
 pub use line::line_of;
 pub use refusals::{NO_MEMORY, USAGE, refuse, write_line};

@@ -6,7 +6,7 @@ ghost use Rattle.ss_model.specs.ReportLines.{count};
 ghost use Rattle.ss_refusals.specs.Statuses.{input_text, sql_fault, fault_code, counted_word, bytes_refusal, catalog_refusal, request_refusal, refusal_text, bytes_status, catalog_status, request_status, refusal_status};
 ghost use Rattle.ss_refusals.specs.Sinks.{sink_of, Writes, ExitsRefused};
 
-use crate::input::ReadError;
+use crate::input::InputError;
 use crate::line::line_of;
 use crate::status::Status;
 use ss_catalog::{CatalogError, Counted, SqlFault};
@@ -25,8 +25,8 @@ pub const NO_MEMORY: &str = "[\"no_memory\"]\n";
 
 /// Writes a text, as far as the sink takes it. Takes no memory.
 pub fn write_line<K: Sink>(sink: &mut K, text: &str)
-    ensures written { Writes text.now (sink_of (K.written sink.old) (K.written sink.new) (K.faults sink.old) (K.faults sink.new)) }
-    ensures counts { K.faults sink.old ≤ K.faults sink.new }
+    ensures written { Writes text.now (sink_of K.kind sink.old sink.new) }
+    ensures counts { K.kind.faults sink.old ≤ K.kind.faults sink.new }
 {
     // Where the sink fails the status stays what it is: status 4 comes only in place of 0.
     let _ = write_all(sink, text.as_bytes());
@@ -183,14 +183,14 @@ fn request_line(alloc: Global, error: RequestError) -> Result<String, AllocError
 }
 
 /// The text of a refusal. Linear in the texts that it carries.
-fn refusal_line(alloc: Global, error: &ReadError) -> Result<String, AllocError>
+fn refusal_line(alloc: Global, error: &InputError) -> Result<String, AllocError>
     ensures { IfOk result (λ text. string_bytes text ≡ refusal_text error.now) }
 {
     match error {
-        ReadError::Line(error) => bytes_line(alloc, *error),
-        ReadError::NoCatalog => word_line(alloc, 1, "C1", "$"),
-        ReadError::Catalog { line, error } => catalog_line(alloc, *line, error),
-        ReadError::Request(error) => request_line(alloc, *error),
+        InputError::Line(error) => bytes_line(alloc, *error),
+        InputError::NoCatalog => word_line(alloc, 1, "C1", "$"),
+        InputError::Catalog { line, error } => catalog_line(alloc, *line, error),
+        InputError::Request(error) => request_line(alloc, *error),
     }
 }
 
@@ -227,21 +227,21 @@ fn request_status(error: RequestError) -> Status
     }
 }
 
-fn status_of(error: &ReadError) -> Status
+fn status_of(error: &InputError) -> Status
     ensures { result ≡ refusal_status error.now }
 {
     match error {
-        ReadError::Line(error) => bytes_status(*error),
-        ReadError::NoCatalog => Status::Input,
-        ReadError::Catalog { error, .. } => catalog_status(error),
-        ReadError::Request(error) => request_status(*error),
+        InputError::Line(error) => bytes_status(*error),
+        InputError::NoCatalog => Status::Input,
+        InputError::Catalog { error, .. } => catalog_status(error),
+        InputError::Request(error) => request_status(*error),
     }
 }
 
 /// Writes a refusal by a text of its own, or that there was no memory for this text, and answers the status.
-fn refuse_line<K: Sink>(alloc: Global, sink: &mut K, error: &ReadError) -> Status
-    ensures refused { ExitsRefused error.now result (sink_of (K.written sink.old) (K.written sink.new) (K.faults sink.old) (K.faults sink.new)) }
-    ensures counts { K.faults sink.old ≤ K.faults sink.new }
+fn refuse_line<K: Sink>(alloc: Global, sink: &mut K, error: &InputError) -> Status
+    ensures refused { ExitsRefused error.now result (sink_of K.kind sink.old sink.new) }
+    ensures counts { K.kind.faults sink.old ≤ K.kind.faults sink.new }
 {
     match refusal_line(alloc, error) {
         Ok(text) => {
@@ -256,9 +256,9 @@ fn refuse_line<K: Sink>(alloc: Global, sink: &mut K, error: &ReadError) -> Statu
 }
 
 /// Writes why nothing ran, and answers the status.
-pub fn refuse<K: Sink>(alloc: Global, sink: &mut K, error: &ReadError) -> Status
-    ensures refused { ExitsRefused error.now result (sink_of (K.written sink.old) (K.written sink.new) (K.faults sink.old) (K.faults sink.new)) }
-    ensures counts { K.faults sink.old ≤ K.faults sink.new }
+pub fn refuse<K: Sink>(alloc: Global, sink: &mut K, error: &InputError) -> Status
+    ensures refused { ExitsRefused error.now result (sink_of K.kind sink.old sink.new) }
+    ensures counts { K.kind.faults sink.old ≤ K.kind.faults sink.new }
 {
     // Out of memory and a fault of the source are written by constant texts, which take no memory.
     match status_of(error) {

@@ -21,8 +21,8 @@ const NOTHING: &str = "[\"done\",0]\n";
 
 /// Writes a text of which all has to be written, and answers how the program ends. Takes no memory.
 pub fn write_whole<K: Sink>(sink: &mut K, text: &[u8]) -> Status
-    ensures written { WritesWhole result text.now (sink_of (K.written sink.old) (K.written sink.new) (K.faults sink.old) (K.faults sink.new)) }
-    ensures counts { K.faults sink.old ≤ K.faults sink.new }
+    ensures written { WritesWhole result text.now (sink_of K.kind sink.old sink.new) }
+    ensures counts { K.kind.faults sink.old ≤ K.kind.faults sink.new }
 {
     match write_all(sink, text) {
         Ok(()) => Status::Done,
@@ -58,9 +58,9 @@ fn other_catalog_line<'x>(
 /// Writes a text with its status, or that there was no memory for it.
 fn tell<K: Sink>(sink: &mut K, status: Status, line: Result<String, AllocError>) -> Status
     ensures told { MatchResult line
-        (λ text. ToldAs status result (string_bytes text) (sink_of (K.written sink.old) (K.written sink.new) (K.faults sink.old) (K.faults sink.new)))
-        (λ _. ExitsAs Status.NoMemory result no_memory_text (sink_of (K.written sink.old) (K.written sink.new) (K.faults sink.old) (K.faults sink.new))) }
-    ensures counts { K.faults sink.old ≤ K.faults sink.new }
+        (λ text. ToldAs status result (string_bytes text) (sink_of K.kind sink.old sink.new))
+        (λ _. ExitsAs Status.NoMemory result no_memory_text (sink_of K.kind sink.old sink.new)) }
+    ensures counts { K.kind.faults sink.old ≤ K.kind.faults sink.new }
 {
     match line {
         Ok(text) => {
@@ -77,8 +77,8 @@ fn tell<K: Sink>(sink: &mut K, status: Status, line: Result<String, AllocError>)
 /// Writes why nothing was recovered, and answers the status.
 pub fn refuse_store<K: Sink>(alloc: Global, sink: &mut K, error: &RecoverError) -> Status
     requires texts { HasTexts error.now }
-    ensures told { TellsRefusal error.now result (sink_of (K.written sink.old) (K.written sink.new) (K.faults sink.old) (K.faults sink.new)) }
-    ensures counts { K.faults sink.old ≤ K.faults sink.new }
+    ensures told { TellsRefusal error.now result (sink_of K.kind sink.old sink.new) }
+    ensures counts { K.kind.faults sink.old ≤ K.kind.faults sink.new }
 {
     match error {
         RecoverError::NoMemory => {

@@ -1,7 +1,7 @@
 use Rattle.std.proofs.Common.{◌≡◌, ◌++◌, ◌∷◌, [], rules}
 use Rattle.std.proofs.lemmas.Result.{err_from_is_err_and}
 use Rattle.ss_lines.specs.declared.line.LineError.TheVariants.{NoMemory}
-use Rattle.ss_refusals.specs.declared.input.ReadError.TheVariants.{Line as OfLine}
+use Rattle.ss_refusals.specs.declared.input.InputError.TheVariants.{Line as OfLine}
 use Rattle.ss_refusals.proofs.InputRequests.{EachFits-push, each_fits, asked_more, refused_among}
 use Rattle.ss_refusals.proofs.input.requests_at.Goals as goal
 
