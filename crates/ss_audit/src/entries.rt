@@ -8,7 +8,8 @@ ghost use Rattle.ss_model.specs.Database.{Database as Model, empty_database};
 ghost use Rattle.ss_shard.specs.Shards.{IsCommitted};
 ghost use Rattle.ss_replay.specs.Replaying.{IsOn, IsOnAt};
 ghost use Rattle.ss_report_lines.specs.Said.{said};
-ghost use Rattle.ss_audit_laws.specs.Checks.{entry_at, replayed, turns_behind};
+ghost use Rattle.ss_model.specs.ReportLines.{entry_line};
+ghost use Rattle.ss_audit_laws.specs.Checks.{entry_at, replayed, says, turns_behind};
 ghost use Rattle.ss_audit.specs.Asked.{FindsAsked};
 ghost use Rattle.ss_audit.specs.Breaks.{BreaksAs};
 ghost use Rattle.ss_audit.specs.Clients.{number_of};
@@ -116,6 +117,20 @@ fn line_entry(
     }
 }
 
+/// Whether a line is that of an entry at this place, with its outcome. Linear in both.
+fn is_line_of(
+    alloc: Global,
+    catalog: &Catalog,
+    place: u64,
+    listed: &Listed,
+    line: &Line,
+) -> Result<bool, NoMemory>
+    ensures { IfOk result (λ is. is ≡ says (entry_line catalog.now place listed.now.outcome listed.now.entry) line.now) }
+{
+    let printed = entry_json(alloc, catalog, place, listed)?;
+    says(alloc, &printed, line)
+}
+
 /// Runs an entry, and answers whether a line says what comes of it at this place. Nothing is said of the database where it doesn't.
 ///
 /// Costs what it costs to run and to commit, and is linear in the line and in the outcome.
@@ -140,9 +155,7 @@ fn runs_as<N: Runner>(
     match ran {
         Some(outcome) => {
             let listed = Listed { entry, outcome };
-            let printed = entry_json(alloc, catalog, place, &listed)?;
-            let told = says(alloc, &printed, line)?;
-            Ok(told)
+            is_line_of(alloc, catalog, place, &listed, line)
         }
         None => Ok(false),
     }

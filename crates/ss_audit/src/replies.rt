@@ -1,6 +1,6 @@
 //! The second check: replies are what the printed entries call for.
 
-ghost use Rattle.std.specs.Prelude.{◌≡◌, ◌<◌, ◌++◌, [], IfOk, IfErr, IfSome, Ok, OnOk, Some, false, length, option_map, slice_get};
+ghost use Rattle.std.specs.Prelude.{◌≡◌, ◌<◌, ◌++◌, [], ◌∷◌, map, IfOk, IfErr, IfSome, Ok, OnOk, Some, false, length, option_map, slice_get};
 ghost use Rattle.serde_json.specs.View.{view};
 ghost use Rattle.serde_json.specs.Written.{has_float};
 ghost use Rattle.ss_audit_laws.specs.Checks.{all_say, called_replies, called_reply, first_by, item_at};
@@ -12,8 +12,8 @@ use crate::asked::asked_by;
 use crate::broken::Broken;
 use crate::positions::{Placed, Positions, first_positions, position};
 use crate::says::{behind_said, line_kind, nothing_left};
-use serde_json::{Value as Json, json};
-use ss_lines::Line;
+use serde_json::Value as Json;
+use ss_lines::{Field, Line, line_json};
 use ss_model::Request;
 use ss_report_lines::said;
 use ss_value::NoMemory;
@@ -93,17 +93,57 @@ fn item_at(value: &Json, number: usize) -> Result<Json, AllocError>
     }
 }
 
+/// Adds a copy of the item of this number of a line.
+fn push_copy(items: &mut Vec<Json>, value: &Json, number: usize) -> Result<(), AllocError>
+    ensures { OnOk result (map view items.new.items ≡ map view items.old.items ++ item_at number (view value.now) ∷ []) }
+{
+    let item = item_at(value, number)?;
+    items.push(item)?;
+    Ok(())
+}
+
+/// The reply to a request whose entry has this line: its place and its outcome.
+fn reply_to(alloc: Global, line: u64, entry: &Json) -> Result<Json, AllocError>
+    ensures { IfOk result (λ reply. view reply ≡ called_reply line (Some (view entry.now))) }
+{
+    let kind = Json::try_from_str(alloc, "reply")?;
+    let mut items = Vec::with_capacity(alloc, 4)?;
+    items.push_reserved(kind);
+    items.push_reserved(Json::from(line));
+    push_copy(&mut items, entry, 1)?;
+    push_copy(&mut items, entry, 4)?;
+    Ok(Json::Array(items))
+}
+
 /// The reply that a printed entry calls for: its place and its outcome; and where there is none, that there was no memory.
 fn called_reply(alloc: Global, line: u64, entry: &Option<Json>) -> Result<Json, AllocError>
     ensures { IfOk result (λ reply. view reply ≡ called_reply line (option_map view entry.now)) }
 {
     match entry {
-        Some(entry) => {
-            let place = item_at(entry, 1)?;
-            json!(in alloc; ["reply", line, place, item_at(entry, 4)?])
+        Some(entry) => reply_to(alloc, line, entry),
+        None => {
+            let fields = [Field::Number(line), Field::Text("no_memory")];
+            line_json(alloc, "reply", &fields)
         }
-        None => json!(in alloc; ["reply", line, "no_memory"]),
     }
+}
+
+/// The reply to a client's request of this index that the entries call for. Linear in the line of its entry, and logarithmic in the
+/// entries.
+fn reply_of(
+    alloc: Global,
+    first: &Positions,
+    entries: &[Line],
+    request: &Request,
+    index: u64,
+) -> Result<Json, NoMemory>
+    requires { Finds (placed_lines 0 entries.now) first.now }
+    ensures says { IfOk result (λ reply. view reply ≡ called_reply request.now.line (first_by request.now.client index entries.now)) }
+    ensures whole { IfOk result (λ reply. has_float (view reply) ≡ false) }
+{
+    let entry = first_by(alloc, first, entries, request.client, index)?;
+    let reply = called_reply(alloc, request.line, &entry)?;
+    Ok(reply)
 }
 
 /// The index of the request at this position.
@@ -112,6 +152,32 @@ fn index_at(placed: &[Placed], position: usize) -> u64
     ensures { (p : Placed) → slice_get placed.now position ≡ Some p → result ≡ p.index }
 {
     placed[position].index
+}
+
+/// Checks that these lines are the replies that the entries call for, one to each request in order, where it is known which entry is
+/// the first about each request.
+fn all_replied(
+    alloc: Global,
+    requests: &[Request],
+    placed: &[Placed],
+    replies: &[Line],
+    entries: &[Line],
+    first: &Positions,
+    end: u64,
+) -> Result<(), Broken>
+    requires placed { placed.now ≡ placed_requests [] requests.now }
+    requires found { Finds (placed_lines 0 entries.now) first.now }
+    ensures ok { OnOk result (all_say end (called_replies entries.now [] requests.now) replies.now ≡ Ok tt) }
+    ensures broken { IfErr result (BreaksAs (all_say end (called_replies entries.now [] requests.now) replies.now)) }
+{
+    let mut rest = replies;
+    for (at, request) in requests.iter().enumerate() {
+        let index = index_at(placed, at);
+        let reply = reply_of(alloc, first, entries, request, index)?;
+        let behind = behind_said(alloc, &reply, rest, end)?;
+        rest = behind;
+    }
+    nothing_left(rest)
 }
 
 /// Checks that these lines are the replies that the entries call for, one to each request in order.
@@ -131,13 +197,5 @@ pub(crate) fn check_replies(
 {
     let lines = placed_lines(alloc, entries)?;
     let first = first_positions(alloc, lines.as_slice())?;
-    let mut rest = replies;
-    for (at, request) in requests.iter().enumerate() {
-        let index = index_at(placed, at);
-        let entry = first_by(alloc, &first, entries, request.client, index)?;
-        let reply = called_reply(alloc, request.line, &entry)?;
-        let behind = behind_said(alloc, &reply, rest, end)?;
-        rest = behind;
-    }
-    nothing_left(rest)
+    all_replied(alloc, requests, placed, replies, entries, &first, end)
 }

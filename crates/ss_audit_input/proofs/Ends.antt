@@ -6,7 +6,7 @@ use Rattle.std.proofs.lemmas.Option.{IfSome_then}
 use Rattle.ss_value.specs.FaultCounts.{Rose}
 use Rattle.ss_audit.specs.declared.verdict.Verdict.{Verdict}
 use Rattle.ss_audit.specs.declared.verdict.Verdict.TheVariants.{Yes, No}
-use Rattle.ss_refusals.specs.declared.input.ReadError.{ReadError}
+use Rattle.ss_refusals.specs.declared.input.InputError.{InputError}
 use Rattle.ss_refusals.specs.declared.status.Status.{Status}
 use Rattle.ss_refusals.specs.declared.status.Status.TheVariants.{Done, Usage, Input, ReadFault, WriteFault, Disk, NoMemory, Foreign, OtherCatalog, Limit, Differs}
 use Rattle.ss_refusals.specs.Sinks.{ExitsRefused, LeavesOfRefusedSource, SinkChange, SinkHeld, SourceChange, SourceHeld, Writes, WritesAll, WritesPrefix}
@@ -62,7 +62,7 @@ module _ (s : SourceChange) (w : SinkChange) where
 
   -- ---- with a refusal
 
-  module _ (laws : InputLaws) (e : ReadError) (first : IfSome s.before (λ input. IsRefusedAudit input e)) (leaves : LeavesOfRefusedSource e s.faults_before s.faults_now s.before s.now) where
+  module _ (laws : InputLaws) (e : InputError) (first : IfSome s.before (λ input. IsRefusedAudit input e)) (leaves : LeavesOfRefusedSource e s.faults_before s.faults_now s.before s.now) where
     refused_told : (status : Status) → refusal_status e ≡ status → Writes (refusal_text e) w → AuditEnds s.before status w
     refused_told Input is reported = record { refusal = e; first = first; is = is; reported = reported }
     refused_told ReadFault is reported = subst (λ text. Writes text w) (read_fault_text_is e is) reported

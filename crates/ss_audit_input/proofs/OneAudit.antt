@@ -13,8 +13,8 @@ use Rattle.ss_model.specs.declared.entry.Request.{Request}
 use Rattle.ss_catalog.proofs.CallerLemmas.{ok_same}
 use Rattle.ss_catalog_requests.specs.declared.request.RequestError.TheVariants.{Shape}
 use Rattle.ss_catalog_requests.specs.Requests.{request_of}
-use Rattle.ss_refusals.specs.declared.input.ReadError.{ReadError}
-use Rattle.ss_refusals.specs.declared.input.ReadError.TheVariants.{Line as OfLine, NoCatalog, Catalog as OfCatalog, Request as OfRequest}
+use Rattle.ss_refusals.specs.declared.input.InputError.{InputError}
+use Rattle.ss_refusals.specs.declared.input.InputError.TheVariants.{Line as OfLine, NoCatalog, Catalog as OfCatalog, Request as OfRequest}
 use Rattle.ss_refusals.specs.Inputs.{says_nothing}
 use Rattle.ss_refusals.specs.Starts.{AsksFor, AskInOrder, SaysCatalog}
 use Rattle.ss_refusals.proofs.CallerLemmas.{InputLaws, first_is_fine, has_value, later_is_fine, one_said, silent}
@@ -35,14 +35,14 @@ asks_or_begins catalog l r asks begins =
     (subst (λ (d : Data). request_of catalog l.number d ≡ Ok r) (ok_same (value_at l) asks.value (array begins.items) asks.json begins.json) asks.asks)
 
 -- a line of a script that asks isn't refused
-asked_is_fine : (catalog : Catalog) (l : Line) (r : Request) (e : ReadError) → AsksFor catalog l r → says_nothing e ≡ false → RefusesAsked catalog l e → ⊥
+asked_is_fine : (catalog : Catalog) (l : Line) (r : Request) (e : InputError) → AsksFor catalog l r → says_nothing e ≡ false → RefusesAsked catalog l e → ⊥
 asked_is_fine catalog l r (OfLine e) asks says h = later_is_fine catalog l r (OfLine e) asks says h
 asked_is_fine catalog l r (OfRequest e) asks says h = later_is_fine catalog l r (OfRequest e) asks says h.0
 asked_is_fine catalog l r NoCatalog asks says h = h
 asked_is_fine catalog l r (OfCatalog n e) asks says h = h
 
 -- nor is one that begins a report
-begins_is_fine : (catalog : Catalog) (l : Line) (e : ReadError) → BeginsReport l → says_nothing e ≡ false → RefusesAsked catalog l e → ⊥
+begins_is_fine : (catalog : Catalog) (l : Line) (e : InputError) → BeginsReport l → says_nothing e ≡ false → RefusesAsked catalog l e → ⊥
 begins_is_fine catalog l (OfLine e) begins says h = has_value l (array begins.items) e begins.json says h
 begins_is_fine catalog l (OfRequest e) begins says h = h.1 begins
 begins_is_fine catalog l NoCatalog begins says h = h
@@ -69,7 +69,7 @@ first_not_told catalog x xs report ys rs is begins all =
     asks_or_begins catalog x first.0 first.1 (subst Begins is begins)
 
 -- no line of a script is refused, up to the report and the line that begins it
-script_fine : (catalog : Catalog) (before : List Line) (l : Line) (behind script report : List Line) (xs rs : List Request) (e : ReadError) → before ++ l ∷ behind ≡ script ++ report
+script_fine : (catalog : Catalog) (before : List Line) (l : Line) (behind script report : List Line) (xs rs : List Request) (e : InputError) → before ++ l ∷ behind ≡ script ++ report
     → AskInOrder catalog before xs → AskInOrder catalog script rs → Begins report → says_nothing e ≡ false → RefusesAsked catalog l e → ⊥
 script_fine catalog [] l behind [] report xs rs e parts a b begins says h = begins_is_fine catalog l e (subst Begins (sym parts) begins) says h
 script_fine catalog [] l behind (y ∷ ys) report xs rs e parts a b begins says h =
@@ -102,7 +102,7 @@ value_there [] l behind all = all.0
 value_there (x ∷ before) l behind all = value_there before l behind all.1
 
 -- where each line has a value none is refused
-report_fine : (ls : List Line) (e : ReadError) → AllByRecursion HasValue ls → says_nothing e ≡ false → RefusesReport ls e → ⊥
+report_fine : (ls : List Line) (e : InputError) → AllByRecursion HasValue ls → says_nothing e ≡ false → RefusesReport ls e → ⊥
 report_fine ls (OfLine e) all says h =
     let has = value_there h.before h.line h.behind (subst (λ (xs : List Line). AllByRecursion HasValue xs) h.parts all) in
     has_value h.line has.value e has.json says h.refused
@@ -114,23 +114,23 @@ report_fine ls (OfRequest e) all says h = h.refused
 
 module _ (laws : InputLaws) (catalog : Catalog) (requests : List Request) (report : List Line) where
   -- neither the script nor the report is refused
-  behind_fine : (rest : List Line) (e : ReadError) → AreScript catalog rest requests report → AreOfReport report → says_nothing e ≡ false → RefusesScript catalog rest e ⊎ RefusesBehindScript catalog rest e → ⊥
+  behind_fine : (rest : List Line) (e : InputError) → AreScript catalog rest requests report → AreOfReport report → says_nothing e ≡ false → RefusesScript catalog rest e ⊎ RefusesBehindScript catalog rest e → ⊥
   behind_fine rest e script told says (inl h) =
       script_fine catalog h.before h.line h.behind script.script report h.requests requests e (sym h.parts ∙ script.parts) h.fine script.asked told.begins says h.refused
   behind_fine rest e script told says (inr h) =
       let same : h.report ≡ report = one_report catalog h.script.script script.script h.report report h.requests requests (sym h.script.parts ∙ script.parts) h.script.asked script.asked h.script.begins told.begins in
       report_fine report e told.values says (subst (λ (xs : List Line). RefusesReport xs e) same h.refused)
 
-  lines_fine : (first : Line) (rest : List Line) (e : ReadError) → SaysCatalog first catalog → AreScript catalog rest requests report → AreOfReport report → says_nothing e ≡ false → RefusesAudit (first ∷ rest) e → ⊥
+  lines_fine : (first : Line) (rest : List Line) (e : InputError) → SaysCatalog first catalog → AreScript catalog rest requests report → AreOfReport report → says_nothing e ≡ false → RefusesAudit (first ∷ rest) e → ⊥
   lines_fine first rest e is script told says (inl h) = first_is_fine laws first catalog e is says h
   lines_fine first rest e is script told says (inr h) =
       let same : h.catalog ≡ catalog = one_said laws first h.catalog catalog h.says is in
       behind_fine rest e script told says (subst (λ (c : Catalog). RefusesScript c rest e ⊎ RefusesBehindScript c rest e) same h.refused)
 
-  audit_fine : (lines : List Line) (e : ReadError) → AuditLines lines catalog requests report → says_nothing e ≡ false → RefusesAudit lines e → ⊥
+  audit_fine : (lines : List Line) (e : InputError) → AuditLines lines catalog requests report → says_nothing e ≡ false → RefusesAudit lines e → ⊥
   audit_fine lines e are says h = lines_fine are.first are.rest e are.says are.script are.told says (subst (λ (ls : List Line). RefusesAudit ls e) are.parts h)
 
-  fine_so : (input : List ℕ) (e : ReadError) → Audits input catalog requests report → says_nothing e ≡ false → IsRefusedAudit input e → ⊥
+  fine_so : (input : List ℕ) (e : InputError) → Audits input catalog requests report → says_nothing e ≡ false → IsRefusedAudit input e → ⊥
   fine_so input (OfLine cause.NoMemory) audits says h = false≢true (sym says)
   fine_so input (OfLine cause.ReadFault) audits says h = false≢true (sym says)
   fine_so input (OfLine cause.InputTooLong) audits says h = let long : max_input < length input = h in let short : length input ≤ max_input = audits.within in omega arith
@@ -141,5 +141,5 @@ module _ (laws : InputLaws) (catalog : Catalog) (requests : List Request) (repor
   fine_so input (OfRequest e) audits says h = audit_fine (lines_of input) (OfRequest e) audits.lines says h.1
 
   -- what refuses such an input says nothing of it
-  pub audits_or_refused : (input : List ℕ) (e : ReadError) → Audits input catalog requests report → IsRefusedAudit input e → says_nothing e ≡ true
+  pub audits_or_refused : (input : List ℕ) (e : InputError) → Audits input catalog requests report → IsRefusedAudit input e → says_nothing e ≡ true
   audits_or_refused input e audits h = silent (says_nothing e) (λ says. fine_so input e audits says h)

@@ -11,8 +11,8 @@ use Rattle.ss_model.specs.declared.catalog.Catalog.{Catalog}
 use Rattle.ss_model.specs.declared.entry.Request.{Request}
 use Rattle.ss_catalog.proofs.CallerLemmas.{ok_same}
 use Rattle.ss_catalog_requests.specs.declared.request.RequestError.{RequestError}
-use Rattle.ss_refusals.specs.declared.input.ReadError.{ReadError}
-use Rattle.ss_refusals.specs.declared.input.ReadError.TheVariants.{Request as OfRequest}
+use Rattle.ss_refusals.specs.declared.input.InputError.{InputError}
+use Rattle.ss_refusals.specs.declared.input.InputError.TheVariants.{Request as OfRequest}
 use Rattle.ss_refusals.specs.Refused.{RefusesRequest}
 use Rattle.ss_refusals.specs.Starts.{AskInOrder}
 use Rattle.ss_refusals.proofs.CallerLemmas.{parts_at}
@@ -88,5 +88,5 @@ asked_few_whole catalog ls i rs h asked =
     omega (arith, many)
 
 -- the line at an index is the first that is refused
-pub refused_at : (catalog : Catalog) (ls : List Line) (i : ℕ) (rs : List Request) (l : Line) (e : ReadError) → i < length ls → l ≡ get_or ls i l → AskInOrder catalog (take i ls) rs → RefusesAsked catalog l e → RefusesScript catalog ls e
+pub refused_at : (catalog : Catalog) (ls : List Line) (i : ℕ) (rs : List Request) (l : Line) (e : InputError) → i < length ls → l ≡ get_or ls i l → AskInOrder catalog (take i ls) rs → RefusesAsked catalog l e → RefusesScript catalog ls e
 refused_at catalog ls i rs l e h is fine refused = record { before = take i ls; line = l; behind = drop (suc i) ls; parts = parts_at ls i l h is; requests = rs; fine = fine; refused = refused }

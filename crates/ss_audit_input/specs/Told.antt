@@ -13,7 +13,7 @@ use Rattle.ss_audit_laws.specs.Valid.{AreLines, IsReadable, IsValid, bytes_of}
 use Rattle.ss_audit.specs.declared.verdict.Verdict.{Verdict}
 use Rattle.ss_audit.specs.declared.verdict.Verdict.TheVariants.{Yes, No}
 use Rattle.ss_audit.specs.Breaks.{verdict_of}
-use Rattle.ss_refusals.specs.declared.input.ReadError.{ReadError}
+use Rattle.ss_refusals.specs.declared.input.InputError.{InputError}
 use Rattle.ss_refusals.specs.declared.status.Status.{Status}
 use Rattle.ss_refusals.specs.declared.status.Status.TheVariants.{Done, Input, ReadFault, WriteFault, NoMemory, Differs}
 use Rattle.ss_refusals.specs.Inputs.{LeavesOfSource}
@@ -37,6 +37,13 @@ abbrev pub verdict_status : Verdict → Status
 verdict_status (Yes n) = Done
 verdict_status (No check line) = Differs
 
+-- what an audit says of a report of these requests, where a line that is missing would have this number
+pub record IsVerdictOf (catalog : Catalog) (requests : List Request) (report : List Line) (end : ℕ) (v : Verdict) : Type 0 where
+  pub is : v ≡ verdict_of (audited catalog requests report end)
+  -- yes is said of a report that is valid, with as many entries, and of each such report that is read as what it says
+  pub right : (n : ℕ) → v ≡ Yes n → (list : List Listed) × IsValid catalog requests (bytes_of report) list × (length list ≡ n)
+  pub valid : (list : List Listed) → AreLines report → (valid : IsValid catalog requests (bytes_of report) list) → IsReadable catalog requests (valid.report).answers list → v ≡ Yes (length list)
+
 -- lines are a catalogue that is accepted, a script and a report, of which this is the verdict
 pub record IsVerdict (lines : List Line) (v : Verdict) : Type 0 where
   pub catalog : Catalog
@@ -44,10 +51,7 @@ pub record IsVerdict (lines : List Line) (v : Verdict) : Type 0 where
   pub report : List Line
   pub accepted : Accepted catalog
   pub lines_are : AuditLines lines catalog requests report
-  pub is : v ≡ verdict_of (audited catalog requests report (number_behind lines))
-  -- yes is said of a report that is valid, with as many entries, and of each such report that is read as what it says
-  pub right : (n : ℕ) → v ≡ Yes n → (list : List Listed) × IsValid catalog requests (bytes_of report) list × (length list ≡ n)
-  pub valid : (list : List Listed) → AreLines report → (valid : IsValid catalog requests (bytes_of report) list) → IsReadable catalog requests (valid.report).answers list → v ≡ Yes (length list)
+  pub says : IsVerdictOf catalog requests report (number_behind lines) v
 
 -- the verdict of what the bytes say, where they are known
 abbrev pub HasVerdict : Option (List ℕ) → Verdict → Type 0
@@ -68,7 +72,7 @@ pub record ToldPart (input : Option (List ℕ)) (w : SinkChange) : Type 0 where
 
 -- the input's first refusal was written
 pub record ToldRefusal (input : Option (List ℕ)) (status : Status) (w : SinkChange) : Type 0 where
-  pub refusal : ReadError
+  pub refusal : InputError
   pub first : IfSome input (λ bytes. IsRefusedAudit bytes refusal)
   pub is : refusal_status refusal ≡ status
   pub reported : Writes (refusal_text refusal) w

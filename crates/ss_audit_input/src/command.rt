@@ -13,21 +13,22 @@ use crate::verdict::tell_verdict;
 use ss_audit::Verdict;
 use ss_catalog::a_value_has_one_answer;
 use ss_lines::{Sink, Source, read_lines};
-use ss_refusals::{ReadError, Status, refuse};
+use ss_refusals::{InputError, Status, refuse};
 use std::alloc::Global;
 
 /// Reads a source to its end, and answers what an audit of its lines answers, or their first refusal.
-fn audit_source<S: Source>(alloc: Global, source: &mut S) -> Result<Verdict, ReadError>
-    ensures taken { TakesAtMost (max_input + 1) (S.left source.old) (S.left source.new) }
-    ensures counts { S.faults source.old ≤ S.faults source.new }
-    ensures end { OnOk result (IsAtEnd (S.left source.new)) }
-    ensures ok { IfOk result (HasVerdict (S.left source.old)) }
-    ensures refused { IfErr result (λ e. IfSome (S.left source.old) (λ input. IsRefusedAudit input e)) }
-    ensures leaves { IfErr result (λ e. LeavesOfRefusedSource e (S.faults source.old) (S.faults source.new) (S.left source.old) (S.left source.new)) }
+fn audit_source<S: Source>(alloc: Global, source: &mut S) -> Result<Verdict, InputError>
+    ensures taken { TakesAtMost (max_input + 1) (S.kind.left source.old) (S.kind.left source.new) }
+    ensures counts { S.kind.faults source.old ≤ S.kind.faults source.new }
+    ensures end { OnOk result (IsAtEnd (S.kind.left source.new)) }
+    ensures ok { IfOk result (HasVerdict (S.kind.left source.old)) }
+    ensures refused { IfErr result (λ e. IfSome (S.kind.left source.old) (λ input. IsRefusedAudit input e)) }
+    ensures leaves { IfErr result (λ e. LeavesOfRefusedSource e (S.kind.faults source.old) (S.kind.faults source.new)
+        (S.kind.left source.old) (S.kind.left source.new)) }
 {
     match read_lines(alloc, source) {
         Ok(lines) => audit_lines(alloc, lines.as_slice()),
-        Err(error) => Err(ReadError::Line(error)),
+        Err(error) => Err(InputError::Line(error)),
     }
 }
 
@@ -36,10 +37,10 @@ fn audit_source<S: Source>(alloc: Global, source: &mut S) -> Result<Verdict, Rea
 ///
 /// Runs on one thread, and uses no disk. Costs what reading the input and the audit cost, in time and memory.
 pub fn audit_input<S: Source, K: Sink>(alloc: Global, source: &mut S, sink: &mut K) -> Status
-    ensures comes { AuditComes (source_of (S.left source.old) (S.left source.new) (S.faults source.old) (S.faults source.new))
-        (sink_of (K.written sink.old) (K.written sink.new) (K.faults sink.old) (K.faults sink.new)) result }
-    ensures taken { TakesAtMost (max_input + 1) (S.left source.old) (S.left source.new) }
-    ensures counts { (S.faults source.old ≤ S.faults source.new) × (K.faults sink.old ≤ K.faults sink.new) }
+    ensures comes { AuditComes (source_of S.kind source.old source.new)
+        (sink_of K.kind sink.old sink.new) result }
+    ensures taken { TakesAtMost (max_input + 1) (S.kind.left source.old) (S.kind.left source.new) }
+    ensures counts { (S.kind.faults source.old ≤ S.kind.faults source.new) × (K.kind.faults sink.old ≤ K.kind.faults sink.new) }
 {
     // Does nothing: it states the laws by which an input with a script and a report isn't refused.
     a_value_has_one_answer();

@@ -1,42 +1,44 @@
 //! The lines of an input with a script and a report.
 
-ghost use Rattle.std.specs.Prelude.{◌≡◌, ◌≤◌, IfOk, IfSome, IfErr, MatchOption, OnOk, length, drop};
+ghost use Rattle.std.specs.Prelude.{◌≡◌, ◌≤◌, ◌<◌, ◌^◌, IfOk, IfErr, MatchOption, OnOk, length, drop};
 ghost use Rattle.std.specs.List.{AllByRecursion};
+ghost use Rattle.std.specs.Option.{SomeIff};
+ghost use Rattle.ss_model.specs.Accepted.{Accepted};
 ghost use Rattle.ss_refusals.specs.Refused.{ComesOfLines};
 ghost use Rattle.ss_refusals.specs.Starts.{AsksFor};
 ghost use Rattle.ss_audit_input.specs.Audits.{AreScript, BeginsReport, HasValue, number_behind};
 ghost use Rattle.ss_audit_input.specs.Refused.{RefusesAsked, RefusesAudit, RefusesReport, RefusesScript, RefusesTold};
-ghost use Rattle.ss_audit_input.specs.Told.{IsVerdict};
+ghost use Rattle.ss_audit_input.specs.Told.{IsVerdict, IsVerdictOf};
 
 use ss_audit::{Verdict, audit};
 use ss_catalog_requests::request_of;
 use ss_lines::{Line, LineError, line_value};
 use ss_model::{Catalog, Request};
-use ss_refusals::{ReadError, catalog_at};
-use ss_value::Seq;
+use ss_refusals::{InputError, catalog_at};
+use ss_value::{NoMemory, Seq};
 use std::alloc::Global;
 
 /// The request that a line asks for, or None where its value is an array, and so the first line of a report.
-fn asked_at(alloc: Global, catalog: &Catalog, line: &Line) -> Result<Option<Request>, ReadError>
+fn asked_at(alloc: Global, catalog: &Catalog, line: &Line) -> Result<Option<Request>, InputError>
     ensures ok { IfOk result (λ r. MatchOption r (BeginsReport line.now) (AsksFor catalog.now line.now)) }
     ensures refused { IfErr result (RefusesAsked catalog.now line.now) }
     ensures others { IfErr result ComesOfLines }
 {
     let value = match line_value(alloc, line) {
         Ok(value) => value,
-        Err(error) => return Err(ReadError::Line(error)),
+        Err(error) => return Err(InputError::Line(error)),
     };
     if value.is_array() {
         return Ok(None);
     }
     match request_of(alloc, catalog, line.number, &value) {
         Ok(request) => Ok(Some(request)),
-        Err(error) => Err(ReadError::Request(error)),
+        Err(error) => Err(InputError::Request(error)),
     }
 }
 
 /// The requests that lines begin with, up to the first line of a report. Costs what `request_of` costs, and is linear in the bytes.
-fn script_at(alloc: Global, catalog: &Catalog, lines: &[Line]) -> Result<Seq<Request>, ReadError>
+fn script_at(alloc: Global, catalog: &Catalog, lines: &[Line]) -> Result<Seq<Request>, InputError>
     ensures few { IfOk result (λ rs. length rs ≤ length lines.now) }
     ensures ok { IfOk result (λ rs. AreScript catalog.now lines.now rs (drop (length rs) lines.now)) }
     ensures refused { IfErr result (RefusesScript catalog.now lines.now) }
@@ -48,28 +50,28 @@ fn script_at(alloc: Global, catalog: &Catalog, lines: &[Line]) -> Result<Seq<Req
         let Some(request) = asked else {
             return Ok(requests);
         };
-        // Out of memory is reported alike by each kind of `ReadError` that has it.
+        // Out of memory is reported alike by each kind of `InputError` that has it.
         if requests.push(request).is_err() {
-            return Err(ReadError::Line(LineError::NoMemory));
+            return Err(InputError::Line(LineError::NoMemory));
         }
     }
     Ok(requests)
 }
 
 /// Checks that a line of a report has a value. Linear in its bytes.
-fn value_there(alloc: Global, line: &Line) -> Result<(), ReadError>
+fn value_there(alloc: Global, line: &Line) -> Result<(), InputError>
     ensures ok { OnOk result (HasValue line.now) }
     ensures refused { IfErr result (RefusesTold line.now) }
     ensures others { IfErr result ComesOfLines }
 {
     match line_value(alloc, line) {
         Ok(_) => Ok(()),
-        Err(error) => Err(ReadError::Line(error)),
+        Err(error) => Err(InputError::Line(error)),
     }
 }
 
 /// Checks that each line of a report has a value. Linear in their bytes, with memory for one value at a time.
-fn values_at(alloc: Global, lines: &[Line]) -> Result<(), ReadError>
+fn values_at(alloc: Global, lines: &[Line]) -> Result<(), InputError>
     ensures ok { OnOk result (AllByRecursion HasValue lines.now) }
     ensures refused { IfErr result (RefusesReport lines.now) }
     ensures others { IfErr result ComesOfLines }
@@ -82,7 +84,7 @@ fn values_at(alloc: Global, lines: &[Line]) -> Result<(), ReadError>
 
 /// The number that a line behind these would have; None where that is past 64 bits, and no memory holds so many lines.
 fn number_behind(lines: &[Line]) -> Option<u64>
-    ensures { IfSome result (λ n. n ≡ number_behind lines.now) }
+    ensures { SomeIff result (number_behind lines.now < 2 ^ 64) (number_behind lines.now) }
 {
     let Some((last, _)) = lines.split_last() else {
         return Some(1);
@@ -90,26 +92,40 @@ fn number_behind(lines: &[Line]) -> Option<u64>
     last.number.checked_add(1)
 }
 
+/// What an audit of a report says, which is the end of these lines, behind a script of these requests. Costs what `audit` costs.
+fn verdict_of(
+    alloc: Global,
+    catalog: &Catalog,
+    requests: &[Request],
+    lines: &[Line],
+    report: &[Line],
+) -> Result<Verdict, NoMemory>
+    requires { Accepted catalog.now }
+    ensures { IfOk result (IsVerdictOf catalog.now requests.now report.now (number_behind lines.now)) }
+{
+    let Some(end) = number_behind(lines) else {
+        return Err(NoMemory);
+    };
+    audit(alloc, catalog, requests, report, end)
+}
+
 /// What an audit of these lines answers, or their first refusal.
 ///
 /// Costs what `read_catalog`, `request_of` and `audit` cost, and time linear in the bytes.
-pub(crate) fn audit_lines(alloc: Global, lines: &[Line]) -> Result<Verdict, ReadError>
+pub(crate) fn audit_lines(alloc: Global, lines: &[Line]) -> Result<Verdict, InputError>
     ensures ok { IfOk result (IsVerdict lines.now) }
     ensures refused { IfErr result (RefusesAudit lines.now) }
     ensures others { IfErr result ComesOfLines }
 {
     let Some((first, rest)) = lines.split_first() else {
-        return Err(ReadError::NoCatalog);
+        return Err(InputError::NoCatalog);
     };
     let catalog = catalog_at(alloc, first)?;
     let requests = script_at(alloc, &catalog, rest)?;
     let (_, report) = rest.split_at(requests.len());
     values_at(alloc, report)?;
-    let Some(end) = number_behind(lines) else {
-        return Err(ReadError::Line(LineError::NoMemory));
-    };
-    match audit(alloc, &catalog, requests.as_slice(), report, end) {
+    match verdict_of(alloc, &catalog, requests.as_slice(), lines, report) {
         Ok(verdict) => Ok(verdict),
-        Err(_) => Err(ReadError::Line(LineError::NoMemory)),
+        Err(_) => Err(InputError::Line(LineError::NoMemory)),
     }
 }

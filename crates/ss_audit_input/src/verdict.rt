@@ -38,8 +38,8 @@ fn verdict_status(verdict: Verdict) -> Status
 
 /// Writes a verdict, and answers its status, or that there was no memory for it, or that the sink failed.
 pub(crate) fn tell_verdict<K: Sink>(alloc: Global, sink: &mut K, verdict: Verdict) -> Status
-    ensures told { TellsVerdict verdict result (sink_of (K.written sink.old) (K.written sink.new) (K.faults sink.old) (K.faults sink.new)) }
-    ensures counts { K.faults sink.old ≤ K.faults sink.new }
+    ensures told { TellsVerdict verdict result (sink_of K.kind sink.old sink.new) }
+    ensures counts { K.kind.faults sink.old ≤ K.kind.faults sink.new }
 {
     let Ok(text) = verdict_text(alloc, verdict) else {
         write_line(sink, NO_MEMORY);

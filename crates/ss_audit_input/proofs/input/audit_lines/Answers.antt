@@ -5,8 +5,8 @@ use Rattle.ss_audit_input.specs.Audits.{AreScript}
 use Rattle.ss_audit_input.proofs.Reports.{is_verdict, refused_report, refused_script}
 use Rattle.ss_audit_input.proofs.input.audit_lines.Goals as goal
 
-pub audit-requires : goal.audit-requires
-audit-requires c = c.in_ok-catalog.ensures.own.0
+pub verdict_of-requires : goal.verdict_of-requires
+verdict_of-requires c = c.in_ok-catalog.ensures.own.0
 
 pub returns-in_err-requests-clause-refused : goal.returns-in_err-requests-clause-refused
 returns-in_err-requests-clause-refused c =
@@ -29,4 +29,4 @@ returns-in-Ok-clause-ok c =
     let script = subst (λ (ls : List Line). AreScript c.in_ok-catalog.catalog rest c.in_ok-requests.requests ls) (sym back) c.in_ok-requests.ensures.ok in
     let said = rw c.as_slice.ensures at c.in-Ok.ensures in
     is_verdict c.args.lines.now rest c.in-Some.first.now c.in-Some.ensures.cases.0 c.in_ok-catalog.catalog c.in_ok-catalog.ensures.ok c.in_ok-requests.requests c.split_at.result.1.now script
-    c.in_ok-values_at.ensures.ok c.in_ok-catalog.ensures.own.0 c.in-Some-number_behind.end c.in-Some-number_behind.ensures c.in-Ok.verdict said.checks said.right said.valid
+    c.in_ok-values_at.ensures.ok c.in_ok-catalog.ensures.own.0 c.in-Ok.verdict said

@@ -1,7 +1,7 @@
 use Rattle.std.proofs.Common.{◌≡◌, ◌++◌, ◌∷◌, [], arith, rules}
 use Rattle.std.proofs.lemmas.Result.{err_from_is_err_and}
 use Rattle.ss_lines.specs.declared.line.LineError.TheVariants.{NoMemory}
-use Rattle.ss_refusals.specs.declared.input.ReadError.TheVariants.{Line as OfLine}
+use Rattle.ss_refusals.specs.declared.input.InputError.TheVariants.{Line as OfLine}
 use Rattle.ss_refusals.proofs.CallerLemmas.{asked_more}
 use Rattle.ss_audit_input.proofs.Scripts.{asked_few, asked_few_whole, refused_at, script_before, script_whole}
 use Rattle.ss_audit_input.proofs.input.script_at.Goals as goal

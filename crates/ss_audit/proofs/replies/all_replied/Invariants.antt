@@ -1,7 +1,7 @@
 use Rattle.std.proofs.Common.{[], take, drop}
 use Rattle.ss_audit_laws.specs.Checks.{called_replies}
 use Rattle.ss_audit.proofs.Saying.{ComesTo}
-use Rattle.ss_audit.proofs.replies.check_replies.Given as goal
+use Rattle.ss_audit.proofs.replies.all_replied.Given as goal
 
 abbrev pub invariant-loop-at : goal.invariant-loop-at
 invariant-loop-at l =
