@@ -21,7 +21,7 @@ use Rattle.ss_words.specs.Words.{IsCommand, AsksFor, words_of}
 use Rattle.ss_words.proofs.CallerLemmas.{asks_is_command, asks_for_one}
 use Rattle.ss_headline.specs.Disks.{DiskChange}
 use Rattle.ss_recover.specs.Laws.{EmptyHasNoFault, StoreHasNoFault, StoreHasOneCatalog}
-use Rattle.ss_refusals.specs.declared.input.ReadError.{ReadError}
+use Rattle.ss_refusals.specs.declared.input.InputError.{InputError}
 use Rattle.ss_refusals.specs.declared.status.Status.{Status}
 use Rattle.ss_refusals.specs.declared.status.Status.TheVariants.{Done, Usage, Input, ReadFault, WriteFault, Disk, NoMemory, Foreign, OtherCatalog, Limit, Differs}
 use Rattle.ss_refusals.specs.Inputs.{LeavesOfSource, HasOneStart, StartsOrRefused, HasOneRefusal, ExitsAsRefused, ExitsAsStarted, DidNotRise, OfStarted}
@@ -73,7 +73,7 @@ module _ (limit : ℕ) (s : SourceChange) (w : SinkChange) (disk : DiskChange) w
 
   -- ---- the input is refused
 
-  module _ (one : HasOneRefusal) (either : StartsOrRefused) (uncalled : disk.uncalled) (e : ReadError) (first : IfSome s.before (λ input. IsRefusedBy input e))
+  module _ (one : HasOneRefusal) (either : StartsOrRefused) (uncalled : disk.uncalled) (e : InputError) (first : IfSome s.before (λ input. IsRefusedBy input e))
       (leaves : LeavesOfRefusedSource e s.faults_before s.faults_now s.before s.now) where
     -- the statuses that a refusal has
     refused_so : (status : Status) → refusal_status e ≡ status → Writes (refusal_text e) w → RunEnds limit s.before status w disk

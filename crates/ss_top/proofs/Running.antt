@@ -1,5 +1,6 @@
 -- What is reported of a session, by how it ended.
 use Rattle.std.proofs.Common.{◌≡◌, ◌≢◌, ◌≤◌, ◌<◌, ◌+◌, ◌-◌, ◌^◌, ◌==◌, ◌⊎◌, ◌∙◌, inl, inr, ℕ, zero, suc, refl, Bool, true, false, cond, List, [], ◌∷◌, length, take, get_or, sym, ap, subst, Some, None, Result, Ok, Err, arith, is_some, unwrap_or, eq-eqb}
+use Rattle.ss_disk.specs.Kinds.{DiskKind}
 use Rattle.std.specs.Prelude.{Option, IfSome, IfNone, IsOk, ◌&&◌, not}
 use Rattle.std.specs.List.{AllByRecursion, list_any}
 use Rattle.std.proofs.lemmas.Bool.{cases_lt, false≢true, or_parts}
@@ -40,9 +41,9 @@ use Rattle.ss_headline.specs.Layers.{Opened, Closed, Settled, FewUnreceipted, Re
 use Rattle.ss_headline.specs.Laws.{WholeRuns, StoppedRuns}
 use Rattle.ss_headline.specs.Laws as law
 use Rattle.ss_headline.specs.Runs.{LogEndsWith, LogEndsAsStopped, IsStoppedRun}
-use Rattle.ss_engine.specs.declared.session.Finished.{Finished}
-use Rattle.ss_settle.specs.declared.settling.Settling.{Settling}
-use Rattle.ss_settle.specs.declared.settling.Settling.TheVariants as settling
+use Rattle.ss_engine.specs.declared.session.run.Finished.{Finished}
+use Rattle.ss_commitlog.specs.declared.placed.Unlisted as placed
+use Rattle.ss_commitlog.specs.declared.placed.Unlisted.TheVariants as unlisted
 use Rattle.ss_engine.specs.Clients.{AreListedOr, IsUnlisted}
 use Rattle.ss_engine.specs.Closings.{EndedWith, SomeReady}
 use Rattle.ss_engine.specs.Dues.{FewOpen}
@@ -133,12 +134,12 @@ all_written wanted count fault (Err e) durable ok = absurd (false≢true ok)
 abbrev pub IsWrittenReport : Catalog → List Request → List (List Answer) → ℕ → List Listed → report.End → List ℕ → Type 0
 IsWrittenReport catalog requests answers first list end text = IsReportOf catalog requests answers first list end text × HasReadableLines catalog requests answers first list end
 
-module _ {D : Type 0} (tells honest : Type 0) (seen : D → Files) (moment : D → ℕ) (images : D → ℕ → Files → Type 0) (faults : D → ℕ) where
+module _ {D : Type 0} (kind : DiskKind D) where
   abbrev change : D → D → DiskChange
-  change = disk_of tells honest seen moment images faults
+  change = disk_of kind
 
   module _ (limit : ℕ) (printing : Printing) (catalog : Catalog) (db : Model) (first clients : ℕ) (requests : List Request) (old : D) (log : CmdLog D) (ended : Finished D) (few : first ≤ 2 ^ 60) (accepted : Accepted catalog) (in_step : IsInStep catalog db)
-      (opened : Opened catalog db first (change old log.disk)) (e : EndsOnDisk tells honest seen moment images faults catalog db first (room_from limit first) clients requests log ended) (small : e.ends.fault < 2 ^ 64)
+      (opened : Opened catalog db first (change old log.disk)) (e : EndsOnDisk kind catalog db first (room_from limit first) clients requests log ended) (small : e.ends.fault < 2 ^ 64)
       (whole_law : WholeRuns change) (stopped_law : StoppedRuns change) (full_law : FullListsHaveAll) where
     abbrev list : List Listed
     list = ended.closed.list
@@ -166,11 +167,11 @@ module _ {D : Type 0} (tells honest : Type 0) (seen : D → Files) (moment : D �
     -- ---- what the log ends with
 
     -- a log that wasn't halted has a front of the list up to its count
-    front_logged : ended.log.halted ≡ None → tells → LogEndsWith (take (e.ends.count - first) list) (seen new)
+    front_logged : ended.log.halted ≡ None → kind.tells → LogEndsWith (take (e.ends.count - first) list) (kind.seen new)
     front_logged going told =
         let goes = e.ends.holds.going going in record {
           stood = goes.generation;
-          stands = open_stands (seen new) ended.log.file ended.log.gate goes.generation (goes.opened_at.at told);
+          stands = open_stands (kind.seen new) ended.log.file ended.log.gate goes.generation (goes.opened_at.at told);
           before = goes.earlier;
           ends = goes.ends told;
         }
@@ -182,7 +183,7 @@ module _ {D : Type 0} (tells honest : Type 0) (seen : D → Files) (moment : D �
         inl (record { some = e.ends.count - first; within = omega (arith, held); enough = omega (arith, told_of); logged = front_logged going told })
 
     failed_as_stopped : is_some ended.log.halted ≡ true → (status : ℕ) → (status ≡ 5) ⊎ (status ≡ 6) → LogEndsAsStopped status first list ended.receipted (change log.disk new)
-    failed_as_stopped some status is told = inr (record { status_is = is; rose = rose_at (faults log.disk) (faults new) ended.log.halted e.ends.fault e.ends.holds.halt some })
+    failed_as_stopped some status is told = inr (record { status_is = is; rose = rose_at (kind.faults log.disk) (kind.faults new) ended.log.halted e.ends.fault e.ends.holds.halt some })
 
     -- ---- all is written
 
@@ -193,8 +194,8 @@ module _ {D : Type 0} (tells honest : Type 0) (seen : D → Files) (moment : D �
       whole_front : take (e.ends.count - first) list ≡ list
       whole_front = take_all (e.ends.count - first) list (omega (arith, at_end))
 
-      logged : tells → LogEndsWith list (seen new)
-      logged told = subst (λ (l : List Listed). LogEndsWith l (seen new)) whole_front (front_logged going told)
+      logged : kind.tells → LogEndsWith list (kind.seen new)
+      logged told = subst (λ (l : List Listed). LogEndsWith l (kind.seen new)) whole_front (front_logged going told)
 
       all : (image : Files) → StandsForAll catalog db first list image → StandsForAtLeast catalog (first + length list) image
       all image stands = record { count = first + length list; k = kept catalog (after catalog db list); stands = stands; enough = omega arith }
@@ -215,7 +216,7 @@ module _ {D : Type 0} (tells honest : Type 0) (seen : D → Files) (moment : D �
     -- where the disk hasn't failed and none says that the list is full, at each end
     answered_calm : (end : End) → Unlisted end NoMemoryAnswer → ended.log.halted ≡ None → some_say_full answers ≡ false → AreAnswered requests first list end answers
     answered_calm end may going none =
-        let calm = calm_at (faults log.disk) (faults new) ended.log.halted e.ends.fault e.ends.holds.halt going in record {
+        let calm = calm_at (kind.faults log.disk) (kind.faults new) ended.log.halted e.ends.fault e.ends.holds.halt going in record {
           many = e.ends.run.many;
           each = e.ends.run.each;
           others = λ client. at_calm (room_from limit first) (length list) e.ends.fault end may calm (answers_of answers client) (e.ends.run.others client) (none_of answers client none);
@@ -237,14 +238,14 @@ module _ {D : Type 0} (tells honest : Type 0) (seen : D → Files) (moment : D �
         explains (ListedAnswer place outcome) h = tt
         explains NoMemoryAnswer h = tt
         explains (ListFull count) h = list_is_full count h
-        explains (Halted n) h = explained_at (faults log.disk) (faults new) ended.log.halted e.ends.fault n e.ends.holds.halt small h.0 h.1
+        explains (Halted n) h = explained_at (kind.faults log.disk) (kind.faults new) ended.log.halted e.ends.fault n e.ends.holds.halt small h.0 h.1
 
     -- at the stop of a full list, where it hasn't
     answered_full : (since : D) → ended.log.halted ≡ None → AreAnswered requests first list (stop_since since 9) answers
     answered_full since going = explained (stop_since since 9) explains
       where
         calm : e.ends.fault ≡ 0
-        calm = calm_at (faults log.disk) (faults new) ended.log.halted e.ends.fault e.ends.holds.halt going
+        calm = calm_at (kind.faults log.disk) (kind.faults new) ended.log.halted e.ends.fault e.ends.holds.halt going
 
         explains : (a : Answer) → IsListedOr (IsUnlisted (room_from limit first) (length list) e.ends.fault) a → IsListedOr (Unlisted (stop_since since 9)) a
         explains (ListedAnswer place outcome) h = tt
@@ -267,8 +268,8 @@ module _ {D : Type 0} (tells honest : Type 0) (seen : D → Files) (moment : D �
       status = status;
       count = ended.receipted;
       at_limit = not (status == 6) && length list == room_from limit first;
-      faults_before = faults old;
-      faults_after = cond (status == 5) (faults new) 0;
+      faults_before = kind.faults old;
+      faults_after = cond (status == 5) (kind.faults new) 0;
     }
 
     stopped_run : (status : Status) → LogEndsAsStopped (status_number status) first list ended.receipted (change log.disk new) → AreAnswered requests first list (stop_since log.disk (status_number status)) answers
@@ -365,31 +366,31 @@ module _ {D : Type 0} (tells honest : Type 0) (seen : D → Files) (moment : D �
     abbrev Is : Status → List ℕ → Type 0
     Is status text = RanAs limit printing catalog requests status text (change old new)
 
-    by_database : ended.log.halted ≡ None → some_say_full answers ≡ false → IsOk ended.flushed → Drained catalog (after catalog db list) → ended.closed.end ≡ settling.Done
-        → (o : Option Database) → ended.closed.database ≡ o → IfNone o (ended.closed.end ≡ settling.NoMemory) → IfSome o (IsLeftOver catalog (after catalog db list)) → (n : ℕ) (text : List ℕ)
+    by_database : ended.log.halted ≡ None → some_say_full answers ≡ false → IsOk ended.flushed → Drained catalog (after catalog db list) → ended.closed.settling ≡ Ok tt
+        → (o : Option Database) → ended.closed.database ≡ o → IfNone o (ended.closed.settling ≡ Err unlisted.NoMemory) → IfSome o (IsLeftOver catalog (after catalog db list)) → (n : ℕ) (text : List ℕ)
         → IsWrittenReport catalog requests answers first list (end_for Done printing o ended.receipted n) text → Is Done text
-    by_database going none ok drained done None is lost left n text written' = let wrong : settling.Done ≡ settling.NoMemory = sym done ∙ lost in absurd (cc)
+    by_database going none ok drained done None is lost left n text written' = let wrong : Ok tt ≡ Err unlisted.NoMemory = sym done ∙ lost in absurd (cc)
     by_database going none ok drained done (Some database) is lost left n text written' = whole_run going none ok drained text (printed_as printing database left n text written'.0) (read_as printing database left n written'.1)
 
-    by_settling : ended.log.halted ≡ None → some_say_full answers ≡ false → (end : Settling) → ended.closed.end ≡ end → EndedWith catalog db (room_from limit first) list end
+    by_settling : ended.log.halted ≡ None → some_say_full answers ≡ false → (end : Result Unit placed.Unlisted) → ended.closed.settling ≡ end → EndedWith catalog db (room_from limit first) list end
         → (flushed : Bool) → (flushed ≡ true → IsOk ended.flushed) → (n : ℕ) (text : List ℕ) → IsWritten (settled_status end flushed) n text → Is (settled_status end flushed) text
-    by_settling going none settling.Done is ends true ok n text written' = by_database going none (ok refl) (ends.1 in_step) is ended.closed.database refl e.ends.run.lost e.ends.run.left n text written'
-    by_settling going none settling.Done is ends false ok n text written' = stopped_run NoMemory (goes_as_stopped going 6) (answered_calm (stop_since log.disk 6) tt going none) n text written'.0
-    by_settling going none (settling.ListFull count) is ends flushed ok n text written' = full_run going ends.0 (inr ends.2) n text written'.0
-    by_settling going none settling.NoMemory is ends flushed ok n text written' = stopped_run NoMemory (goes_as_stopped going 6) (answered_calm (stop_since log.disk 6) tt going none) n text written'.0
+    by_settling going none (Ok done) is ends true ok n text written' = by_database going none (ok refl) (ends.1 in_step) is ended.closed.database refl e.ends.run.lost e.ends.run.left n text written'
+    by_settling going none (Ok done) is ends false ok n text written' = stopped_run NoMemory (goes_as_stopped going 6) (answered_calm (stop_since log.disk 6) tt going none) n text written'.0
+    by_settling going none (Err (unlisted.ListFull count)) is ends flushed ok n text written' = full_run going ends.0 (inr ends.2) n text written'.0
+    by_settling going none (Err unlisted.NoMemory) is ends flushed ok n text written' = stopped_run NoMemory (goes_as_stopped going 6) (answered_calm (stop_since log.disk 6) tt going none) n text written'.0
 
     by_answers : ended.log.halted ≡ None → (b : Bool) → some_say_full answers ≡ b → (flushed : Bool) → (flushed ≡ true → IsOk ended.flushed) → (n : ℕ) (text : List ℕ)
-        → IsWritten (cond b Limit (settled_status ended.closed.end flushed)) n text → Is (cond b Limit (settled_status ended.closed.end flushed)) text
+        → IsWritten (cond b Limit (settled_status ended.closed.settling flushed)) n text → Is (cond b Limit (settled_status ended.closed.settling flushed)) text
     by_answers going true some flushed ok n text written' = full_run going (full_is some) (inl some) n text written'.0
-    by_answers going false none flushed ok n text written' = by_settling going none ended.closed.end refl e.ends.run.end flushed ok n text written'
+    by_answers going false none flushed ok n text written' = by_settling going none ended.closed.settling refl e.ends.run.end flushed ok n text written'
 
     by_failed : (failed : Bool) → is_some ended.log.halted ≡ failed → (flushed : Bool) → (flushed ≡ true → IsOk ended.flushed) → (n : ℕ) (text : List ℕ)
-        → IsWritten (session_status failed answers ended.closed.end flushed) n text → Is (session_status failed answers ended.closed.end flushed) text
+        → IsWritten (session_status failed answers ended.closed.settling flushed) n text → Is (session_status failed answers ended.closed.settling flushed) text
     by_failed true is flushed ok n text written' = stopped_run Disk (failed_as_stopped is 5 (inl refl)) answered_failed n text written'.0
     by_failed false is flushed ok n text written' = by_answers (not_halted ended.log.halted is) (some_say_full answers) refl flushed ok n text written'
 
     -- the status and the report that was written of it
-    pub reported : (failed : Bool) → is_some ended.log.halted ≡ failed → (flushed : Bool) → (flushed ≡ true → IsOk ended.flushed) → (status : Status) → status ≡ session_status failed answers ended.closed.end flushed
+    pub reported : (failed : Bool) → is_some ended.log.halted ≡ failed → (flushed : Bool) → (flushed ≡ true → IsOk ended.flushed) → (status : Status) → status ≡ session_status failed answers ended.closed.settling flushed
         → (n : ℕ) (text : List ℕ) → IsWritten status n text → Reports limit printing catalog requests status (Some text) (change old new)
     reported failed is flushed ok status told n text written' = record {
       whole = text;
@@ -399,16 +400,16 @@ module _ {D : Type 0} (tells honest : Type 0) (seen : D → Files) (moment : D �
       rose = λ disk. by_status failed is (sym told ∙ disk);
     }
       where
-        not_disk : (b f : Bool) (end : Settling) → cond b Limit (settled_status end f) ≡ Disk → ⊥
+        not_disk : (b f : Bool) (end : Result Unit placed.Unlisted) → cond b Limit (settled_status end f) ≡ Disk → ⊥
         not_disk true f end is = cc
-        not_disk false true settling.Done is = cc
-        not_disk false false settling.Done is = cc
-        not_disk false f (settling.ListFull count) is = cc
-        not_disk false f settling.NoMemory is = cc
+        not_disk false true (Ok done) is = cc
+        not_disk false false (Ok done) is = cc
+        not_disk false f (Err (unlisted.ListFull count)) is = cc
+        not_disk false f (Err unlisted.NoMemory) is = cc
 
-        by_status : (f : Bool) → is_some ended.log.halted ≡ f → session_status f answers ended.closed.end flushed ≡ Disk → Rose (faults old) (faults new)
-        by_status true some disk = let rose = rose_at (faults log.disk) (faults new) ended.log.halted e.ends.fault e.ends.holds.halt some in let later = opened.faults in omega (arith, rose, later)
-        by_status false none disk = absurd (not_disk (some_say_full answers) flushed ended.closed.end disk)
+        by_status : (f : Bool) → is_some ended.log.halted ≡ f → session_status f answers ended.closed.settling flushed ≡ Disk → Rose (kind.faults old) (kind.faults new)
+        by_status true some disk = let rose = rose_at (kind.faults log.disk) (kind.faults new) ended.log.halted e.ends.fault e.ends.holds.halt some in let later = opened.faults in omega (arith, rose, later)
+        by_status false none disk = absurd (not_disk (some_say_full answers) flushed ended.closed.settling disk)
 
     -- there was no memory for a report
     pub unreported : Reports limit printing catalog requests NoMemory None (change old new)

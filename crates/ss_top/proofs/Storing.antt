@@ -1,5 +1,6 @@
 -- What a command comes to, by what was recovered and how it was told.
-use Rattle.std.proofs.Common.{◌≡◌, ◌≢◌, ◌≤◌, ◌⊎◌, ◌∙◌, inl, inr, ℕ, Bool, true, false, cond, List, [], Some, None, refl, sym, ap, subst}
+use Rattle.std.proofs.Common.{◌≡◌, ◌≢◌, ◌≤◌, ◌⊎◌, ◌∙◌, inl, inr, ℕ, Bool, true, false, cond, List, [], Some, None, Result, Ok, Err, refl, sym, ap, subst}
+use Rattle.ss_disk.specs.Kinds.{DiskKind, present}
 use Rattle.std.specs.Prelude.{Option, IfSome, IsUtf8}
 use Rattle.ss_value.specs.FaultCounts.{Rose}
 use Rattle.ss_model.specs.declared.catalog.Catalog.{Catalog}
@@ -8,7 +9,6 @@ use Rattle.ss_model.specs.declared.entry.Request.{Request}
 use Rattle.ss_model.specs.Accepted.{Accepted}
 use Rattle.ss_disk.specs.Files.{Files}
 use Rattle.ss_disk.proofs.CallerLemmas.{leaves_less}
-use Rattle.ss_cmdlog.specs.Log.{present}
 use Rattle.ss_cmdlog.specs.Store.{IsEmpty}
 use Rattle.ss_cmdlog.specs.Opening.{OnlyReads}
 use Rattle.ss_headline.specs.Disks.{DiskChange, disk_of, AsBefore, NothingRan, OnlyRead}
@@ -24,8 +24,8 @@ use Rattle.ss_refusals.specs.Statuses.{no_memory_text, nothing_text, other_catal
 use Rattle.ss_refusals.specs.StoreRefusals.{TellsRefusal, WritesWhole, HasTexts}
 use Rattle.ss_top.specs.declared.session.Printing.{Printing}
 use Rattle.ss_top.specs.declared.session.Printing.TheVariants.{InFull, Summary}
-use Rattle.ss_settle.specs.declared.settling.Settling.{Settling}
-use Rattle.ss_settle.specs.declared.settling.Settling.TheVariants as settling
+use Rattle.ss_commitlog.specs.declared.placed.Unlisted as placed
+use Rattle.ss_commitlog.specs.declared.placed.Unlisted.TheVariants as unlisted
 use Rattle.ss_top.specs.Runs.{settled_status, session_status, Reports, TellsReport}
 use Rattle.ss_top.specs.Told.{some_say_full}
 use Rattle.ss_voter.specs.VoterCatalog.{IsVoter}
@@ -107,29 +107,29 @@ told_own w status (Some text) ended own tells other = by status own tells
     by Foreign own' tells' = let wrong : Foreign ≡ OtherCatalog = sym tells'.is ∙ other in cc
 
 -- nor has a session the status of another catalogue
-pub session_own : (failed : Bool) (answers : List (List Answer)) (end : Settling) (flushed : Bool) (status : Status) → status ≡ session_status failed answers end flushed → status ≢ OtherCatalog
+pub session_own : (failed : Bool) (answers : List (List Answer)) (end : Result Unit placed.Unlisted) (flushed : Bool) (status : Status) → status ≡ session_status failed answers end flushed → status ≢ OtherCatalog
 session_own failed answers end flushed status is other = by failed (some_say_full answers) end flushed (sym is ∙ other)
   where
-    by : (f full : Bool) (e : Settling) (ok : Bool) → cond f Disk (cond full Limit (settled_status e ok)) ≡ OtherCatalog → ⊥
+    by : (f full : Bool) (e : Result Unit placed.Unlisted) (ok : Bool) → cond f Disk (cond full Limit (settled_status e ok)) ≡ OtherCatalog → ⊥
     by true full e ok same = cc
     by false true e ok same = cc
-    by false false settling.Done true same = cc
-    by false false settling.Done false same = cc
-    by false false (settling.ListFull count) ok same = cc
-    by false false settling.NoMemory ok same = cc
+    by false false (Ok done) true same = cc
+    by false false (Ok done) false same = cc
+    by false false (Err (unlisted.ListFull count)) ok same = cc
+    by false false (Err unlisted.NoMemory) ok same = cc
 
 -- ---- nothing was recovered
 
-module _ {D : Type 0} (tells honest : Type 0) (seen : D → Files) (moment : D → ℕ) (images : D → ℕ → Files → Type 0) (faults : D → ℕ) (limit : ℕ) (printing : Printing) (w : SinkChange) (old new : D) where
+module _ {D : Type 0} (kind : DiskKind D) (limit : ℕ) (printing : Printing) (w : SinkChange) (old new : D) where
   abbrev change : DiskChange
-  change = disk_of tells honest seen moment images faults old new
+  change = disk_of kind old new
 
   -- what was only read
-  was_read : OnlyReads tells honest seen moment images old new → OnlyRead change
+  was_read : OnlyReads kind old new → OnlyRead change
   was_read reads = record { as_before = reads.moments; reads = reads.same }
 
   as_before_ran_nothing : (catalog : Catalog) → AsBefore change → NothingRan catalog change
-  as_before_ran_nothing catalog before true' = leaves_less moment images old new (present moment images old) _ (before true') (λ image left. inl left)
+  as_before_ran_nothing catalog before true' = leaves_less kind.moment kind.images old new (present kind old) _ (before true') (λ image left. inl left)
 
   module _ (catalog : Catalog) (requests : List Request) where
     abbrev CameSo : Status → Type 0
@@ -139,7 +139,7 @@ module _ {D : Type 0} (tells honest : Type 0) (seen : D → Files) (moment : D �
     short_of_memory before reported = record { came = inl (record { nothing_ran = as_before_ran_nothing catalog before; written = reported }); cause = tt }
 
     -- a refusal of a run on this catalogue
-    pub run_refused : (error : RecoverError) → RefusesAsSaid tells honest seen moment images faults (Some catalog) old new error → (ended : Status) → TellsRefusal error ended w → CameSo ended
+    pub run_refused : (error : RecoverError) → RefusesAsSaid kind (Some catalog) old new error → (ended : Status) → TellsRefusal error ended w → CameSo ended
     run_refused recovery.NoMemory refuses ended t = subst CameSo (sym t.is) (record { came = inl (record { nothing_ran = refuses; written = t.reported }); cause = tt })
     run_refused recovery.DiskFault refuses ended t = subst CameSo (sym t.is) (record { came = inl (record { nothing_ran = refuses.0; written = t.reported }); cause = refuses.1 })
     run_refused (recovery.Foreign file at) refuses ended (inl t) =
@@ -170,14 +170,14 @@ module _ {D : Type 0} (tells honest : Type 0) (seen : D → Files) (moment : D �
   RecoveredSo ended = RecoversTo limit ended w change
 
   -- where no catalogue is given no store is made
-  as_before_read : (honest → LeavesOldOr moment images old new (MayForm None (seen old))) → AsBefore change
-  as_before_read left true' = leaves_less moment images old new _ (present moment images old) (left true') (λ image either. by image either)
+  as_before_read : (kind.honest → LeavesOldOr kind old new (MayForm None (kind.seen old))) → AsBefore change
+  as_before_read left true' = leaves_less kind.moment kind.images old new _ (present kind old) (left true') (λ image either. by image either)
     where
-      by : (image : Files) → present moment images old image ⊎ MayForm None (seen old) image → present moment images old image
+      by : (image : Files) → present kind old image ⊎ MayForm None (kind.seen old) image → present kind old image
       by image (inl stays) = stays
       by image (inr made) = absurd made
 
-  nothing_told : (ended : Status) → (tells → IsEmpty (seen old)) → OnlyRead change → WritesWhole ended nothing_text w → RecoveredSo ended
+  nothing_told : (ended : Status) → (kind.tells → IsEmpty (kind.seen old)) → OnlyRead change → WritesWhole ended nothing_text w → RecoveredSo ended
   nothing_told Done empty before wrote = record { came = inl (record { empty = empty; only_read = before; written = wrote }); cause = tt }
   nothing_told WriteFault empty before wrote = record { came = inl (record { empty = empty; only_read = before; written = wrote.0 }); cause = wrote.1 }
   nothing_told Usage empty before wrote = absurd wrote
@@ -190,7 +190,7 @@ module _ {D : Type 0} (tells honest : Type 0) (seen : D → Files) (moment : D �
   nothing_told OtherCatalog empty before wrote = absurd wrote
   nothing_told Limit empty before wrote = absurd wrote
 
-  pub recovery_refused : (error : RecoverError) → RefusesAsSaid tells honest seen moment images faults None old new error → (ended : Status) → TellsRefusal error ended w → RecoveredSo ended
+  pub recovery_refused : (error : RecoverError) → RefusesAsSaid kind None old new error → (ended : Status) → TellsRefusal error ended w → RecoveredSo ended
   recovery_refused recovery.NoMemory refuses ended t = subst RecoveredSo (sym t.is) (record { came = inl (record { as_before = as_before_read refuses; written = t.reported }); cause = tt })
   recovery_refused recovery.DiskFault refuses ended t = subst RecoveredSo (sym t.is) (record { came = inl (record { as_before = as_before_read refuses.0; written = t.reported }); cause = refuses.1 })
   recovery_refused (recovery.Foreign file at) refuses ended (inl t) =
@@ -200,28 +200,28 @@ module _ {D : Type 0} (tells honest : Type 0) (seen : D → Files) (moment : D �
   recovery_refused recovery.Nothing refuses ended t = nothing_told ended refuses.2 (was_read refuses.0) t
 
 -- the texts that are told of a refusal are UTF-8
-pub texts_told : {D : Type 0} (tells honest : Type 0) (seen : D → Files) (moment : D → ℕ) (images : D → ℕ → Files → Type 0) (faults : D → ℕ) (given : Option Catalog) (old new : D) (error : RecoverError)
-    → RefusesAsSaid tells honest seen moment images faults given old new error → IfSome given IsOwnCatalog → HasTexts error
-texts_told tells honest seen moment images faults given old new recovery.NoMemory refuses own = tt
-texts_told tells honest seen moment images faults given old new recovery.DiskFault refuses own = tt
-texts_told tells honest seen moment images faults given old new (recovery.Foreign file at) refuses own = tt
-texts_told tells honest seen moment images faults given old new (recovery.OtherCatalog stored text) refuses own =
+pub texts_told : {D : Type 0} (kind : DiskKind D) (given : Option Catalog) (old new : D) (error : RecoverError)
+    → RefusesAsSaid kind given old new error → IfSome given IsOwnCatalog → HasTexts error
+texts_told kind given old new recovery.NoMemory refuses own = tt
+texts_told kind given old new recovery.DiskFault refuses own = tt
+texts_told kind given old new (recovery.Foreign file at) refuses own = tt
+texts_told kind given old new (recovery.OtherCatalog stored text) refuses own =
     let other = refuses.1 in
     let ours : IsOwnCatalog other.ours = subst (λ o. IfSome o IsOwnCatalog) other.is_given own in
     (subst IsUtf8 (sym other.stored_is) other.own.1.utf8, subst IsUtf8 (sym other.text_is) ours.1.utf8)
-texts_told tells honest seen moment images faults given old new recovery.Nothing refuses own = tt
+texts_told kind given old new recovery.Nothing refuses own = tt
 
 -- the same where no client started
-pub unstarted : {D : Type 0} (tells honest : Type 0) (seen : D → Files) (moment : D → ℕ) (images : D → ℕ → Files → Type 0) (faults : D → ℕ) (limit : ℕ) (printing : Printing) (requests : List Request) (w : SinkChange) (old new : D) (r : Recovered D)
-    → new ≡ r.log.disk → IsOpenedFor tells honest seen moment images faults old r → Writes no_memory_text w → ComesTo limit printing r.catalog requests NoMemory w (disk_of tells honest seen moment images faults old new)
-unstarted tells honest seen moment images faults limit printing requests w old new r same opened reported =
-    subst (λ disk. ComesTo limit printing r.catalog requests NoMemory w (disk_of tells honest seen moment images faults old disk)) (sym same)
+pub unstarted : {D : Type 0} (kind : DiskKind D) (limit : ℕ) (printing : Printing) (requests : List Request) (w : SinkChange) (old new : D) (r : Recovered D)
+    → new ≡ r.log.disk → IsOpenedFor kind old r → Writes no_memory_text w → ComesTo limit printing r.catalog requests NoMemory w (disk_of kind old new)
+unstarted kind limit printing requests w old new r same opened reported =
+    subst (λ disk. ComesTo limit printing r.catalog requests NoMemory w (disk_of kind old disk)) (sym same)
     (record { came = inr (inl (record { db = recovered_database r; first = r.first; opened = opened.opened; written = reported })); cause = tt })
 
 -- what was recovered is opened
-pub recovered_opened : {D : Type 0} (tells honest : Type 0) (seen : D → Files) (moment : D → ℕ) (images : D → ℕ → Files → Type 0) (faults : D → ℕ) (given : Option Catalog) (parts : ℕ) (old : D) (r : Recovered D)
-    → IsRecovered tells honest seen moment images given parts old r (recovered_database r) → faults old ≤ faults r.log.disk → IsOpenedFor tells honest seen moment images faults old r
-recovered_opened tells honest seen moment images faults given parts old r is later = record {
+pub recovered_opened : {D : Type 0} (kind : DiskKind D) (given : Option Catalog) (parts : ℕ) (old : D) (r : Recovered D)
+    → IsRecovered kind given parts old r (recovered_database r) → kind.faults old ≤ kind.faults r.log.disk → IsOpenedFor kind old r
+recovered_opened kind given parts old r is later = record {
   opened = record {
     whole = is.goes_on.ready.whole;
     stood = is.stood;
@@ -234,11 +234,11 @@ recovered_opened tells honest seen moment images faults given parts old r is lat
 }
 
 -- a store that was recovered without a catalogue was there before
-pub was_stored : {D : Type 0} (tells honest : Type 0) (seen : D → Files) (moment : D → ℕ) (images : D → ℕ → Files → Type 0) (parts : ℕ) (old : D) (r : Recovered D) (e : IsRecovered tells honest seen moment images None parts old r (recovered_database r))
-    → (tells → IsEmpty (seen old) → ⊥) → tells → IsStore (seen old) r.catalog
-was_stored tells honest seen moment images parts old r is not_empty told = by (is.was told)
+pub was_stored : {D : Type 0} (kind : DiskKind D) (parts : ℕ) (old : D) (r : Recovered D) (e : IsRecovered kind None parts old r (recovered_database r))
+    → (kind.tells → IsEmpty (kind.seen old) → ⊥) → kind.tells → IsStore (kind.seen old) r.catalog
+was_stored kind parts old r is not_empty told = by (is.was told)
   where
-    by : IsEmpty (seen old) ⊎ IsStore (seen old) r.catalog → IsStore (seen old) r.catalog
+    by : IsEmpty (kind.seen old) ⊎ IsStore (kind.seen old) r.catalog → IsStore (kind.seen old) r.catalog
     by (inl empty) = absurd (not_empty told empty)
     by (inr store) = store
 

@@ -1,5 +1,6 @@
 -- How a session ended, by the answers and the ways in which settling and the last flush ended; its report, and how that is told.
-use Rattle.std.specs.Prelude.{◌≡◌, ◌≤◌, ◌^◌, ℕ, Bool, cond, List, Option, Some, None, IfSome, IfNone}
+use Rattle.std.specs.Prelude.{◌≡◌, ◌≤◌, ◌^◌, ℕ, Bool, cond, List, Option, Some, None, Result, Ok, Err, IfSome, IfNone}
+use Rattle.ss_disk.specs.Kinds.{DiskKind}
 use Rattle.ss_value.specs.FaultCounts.{Rose}
 use Rattle.ss_model.specs.declared.catalog.Catalog.{Catalog}
 use Rattle.ss_model.specs.declared.entry.Answer.{Answer}
@@ -7,15 +8,14 @@ use Rattle.ss_model.specs.declared.entry.Request.{Request}
 use Rattle.ss_model.specs.Accepted.{Accepted}
 use Rattle.ss_model.specs.Database.{Database as Model}
 use Rattle.ss_model.specs.InStep.{IsInStep}
-use Rattle.ss_disk.specs.Files.{Files}
 use Rattle.ss_cmdlog.specs.declared.log.CmdLog.{CmdLog}
 use Rattle.ss_headline.specs.Disks.{DiskChange, disk_of}
 use Rattle.ss_headline.specs.Layers.{Opened}
 use Rattle.ss_headline.specs.Sentences.{room_from}
 use Rattle.ss_shard.specs.declared.database.Database.{Database}
-use Rattle.ss_engine.specs.declared.session.Finished.{Finished}
-use Rattle.ss_settle.specs.declared.settling.Settling.{Settling}
-use Rattle.ss_settle.specs.declared.settling.Settling.TheVariants as settling
+use Rattle.ss_engine.specs.declared.session.run.Finished.{Finished}
+use Rattle.ss_commitlog.specs.declared.placed.Unlisted as placed
+use Rattle.ss_commitlog.specs.declared.placed.Unlisted.TheVariants as unlisted
 use Rattle.ss_engine.specs.Sessions.{EndsOnDisk}
 use Rattle.ss_report.specs.declared.run_end.End.{End}
 use Rattle.ss_report.specs.declared.run_end.End.TheVariants as report
@@ -31,13 +31,13 @@ use Rattle.ss_top.specs.Stores.{RanAs}
 use Rattle.ss_top.specs.Told.{some_say_full}
 
 -- the end where settling ended so: nothing is pending, and all is written; or the list is full; or there was no memory
-abbrev pub settled_status : Settling → Bool → Status
-settled_status settling.Done flushed = cond flushed Done NoMemory
-settled_status (settling.ListFull count) flushed = Limit
-settled_status settling.NoMemory flushed = NoMemory
+abbrev pub settled_status : Result Unit placed.Unlisted → Bool → Status
+settled_status (Ok done) flushed = cond flushed Done NoMemory
+settled_status (Err (unlisted.ListFull count)) flushed = Limit
+settled_status (Err unlisted.NoMemory) flushed = NoMemory
 
 -- the end of a session with these answers to each client, whose disk may have failed
-abbrev pub session_status : Bool → List (List Answer) → Settling → Bool → Status
+abbrev pub session_status : Bool → List (List Answer) → Result Unit placed.Unlisted → Bool → Status
 session_status failed answers end flushed = cond failed Disk (cond (some_say_full answers) Limit (settled_status end flushed))
 
 -- what the report says of it: its tables, or the numbers that sum it up, or where it stopped
@@ -61,9 +61,9 @@ TellsReport Done (Some text) ended w = WritesWhole ended text w
 TellsReport status (Some text) ended w = ExitsAs status ended text w
 
 -- the report of a finished session, wherever it began: the status and the text are those of its run on the disk that was opened for it
-abbrev pub ReportsFinished : {D : Type 0} → Type 0 → Type 0 → (D → Files) → (D → ℕ) → (D → ℕ → Files → Type 0) → (D → ℕ) → Printing → List Request → ℕ → Finished D → Reported D → Type 0
-ReportsFinished {D} tells honest seen moment images faults printing requests first finished reported =
+abbrev pub ReportsFinished : {D : Type 0} → DiskKind D → Printing → List Request → ℕ → Finished D → Reported D → Type 0
+ReportsFinished {D} kind printing requests first finished reported =
     (limit clients : ℕ) (catalog : Catalog) (db : Model) (old : D) (log : CmdLog D) → first ≤ 2 ^ 60 → Accepted catalog → IsInStep catalog db →
-    Opened catalog db first (disk_of tells honest seen moment images faults old log.disk) →
-    EndsOnDisk tells honest seen moment images faults catalog db first (room_from limit first) clients requests log finished →
-    Reports limit printing catalog requests reported.status reported.text (disk_of tells honest seen moment images faults old reported.disk)
+    Opened catalog db first (disk_of kind old log.disk) →
+    EndsOnDisk kind catalog db first (room_from limit first) clients requests log finished →
+    Reports limit printing catalog requests reported.status reported.text (disk_of kind old reported.disk)

@@ -1,9 +1,9 @@
 -- What serving requests on a store comes to, with the causes of its status.
 use Rattle.std.specs.Prelude.{ℕ, List}
+use Rattle.ss_disk.specs.Kinds.{DiskKind}
 use Rattle.ss_value.specs.FaultCounts.{Rose}
 use Rattle.ss_model.specs.declared.catalog.Catalog.{Catalog}
 use Rattle.ss_model.specs.declared.entry.Request.{Request}
-use Rattle.ss_disk.specs.Files.{Files}
 use Rattle.ss_headline.specs.Disks.{DiskChange, disk_of}
 use Rattle.ss_headline.specs.Layers.{Opened}
 use Rattle.ss_recover.specs.declared.recovered.Recovered.{Recovered}
@@ -38,6 +38,6 @@ pub record ComesToShow (limit : ℕ) (show : Show) (status : Status) (w : SinkCh
   pub cause : HasStoreCause status w disk
 
 -- the store was opened on this disk, or made on it
-pub record IsOpenedFor {D : Type 0} (tells honest : Type 0) (seen : D → Files) (moment : D → ℕ) (images : D → ℕ → Files → Type 0) (faults : D → ℕ) (old : D) (r : Recovered D) : Type 0 where
-  pub opened : Opened r.catalog (recovered_database r) r.first (disk_of tells honest seen moment images faults old r.log.disk)
-  pub was : WasOf r.catalog (disk_of tells honest seen moment images faults old r.log.disk)
+pub record IsOpenedFor {D : Type 0} (kind : DiskKind D) (old : D) (r : Recovered D) : Type 0 where
+  pub opened : Opened r.catalog (recovered_database r) r.first (disk_of kind old r.log.disk)
+  pub was : WasOf r.catalog (disk_of kind old r.log.disk)

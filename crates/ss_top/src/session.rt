@@ -5,7 +5,6 @@ ghost use Rattle.std.specs.List.{AllByRecursion};
 ghost use Rattle.ss_model.specs.declared.entry.Request.{Request};
 ghost use Rattle.ss_model.specs.Accepted.{Accepted};
 ghost use Rattle.ss_model.specs.Database.{Database as Model};
-ghost use Rattle.ss_cmdlog.specs.Log.{present};
 ghost use Rattle.ss_headline.specs.Disks.{disk_of};
 ghost use Rattle.ss_headline.specs.Layers.{Opened};
 ghost use Rattle.ss_headline.specs.Sentences.{room_from};
@@ -17,9 +16,9 @@ ghost use Rattle.ss_engine.specs.Sessions.{AreOfClients, IsLeftOver};
 ghost use Rattle.ss_top.specs.Runs.{settled_status, session_status, end_for, Reports, ReportsFinished};
 ghost use Rattle.ss_top.specs.Told.{says_full, say_full, some_say_full};
 
-use ss_commitlog::Opening;
+use ss_commitlog::{Opening, Unlisted};
 use ss_disk::Disk;
-use ss_engine::{Closed, Finished, Gate, Settling, run_session};
+use ss_engine::{Closed, Finished, Gate, run_session};
 use ss_headline::{full_lists_have_all, stopped_runs, whole_runs};
 use ss_model::{Answer, Request};
 use ss_proc::PlainRunner;
@@ -104,14 +103,14 @@ fn some_say_full(answers: &[Seq<Answer>]) -> bool
 
 /// How a session ended whose disk has not failed: the list is full, or there was no memory to settle or to write all of it, or
 /// all is done.
-fn settled_status(settling: &Settling, flushed: bool) -> Status
+fn settled_status(settling: &Result<(), Unlisted>, flushed: bool) -> Status
     ensures { result ≡ settled_status settling.now flushed }
 {
     match settling {
-        Settling::ListFull { .. } => Status::Limit,
-        Settling::NoMemory => Status::NoMemory,
-        Settling::Done if flushed => Status::Done,
-        Settling::Done => Status::NoMemory,
+        Err(Unlisted::ListFull { .. }) => Status::Limit,
+        Err(Unlisted::NoMemory) => Status::NoMemory,
+        Ok(()) if flushed => Status::Done,
+        Ok(()) => Status::NoMemory,
     }
 }
 
@@ -119,7 +118,7 @@ fn settled_status(settling: &Settling, flushed: bool) -> Status
 fn session_status(
     failed: bool,
     answers: &[Seq<Answer>],
-    settling: &Settling,
+    settling: &Result<(), Unlisted>,
     flushed: bool,
 ) -> Status
     ensures { result ≡ session_status failed answers.now settling.now flushed }
@@ -200,7 +199,7 @@ fn report_session<D: Disk + Drop>(
 ) -> Reported<D>
     requires places { first + length finished.closed.list < 2 ^ 64 }
     requires left { (d : Model) × IfSome finished.closed.database (IsLeftOver finished.closed.catalog d) }
-    ensures finished { ReportsFinished D.tells D.honest D.seen D.moment D.images D.faults printing requests.now first finished result }
+    ensures finished { ReportsFinished D.kind printing requests.now first finished result }
     ensures own { result.status ≢ Status.OtherCatalog }
     ensures disk { result.disk ≡ finished.log.disk }
 {
@@ -218,7 +217,7 @@ fn report_session<D: Disk + Drop>(
     let status = session_status(
         halted.is_some(),
         closed.answers.as_slice(),
-        &closed.end,
+        &closed.settling,
         flushed.is_ok(),
     );
     let disk = log.into_disk();
@@ -263,14 +262,14 @@ pub(crate) fn run_and_report<
 ) -> Result<Reported<D>, D>
     ghost db: { Model }
     requires accepted { Accepted recovered.catalog }
-    requires goes_on { GoesOn D.tells D.honest D.seen (present D.moment D.images) partitions recovered db }
+    requires goes_on { GoesOn D.kind partitions recovered db }
     requires fit { AllFit recovered.catalog requests.now }
     requires partitions { (1 ≤ partitions) × (partitions ≤ 8) }
     ensures reported { IfOk result (λ r. (old : D)
-        → Opened recovered.catalog db recovered.first (disk_of D.tells D.honest D.seen D.moment D.images D.faults old recovered.log.disk)
-        → Reports limit printing recovered.catalog requests.now r.status r.text (disk_of D.tells D.honest D.seen D.moment D.images D.faults old r.disk)) }
+        → Opened recovered.catalog db recovered.first (disk_of D.kind old recovered.log.disk)
+        → Reports limit printing recovered.catalog requests.now r.status r.text (disk_of D.kind old r.disk)) }
     ensures own { IfOk result (λ r. r.status ≢ Status.OtherCatalog) }
-    ensures later { IfOk result (λ r. D.faults recovered.log.disk ≤ D.faults r.disk) }
+    ensures later { IfOk result (λ r. D.kind.faults recovered.log.disk ≤ D.kind.faults r.disk) }
     ensures unstarted { IfErr result (λ disk. disk ≡ recovered.log.disk) }
 {
     let clients = client_count(requests.as_slice());
@@ -278,9 +277,11 @@ pub(crate) fn run_and_report<
         database,
         catalog,
         first,
+        known,
         log,
-        ..
     } = recovered;
+    // Nobody asks for what was replayed any more: it would live as long as the session.
+    drop(known);
     let Database { whole, streams } = database;
     let opening = Opening {
         first,

@@ -2,7 +2,6 @@
 
 ghost use Rattle.std.specs.Prelude.{◌≡◌, ◌≢◌, ◌≤◌};
 ghost use Rattle.ss_model.specs.Accepted.{Accepted};
-ghost use Rattle.ss_cmdlog.specs.Log.{present};
 ghost use Rattle.ss_headline.specs.Disks.{disk_of};
 ghost use Rattle.ss_recover.specs.Recovering.{GoesOn, IsOwnCatalog, recovered_database};
 ghost use Rattle.ss_engine.specs.Clients.{AllFit};
@@ -26,8 +25,8 @@ use std::thread::Threads;
 /// Writes the report of a session, or that there was no memory for it, and answers how the program ends: at a fault of the sink
 /// in another way only where all was done. Takes no memory.
 fn write_report<K: Sink>(sink: &mut K, status: Status, text: &Option<Seq<u8>>) -> Status
-    ensures told { TellsReport status text.now result (sink_of (K.written sink.old) (K.written sink.new) (K.faults sink.old) (K.faults sink.new)) }
-    ensures counts { K.faults sink.old ≤ K.faults sink.new }
+    ensures told { TellsReport status text.now result (sink_of K.kind sink.old sink.new) }
+    ensures counts { K.kind.faults sink.old ≤ K.kind.faults sink.new }
 {
     let Some(text) = text else {
         write_line(sink, NO_MEMORY);
@@ -55,15 +54,15 @@ fn serve<K: Sink, D: Disk + Drop + Send, G: Gate + Drop + Sync, R: Threads + Wai
     printing: Printing,
 ) -> (Status, D)
     requires accepted { Accepted recovered.catalog }
-    requires goes_on { GoesOn D.tells D.honest D.seen (present D.moment D.images) partitions recovered (recovered_database recovered) }
+    requires goes_on { GoesOn D.kind partitions recovered (recovered_database recovered) }
     requires fit { AllFit recovered.catalog requests.now }
     requires partitions { (1 ≤ partitions) × (partitions ≤ 8) }
-    ensures served { (old : D) → IsOpenedFor D.tells D.honest D.seen D.moment D.images D.faults old recovered
+    ensures served { (old : D) → IsOpenedFor D.kind old recovered
         → ComesTo limit printing recovered.catalog requests.now result.0
-        (sink_of (K.written sink.old) (K.written sink.new) (K.faults sink.old) (K.faults sink.new))
-        (disk_of D.tells D.honest D.seen D.moment D.images D.faults old result.1) }
+        (sink_of K.kind sink.old sink.new)
+        (disk_of D.kind old result.1) }
     ensures own { result.0 ≢ Status.OtherCatalog }
-    ensures counts { (K.faults sink.old ≤ K.faults sink.new) × (D.faults recovered.log.disk ≤ D.faults result.1) }
+    ensures counts { (K.kind.faults sink.old ≤ K.kind.faults sink.new) × (D.kind.faults recovered.log.disk ≤ D.kind.faults result.1) }
 {
     match run_and_report(
         rt, alloc, recovered, requests, partitions, gate, limit, printing,
@@ -98,9 +97,9 @@ pub(crate) fn run_on_store<
     requires fit { AllFit catalog requests.now }
     requires partitions { (1 ≤ partitions) × (partitions ≤ 8) }
     ensures came { ComesTo limit printing catalog requests.now result.0
-        (sink_of (K.written sink.old) (K.written sink.new) (K.faults sink.old) (K.faults sink.new))
-        (disk_of D.tells D.honest D.seen D.moment D.images D.faults disk result.1) }
-    ensures counts { (K.faults sink.old ≤ K.faults sink.new) × (D.faults disk ≤ D.faults result.1) }
+        (sink_of K.kind sink.old sink.new)
+        (disk_of D.kind disk result.1) }
+    ensures counts { (K.kind.faults sink.old ≤ K.kind.faults sink.new) × (D.kind.faults disk ≤ D.kind.faults result.1) }
 {
     match recover(alloc, &PlainRunner, disk, Some(catalog), partitions) {
         Ok(recovered) => serve(
@@ -120,9 +119,9 @@ pub(crate) fn recover_store<
 >(rt: &R, alloc: Global, sink: &mut K, disk: D, partitions: u8, gate: G, limit: u64) -> (Status, D)
     requires partitions { (1 ≤ partitions) × (partitions ≤ 8) }
     ensures came { RecoversTo limit result.0
-        (sink_of (K.written sink.old) (K.written sink.new) (K.faults sink.old) (K.faults sink.new))
-        (disk_of D.tells D.honest D.seen D.moment D.images D.faults disk result.1) }
-    ensures counts { (K.faults sink.old ≤ K.faults sink.new) × (D.faults disk ≤ D.faults result.1) }
+        (sink_of K.kind sink.old sink.new)
+        (disk_of D.kind disk result.1) }
+    ensures counts { (K.kind.faults sink.old ≤ K.kind.faults sink.new) × (D.kind.faults disk ≤ D.kind.faults result.1) }
 {
     let requests = Seq::new(alloc);
     match recover(alloc, &PlainRunner, disk, None, partitions) {

@@ -40,11 +40,12 @@ fn run<S: Source, K: Sink, D: Disk + Drop + Send, G: Gate + Drop + Sync, R: Thre
     limit: u64,
 ) -> (Status, D)
     requires partitions { (1 ≤ partitions) × (partitions ≤ 8) }
-    ensures ends { RunEndsSo limit (source_of (S.left source.old) (S.left source.new) (S.faults source.old) (S.faults source.new))
-        (sink_of (K.written sink.old) (K.written sink.new) (K.faults sink.old) (K.faults sink.new))
-        (disk_of D.tells D.honest D.seen D.moment D.images D.faults disk result.1) result.0 }
-    ensures taken { TakesAtMost (max_input + 1) (S.left source.old) (S.left source.new) }
-    ensures counts { (S.faults source.old ≤ S.faults source.new) × (K.faults sink.old ≤ K.faults sink.new) × (D.faults disk ≤ D.faults result.1) }
+    ensures ends { RunEndsSo limit (source_of S.kind source.old source.new)
+        (sink_of K.kind sink.old sink.new)
+        (disk_of D.kind disk result.1) result.0 }
+    ensures taken { TakesAtMost (max_input + 1) (S.kind.left source.old) (S.kind.left source.new) }
+    ensures counts { (S.kind.faults source.old ≤ S.kind.faults source.new) × (K.kind.faults sink.old ≤ K.kind.faults sink.new)
+        × (D.kind.faults disk ≤ D.kind.faults result.1) }
 {
     // Do nothing: they state the laws by which the one answer of an input is the one given here, and so that of a disk.
     an_input_has_one_answer();
@@ -80,9 +81,9 @@ fn voter<K: Sink, D: Disk + Drop + Send, G: Gate + Drop + Sync, R: Threads + Wai
     requires partitions { (1 ≤ partitions) × (partitions ≤ 8) }
     requires few { show.now.votes ≤ 200000 }
     requires clients { (1 ≤ show.now.clients) × (show.now.clients ≤ 8) }
-    ensures came { ComesToShow limit show.now result.0 (sink_of (K.written sink.old) (K.written sink.new) (K.faults sink.old) (K.faults sink.new))
-        (disk_of D.tells D.honest D.seen D.moment D.images D.faults disk result.1) }
-    ensures counts { (K.faults sink.old ≤ K.faults sink.new) × (D.faults disk ≤ D.faults result.1) }
+    ensures came { ComesToShow limit show.now result.0 (sink_of K.kind sink.old sink.new)
+        (disk_of D.kind disk result.1) }
+    ensures counts { (K.kind.faults sink.old ≤ K.kind.faults sink.new) × (D.kind.faults disk ≤ D.kind.faults result.1) }
 {
     let Ok(ParsedInput { catalog, requests }) = show_input(alloc, show) else {
         write_line(sink, NO_MEMORY);
@@ -118,9 +119,9 @@ pub fn sstore_limited<
     gate: G,
     limit: u64,
 ) -> (Status, D)
-    ensures { Ends limit words.now (source_of (S.left source.old) (S.left source.new) (S.faults source.old) (S.faults source.new))
-        (sink_of (K.written sink.old) (K.written sink.new) (K.faults sink.old) (K.faults sink.new))
-        (disk_of D.tells D.honest D.seen D.moment D.images D.faults disk result.1) result.0 }
+    ensures { Ends limit words.now (source_of S.kind source.old source.new)
+        (sink_of K.kind sink.old sink.new)
+        (disk_of D.kind disk result.1) result.0 }
 {
     // Do nothing: they state the laws by which a store has room for what is owed.
     a_disk_has_one_fault();
@@ -154,9 +155,9 @@ pub fn sstore<
     disk: D,
     gate: G,
 ) -> (Status, D)
-    ensures { Ends most_entries words.now (source_of (S.left source.old) (S.left source.new) (S.faults source.old) (S.faults source.new))
-        (sink_of (K.written sink.old) (K.written sink.new) (K.faults sink.old) (K.faults sink.new))
-        (disk_of D.tells D.honest D.seen D.moment D.images D.faults disk result.1) result.0 }
+    ensures { Ends most_entries words.now (source_of S.kind source.old source.new)
+        (sink_of K.kind sink.old sink.new)
+        (disk_of D.kind disk result.1) result.0 }
 {
     sstore_limited(rt, alloc, words, source, sink, disk, gate, MOST_ENTRIES)
 }

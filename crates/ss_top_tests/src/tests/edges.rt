@@ -19,9 +19,7 @@ struct Letters {
 impl Source for Letters {
     ghost use Rattle.std.specs.Prelude.{None};
 
-    ghost left = { λ _. None };
-
-    ghost faults = { λ _. 0 };
+    ghost kind = { record { left = λ _. None; faults = λ _. 0 } };
 
     fn pull(&mut self, buf: &mut [u8]) -> Result<usize, Failed> {
         let count = self.left.min(buf.len()).min(LETTERS.len());

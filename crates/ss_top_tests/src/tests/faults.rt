@@ -19,9 +19,7 @@ struct Broken {
 impl Source for Broken {
     ghost use Rattle.std.specs.Prelude.{None};
 
-    ghost left = { λ _. None };
-
-    ghost faults = { λ s. s.faults };
+    ghost kind = { record { left = λ _. None; faults = λ s. s.faults } };
 
     fn pull(&mut self, _buf: &mut [u8]) -> Result<usize, Failed> {
         self.faults = self.faults.saturating_add(1);

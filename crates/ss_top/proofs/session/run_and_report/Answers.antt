@@ -2,7 +2,6 @@ use denote.Param.Send.{given_send, param_send}
 use mir.Syntax.{ty_unit}
 use Rattle.std.proofs.Common.{rules, ℕ, ◌≤◌, sym, subst}
 use Rattle.ss_model.specs.Accepted.{Accepted}
-use Rattle.ss_cmdlog.specs.Log.{present}
 use Rattle.ss_engine.specs.Clients.{AllFit}
 use Rattle.ss_engine.specs.Sessions.{AreOfClients, EndsOnDisk, OpensOn}
 use Rattle.ss_recover.specs.Recovering.{GoesOn}
@@ -17,9 +16,9 @@ client_count-clients-requires g c =
 
 pub run_session-requires : goal.run_session-requires
 run_session-requires g c = λ κs within.
-    let goes : GoesOn {D = g.row.D.Denot} g.D.Disk.tells g.D.Disk.honest g.D.Disk.seen (present g.D.Disk.moment g.D.Disk.images) c.args.partitions c.args.recovered g.db = search (rules, c.requires) parts 40 in
+    let goes : GoesOn {D = g.row.D.Denot} g.D.Disk.kind c.args.partitions c.args.recovered g.db = search (rules, c.requires) parts 40 in
     let small = within_places c.args.limit c.args.recovered.first c.room_from.result goes.few c.room_from.ensures in
-    let opens : OpensOn {D = g.row.D.Denot} g.D.Disk.tells g.D.Disk.honest g.D.Disk.seen g.D.Disk.moment g.D.Disk.images c.args.recovered.catalog g.db c.args.recovered.first c.args.recovered.log =
+    let opens : OpensOn {D = g.row.D.Denot} g.D.Disk.kind c.args.recovered.catalog g.db c.args.recovered.first c.args.recovered.log =
     record { stood = goes.s; going = goes.log; count = goes.count; replayed = λ told. goes.generation } in
     let accepted : Accepted c.args.recovered.catalog = search (rules, c.requires) parts 40 in
     let fit : AllFit c.args.recovered.catalog c.args.requests.now = search (rules, c.requires) parts 40 in
@@ -31,12 +30,12 @@ run_session-requires g c = λ κs within.
 
 pub returns-in-Ok-clause-reported : goal.returns-in-Ok-clause-reported
 returns-in-Ok-clause-reported g c = λ old opened.
-    let goes : GoesOn {D = g.row.D.Denot} g.D.Disk.tells g.D.Disk.honest g.D.Disk.seen (present g.D.Disk.moment g.D.Disk.images) c.args.partitions c.args.recovered g.db = search (rules, c.requires) parts 40 in
+    let goes : GoesOn {D = g.row.D.Denot} g.D.Disk.kind c.args.partitions c.args.recovered g.db = search (rules, c.requires) parts 40 in
     let accepted : Accepted c.args.recovered.catalog = search (rules, c.requires) parts 40 in
-    let ends = subst (λ (room : ℕ). EndsOnDisk {D = g.row.D.Denot} g.D.Disk.tells g.D.Disk.honest g.D.Disk.seen g.D.Disk.moment g.D.Disk.images g.D.Disk.faults c.args.recovered.catalog g.db c.args.recovered.first
+    let ends = subst (λ (room : ℕ). EndsOnDisk {D = g.row.D.Denot} g.D.Disk.kind c.args.recovered.catalog g.db c.args.recovered.first
     room c.client_count-clients.result c.args.requests.now c.args.recovered.log c.in-Ok.finished) c.room_from.ensures c.in-Ok.ensures.ok in
     c.report_session.ensures.finished c.args.limit c.client_count-clients.result c.args.recovered.catalog g.db old c.args.recovered.log goes.few accepted goes.ready.whole.in_step opened ends
 
 pub returns-in-Ok-clause-later : goal.returns-in-Ok-clause-later
 returns-in-Ok-clause-later g c =
-    subst (λ (disk : g.row.D.Denot). g.D.Disk.faults c.args.recovered.log.disk ≤ g.D.Disk.faults disk) (sym c.report_session.ensures.disk) c.in-Ok.ensures.ok.ends.holds.later
+    subst (λ (disk : g.row.D.Denot). g.D.Disk.kind.faults c.args.recovered.log.disk ≤ g.D.Disk.kind.faults disk) (sym c.report_session.ensures.disk) c.in-Ok.ensures.ok.ends.holds.later

@@ -10,9 +10,9 @@ serve-requires-clause-fit g c = λ κs within. subst (λ (k : Catalog). AllFit k
 pub returns-in-Ok-clause-came : goal.returns-in-Ok-clause-came
 returns-in-Ok-clause-came g c =
     of_given (c.in-Ok.ensures.recovered.given_one c.args.catalog refl)
-    (c.serve.ensures.served c.args.disk (recovered_opened g.D.Disk.tells g.D.Disk.honest g.D.Disk.seen g.D.Disk.moment g.D.Disk.images g.D.Disk.faults _ c.args.partitions c.args.disk c.in-Ok.recovered c.in-Ok.ensures.recovered c.in-Ok.ensures.later))
+    (c.serve.ensures.served c.args.disk (recovered_opened g.D.Disk.kind _ c.args.partitions c.args.disk c.in-Ok.recovered c.in-Ok.ensures.recovered c.in-Ok.ensures.later))
 
 pub returns-in-Err-clause-came : goal.returns-in-Err-clause-came
 returns-in-Err-clause-came g c =
-    run_refused g.D.Disk.tells g.D.Disk.honest g.D.Disk.seen g.D.Disk.moment g.D.Disk.images g.D.Disk.faults c.args.limit c.args.printing _ c.args.disk c.in-Err.disk
+    run_refused g.D.Disk.kind c.args.limit c.args.printing _ c.args.disk c.in-Err.disk
     c.args.catalog c.args.requests.now c.in-Err.error c.in-Err.ensures.refused c.refuse_store.result c.refuse_store.ensures.told

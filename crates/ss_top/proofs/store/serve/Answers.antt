@@ -10,4 +10,4 @@ returns-in-Ok-clause-own g c = told_own _ c.in-Ok.field-0.status c.in-Ok.field-0
 
 pub returns-in-Err-clause-served : goal.returns-in-Err-clause-served
 returns-in-Err-clause-served g c = λ old opened.
-    unstarted g.D.Disk.tells g.D.Disk.honest g.D.Disk.seen g.D.Disk.moment g.D.Disk.images g.D.Disk.faults c.args.limit c.args.printing c.args.requests.now _ old c.in-Err.disk c.args.recovered c.in-Err.ensures.unstarted opened c.write_line.ensures.written
+    unstarted g.D.Disk.kind c.args.limit c.args.printing c.args.requests.now _ old c.in-Err.disk c.args.recovered c.in-Err.ensures.unstarted opened c.write_line.ensures.written
