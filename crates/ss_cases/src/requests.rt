@@ -14,6 +14,7 @@
 use crate::run::{check_run, check_words, report_of, run_with};
 use ss_case_files::{Wrong, bytes_of, column};
 use ss_case_texts::check_report;
+use std::alloc::Global;
 use std::sync::Wait;
 use std::thread::Threads;
 
@@ -51,21 +52,22 @@ pub fn check_command<R: AllocGlobal + Threads + Wait + Sync>(
     check_words(rt, words, input.as_str(), line)
 }
 
-/// What the program writes on the requests of a block, and what the block has behind them.
+/// The requests of a block behind a base, and the report that the block has behind them.
 #[derive(Drop)]
-struct Compared {
-    written: String,
+struct Block {
+    input: Vec<u8>,
     wanted: Vec<u8>,
 }
 
-/// Runs the requests of a block by a command line.
-fn run_block<R: AllocGlobal + Threads + Wait + Sync>(
-    rt: &R,
-    command: &str,
-    base: &str,
-    lines: &[String],
-) -> Result<Compared, Wrong> {
-    let alloc = rt.alloc();
+/// Lines as the bytes that they stand for, behind a first line where there is one.
+fn bytes_behind(alloc: Global, first: &str, lines: &[String]) -> Result<Vec<u8>, Wrong> {
+    let lines = lines.join(alloc, "␤")?;
+    let text = format!(in alloc; "{first}{lines}␤")?;
+    bytes_of(alloc, text.as_str())
+}
+
+/// The parts of a block.
+fn block_of(alloc: Global, base: &str, lines: &[String]) -> Result<Block, Wrong> {
     let Some(at) = lines.iter().position(|line| line.as_str() == ARROW) else {
         return Err(Wrong::text(alloc, "a block without its report"));
     };
@@ -73,14 +75,21 @@ fn run_block<R: AllocGlobal + Threads + Wait + Sync>(
     let Some((_, report)) = answer.split_first() else {
         return Err(Wrong::text(alloc, "a block without its report"));
     };
-    let requests = requests.join(alloc, "␤")?;
-    let input = format!(in alloc; "{base}␤{requests}␤")?;
-    let ended = run_with(rt, command, bytes_of(alloc, input.as_str())?)?;
-    let written = String::from_str(alloc, report_of(alloc, &ended)?)?;
-    let report = report.join(alloc, "␤")?;
-    let report = format!(in alloc; "{report}␤")?;
-    let wanted = bytes_of(alloc, report.as_str())?;
-    Ok(Compared { written, wanted })
+    let wanted = bytes_behind(alloc, "", report)?;
+    let base = format!(in alloc; "{base}␤")?;
+    let input = bytes_behind(alloc, base.as_str(), requests)?;
+    Ok(Block { input, wanted })
+}
+
+/// What the program writes on an input by a command line.
+fn written_by<R: AllocGlobal + Threads + Wait + Sync>(
+    rt: &R,
+    command: &str,
+    input: Vec<u8>,
+) -> Result<String, Wrong> {
+    let ended = run_with(rt, command, input)?;
+    let report = report_of(rt.alloc(), &ended)?;
+    Ok(String::from_str(rt.alloc(), report)?)
 }
 
 /// A block `report`.
@@ -89,12 +98,9 @@ pub fn check_block<R: AllocGlobal + Threads + Wait + Sync>(
     base: &str,
     lines: &[String],
 ) -> Result<(), Wrong> {
-    let compared = run_block(rt, "run", base, lines)?;
-    check_report(
-        rt.alloc(),
-        compared.written.as_str(),
-        compared.wanted.as_slice(),
-    )
+    let Block { input, wanted } = block_of(rt.alloc(), base, lines)?;
+    let written = written_by(rt, "run", input)?;
+    check_report(rt.alloc(), written.as_str(), wanted.as_slice())
 }
 
 /// A block `tables`, whose tables have to be the same on every number of partitions.
@@ -109,6 +115,14 @@ pub fn check_tables<R: AllocGlobal + Threads + Wait + Sync>(
     Ok(())
 }
 
+/// A report from its first table on.
+fn tables_of(alloc: Global, report: &str) -> Result<String, Wrong> {
+    let Some((_, behind)) = report.split_once(TABLE) else {
+        return Err(Wrong::text(alloc, "a report without a table"));
+    };
+    Ok(format!(in alloc; "{TABLE}{behind}")?)
+}
+
 /// The same by one command line.
 fn check_tables_by<R: AllocGlobal + Threads + Wait + Sync>(
     rt: &R,
@@ -116,10 +130,8 @@ fn check_tables_by<R: AllocGlobal + Threads + Wait + Sync>(
     base: &str,
     lines: &[String],
 ) -> Result<(), Wrong> {
-    let compared = run_block(rt, command, base, lines)?;
-    let Some((_, behind)) = compared.written.split_once(TABLE) else {
-        return Err(Wrong::text(rt.alloc(), "a report without a table"));
-    };
-    let tables = format!(in rt.alloc(); "{TABLE}{behind}")?;
-    check_report(rt.alloc(), tables.as_str(), compared.wanted.as_slice())
+    let Block { input, wanted } = block_of(rt.alloc(), base, lines)?;
+    let written = written_by(rt, command, input)?;
+    let tables = tables_of(rt.alloc(), written.as_str())?;
+    check_report(rt.alloc(), tables.as_str(), wanted.as_slice())
 }
