@@ -20,9 +20,9 @@ impl Claim for NoSelector {
 /// Writes the fronts of both other files. A crash at any moment since the call began leaves an empty selector, where one at
 /// its beginning would.
 fn write_both<D: Disk>(disk: &mut D) -> Result<(), DiskError>
-    requires honest { D.honest }
-    requires selector { (image : Files) → D.images disk.old (D.moment disk.old) image → image.selector ≡ [] }
-    ensures moments { LeavesOnly D.moment D.images disk.old disk.new (λ image. image.selector ≡ []) }
+    requires honest { D.kind.honest }
+    requires selector { (image : Files) → D.kind.images disk.old (D.kind.moment disk.old) image → image.selector ≡ [] }
+    ensures moments { LeavesOnly D.kind.moment D.kind.images disk.old disk.new (λ image. image.selector ≡ []) }
 {
     runs_compose::<D, NoSelector, NoSelector>();
     write_synced(disk, FileNo::First, 0, b"ab")?;
