@@ -7,6 +7,9 @@
 //! Source: S-Store's serial order of transaction executions (Meehan et al., PVLDB 8, 2015, section 2); that threads share
 //! it by tokens is this project's own rule.
 //!
+//! `ss_opening` opens a log and hands its tokens out; `ss_hand`, `ss_turns`, `ss_settle`, `ss_receipts` and `ss_engine` call it. Its
+//! lock is the innermost one: who holds it calls nobody.
+//!
 //! - `log`, `opening`: the calls; `placed`: what becomes of an entry; `posted`: what the disk posts
 //! - `token`, `role`: tokens; `blank`: the table before the log has a name
 //! - `desk`, `looking`: what stands behind the lock; `reading`: what is read of it

@@ -24,9 +24,7 @@ pub(crate) fn batch_for(
     requires { (stream < length streams.now.streams) × (consumer < length counts.now) }
     ensures { IfOk result (λ found. found ≡ batch_at_hand streams.now counts.now stream consumer r) }
 {
-    let Some(count) = counts.get(usize::from(consumer)) else {
-        unreachable!()
-    };
+    let count = counts.at(usize::from(consumer));
     if r < *count {
         return Ok(None);
     }
@@ -71,9 +69,7 @@ fn is_ready_there(
     requires there { q < length catalog.now.procedures }
     ensures { (db : Database) → HasProgress db counts.now streams.now.streams → result ≡ ready_there catalog.now db homes.now p q }
 {
-    let Some(home) = homes.get(usize::from(q)) else {
-        unreachable!()
-    };
+    let home = homes.at(usize::from(q));
     if *home != p {
         return false;
     }

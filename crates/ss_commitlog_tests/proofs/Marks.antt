@@ -1,5 +1,5 @@
 -- Marks that change places, are handed back, or popped one after another.
-use Rattle.std.proofs.Common.{◌≡◌, ◌<◌, ◌∙◌, ℕ, List, [], ◌∷◌, ◌++◌, length, refl, sym, ap, subst, arith, Some, Ok, Err, slice_get, slice_set}
+use Rattle.std.proofs.Common.{◌≡◌, ◌<◌, ◌∙◌, ℕ, List, [], ◌∷◌, ◌++◌, length, refl, sym, ap, arith, Some, Ok, Err, slice_get, slice_set}
 use Rattle.std.specs.declared.result.Result.{Result}
 use Rattle.ss_lemmas.proofs.Ends.{ends_alike}
 use Rattle.ss_model.specs.declared.catalog.Catalog.{Catalog}

@@ -138,9 +138,7 @@ pub fn row_by_key<'a, 'b>(
     requires there { table < length from.catalog.now.tables }
     ensures { IfOk result (λ found. IfSome found (RowsAreEnough from.entry (FromTable table) params.now test.now)) }
 {
-    let Some(def) = from.catalog.tables.get(usize::from(table)) else {
-        unreachable!()
-    };
+    let def = from.catalog.tables.at(usize::from(table));
     match sought_key(alloc, def.key.as_slice(), test, params)? {
         None => Ok(None),
         Some(key) => {

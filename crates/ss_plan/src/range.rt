@@ -140,9 +140,7 @@ pub fn rows_in_range<'a, 'b>(
     requires pairs { HasRows rows.now.live index.now }
     ensures { IfOk result (RowsAreEnough from.entry (FromTable table) params.now test.now) }
 {
-    let Some(def) = from.catalog.tables.get(usize::from(table)) else {
-        unreachable!()
-    };
+    let def = from.catalog.tables.at(usize::from(table));
     rows.rows_are_keyed();
     let columns = index.columns();
     let low = range_end(alloc, RangeEnd::Low, &def.schema, columns, test, params)?;

@@ -98,9 +98,7 @@ fn join_list<O: Origin>(
         return None;
     };
     // Entry and outcome have moved into the list, and are lent from there.
-    let Some(listed) = store.list.get(place) else {
-        unreachable!()
-    };
+    let listed = store.list.at(place);
     commit(&mut store.database.whole, &listed.entry, &listed.outcome);
     advance(catalog, &mut store.database.streams, &listed.entry, emitted);
     Some(place as u64)

@@ -81,9 +81,7 @@ fn run_hint<O: Origin, J>(
     let Some(place) = run_step::<O>(alloc, catalog, store, procedure) else {
         return;
     };
-    let Some(listed) = store.list.get(place as usize) else {
-        unreachable!()
-    };
+    let listed = store.list.at(place as usize);
     put_hints(catalog, inbox, &wake_list(catalog, &listed.entry));
     // Last, so that those that it woke have their turn before its next batch.
     hint_again::<O, J>(catalog, store, inbox, procedure);

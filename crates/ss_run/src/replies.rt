@@ -121,10 +121,7 @@ impl Replies {
         requires { client < length self.now.answers }
         ensures { result ≡ length (answers_of self.now.answers client) }
     {
-        let Some(found) = self.clients.get(usize::from(client)) else {
-            unreachable!()
-        };
-        found.len() as u64
+        self.clients.at(usize::from(client)).len() as u64
     }
 
     /// Adds an answer to a client, for which there is room, in constant time and without memory.

@@ -66,9 +66,7 @@ fn serve<O: Origin>(
     let Some((place, outcome)) = run_request::<O>(alloc, catalog, store, request, index) else {
         return Answer::NoMemory;
     };
-    let Some(listed) = store.list.get(place as usize) else {
-        unreachable!()
-    };
+    let listed = store.list.at(place as usize);
     put_hints(catalog, inbox, &wake_list(catalog, &listed.entry));
     run_hints::<O, usize>(alloc, catalog, store, inbox);
     Answer::Listed { place, outcome }
@@ -102,8 +100,6 @@ pub fn pump<O: Origin>(
     let Some(Work::Job(number)) = inbox.take() else {
         unreachable!()
     };
-    let Some(request) = requests.get(number) else {
-        unreachable!()
-    };
+    let request = requests.at(number);
     serve::<O>(alloc, catalog, store, inbox, request, index)
 }

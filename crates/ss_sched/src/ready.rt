@@ -35,9 +35,7 @@ pub fn ready(catalog: &Catalog, cursors: &[u64], streams: &Streams, procedure: u
     requires streams { length streams.now.streams ≡ length catalog.now.streams }
     ensures { (db : Database) → HasProgress db cursors.now streams.now.streams → result ≡ is_ready_now catalog.now db procedure }
 {
-    let Some(found) = catalog.procedures.get(usize::from(procedure)) else {
-        unreachable!()
-    };
+    let found = catalog.procedures.at(usize::from(procedure));
     // A call procedure has no inputs, so by its inputs alone it would always be ready.
     if found.kind.is_call() {
         return false;

@@ -45,9 +45,7 @@ fn entry_outputs(catalog: &Catalog, entry: &Entry) -> ProcSet
         Entry::Call { .. } => ProcSet::empty(),
         Entry::Push { stream, .. } => set_of_stream(*stream),
         Entry::Step { procedure, .. } => {
-            let Some(found) = catalog.procedures.get(usize::from(*procedure)) else {
-                unreachable!()
-            };
+            let found = catalog.procedures.at(usize::from(*procedure));
             body_outputs(found.body.as_slice())
         }
     }

@@ -162,10 +162,7 @@ impl Streams {
         requires { stream < length self.now.streams }
         ensures { result ≡ emitted_count (stream_at self.now stream) }
     {
-        let Some(found) = self.streams.get(usize::from(stream)) else {
-            unreachable!()
-        };
-        found.emitted_count()
+        self.streams.at(usize::from(stream)).emitted_count()
     }
 
     /// The batch of a number of a stream, and None exactly where all consumers have passed it or it isn't emitted yet.
@@ -173,10 +170,7 @@ impl Streams {
         requires { stream < length self.now.streams }
         ensures { option_copied result ≡ pending_batch (stream_at self.now stream) r }
     {
-        let Some(found) = self.streams.get(usize::from(stream)) else {
-            unreachable!()
-        };
-        found.batch(r)
+        self.streams.at(usize::from(stream)).batch(r)
     }
 
     /// Makes room for one emit to a stream. Out of memory leaves the streams.

@@ -23,7 +23,7 @@ wake_list-requires-clause-fits g c =
     let db = after catalog g.O.Origin.opening c.args.store.now.list in
     let seen = sees catalog c.requires.accepted g.O.Origin.opening c.args.store.now c.cursors.result.now c.requires.at c.cursors.ensures in
     let some = c.in-Some.ensures.some in
-    let is = last_is c.args.store.now.list c.run_step.new.store.list _ c.in-Some-get.listed.now c.in-Some.place some.1.joined.joined some.0 c.in-Some-get.ensures.item in
+    let is = last_is c.args.store.now.list c.run_step.new.store.list _ c.at-listed.result.now c.in-Some.place some.1.joined.joined some.0 c.at-listed.ensures in
     rw is (ready_fits catalog db c.args.procedure (batch_count db c.args.procedure) (sym (c.ready.ensures db seen.far) ∙ c.if-not-ready.false))
 
 pub returns-clause-ran : goal.returns-clause-ran
