@@ -12,15 +12,18 @@
 //!
 //! `engine` is what threads share: the hub, the bays, the catalogue, the runner and the gate. Who acts on it has a folder:
 //!
-//! - `client`, a client's side. It touches its lane, the hub and the lock of `ss_receipts`, and no partition: what it asks for it
-//!   sends. `submit` takes one request and `send` waits for its answer; `receipt` asks that answers be durable; `requests` makes
-//!   those of one client in order. Threads of clients call it; while it waits it pumps an inbox that has no executor.
-//! - `partition`, a partition's side. It alone takes partitions out of their bays and puts them back. `pump` takes what waits in an
-//!   inbox: `serve` serves a job, `follow` a hint, and `wake` puts hints; `touched` takes partitions and puts them back, `least`
-//!   finds the first of a small set, and `pumped` is what a pump came to. Executors call it, and clients that wait.
+//! - `client`, a client's side. It touches its lane, the hub and the lock of `ss_receipts`, and takes no partition: what it asks
+//!   for it sends. `submit` takes one request and `send` waits for its answer; `receipt` asks that answers be durable; `requests`
+//!   makes those of one client in order. Threads of clients call it; while it waits it pumps an inbox that has no executor.
+//! - `partition`, a partition's side. It alone takes partitions out of their bays and puts them back (`hands`), until the close.
+//!   `pump` takes what waits in an inbox, and sleeps there: `serve` serves a job, `follow` a hint, and `wake` puts hints;
+//!   `touched` reads which partitions an entry touches, `least` finds the first of a small set, and `pumped` is what a pump came
+//!   to. Executors call it, and clients that wait.
 //! - `session`, a run from end to end. `open` makes an engine with a lane for each client, `threads` lets clients and executors at
 //!   it, `close` takes it apart with all partitions in one hand, and `run` is all three, with the last flush. What stands above this
 //!   crate calls it.
+//!
+//! Of the locks none is held while another one is waited for, but that of `ss_receipts`, under which the commit log's is taken.
 //!
 //! In `specs/`: `Pumped`, `Engines`, `Serving`, `Tried`, `Least`, `Assured`, `Closings`, `Clients`, `Sessions`.
 //!
@@ -76,5 +79,5 @@ pub use session::close::Closed;
 pub use session::open::NewEngine;
 pub use session::run::{Finished, run_session};
 pub use ss_commitlog::Unlisted;
-pub use ss_lanes::{Due, Hub, Lane, Room, lanes_serve};
+pub use ss_lanes::{Due, Lane, Room, lanes_serve};
 pub use ss_settle::{Gate, NoGate};

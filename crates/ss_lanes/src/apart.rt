@@ -1,4 +1,4 @@
-//! Lanes that are taken apart when no client asks any more.
+//! Lanes that the engine's close takes apart when no client asks any more.
 
 ghost use Rattle.std.specs.Prelude.{◌≡◌, ◌≤◌, ◌+◌, ◌++◌, [], map, length, vec_capacity};
 ghost use Rattle.ss_lanes.specs.Apart.{AreMarksOf};

@@ -1,4 +1,7 @@
 //! What clients share with those who run their requests.
+//!
+//! A client puts its job and takes its reply, and rests meanwhile (`put_job`, `take_reply`, `rest_in_turn`, `rest_at_slot`). Who
+//! runs what waits takes it, puts hints, and answers (`take`, `put_hint`, `reply`, `refuse`), or looks and rests.
 
 ghost use Rattle.std.specs.Prelude.{◌≡◌, ◌<◌, length, IfOk, IfErr, IfSome};
 ghost use Rattle.ss_commitlog.specs.declared.role.Role.TheVariants.{Client};

@@ -1,5 +1,5 @@
-//! Executions: an entry runs on the batches that the streams lend it, by any runner, because the run on one thread and
-//! recovery both stand on it.
+//! Executions: an entry is executed on the batches that the streams lend it, by any runner, because the run on one thread
+//! and recovery both stand on it.
 
 ghost use Rattle.std.specs.Prelude.{◌≡◌, true, map, IfOk, OnErr};
 ghost use Rattle.std.specs.List.{AllByRecursion};
@@ -58,8 +58,8 @@ fn input_batches<'a>(
     lend_batches(alloc, streams, found.inputs.as_slice(), *batch)
 }
 
-/// Runs an entry on a shard between executions, a step on the batches that its inputs lend, each as the runner does it. The
-/// caller then commits it or rolls it back.
+/// Executes an entry on a shard between executions, a step on the batches that its inputs lend, each as the runner does it.
+/// The caller then commits it or rolls it back.
 ///
 /// Costs its body, and a look at each of its inputs. After an error the shard stands for what it stood for before.
 pub fn execute_entry<N: Runner>(

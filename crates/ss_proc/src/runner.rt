@@ -1,4 +1,4 @@
-//! What runs an entry.
+//! What executes an entry.
 
 ghost use Rattle.std.specs.Prelude.{◌≡◌, ◌≤◌, ◌<◌, true, length, slice_get, IfOk, OnErr};
 ghost use Rattle.ss_model.specs.Accepted.{Accepted};
@@ -30,13 +30,13 @@ pub struct Executed {
     pub emitted: Seq<Emitted>,
 }
 
-/// What runs entries.
+/// What executes entries.
 ///
 /// An execution is a transaction: it changes all that its body changes, or nothing (Meehan et al., PVLDB 8, 2015, section
-/// 2.3). Whoever runs entries needs this contract alone, which is the model's meaning of an entry, and not how bodies are run.
+/// 2.3). Whoever executes entries needs this contract alone, which is the model's meaning of an entry, and not how bodies are run.
 pub trait Runner {
-    /// Runs an entry on a shard between executions, on the batches that it takes. Its caller then calls `commit` or `rollback`:
-    /// it alone knows whether the entry has its place in the list.
+    /// Executes an entry on a shard between executions, on the batches that it takes. Its caller then calls `commit` or
+    /// `rollback`: it alone knows whether the entry has its place in the list.
     ///
     /// Answers exactly the outcome and the batches that the entry has on whatever database the shard stands for, and leaves
     /// the tables and windows that the entry leaves: after an abort those from before, with empty batches. Counts and next
@@ -44,7 +44,7 @@ pub trait Runner {
     /// back.
     ///
     /// That the batches are those of the database is a premise of what is promised (`RanOnEach`), instead of one of the
-    /// call: whoever runs a step got its batches from the list that it knows, and the clause serves each database of
+    /// call: whoever executes a step got its batches from the list that it knows, and the clause serves each database of
     /// which that is true.
     fn execute(
         &self,

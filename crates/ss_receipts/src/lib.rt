@@ -7,6 +7,9 @@
 //! Source: group commit of DeWitt, Katz, Olken, Shapiro, Stonebraker and Wood (SIGMOD 1984), of a command log as in Malviya,
 //! Weisberg, Madden and Stonebraker (ICDE 2014); S-Store logs so (Meehan et al., PVLDB 8, 2015, section 3).
 //!
+//! `ss_engine` calls it, for clients and behind the last step. The commit log's lock is taken under this one, never the other way
+//! round, and is not held over a flush.
+//!
 //! - `receipts`: the lock and its calls; `keeper`: what stands behind it
 //! - `durable`: one flush for all, behind the lock; `finishing`: the last flush, once the list is whole
 //! - `flush`: a flush of the rest of a list; `rest`: the entries of that rest

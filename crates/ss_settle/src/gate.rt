@@ -4,9 +4,11 @@ use ss_model::Entry;
 
 /// What is told of each execution. It answers nothing, so it changes no run but for the time that it takes.
 ///
-/// Two executions on partitions of their own are told at the same time, by the threads that run them.
+/// `ss_engine` tells it of what it serves and follows, and settling of its steps; this is the lowest crate that does. Two
+/// executions on partitions of their own are told at the same time, by the threads that run them.
 pub trait Gate {
-    /// An entry is about to run, whose least partition is `part`: its partitions are in hand.
+    /// An entry is about to run, whose least partition is `part`: its partitions are in hand. So who waits here holds up each
+    /// execution that touches one of them.
     fn before(&self, part: u8, entry: &Entry);
 
     /// It has run and is listed, and its partitions are back in their bays, but at the close, where there are none any

@@ -1,4 +1,4 @@
-//! The engine's calls for clients, and for the threads that serve its inboxes.
+//! The call of a client for one request.
 
 ghost use Rattle.std.specs.Prelude.{◌≡◌, ◌<◌, ◌≤◌, true, length};
 ghost use Rattle.ss_model.specs.Database.{fits_entry};
@@ -45,25 +45,5 @@ impl<I: Life, N: Runner + Drop, G: Gate + Drop> Engine<I, N, G> {
         let entry = asked_entry(request.client, lane.answers().len() as u64, what);
         let (p, _) = self.touched(&entry);
         self.send(rt, alloc, lane, p, entry, &request.what)
-    }
-
-    /// Waits while the inbox of a partition is empty and `stop` wasn't called. Takes no memory.
-    pub fn rest<R: Wait>(&self, rt: &R, p: u8)
-        requires { p < I.parts }
-    {
-        self.hub.rest(rt, p);
-    }
-
-    /// Ends every rest at an inbox, those to come too. Takes no memory.
-    pub fn stop<R: Wait>(&self, rt: &R) {
-        self.hub.stop(rt);
-    }
-
-    /// Tells that the inbox of a partition has no executor. From then on whoever waits for an answer from it pumps it. Takes
-    /// no memory and no lock.
-    pub fn no_executor(&self, p: u8)
-        requires { p < I.parts }
-    {
-        self.hub.no_executor(p);
     }
 }

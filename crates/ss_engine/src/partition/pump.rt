@@ -1,4 +1,4 @@
-//! The engine runs the work of its inboxes.
+//! The engine runs the work of its inboxes, and who does so sleeps there while nothing waits.
 
 ghost use Rattle.std.specs.Prelude.{◌<◌};
 ghost use Rattle.ss_engine.specs.Pumped.{IsPumped};
@@ -51,5 +51,25 @@ impl<I: Life, N: Runner + Drop, G: Gate + Drop> Engine<I, N, G> {
             Some(Work::Hint(procedure)) => self.follow(works, note, p, procedure),
             None => self.look_around(works, note, p),
         }
+    }
+
+    /// Waits while the inbox of a partition is empty and `stop` wasn't called. Takes no memory.
+    pub fn rest<R: Wait>(&self, rt: &R, p: u8)
+        requires { p < I.parts }
+    {
+        self.hub.rest(rt, p);
+    }
+
+    /// Ends every rest at an inbox, those to come too. Takes no memory.
+    pub fn stop<R: Wait>(&self, rt: &R) {
+        self.hub.stop(rt);
+    }
+
+    /// Tells that the inbox of a partition has no executor. From then on whoever waits for an answer from it pumps it. Takes
+    /// no memory and no lock.
+    pub fn no_executor(&self, p: u8)
+        requires { p < I.parts }
+    {
+        self.hub.no_executor(p);
     }
 }

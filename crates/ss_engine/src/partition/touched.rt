@@ -1,28 +1,18 @@
-//! The partitions that an entry touches, and partitions in and out of the engine's bays.
+//! The partitions that an entry touches: read off the entry, and not taken.
 
-ghost use Rattle.std.specs.Prelude.{◌≡◌, ◌<◌, ℕ, List, map, true, IfOk};
-ghost use Rattle.std.specs.Int.{IsBitSet};
+ghost use Rattle.std.specs.Prelude.{◌≡◌, ◌<◌, true};
 ghost use Rattle.ss_model.specs.Database.{fits_entry};
 ghost use Rattle.ss_model.specs.Partitions.{touches};
 ghost use Rattle.ss_partition.specs.PartSets.{HasJust};
-ghost use Rattle.ss_party.specs.Turns.{turn_of};
-ghost use Rattle.ss_hand.specs.Hands.{IsInHand, WereTaken};
-ghost use Rattle.ss_commitlog.specs.Growing.{GoesOn};
 ghost use Rattle.ss_engine.specs.Pumped.{IsLeastOf};
 
 use crate::engine::Engine;
 use crate::partition::least::least_of;
-use ss_commitlog::Note;
-use ss_hand::{Hand, Partition, put_parts, take_parts};
 use ss_model::{Entry, Life};
 use ss_partition::touch_set;
-use ss_party::Turn;
 use ss_proc::Runner;
 use ss_settle::Gate;
-use ss_turns::Works;
-use ss_value::{NoMemory, PartSet};
-use std::alloc::Global;
-use std::sync::Wait;
+use ss_value::PartSet;
 
 impl<I: Life, N: Runner + Drop, G: Gate + Drop> Engine<I, N, G> {
     /// The least partition that an entry touches, and all of them. Costs what `touch_set` does; takes no memory.
@@ -37,36 +27,5 @@ impl<I: Life, N: Runner + Drop, G: Gate + Drop> Engine<I, N, G> {
             unreachable!()
         };
         (least, set)
-    }
-
-    /// Takes the partitions of a set out of their bays, as `take_parts` does. Out of memory has taken none.
-    pub(crate) fn take_set<R: Wait>(
-        &self,
-        works: &Works<I, N, R>,
-        note: &mut Note<I>,
-        set: PartSet,
-    ) -> Result<(Hand<I>, Vec<Turn<Partition<I>>>), NoMemory>
-        requires some { (p : ℕ) × IsBitSet set p }
-        requires below { (p : ℕ) → IsBitSet set p → p < I.parts }
-        ensures note { GoesOn I.catalog I.parts note.old note.new }
-        ensures ok { IfOk result (λ taken. WereTaken I.catalog I.parts I.opening self.now set note.new taken.0 taken.1.items) }
-    {
-        take_parts(
-            works.rt,
-            works.alloc,
-            works.log,
-            works.catalog,
-            works.parts,
-            &self.bays,
-            set,
-            note,
-        )
-    }
-
-    /// Puts them back, as `put_parts` does.
-    pub(crate) fn put_back(&self, alloc: Global, hand: Hand<I>, turns: Vec<Turn<Partition<I>>>)
-        requires { (held : List ℕ) × IsInHand I.catalog I.parts I.opening held hand × (turns.items ≡ map (turn_of self.now) held) }
-    {
-        put_parts(alloc, &self.catalog, self.parts, &self.bays, hand, turns);
     }
 }
