@@ -15,8 +15,8 @@ use Rattle.ss_model.specs.declared.entry.Asked.TheVariants.{Call as CallAsked, P
 use Rattle.ss_model.specs.declared.entry.Entry.{Entry}
 use Rattle.ss_model.specs.declared.entry.Request.{Request}
 use Rattle.ss_model.specs.Report.{asked_entry, entries_behind, client_index}
-use Rattle.ss_report_lines.specs.declared.kind.Kind.{Kind}
-use Rattle.ss_report_lines.specs.declared.kind.Kind.TheVariants.{Reply, Call, Push, Step, Table, Row, Done}
+use Rattle.ss_report_lines.specs.declared.kind.LineKind.{LineKind}
+use Rattle.ss_report_lines.specs.declared.kind.LineKind.TheVariants.{Reply, Call, Push, Step, Table, Row, Done}
 use Rattle.ss_report_lines.specs.Said.{said}
 use Rattle.ss_audit_laws.specs.Shape.{line_kind}
 use Rattle.ss_audit_laws.specs.Checks.{first_by, is_by, is_number}
@@ -125,7 +125,7 @@ module _ (client index : ℕ) where
       chosen true = ap (option_and_then (λ (l : Line). said l.bytes)) (there before l ls)
       chosen false = more
 
-      by : (k : Option Kind) → said_at (before ++ l ∷ ls) (first_position client index (behind_placed (length before) (asked_by k) (placed_lines (suc (length before)) ls))) ≡ cond (is_by client index k) (said l.bytes) (first_by client index ls)
+      by : (k : Option LineKind) → said_at (before ++ l ∷ ls) (first_position client index (behind_placed (length before) (asked_by k) (placed_lines (suc (length before)) ls))) ≡ cond (is_by client index k) (said l.bytes) (first_by client index ls)
       by None = more
       by (Some (Reply n)) = more
       by (Some (Call c i)) = chosen (client == c && index == i)

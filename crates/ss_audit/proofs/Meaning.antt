@@ -5,8 +5,8 @@ use Rattle.ss_lemmas.proofs.Bools.{some_same}
 use Rattle.ss_lines.specs.declared.line.Line.{Line}
 use Rattle.ss_model.specs.declared.catalog.Catalog.{Catalog}
 use Rattle.ss_model.specs.declared.entry.Request.{Request}
-use Rattle.ss_report_lines.specs.declared.kind.Kind.{Kind}
-use Rattle.ss_report_lines.specs.declared.kind.Kind.TheVariants.{Reply, Call, Push, Step, Table, Row, Done}
+use Rattle.ss_report_lines.specs.declared.kind.LineKind.{LineKind}
+use Rattle.ss_report_lines.specs.declared.kind.LineKind.TheVariants.{Reply, Call, Push, Step, Table, Row, Done}
 use Rattle.ss_report_lines.specs.Kinds.{kind_of}
 use Rattle.ss_report_lines.specs.Said.{said}
 use Rattle.ss_audit_laws.specs.Shape.{line_kind, line_text_at, text_at}
@@ -18,7 +18,7 @@ use Rattle.ss_audit.specs.Positions.{asked_by}
 
 module _ (catalog : Catalog) (requests : List Request) (turns : Turns) (l : Line) where
   -- one that is about a request
-  pub means_request : (k : Option Kind) (client index : ℕ) → asked_by k ≡ Some (client, index) → meant catalog requests turns l k ≡ in_turn turns client index (asked_as requests client index)
+  pub means_request : (k : Option LineKind) (client index : ℕ) → asked_by k ≡ Some (client, index) → meant catalog requests turns l k ≡ in_turn turns client index (asked_as requests client index)
   means_request None client index h = absurd (cc)
   means_request (Some (Reply n)) client index h = absurd (cc)
   means_request (Some (Call c i)) client index h = ap (λ (by : ℕ × ℕ). in_turn turns by.0 by.1 (asked_as requests by.0 by.1)) (some_same (c, i) (client, index) h)
@@ -29,7 +29,7 @@ module _ (catalog : Catalog) (requests : List Request) (turns : Turns) (l : Line
   means_request (Some (Done n)) client index h = absurd (cc)
 
   -- and one that is about none
-  pub means_step : (k : Option Kind) → asked_by k ≡ None → meant catalog requests turns l k ≡ step_as catalog (line_text_at 2 l) k
+  pub means_step : (k : Option LineKind) → asked_by k ≡ None → meant catalog requests turns l k ≡ step_as catalog (line_text_at 2 l) k
   means_step None h = refl
   means_step (Some (Reply n)) h = refl
   means_step (Some (Call c i)) h = absurd (cc)
@@ -40,7 +40,7 @@ module _ (catalog : Catalog) (requests : List Request) (turns : Turns) (l : Line
   means_step (Some (Done n)) h = refl
 
 -- the least indices behind a line that is about a request
-pub turns_more : (turns : Turns) (k : Option Kind) (client index : ℕ) → asked_by k ≡ Some (client, index) → turns_behind turns k ≡ turned turns client index
+pub turns_more : (turns : Turns) (k : Option LineKind) (client index : ℕ) → asked_by k ≡ Some (client, index) → turns_behind turns k ≡ turned turns client index
 turns_more turns None client index h = absurd (cc)
 turns_more turns (Some (Reply n)) client index h = absurd (cc)
 turns_more turns (Some (Call c i)) client index h = ap (λ (by : ℕ × ℕ). turned turns by.0 by.1) (some_same (c, i) (client, index) h)
@@ -51,7 +51,7 @@ turns_more turns (Some Row) client index h = absurd (cc)
 turns_more turns (Some (Done n)) client index h = absurd (cc)
 
 -- and behind one that is about none
-pub turns_stay : (turns : Turns) (k : Option Kind) → asked_by k ≡ None → turns_behind turns k ≡ turns
+pub turns_stay : (turns : Turns) (k : Option LineKind) → asked_by k ≡ None → turns_behind turns k ≡ turns
 turns_stay turns None h = refl
 turns_stay turns (Some (Reply n)) h = refl
 turns_stay turns (Some (Call c i)) h = absurd (cc)
@@ -72,7 +72,7 @@ module _ (l : Line) (v : Data) (says : said l.bytes ≡ Some v) where
   pub text_is : (n : ℕ) → line_text_at n l ≡ text_at n v
   text_is n = ap (λ (o : Option Data). unwrap_or (option_map (text_at n) o) []) says
 
-  module _ (catalog : Catalog) (requests : List Request) (turns : Turns) (k : Option Kind) (is : k ≡ kind_of v) where
+  module _ (catalog : Catalog) (requests : List Request) (turns : Turns) (k : Option LineKind) (is : k ≡ kind_of v) where
     means_so : meant catalog requests turns l k ≡ meant catalog requests turns l (line_kind l)
     means_so = ap (meant catalog requests turns l) (is ∙ sym kind_is)
 

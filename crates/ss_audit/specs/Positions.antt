@@ -7,8 +7,8 @@ use Rattle.std.specs.BTreeMap.{BTreeMap, get}
 use Rattle.serde_json.specs.Data.{Data}
 use Rattle.ss_lines.specs.declared.line.Line.{Line}
 use Rattle.ss_model.specs.declared.entry.Request.{Request}
-use Rattle.ss_report_lines.specs.declared.kind.Kind.{Kind}
-use Rattle.ss_report_lines.specs.declared.kind.Kind.TheVariants.{Call, Push}
+use Rattle.ss_report_lines.specs.declared.kind.LineKind.{LineKind}
+use Rattle.ss_report_lines.specs.declared.kind.LineKind.TheVariants.{Call, Push}
 use Rattle.ss_report_lines.specs.Said.{said}
 use Rattle.ss_audit_laws.specs.Shape.{line_kind}
 use Rattle.ss_audit.specs.declared.positions.Placed.{Placed}
@@ -43,7 +43,7 @@ placed_requests earlier (r ∷ rs) =
     record { client = r.client; index = count_by (λ x. x.client == r.client) earlier; position = length earlier } ∷ placed_requests (earlier ++ r ∷ []) rs
 
 -- the client and the index of the request that a line of this kind is about
-abbrev pub asked_by : Option Kind → Option (ℕ × ℕ)
+abbrev pub asked_by : Option LineKind → Option (ℕ × ℕ)
 asked_by (Some (Call client index)) = Some (client, index)
 asked_by (Some (Push client index)) = Some (client, index)
 asked_by _ = None

@@ -9,7 +9,7 @@ use Rattle.ss_model.specs.Database.{Database as Model, empty_database}
 use Rattle.ss_model.specs.Replays.{database_after, entry_outcome}
 use Rattle.ss_shard.specs.declared.database.Database.{Database}
 use Rattle.ss_replay.specs.Replaying.{IsOnAt}
-use Rattle.ss_report_lines.specs.declared.kind.Kind.{Kind}
+use Rattle.ss_report_lines.specs.declared.kind.LineKind.{LineKind}
 use Rattle.ss_audit_laws.specs.Shape.{line_kind}
 use Rattle.ss_audit_laws.specs.Checks.{Turns, entry_at, meant, outcome_of, printed_as, replayed, turns_behind}
 use Rattle.ss_audit.specs.declared.broken.Broken.{Broken}
@@ -23,7 +23,7 @@ HasOutcome catalog d place e new None = entry_outcome catalog d e ≡ None
 HasOutcome catalog d place e new (Some outcome) = (entry_outcome catalog d e ≡ Some outcome) × IsOnAt catalog new (place + 1) (database_after catalog d e)
 
 -- a line is about this entry, and of this kind; or about none
-abbrev pub IsMeant : Catalog → List Request → Turns → Line → Option (Entry × Option Kind) → Type 0
+abbrev pub IsMeant : Catalog → List Request → Turns → Line → Option (Entry × Option LineKind) → Type 0
 IsMeant catalog requests turns line None = meant catalog requests turns line (line_kind line) ≡ None
 IsMeant catalog requests turns line (Some m) = (meant catalog requests turns line (line_kind line) ≡ Some m.0) × (m.1 ≡ line_kind line)
 

@@ -18,7 +18,7 @@ use crate::positions::{Placed, Positions, position};
 use crate::shape::text_at;
 use serde_json::Value as Json;
 use ss_model::{Catalog, Entry, Procedure, Request, asked_entry};
-use ss_report_lines::{Kind, kind_of};
+use ss_report_lines::{LineKind, kind_of};
 use ss_value::{Copies, NoMemory};
 use std::alloc::Global;
 
@@ -107,21 +107,23 @@ fn in_turn(
 }
 
 /// The client and the index of the request that a line of this kind is about.
-pub(crate) fn asked_by(kind: Option<Kind>) -> Option<(u8, u64)>
+pub(crate) fn asked_by(kind: Option<LineKind>) -> Option<(u8, u64)>
     ensures { result ≡ asked_by kind }
 {
     match kind {
-        Some(Kind::Call { client, index } | Kind::Push { client, index }) => Some((client, index)),
+        Some(LineKind::Call { client, index } | LineKind::Push { client, index }) => Some((
+            client, index,
+        )),
         _ => None,
     }
 }
 
 /// The step that a line of this kind is about, of the first procedure of this name. Linear in the procedures.
-fn step_as(catalog: &Catalog, name: &str, kind: Option<Kind>) -> Option<Entry>
+fn step_as(catalog: &Catalog, name: &str, kind: Option<LineKind>) -> Option<Entry>
     requires { Accepted catalog.now }
     ensures { result ≡ step_as catalog.now name.now kind }
 {
-    let Some(Kind::Step { batch }) = kind else {
+    let Some(LineKind::Step { batch }) = kind else {
         return None;
     };
     match procedure_named(name, catalog.procedures.as_slice()) {

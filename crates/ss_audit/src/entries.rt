@@ -25,7 +25,7 @@ use ss_model::{Catalog, Entry, Listed, Outcome};
 use ss_proc::Runner;
 use ss_replay::{has_value, replay_entry};
 use ss_report::entry_json;
-use ss_report_lines::{Kind, kind_of, said};
+use ss_report_lines::{LineKind, kind_of, said};
 use ss_shard::Database;
 use ss_value::NoMemory;
 use std::alloc::Global;
@@ -41,7 +41,7 @@ pub(crate) struct Behind {
 }
 
 /// Notes that the entry of a line of this kind has run: its client's next entry has a greater index.
-fn note_turn(turns: &mut PerClient, kind: Option<Kind>) -> Result<(), NoMemory>
+fn note_turn(turns: &mut PerClient, kind: Option<LineKind>) -> Result<(), NoMemory>
     ensures { OnOk result (number_of turns.new ≡ turns_behind (number_of turns.old) kind) }
 {
     let Some((client, index)) = asked_by(kind) else {
@@ -84,7 +84,7 @@ fn said_entry(
     asked: &Asked,
     turns: &PerClient,
     value: &Json,
-) -> Result<Option<(Entry, Option<Kind>)>, NoMemory>
+) -> Result<Option<(Entry, Option<LineKind>)>, NoMemory>
     requires accepted { Accepted catalog.now }
     requires found { FindsAsked asked.now }
     ensures { IfOk result (λ m. (line : LineValue) → said line.bytes ≡ Some (view value.now)
@@ -105,7 +105,7 @@ fn line_entry(
     asked: &Asked,
     turns: &PerClient,
     line: &Line,
-) -> Result<Option<(Entry, Option<Kind>)>, NoMemory>
+) -> Result<Option<(Entry, Option<LineKind>)>, NoMemory>
     requires accepted { Accepted catalog.now }
     requires found { FindsAsked asked.now }
     ensures { IfOk result (IsMeant catalog.now asked.now.requests.now (number_of turns.now) line.now) }

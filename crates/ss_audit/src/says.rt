@@ -11,12 +11,12 @@ ghost use Rattle.ss_audit.specs.Saying.{LeavesBehind, BreaksWithin};
 use crate::broken::Broken;
 use serde_json::Value as Json;
 use ss_lines::Line;
-use ss_report_lines::{Kind, is_text_of, kind_of, said};
+use ss_report_lines::{LineKind, is_text_of, kind_of, said};
 use ss_value::NoMemory;
 use std::alloc::Global;
 
 /// The kind of a line, where it is a line of a report. Linear in its bytes.
-pub(crate) fn line_kind(alloc: Global, line: &Line) -> Result<Option<Kind>, NoMemory>
+pub(crate) fn line_kind(alloc: Global, line: &Line) -> Result<Option<LineKind>, NoMemory>
     ensures { IfOk result (λ kind. kind ≡ line_kind line.now) }
 {
     match said(alloc, line.bytes.as_slice())? {

@@ -14,7 +14,7 @@ use serde_json::Value as Json;
 use ss_lines::Line;
 use ss_model::Request;
 use ss_report::ByName;
-use ss_report_lines::{Kind, kind_of, said};
+use ss_report_lines::{LineKind, kind_of, said};
 use ss_value::NoMemory;
 use std::alloc::Global;
 
@@ -32,31 +32,31 @@ pub(crate) fn text_at(number: usize, value: &Json) -> &str
 }
 
 /// Whether a line is a reply to the request on this line of the input.
-fn is_reply_to(line: u64, kind: Option<Kind>) -> bool
+fn is_reply_to(line: u64, kind: Option<LineKind>) -> bool
     ensures { result ≡ is_reply_to line kind }
 {
     match kind {
-        Some(Kind::Reply { line: other }) => line == other,
+        Some(LineKind::Reply { line: other }) => line == other,
         _ => false,
     }
 }
 
 /// Whether a line is an entry.
-fn is_entry(kind: Option<Kind>) -> bool
+fn is_entry(kind: Option<LineKind>) -> bool
     ensures { result ≡ is_entry kind }
 {
     match kind {
-        Some(Kind::Call { .. } | Kind::Push { .. } | Kind::Step { .. }) => true,
+        Some(LineKind::Call { .. } | LineKind::Push { .. } | LineKind::Step { .. }) => true,
         _ => false,
     }
 }
 
 /// How many rows a line announces, where it is the head of a table.
-fn head_rows(kind: Option<Kind>) -> Option<u64>
+fn head_rows(kind: Option<LineKind>) -> Option<u64>
     ensures { result ≡ head_rows kind }
 {
     match kind {
-        Some(Kind::Table { rows }) => Some(rows),
+        Some(LineKind::Table { rows }) => Some(rows),
         _ => None,
     }
 }
@@ -90,7 +90,7 @@ fn is_row_of(alloc: Global, name: &str, line: &Line) -> Result<bool, NoMemory>
         return Ok(false);
     };
     match kind_of(&value) {
-        Some(Kind::Row) => Ok(text_at(1, &value) == name),
+        Some(LineKind::Row) => Ok(text_at(1, &value) == name),
         _ => Ok(false),
     }
 }
@@ -203,7 +203,7 @@ pub(crate) fn the_end<'a>(alloc: Global, lines: &'a [Line], end: u64) -> Result<
     let Some((line, behind)) = lines.split_first() else {
         return Err(Broken::Line(end));
     };
-    let Some(Kind::Done { .. }) = line_kind(alloc, line)? else {
+    let Some(LineKind::Done { .. }) = line_kind(alloc, line)? else {
         return Err(Broken::Line(line.number));
     };
     match behind.split_first() {

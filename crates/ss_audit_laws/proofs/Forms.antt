@@ -15,8 +15,8 @@ use Rattle.ss_model.specs.declared.entry.Entry.TheVariants.{Call as CallEntry, P
 use Rattle.ss_model.specs.declared.entry.Outcome.{Outcome}
 use Rattle.ss_model.specs.ReportLines.{array_of, count, entry_line, outcome_data, reply_line}
 use Rattle.ss_report_laws.proofs.Lines.{same_fronts, Without-decimal}
-use Rattle.ss_report_lines.specs.declared.kind.Kind.{Kind}
-use Rattle.ss_report_lines.specs.declared.kind.Kind.TheVariants.{Reply, Call, Push, Step, Table, Row, Done}
+use Rattle.ss_report_lines.specs.declared.kind.LineKind.{LineKind}
+use Rattle.ss_report_lines.specs.declared.kind.LineKind.TheVariants.{Reply, Call, Push, Step, Table, Row, Done}
 use Rattle.ss_report_lines.specs.Kinds.{is_count, is_outcome, number_at, client_at, asked_by, reply_kind, step_kind, table_kind, row_kind, done_kind, items_kind, kind_of}
 use Rattle.ss_audit_laws.specs.Checks.{called_reply}
 
@@ -87,7 +87,7 @@ asked_is (item a (item b (item x (item out (item e ds))))) c i h = absurd (cc)
 -- ---- which kinds words make
 
 -- kinds by number
-abbrev tag : Kind → ℕ
+abbrev tag : LineKind → ℕ
 tag (Reply n) = 0
 tag (Call c i) = 1
 tag (Push c i) = 2
@@ -96,18 +96,18 @@ tag (Table n) = 4
 tag Row = 5
 tag (Done n) = 6
 
-tagged : {A : Type 0} (f : A → Kind) (n : ℕ) → ((a : A) → tag (f a) ≡ n) → (x : Option A) (k : Kind) → option_map f x ≡ Some k → tag k ≡ n
+tagged : {A : Type 0} (f : A → LineKind) (n : ℕ) → ((a : A) → tag (f a) ≡ n) → (x : Option A) (k : LineKind) → option_map f x ≡ Some k → tag k ≡ n
 tagged f n all (Some a) k h = ap tag (sym (some_same (f a) k h)) ∙ all a
 tagged f n all None k h = absurd (cc)
 
-reply_tag : (ds : Items) (k : Kind) → reply_kind ds ≡ Some k → tag k ≡ 0
+reply_tag : (ds : Items) (k : LineKind) → reply_kind ds ≡ Some k → tag k ≡ 0
 reply_tag no_items k h = absurd (cc)
 reply_tag (item a no_items) k h = absurd (cc)
 reply_tag (item a (item b no_items)) k h = tagged Reply 0 (λ n. refl) (number_at a) k (chosen _ _ k h).1
 reply_tag (item a (item b (item c no_items))) k h = tagged Reply 0 (λ n. refl) (number_at a) k (chosen _ _ k h).1
 reply_tag (item a (item b (item c (item d ds)))) k h = absurd (cc)
 
-step_tag : (ds : Items) (k : Kind) → step_kind ds ≡ Some k → tag k ≡ 3
+step_tag : (ds : Items) (k : LineKind) → step_kind ds ≡ Some k → tag k ≡ 3
 step_tag no_items k h = absurd (cc)
 step_tag (item a no_items) k h = absurd (cc)
 step_tag (item a (item b no_items)) k h = absurd (cc)
@@ -115,25 +115,25 @@ step_tag (item a (item b (item c no_items))) k h = absurd (cc)
 step_tag (item a (item b (item c (item d no_items)))) k h = tagged Step 3 (λ n. refl) (number_at c) k (chosen _ _ k h).1
 step_tag (item a (item b (item c (item d (item e ds))))) k h = absurd (cc)
 
-table_tag : (ds : Items) (k : Kind) → table_kind ds ≡ Some k → tag k ≡ 4
+table_tag : (ds : Items) (k : LineKind) → table_kind ds ≡ Some k → tag k ≡ 4
 table_tag no_items k h = absurd (cc)
 table_tag (item a no_items) k h = absurd (cc)
 table_tag (item a (item b no_items)) k h = tagged Table 4 (λ n. refl) (number_at b) k (chosen _ _ k h).1
 table_tag (item a (item b (item c ds))) k h = absurd (cc)
 
-row_tag : (ds : Items) (k : Kind) → row_kind ds ≡ Some k → tag k ≡ 5
+row_tag : (ds : Items) (k : LineKind) → row_kind ds ≡ Some k → tag k ≡ 5
 row_tag no_items k h = absurd (cc)
 row_tag (item a no_items) k h = absurd (cc)
 row_tag (item a (item b no_items)) k h = ap tag (sym (some_same Row k (chosen _ (Some Row) k h).1))
 row_tag (item a (item b (item c ds))) k h = absurd (cc)
 
-done_tag : (ds : Items) (k : Kind) → done_kind ds ≡ Some k → tag k ≡ 6
+done_tag : (ds : Items) (k : LineKind) → done_kind ds ≡ Some k → tag k ≡ 6
 done_tag no_items k h = absurd (cc)
 done_tag (item a no_items) k h = tagged Done 6 (λ n. refl) (number_at a) k h
 done_tag (item a (item b ds)) k h = absurd (cc)
 
 -- what the word of a line makes of its other items, where the tests of words came to these
-abbrev by_word : Bool → Bool → Bool → Bool → Bool → Bool → Bool → Items → Option Kind
+abbrev by_word : Bool → Bool → Bool → Bool → Bool → Bool → Bool → Items → Option LineKind
 by_word r c p s t w d ds =
     cond r (reply_kind ds)
     (cond c (option_map (λ by. Call by.0 by.1) (asked_by ds))

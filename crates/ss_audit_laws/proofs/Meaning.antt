@@ -26,7 +26,7 @@ use Rattle.ss_model.proofs.CallerLemmas.{applied_fits}
 use Rattle.ss_report_laws.proofs.AnsweredEntries.{applied_of, same_places}
 use Rattle.ss_report_laws.proofs.Asked.{same_asked}
 use Rattle.ss_report_laws.proofs.SameIndices.{indices}
-use Rattle.ss_report_lines.specs.declared.kind.Kind.{Kind}
+use Rattle.ss_report_lines.specs.declared.kind.LineKind.{LineKind}
 use Rattle.ss_report_lines.specs.Said.{said}
 use Rattle.ss_audit_laws.specs.Shape.{line_kind, text_at, line_text_at}
 use Rattle.ss_audit_laws.specs.Checks.{says, is_number, asked_as, procedure_named, Turns, turned, meant, turns_behind, outcome_of, printed_as, entry_at, go_on, replayed}
@@ -139,7 +139,7 @@ has_procedure catalog db q r outcome h =
 
 -- ---- one line
 
-told_itself : (e : Entry) (k : Option Kind) → k ≡ Some (entry_kind e) → IsToldBy e k
+told_itself : (e : Entry) (k : Option LineKind) → k ≡ Some (entry_kind e) → IsToldBy e k
 told_itself (CallEntry c i q args) k h = inl h
 told_itself (PushEntry c i s source seq rows) k h = inr h
 told_itself (StepEntry q r) k h = h
@@ -231,7 +231,7 @@ module _ (catalog : Catalog) (requests : List Request) (distinct : all_distinct 
       ap (λ (o : Option Entry). printed_as catalog place m (outcome_of catalog db o)) is ∙ ap (λ (o : Option Outcome). printed_as catalog place m (option_map (λ x. (e, x)) o)) replays.0
       ∙ ap (λ b. cond {A = Option Entry} b (Some e) None) (text_says d m text) in
       let turn : (client : ℕ) → RiseFrom (turns_behind turns (line_kind m) client) (indices client list) = λ client.
-      subst (λ (k : Option Kind). RiseFrom (turns_behind turns k client) (indices client list)) (sym kind) (rise_behind turns e client (indices client list) (rise client)) in
+      subst (λ (k : Option LineKind). RiseFrom (turns_behind turns k client) (indices client list)) (sym kind) (rise_behind turns e client (indices client list) (rise client)) in
       let rest = runs_through (turns_behind turns (line_kind m)) (database_after catalog db e) (place + 1) list ls (cc) reads.1 asked.1 turn replays.1 in
       record {
         replayed_so = ap (λ (o : Option Entry). go_on m.number o (λ x. replayed catalog requests (turns_behind turns (line_kind m)) (database_after catalog db x) (place + 1) ls)) at ∙ rest.replayed_so;

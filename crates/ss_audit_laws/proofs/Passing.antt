@@ -24,8 +24,8 @@ use Rattle.ss_model.specs.Contents.{Table}
 use Rattle.ss_model.specs.Report.{reply_lines}
 use Rattle.ss_model.specs.ReportLines.{reply_line, entry_line, list_lines, table_line, row_line, table_lines, done_line, lines_text}
 use Rattle.ss_report_laws.proofs.Lines.{Without, same_fronts, text_within}
-use Rattle.ss_report_lines.specs.declared.kind.Kind.{Kind}
-use Rattle.ss_report_lines.specs.declared.kind.Kind.TheVariants.{Reply, Table as TableKind, Row as RowKind, Done}
+use Rattle.ss_report_lines.specs.declared.kind.LineKind.{LineKind}
+use Rattle.ss_report_lines.specs.declared.kind.LineKind.TheVariants.{Reply, Table as TableKind, Row as RowKind, Done}
 use Rattle.ss_report_lines.specs.Said.{said}
 use Rattle.ss_audit_laws.specs.Shape.{OrLine, ◌>>=◌, line_kind, text_at, line_text_at, is_reply_to, is_entry, head_rows, is_row_line, is_done_line, rows_of_table, is_row_of, behind_replies, behind_rows, behind_head, behind_table, behind_tables, the_end, first_entries, behind_entries}
 use Rattle.ss_audit_laws.specs.Valid.{bytes_of, AreLines}
@@ -80,7 +80,7 @@ all_right (x ∷ xs) ys h = all_right xs ys h.1
 
 -- ---- replies
 
-reply_test : (n : ℕ) (k : Option Kind) → k ≡ Some (Reply n) → is_reply_to n k ≡ true
+reply_test : (n : ℕ) (k : Option LineKind) → k ≡ Some (Reply n) → is_reply_to n k ≡ true
 reply_test n k h = ap (is_reply_to n) h ∙ eq-eqb n n refl
 
 one_on : {A : Type 0} (b : Bool) (x : OrLine A) (n : ℕ) (y : OrLine A) → b ≡ true → x ≡ y → cond b x (Err n) ≡ y
@@ -177,7 +177,7 @@ tables_pass end (t ∷ ts) front rest texts reads =
     ∙ ap (λ (o : OrLine (List Line)). o >>= next) first ∙ later
 
 pub end_pass : (end n : ℕ) (l : Line) → ReadsBack (done_line n) → l.bytes ≡ compact_text (done_line n) → the_end end (l ∷ []) ≡ Ok l
-end_pass end n l reads text = ap (λ (k : Option Kind). cond {A = OrLine Line} (is_done_line k) (Ok l) (Err l.number)) (of_kind l (done_line n) (Done n) reads (done_kinds n) text)
+end_pass end n l reads text = ap (λ (k : Option LineKind). cond {A = OrLine Line} (is_done_line k) (Ok l) (Err l.number)) (of_kind l (done_line n) (Done n) reads (done_kinds n) text)
 
 none_by : (l : Line) (ls : List Line) → is_entry (line_kind l) ≡ false → BeginWithNone (l ∷ ls)
 none_by l ls h = record { none = ap (λ b. cond b (l ∷ first_entries ls) []) h; all = ap (λ b. cond b (behind_entries ls) (l ∷ ls)) h }

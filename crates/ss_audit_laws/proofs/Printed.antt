@@ -18,8 +18,8 @@ use Rattle.ss_model.specs.declared.entry.Outcome.{Outcome}
 use Rattle.ss_model.specs.declared.entry.Outcome.TheVariants.{Done as DoneOutcome, Aborted, Duplicate, Gap}
 use Rattle.ss_model.specs.declared.entry.Reason.TheVariants.{Raised, KeyTaken, Overflow, DivideByZero, NotOneRow, EmptyAggregate, TextTooLong, TableFull, BatchFull, ReplyFull, WindowFull}
 use Rattle.ss_model.specs.ReportLines.{value_data, row_data, rows_data, outcome_data, reply_line, entry_line, table_line, row_line, done_line}
-use Rattle.ss_report_lines.specs.declared.kind.Kind.{Kind}
-use Rattle.ss_report_lines.specs.declared.kind.Kind.TheVariants.{Reply, Call, Push, Step, Table, Row as RowKind, Done}
+use Rattle.ss_report_lines.specs.declared.kind.LineKind.{LineKind}
+use Rattle.ss_report_lines.specs.declared.kind.LineKind.TheVariants.{Reply, Call, Push, Step, Table, Row as RowKind, Done}
 use Rattle.ss_report_lines.specs.Kinds.{items_all, is_value, is_row, is_rows, is_outcome, kind_of}
 use Rattle.ss_report_lines.specs.Said.{said, if_compact}
 use Rattle.ss_audit_laws.specs.Shape.{line_kind}
@@ -63,7 +63,7 @@ reply_kinds catalog n (ListFull m) = refl
 reply_kinds catalog n (Halted faults) = refl
 
 -- the kind of an entry's line
-abbrev pub entry_kind : Entry → Kind
+abbrev pub entry_kind : Entry → LineKind
 entry_kind (CallEntry c i q args) = Call c i
 entry_kind (PushEntry c i s source seq rows) = Push c i
 entry_kind (StepEntry q r) = Step r
@@ -90,13 +90,13 @@ done_kinds n = refl
 
 -- ---- what lines say
 
-compact_is : (bytes : List ℕ) (d : Data) (k : Kind) → kind_of d ≡ Some k → compact_text d ≡ bytes → if_compact bytes d ≡ Some d
+compact_is : (bytes : List ℕ) (d : Data) (k : LineKind) → kind_of d ≡ Some k → compact_text d ≡ bytes → if_compact bytes d ≡ Some d
 compact_is bytes d k kind same = rw (ap is_some kind, (bytes_eq-Decides (compact_text d) bytes).1 same) refl
 
 -- a line that is the text of a value of a kind, which is read as itself, says it
-pub says_it : (l : Line) (d : Data) (k : Kind) → ReadsBack d → kind_of d ≡ Some k → l.bytes ≡ compact_text d → said l.bytes ≡ Some d
+pub says_it : (l : Line) (d : Data) (k : LineKind) → ReadsBack d → kind_of d ≡ Some k → l.bytes ≡ compact_text d → said l.bytes ≡ Some d
 says_it l d k reads kind text =
     ap (λ (bytes : List ℕ). option_and_then (if_compact l.bytes) (json_of bytes)) text ∙ ap (option_and_then (if_compact l.bytes)) reads ∙ compact_is l.bytes d k kind (sym text)
 
-pub of_kind : (l : Line) (d : Data) (k : Kind) → ReadsBack d → kind_of d ≡ Some k → l.bytes ≡ compact_text d → line_kind l ≡ Some k
+pub of_kind : (l : Line) (d : Data) (k : LineKind) → ReadsBack d → kind_of d ≡ Some k → l.bytes ≡ compact_text d → line_kind l ≡ Some k
 of_kind l d k reads kind text = ap (option_and_then kind_of) (says_it l d k reads kind text) ∙ kind

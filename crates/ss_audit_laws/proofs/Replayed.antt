@@ -17,8 +17,8 @@ use Rattle.ss_model.specs.Replays.{Replays, entry_outcome, database_after, after
 use Rattle.ss_model.specs.Report.{asked_entries, IsAsked, client_index, Rising}
 use Rattle.ss_model.specs.ReportLines.{list_lines, entry_line}
 use Rattle.ss_report_laws.proofs.SameIndices.{indices}
-use Rattle.ss_report_lines.specs.declared.kind.Kind.{Kind}
-use Rattle.ss_report_lines.specs.declared.kind.Kind.TheVariants.{Reply, Call, Push, Step, Table, Row, Done}
+use Rattle.ss_report_lines.specs.declared.kind.LineKind.{LineKind}
+use Rattle.ss_report_lines.specs.declared.kind.LineKind.TheVariants.{Reply, Call, Push, Step, Table, Row, Done}
 use Rattle.ss_audit_laws.specs.Shape.{OrLine, line_kind, line_text_at}
 use Rattle.ss_audit_laws.specs.Checks.{says, is_number, asked_as, procedure_named, Turns, turned, in_turn, meant, turns_behind, outcome_of, printed_as, entry_at, go_on, replayed}
 use Rattle.ss_audit_laws.proofs.Texts.{AreTexts, says_text}
@@ -74,7 +74,7 @@ pub record IsInTurn (turns later : Turns) (e : Entry) : Type 0 where
   pub elsewhere : (client : ℕ) → client_index client e ≡ None → later client ≡ turns client
 
 -- an entry is the one that a line is about
-pub record IsMeant (requests : List Request) (turns : Turns) (k : Option Kind) (e : Entry) : Type 0 where
+pub record IsMeant (requests : List Request) (turns : Turns) (k : Option LineKind) (e : Entry) : Type 0 where
   pub asked : IsAsked requests e
   pub told : IsToldBy e k
   pub turn : IsInTurn turns (turns_behind turns k) e
@@ -140,7 +140,7 @@ named_step : (r : ℕ) (o : Option ℕ) (e : Entry) → option_map (λ q. StepEn
 named_step r (Some q) e h = (q, some_same (StepEntry q r) e h)
 named_step r None e h = absurd (cc)
 
-pub meant_is : (catalog : Catalog) (requests : List Request) (turns : Turns) (l : Line) (k : Option Kind) (e : Entry) → meant catalog requests turns l k ≡ Some e → IsMeant requests turns k e
+pub meant_is : (catalog : Catalog) (requests : List Request) (turns : Turns) (l : Line) (k : Option LineKind) (e : Entry) → meant catalog requests turns l k ≡ Some e → IsMeant requests turns k e
 meant_is catalog requests turns l None e h = absurd (cc)
 meant_is catalog requests turns l (Some (Reply n)) e h = absurd (cc)
 meant_is catalog requests turns l (Some (Call c i)) e h =

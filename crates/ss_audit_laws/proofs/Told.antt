@@ -21,8 +21,8 @@ use Rattle.ss_model.specs.declared.entry.Request.{Request}
 use Rattle.ss_model.specs.Report.{asked_entry, entries_behind, asked_entries, IsAsked, client_index, is_same_request, find_listed, IsAnswer, AreAnswers, Unlisted, Whole, reply_lines}
 use Rattle.ss_model.specs.ReportLines.{list_lines, entry_line, reply_line}
 use Rattle.ss_report_laws.proofs.Asked.{same_asked}
-use Rattle.ss_report_lines.specs.declared.kind.Kind.{Kind}
-use Rattle.ss_report_lines.specs.declared.kind.Kind.TheVariants.{Call, Push, Step}
+use Rattle.ss_report_lines.specs.declared.kind.LineKind.{LineKind}
+use Rattle.ss_report_lines.specs.declared.kind.LineKind.TheVariants.{Call, Push, Step}
 use Rattle.ss_report_lines.specs.Kinds.{kind_of}
 use Rattle.ss_report_lines.specs.Said.{said, if_compact}
 use Rattle.ss_audit_laws.specs.Shape.{line_kind}
@@ -44,7 +44,7 @@ said_text bytes d h = of (json_of bytes) h
         subst (λ (y : Data). compact_text y ≡ bytes) same ((bytes_eq-Decides (compact_text x) bytes).0 (and_parts _ _ t.0).1)
 
 -- a line of a kind says a value of that kind
-pub kind_said : (bytes : List ℕ) (k : Kind) → option_and_then kind_of (said bytes) ≡ Some k → (d : Data) × (said bytes ≡ Some d) × (kind_of d ≡ Some k)
+pub kind_said : (bytes : List ℕ) (k : LineKind) → option_and_then kind_of (said bytes) ≡ Some k → (d : Data) × (said bytes ≡ Some d) × (kind_of d ≡ Some k)
 kind_said bytes k h = of (said bytes) refl h
   where
     of : (o : Option Data) → said bytes ≡ o → option_and_then kind_of o ≡ Some k → (d : Data) × (said bytes ≡ Some d) × (kind_of d ≡ Some k)
@@ -54,7 +54,7 @@ kind_said bytes k h = of (said bytes) refl h
 -- ---- lines and entries
 
 -- a line's kind tells the entry by its client and index, or by its batch
-abbrev pub IsToldBy : Entry → Option Kind → Type 0
+abbrev pub IsToldBy : Entry → Option LineKind → Type 0
 IsToldBy (CallEntry c i q args) k = (k ≡ Some (Call c i)) ⊎ (k ≡ Some (Push c i))
 IsToldBy (PushEntry c i s source seq rows) k = (k ≡ Some (Call c i)) ⊎ (k ≡ Some (Push c i))
 IsToldBy (StepEntry q r) k = k ≡ Some (Step r)
@@ -66,12 +66,12 @@ AreToldBy (l ∷ list) (m ∷ ls) = IsToldBy l.entry (line_kind m) × AreToldBy 
 AreToldBy _ _ = ⊥
 
 -- the line of a client's entry
-of_line : (c i : ℕ) (k : Option Kind) (m : Line) → line_kind m ≡ k → (k ≡ Some (Call c i)) ⊎ (k ≡ Some (Push c i)) → (d : Data) × (said m.bytes ≡ Some d) × IsOf d c i
+of_line : (c i : ℕ) (k : Option LineKind) (m : Line) → line_kind m ≡ k → (k ≡ Some (Call c i)) ⊎ (k ≡ Some (Push c i)) → (d : Data) × (said m.bytes ≡ Some d) × IsOf d c i
 of_line c i k m is (inl e) = let s = kind_said m.bytes (Call c i) (is ∙ e) in (s.0, s.1, call_is s.0 c i s.2)
 of_line c i k m is (inr e) = let s = kind_said m.bytes (Push c i) (is ∙ e) in (s.0, s.1, push_is s.0 c i s.2)
 
 -- who a line is by
-by_told : (client index c i : ℕ) (k : Option Kind) → (k ≡ Some (Call c i)) ⊎ (k ≡ Some (Push c i)) → is_by client index k ≡ (client == c && index == i)
+by_told : (client index c i : ℕ) (k : Option LineKind) → (k ≡ Some (Call c i)) ⊎ (k ≡ Some (Push c i)) → is_by client index k ≡ (client == c && index == i)
 by_told client index c i k (inl e) = ap (is_by client index) e
 by_told client index c i k (inr e) = ap (is_by client index) e
 
@@ -86,7 +86,7 @@ itself c i (PushEntry d j s source seq rows) h = and_from (d == d) (j == j) (eq-
 itself c i (StepEntry q r) h = absurd h
 
 -- an entry that is not by this client and index is not the same request
-others_differ : (c i : ℕ) (e f : Entry) (k : Option Kind) → IsBy c i e → IsToldBy f k → is_by c i k ≡ false → is_same_request e f ≡ false
+others_differ : (c i : ℕ) (e f : Entry) (k : Option LineKind) → IsBy c i e → IsToldBy f k → is_by c i k ≡ false → is_same_request e f ≡ false
 others_differ c i (CallEntry d j q args) (CallEntry b n p more) k by told h = (λ x. by.0 x == b && by.1 x == n) ∙ sym (by_told c i b n k told) ∙ h
 others_differ c i (CallEntry d j q args) (PushEntry b n s source seq rows) k by told h = refl
 others_differ c i (CallEntry d j q args) (StepEntry p r) k by told h = refl
@@ -96,7 +96,7 @@ others_differ c i (PushEntry d j s source seq rows) (StepEntry p r) k by told h 
 others_differ c i (StepEntry q r) f k by told h = absurd by
 
 -- a line that is by this client and index tells an entry that is
-by_line : (c i : ℕ) (f : Entry) (k : Option Kind) → IsToldBy f k → is_by c i k ≡ true → IsBy c i f × ((k ≡ Some (Call c i)) ⊎ (k ≡ Some (Push c i)))
+by_line : (c i : ℕ) (f : Entry) (k : Option LineKind) → IsToldBy f k → is_by c i k ≡ true → IsBy c i f × ((k ≡ Some (Call c i)) ⊎ (k ≡ Some (Push c i)))
 by_line c i (CallEntry b n p more) k told h =
     let both = and_parts (c == b) (i == n) (sym (by_told c i b n k told) ∙ h) in
     let one = sym (eqb-true c b both.0) in

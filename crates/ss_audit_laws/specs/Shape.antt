@@ -9,8 +9,8 @@ use Rattle.ss_model.specs.declared.catalog.Catalog.{Catalog}
 use Rattle.ss_model.specs.declared.entry.Request.{Request}
 use Rattle.ss_model.specs.Database.{empty_database}
 use Rattle.ss_model.specs.ReportLines.{tables_by_name}
-use Rattle.ss_report_lines.specs.declared.kind.Kind.{Kind}
-use Rattle.ss_report_lines.specs.declared.kind.Kind.TheVariants.{Reply, Call, Push, Step, Table, Row, Done}
+use Rattle.ss_report_lines.specs.declared.kind.LineKind.{LineKind}
+use Rattle.ss_report_lines.specs.declared.kind.LineKind.TheVariants.{Reply, Call, Push, Step, Table, Row, Done}
 use Rattle.ss_report_lines.specs.Kinds.{kind_of}
 use Rattle.ss_report_lines.specs.Said.{said}
 
@@ -27,7 +27,7 @@ abbrev pub ◌>>=◌ : {A B : Type 0} → OrLine A → (A → OrLine B) → OrLi
 -- ---- one line
 
 -- the kind of a line, where it is a line of a report
-abbrev pub line_kind : Line → Option Kind
+abbrev pub line_kind : Line → Option LineKind
 line_kind l = option_and_then kind_of (said l.bytes)
 
 -- the text of the item of this number, and the empty text where there is none
@@ -39,29 +39,29 @@ abbrev pub line_text_at : ℕ → Line → List ℕ
 line_text_at n l = unwrap_or (option_map (text_at n) (said l.bytes)) []
 
 -- whether a line is a reply to the request on this line of the input
-abbrev pub is_reply_to : ℕ → Option Kind → Bool
+abbrev pub is_reply_to : ℕ → Option LineKind → Bool
 is_reply_to n (Some (Reply m)) = n == m
 is_reply_to n _ = false
 
 -- whether it is an entry
-abbrev pub is_entry : Option Kind → Bool
+abbrev pub is_entry : Option LineKind → Bool
 is_entry (Some (Call c i)) = true
 is_entry (Some (Push c i)) = true
 is_entry (Some (Step r)) = true
 is_entry _ = false
 
 -- how many rows it announces, where it is the head of a table
-abbrev pub head_rows : Option Kind → Option ℕ
+abbrev pub head_rows : Option LineKind → Option ℕ
 head_rows (Some (Table n)) = Some n
 head_rows _ = None
 
 -- whether it is a row
-abbrev pub is_row_line : Option Kind → Bool
+abbrev pub is_row_line : Option LineKind → Bool
 is_row_line (Some Row) = true
 is_row_line _ = false
 
 -- whether it is the end
-abbrev pub is_done_line : Option Kind → Bool
+abbrev pub is_done_line : Option LineKind → Bool
 is_done_line (Some (Done n)) = true
 is_done_line _ = false
 

@@ -10,7 +10,7 @@ use std::thread::Threads;
 
 /// The kind of a block. The module that runs it says what its lines mean.
 #[derive(Clone, Copy, Debug, PartialEq, Eq, Drop)]
-enum Kind {
+enum BlockKind {
     Rows,
     Alone,
     Fill,
@@ -30,27 +30,27 @@ enum Kind {
     List,
 }
 
-impl Kind {
+impl BlockKind {
     /// The kind with this word, if there is one.
-    fn of(word: &str) -> Option<Kind> {
+    fn of(word: &str) -> Option<BlockKind> {
         match word {
-            "rows" => Some(Kind::Rows),
-            "alone" => Some(Kind::Alone),
-            "fill" => Some(Kind::Fill),
-            "edit" => Some(Kind::Edit),
-            "words" => Some(Kind::Words),
-            "both" => Some(Kind::Both),
-            "requests" => Some(Kind::Requests),
-            "report" => Some(Kind::Report),
-            "tables" => Some(Kind::Tables),
-            "calls" => Some(Kind::Calls),
-            "run" => Some(Kind::Run),
-            "first" => Some(Kind::First),
-            "script" => Some(Kind::Script),
-            "misfit" => Some(Kind::Misfit),
-            "queries" => Some(Kind::Queries),
-            "bodies" => Some(Kind::Bodies),
-            "list" => Some(Kind::List),
+            "rows" => Some(BlockKind::Rows),
+            "alone" => Some(BlockKind::Alone),
+            "fill" => Some(BlockKind::Fill),
+            "edit" => Some(BlockKind::Edit),
+            "words" => Some(BlockKind::Words),
+            "both" => Some(BlockKind::Both),
+            "requests" => Some(BlockKind::Requests),
+            "report" => Some(BlockKind::Report),
+            "tables" => Some(BlockKind::Tables),
+            "calls" => Some(BlockKind::Calls),
+            "run" => Some(BlockKind::Run),
+            "first" => Some(BlockKind::First),
+            "script" => Some(BlockKind::Script),
+            "misfit" => Some(BlockKind::Misfit),
+            "queries" => Some(BlockKind::Queries),
+            "bodies" => Some(BlockKind::Bodies),
+            "list" => Some(BlockKind::List),
             _ => None,
         }
     }
@@ -58,7 +58,7 @@ impl Kind {
     /// What stands behind its word.
     fn behind(self) -> Behind {
         match self {
-            Kind::Rows | Kind::Run | Kind::First => Behind::Nothing,
+            BlockKind::Rows | BlockKind::Run | BlockKind::First => Behind::Nothing,
             _ => Behind::Base,
         }
     }
@@ -67,14 +67,19 @@ impl Kind {
     fn has_rows(self) -> bool {
         !matches!(
             self,
-            Kind::Report | Kind::Tables | Kind::Calls | Kind::Script | Kind::Misfit | Kind::List
+            BlockKind::Report
+                | BlockKind::Tables
+                | BlockKind::Calls
+                | BlockKind::Script
+                | BlockKind::Misfit
+                | BlockKind::List
         )
     }
 }
 
 /// How blocks with this word are read, where there is such a kind.
 pub fn form_of(word: &str) -> Option<BlockForm> {
-    let kind = Kind::of(word)?;
+    let kind = BlockKind::of(word)?;
     Some(BlockForm {
         behind: kind.behind(),
         has_rows: kind.has_rows(),
@@ -88,24 +93,24 @@ pub fn check<R: Files + AllocGlobal + Threads + Wait + Sync>(
 ) -> Result<(), Wrong> {
     let (folder, base, row) = (case.folder, case.base, case.row);
     let lines = case.block.lines.as_slice();
-    match Kind::of(case.block.word.as_str()) {
-        Some(Kind::Rows) => inputs::check_input(rt, row),
-        Some(Kind::Alone) => check_run(rt, base, row),
-        Some(Kind::Fill) => inputs::check_fill(rt, base, row),
-        Some(Kind::Edit) => inputs::check_edit(rt, base, row),
-        Some(Kind::Words) => requests::check_command(rt, base, row),
-        Some(Kind::Both) => inputs::check_both(rt, base, row),
-        Some(Kind::Requests) => requests::check_requests(rt, base, row),
-        Some(Kind::Run) => examples::check_files(rt, folder, row),
-        Some(Kind::First) => examples::check_first(rt, folder, row),
-        Some(Kind::Queries) => listings::check_query(rt, base, row),
-        Some(Kind::Bodies) => listings::check_body(rt, base, row),
-        Some(Kind::Report) => requests::check_block(rt, base, lines),
-        Some(Kind::Tables) => requests::check_tables(rt, base, lines),
-        Some(Kind::Calls) => check_calls(rt, base, lines),
-        Some(Kind::Script) => listings::check_script(rt, base, lines),
-        Some(Kind::Misfit) => listings::check_misfit(rt, base, lines),
-        Some(Kind::List) => listings::check_list(rt, base, lines),
+    match BlockKind::of(case.block.word.as_str()) {
+        Some(BlockKind::Rows) => inputs::check_input(rt, row),
+        Some(BlockKind::Alone) => check_run(rt, base, row),
+        Some(BlockKind::Fill) => inputs::check_fill(rt, base, row),
+        Some(BlockKind::Edit) => inputs::check_edit(rt, base, row),
+        Some(BlockKind::Words) => requests::check_command(rt, base, row),
+        Some(BlockKind::Both) => inputs::check_both(rt, base, row),
+        Some(BlockKind::Requests) => requests::check_requests(rt, base, row),
+        Some(BlockKind::Run) => examples::check_files(rt, folder, row),
+        Some(BlockKind::First) => examples::check_first(rt, folder, row),
+        Some(BlockKind::Queries) => listings::check_query(rt, base, row),
+        Some(BlockKind::Bodies) => listings::check_body(rt, base, row),
+        Some(BlockKind::Report) => requests::check_block(rt, base, lines),
+        Some(BlockKind::Tables) => requests::check_tables(rt, base, lines),
+        Some(BlockKind::Calls) => check_calls(rt, base, lines),
+        Some(BlockKind::Script) => listings::check_script(rt, base, lines),
+        Some(BlockKind::Misfit) => listings::check_misfit(rt, base, lines),
+        Some(BlockKind::List) => listings::check_list(rt, base, lines),
         None => Err(Wrong::text(rt.alloc(), "no kind has that word")),
     }
 }

@@ -6,8 +6,8 @@ use Rattle.std.proofs.lemmas.Bool.{cond_both}
 use Rattle.serde_json.specs.Data.{unsigned, negative, float, Data, null, boolean, number, string, array, object, Items, no_items, item}
 use Rattle.ss_value.specs.declared.schema.ColType.{ColType}
 use Rattle.ss_value.specs.declared.schema.Column.{Column}
-use Rattle.ss_model.specs.declared.catalog.Kind.{Kind}
-use Rattle.ss_model.specs.declared.catalog.Kind.TheVariants.{Call, Border, Interior}
+use Rattle.ss_model.specs.declared.catalog.ProcedureKind.{ProcedureKind}
+use Rattle.ss_model.specs.declared.catalog.ProcedureKind.TheVariants.{Call, Border, Interior}
 use Rattle.ss_model.specs.Database.{is_call}
 use Rattle.ss_catalog_outline.specs.declared.types.PlacementOutline.{PlacementOutline}
 use Rattle.ss_catalog_outline.specs.declared.types.PlacementOutline.TheVariants.{Part as PartPlace, By}
@@ -196,7 +196,7 @@ step_as_none AbortIfForm = made_none read_test test_none (λ (t : List ℕ × �
 step_as_none ForEachForm = for_each_none
 step_as_none ReturnForm = made_none (read_alone (codes "return")) (alone_none (codes "return")) Return
 
-step_none : (kind : Kind) → ReadsNoFloat (read_step kind)
+step_none : (kind : ProcedureKind) → ReadsNoFloat (read_step kind)
 step_none kind d so =
     then_any StepForm (λ (x : StepOutline). HasNoFloat d) (or_here (form_of d)) _ (λ form.
     where_holds (λ (x : StepOutline). HasNoFloat d) (may_stand kind form) (read_step_as form d) (λ may. step_as_none form d so))
@@ -213,7 +213,7 @@ touch_multi_none d so =
     then_object d so (codes "multi" ∷ []) _ (λ u whole.
     then_key d so (codes "multi") (read_array_of AtLeastOne read_part) (array_none read_part part_none AtLeastOne) _ (λ ps a. whole (a, tt)))
 
-module _ (kind : Kind) where
+module _ (kind : ProcedureKind) where
   touch_form_none : ReadsNoFloat (read_touch_form kind)
   touch_form_none d so =
       cond_both (has_key (codes "part") d) _ _ (λ r. IfOk r (λ (x : TouchOutline). HasNoFloat d)) (λ is. touch_part_none d so) (λ no.
@@ -238,12 +238,12 @@ module _ (d : Data) (so : IsInOrder d) where
   no_args : IfOk (no_key (codes "args") d >>= λ u. Ok []) (λ (x : List Column). HasNoneAt d (codes "args"))
   no_args = then_with ⊤ (λ (x : List Column). HasNoneAt d (codes "args")) (λ u. HasNoneAt d (codes "args")) (no_key (codes "args") d) (λ u. Ok []) (no_key_none (codes "args") d) (λ u none. none)
 
-  args_none : (kind : Kind) → IfOk (read_args kind d) (λ (x : List Column). HasNoneAt d (codes "args"))
+  args_none : (kind : ProcedureKind) → IfOk (read_args kind d) (λ (x : List Column). HasNoneAt d (codes "args"))
   args_none Call = key_or_none (read_array_of Any read_column) (array_none read_column column_none Any) (codes "args") d so []
   args_none Border = no_args
   args_none Interior = no_args
 
-  inputs_none : (kind : Kind) → IfOk (read_inputs kind d) (λ (x : List (List ℕ)). HasNoneAt d (codes "inputs"))
+  inputs_none : (kind : ProcedureKind) → IfOk (read_inputs kind d) (λ (x : List (List ℕ)). HasNoneAt d (codes "inputs"))
   inputs_none Call = then_with ⊤ (λ (x : List (List ℕ)). HasNoneAt d (codes "inputs")) (λ u. HasNoneAt d (codes "inputs")) (no_key (codes "inputs") d) (λ u. Ok []) (no_key_none (codes "inputs") d) (λ u none. none)
   inputs_none Border = key_none (read_array_of JustOne read_word) (array_none read_word word_none JustOne) (codes "inputs") d so
   inputs_none Interior = key_none (read_array_of AtLeastOne read_word) (array_none read_word word_none AtLeastOne) (codes "inputs") d so

@@ -7,8 +7,8 @@ use Rattle.ss_lemmas.proofs.EachOf.{all_from}
 use Rattle.ss_lemmas.proofs.Bools.{some_same, any_of_both, neither_left, at_index}
 use Rattle.ss_sql_trees.specs.declared.typed.Expr.{Expr}
 use Rattle.ss_sql_trees.specs.declared.typed.Expr.TheVariants.{Param}
-use Rattle.ss_sql_trees.specs.declared.typed.Item.{Item}
-use Rattle.ss_sql_trees.specs.declared.typed.Item.TheVariants.{Count, Sum, Min, Max, Plain}
+use Rattle.ss_sql_trees.specs.declared.typed.SelectItem.{SelectItem}
+use Rattle.ss_sql_trees.specs.declared.typed.SelectItem.TheVariants.{Count, Sum, Min, Max, Plain}
 use Rattle.ss_sql_trees.specs.declared.typed.SourceId.{SourceId}
 use Rattle.ss_sql_trees.specs.declared.typed.SourceId.TheVariants.{Table as FromTable, Window as FromWindow, Batch as FromBatch, Inserted}
 use Rattle.ss_sql_trees.specs.declared.typed.Joined.{Joined}
@@ -67,7 +67,7 @@ argument_so a (Some (Param n)) h = ap (λ n. Some (Param n)) (eqb-true n a h)
 argument_so a (Some _) h = absurd (cc)
 argument_so a None h = absurd (cc)
 
-item_so : (a : ℕ) (o : Option Item) → is_argument_item a o ≡ true → o ≡ Some (Plain (Param a))
+item_so : (a : ℕ) (o : Option SelectItem) → is_argument_item a o ≡ true → o ≡ Some (Plain (Param a))
 item_so a (Some (Plain x)) h = ap (λ x. Some (Plain x)) (some_same x (Param a) (argument_so a (Some x) h))
 item_so a (Some Count) h = absurd (cc)
 item_so a (Some (Sum x)) h = absurd (cc)
@@ -83,7 +83,7 @@ gives_so (Part x) placement vs h = tt
 gives_so (Multi xs) placement vs h = tt
 gives_so All placement vs h = tt
 
-selects_so : (touch : Touch) (placement : Option Placement) (items : List Item) → selects_argument touch placement items ≡ true → SelectsArgument touch placement items
+selects_so : (touch : Touch) (placement : Option Placement) (items : List SelectItem) → selects_argument touch placement items ≡ true → SelectsArgument touch placement items
 selects_so (Arg a) (Some (By c)) items h = item_so a (slice_get items c) h
 selects_so (Arg a) (Some (PlacedAt x)) items h = tt
 selects_so (Arg a) None items h = tt

@@ -8,8 +8,8 @@ use Rattle.std.proofs.lemmas.List.FromFn.{get_or-range_with_len, length-range_wi
 use Rattle.ss_lemmas.proofs.Bools.{some_same, any_of_both, any_at, at_index}
 use Rattle.ss_model.specs.Accepted.{StreamsEndWell}
 use Rattle.ss_model.specs.declared.catalog.Catalog.{Catalog}
-use Rattle.ss_model.specs.declared.catalog.Kind.{Kind}
-use Rattle.ss_model.specs.declared.catalog.Kind.TheVariants.{Call as CallKind, Border, Interior}
+use Rattle.ss_model.specs.declared.catalog.ProcedureKind.{ProcedureKind}
+use Rattle.ss_model.specs.declared.catalog.ProcedureKind.TheVariants.{Call as CallKind, Border, Interior}
 use Rattle.ss_model.specs.declared.catalog.On.{On}
 use Rattle.ss_model.specs.declared.catalog.On.TheVariants.{Stream as OnStream, Window as OnWindow}
 use Rattle.ss_model.specs.declared.catalog.Procedure.{Procedure}
@@ -96,7 +96,7 @@ none_waits h s (t ∷ ts) e b =
     ap (λ c. cond c (t ∷ filter (λ t. is_on_stream s t.on) ts) (filter (λ t. is_on_stream s t.on) ts)) w.0 ∙ none_waits h s ts w.1 b
 
 -- kinds
-not_both : (k : Kind) → is_border k ≡ true → is_interior k ≡ true → ⊥
+not_both : (k : ProcedureKind) → is_border k ≡ true → is_interior k ≡ true → ⊥
 not_both CallKind b i = cc
 not_both Border b i = cc
 not_both Interior b i = cc

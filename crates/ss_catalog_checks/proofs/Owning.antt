@@ -4,8 +4,8 @@ use Rattle.std.proofs.lemmas.Bool.{and_parts, ltb-true}
 use Rattle.std.proofs.lemmas.Option.{slice_get_within}
 use Rattle.ss_lemmas.proofs.Bools.{some_same, neither_left, at_index}
 use Rattle.ss_model.specs.declared.catalog.Catalog.{Catalog}
-use Rattle.ss_model.specs.declared.catalog.Kind.{Kind}
-use Rattle.ss_model.specs.declared.catalog.Kind.TheVariants.{Call as CallKind, Border, Interior}
+use Rattle.ss_model.specs.declared.catalog.ProcedureKind.{ProcedureKind}
+use Rattle.ss_model.specs.declared.catalog.ProcedureKind.TheVariants.{Call as CallKind, Border, Interior}
 use Rattle.ss_model.specs.declared.catalog.Procedure.{Procedure}
 use Rattle.ss_model.specs.declared.catalog.WindowDef.{WindowDef}
 use Rattle.ss_model.specs.CatalogForm.{numbers_in_range}
@@ -15,7 +15,7 @@ use Rattle.ss_model.specs.Orders.{procedure_has}
 use Rattle.ss_catalog_checks.specs.Owners.{is_call_procedure, is_named_outside, is_misowned, is_refused_window, refused_window}
 use Rattle.ss_catalog_checks.proofs.Searches.{none_passes}
 
-streams : (k : Kind) → is_call k ≡ false → is_streaming k ≡ true
+streams : (k : ProcedureKind) → is_call k ≡ false → is_streaming k ≡ true
 streams CallKind e = absurd (cc)
 streams Border e = refl
 streams Interior e = refl

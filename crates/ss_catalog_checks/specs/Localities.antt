@@ -3,8 +3,8 @@ use Rattle.std.specs.Prelude.{◌==◌, ◌&&◌, not, ℕ, Bool, true, false, L
 use Rattle.std.specs.List.{list_any, position, flat_map}
 use Rattle.ss_sql_trees.specs.declared.typed.Expr.{Expr, fold-Expr}
 use Rattle.ss_sql_trees.specs.declared.typed.Expr.TheVariants.{Param}
-use Rattle.ss_sql_trees.specs.declared.typed.Item.{Item}
-use Rattle.ss_sql_trees.specs.declared.typed.Item.TheVariants.{Plain}
+use Rattle.ss_sql_trees.specs.declared.typed.SelectItem.{SelectItem}
+use Rattle.ss_sql_trees.specs.declared.typed.SelectItem.TheVariants.{Plain}
 use Rattle.ss_sql_trees.specs.declared.typed.SourceId.{SourceId}
 use Rattle.ss_sql_trees.specs.declared.typed.SourceId.TheVariants.{Table as FromTable}
 use Rattle.ss_sql_trees.specs.declared.typed.Joined.{Joined}
@@ -59,7 +59,7 @@ is_argument a (Some (Param n)) = n == a
 is_argument a _ = false
 
 -- an item is this argument
-abbrev pub is_argument_item : ℕ → Option Item → Bool
+abbrev pub is_argument_item : ℕ → Option SelectItem → Bool
 is_argument_item a (Some (Plain x)) = is_argument a (Some x)
 is_argument_item a _ = false
 
@@ -73,12 +73,12 @@ abbrev pub gives_argument : Touch → Option Placement → List Expr → Bool
 gives_argument touch placement = gives (split_by touch placement)
 
 -- and so do the items of its query
-abbrev pub selects : Option (ℕ × ℕ) → List Item → Bool
+abbrev pub selects : Option (ℕ × ℕ) → List SelectItem → Bool
 selects None items = true
 selects (Some x) items = is_argument_item x.0 (slice_get items x.1)
 
 -- the same by the touch set and the table's placement
-abbrev pub selects_argument : Touch → Option Placement → List Item → Bool
+abbrev pub selects_argument : Touch → Option Placement → List SelectItem → Bool
 selects_argument touch placement = selects (split_by touch placement)
 
 module _ (catalog : Catalog) (touch : Touch) where
@@ -106,7 +106,7 @@ module _ (catalog : Catalog) (touch : Touch) where
   takes_values (IntoWindow w) vs = true
 
   -- the rows of a query with these items may be inserted into a target
-  abbrev pub takes_items : Target → List Item → Bool
+  abbrev pub takes_items : Target → List SelectItem → Bool
   takes_items (IntoTable t) items = may_use touch (table_placement (slice_get catalog.tables t)) && selects_argument touch (table_placement (slice_get catalog.tables t)) items
   takes_items (IntoWindow w) items = true
 

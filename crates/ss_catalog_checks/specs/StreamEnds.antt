@@ -2,8 +2,8 @@
 use Rattle.std.specs.Prelude.{◌≡◌, ◌==◌, ◌&&◌, ◌||◌, ◌++◌, nat_le, not, cond, ℕ, Bool, true, false, List, [], Option, Some, None, get_or, slice_get, length, count_by}
 use Rattle.std.specs.List.{filter, find, filter_map, flat_map, range_with_len}
 use Rattle.ss_model.specs.declared.catalog.Catalog.{Catalog}
-use Rattle.ss_model.specs.declared.catalog.Kind.{Kind}
-use Rattle.ss_model.specs.declared.catalog.Kind.TheVariants.{Interior}
+use Rattle.ss_model.specs.declared.catalog.ProcedureKind.{ProcedureKind}
+use Rattle.ss_model.specs.declared.catalog.ProcedureKind.TheVariants.{Interior}
 use Rattle.ss_model.specs.declared.catalog.On.{On}
 use Rattle.ss_model.specs.declared.catalog.On.TheVariants.{Stream as OnStream, Window as OnWindow}
 use Rattle.ss_model.specs.declared.catalog.Procedure.{Procedure}
@@ -12,7 +12,7 @@ use Rattle.ss_model.specs.Orders.{procedure_emits}
 use Rattle.ss_model.specs.Settling.{procedure_numbers, emitting_procedure, border_stream}
 
 -- an interior procedure
-abbrev pub is_interior : Kind → Bool
+abbrev pub is_interior : ProcedureKind → Bool
 is_interior Interior = true
 is_interior _ = false
 

@@ -2,7 +2,7 @@
 use Rattle.std.specs.Prelude.{◌≡◌, ◌≤◌, ◌&&◌, nat_lt, cond, ℕ, suc, Bool, true, List, get_or, slice_get}
 use Rattle.std.specs.List.{count_by}
 use Rattle.ss_model.specs.declared.catalog.Catalog.{Catalog}
-use Rattle.ss_model.specs.declared.catalog.Kind.{Kind}
+use Rattle.ss_model.specs.declared.catalog.ProcedureKind.{ProcedureKind}
 use Rattle.ss_model.specs.Database.{is_border, takes_stream}
 use Rattle.ss_model.specs.Orders.{procedure_has}
 use Rattle.ss_catalog_checks.specs.declared.tallies.Count.{Count}
@@ -36,7 +36,7 @@ abbrev pub CountsAre : (ℕ → ℕ) → List Count → Type 0
 CountsAre wanted tallies = (s : ℕ) → (count_at tallies s).count ≡ wanted s
 
 -- procedures of this kind are counted
-abbrev pub is_counted : Takers → Kind → Bool
+abbrev pub is_counted : Takers → ProcedureKind → Bool
 is_counted All kind = true
 is_counted Border kind = is_border kind
 is_counted Interior kind = is_interior kind

@@ -9,7 +9,7 @@ ghost use Rattle.ss_catalog_checks.specs.Localities.{split_by, is_limited, is_ar
 
 use crate::conjuncts::{WantedConjunct, has_conjunct};
 use ss_model::{Catalog, Placement, Touch};
-use ss_sql_trees::{Expr, Item, Joined, Query, SourceId, Statement, Target};
+use ss_sql_trees::{Expr, Joined, Query, SelectItem, SourceId, Statement, Target};
 use ss_value::Seq;
 
 /// The placement of a table, and None where there is no table of this number.
@@ -111,15 +111,15 @@ fn is_argument(argument: u8, value: &Expr) -> bool
 }
 
 /// Whether an item is this argument.
-fn is_argument_item(argument: u8, item: &Item) -> bool
+fn is_argument_item(argument: u8, item: &SelectItem) -> bool
     ensures { result ≡ is_argument_item argument (Some item.now) }
 {
     match item {
-        Item::Plain(value) => is_argument(argument, value),
-        Item::Count => false,
-        Item::Sum(_) => false,
-        Item::Min(_) => false,
-        Item::Max(_) => false,
+        SelectItem::Plain(value) => is_argument(argument, value),
+        SelectItem::Count => false,
+        SelectItem::Sum(_) => false,
+        SelectItem::Min(_) => false,
+        SelectItem::Max(_) => false,
     }
 }
 
@@ -137,7 +137,7 @@ fn gives_argument(touch: &Touch, placement: Option<Placement>, values: &Seq<Expr
 }
 
 /// Whether items give just the argument for the split column, where they have to.
-fn selects_argument(touch: &Touch, placement: Option<Placement>, items: &Seq<Item>) -> bool
+fn selects_argument(touch: &Touch, placement: Option<Placement>, items: &Seq<SelectItem>) -> bool
     ensures { result ≡ selects_argument touch.now placement items.now }
 {
     match split_by(touch, placement) {
@@ -220,7 +220,7 @@ fn takes_values(catalog: &Catalog, touch: &Touch, target: Target, values: &Seq<E
 }
 
 /// Whether the rows of a query with these items may go into a target.
-fn takes_items(catalog: &Catalog, touch: &Touch, target: Target, items: &Seq<Item>) -> bool
+fn takes_items(catalog: &Catalog, touch: &Touch, target: Target, items: &Seq<SelectItem>) -> bool
     ensures { result ≡ takes_items catalog.now touch.now target items.now }
 {
     match target {

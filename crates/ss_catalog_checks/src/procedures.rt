@@ -6,16 +6,16 @@ ghost use Rattle.ss_model.specs.Orders.{procedure_emits};
 ghost use Rattle.ss_catalog_checks.specs.StreamEnds.{is_interior};
 ghost use Rattle.ss_catalog_checks.specs.Runs.{is_owner, runs_in};
 
-use ss_model::{Catalog, Kind, On};
+use ss_model::{Catalog, On, ProcedureKind};
 
 /// Whether procedures of this kind are interior.
-pub(crate) fn is_interior(kind: Kind) -> bool
+pub(crate) fn is_interior(kind: ProcedureKind) -> bool
     ensures { result ≡ is_interior kind }
 {
     match kind {
-        Kind::Call => false,
-        Kind::Border => false,
-        Kind::Interior => true,
+        ProcedureKind::Call => false,
+        ProcedureKind::Border => false,
+        ProcedureKind::Interior => true,
     }
 }
 

@@ -11,7 +11,7 @@ ghost use Rattle.ss_catalog_checks.specs.StreamEnds.{emitters, consumers, border
 ghost use Rattle.ss_catalog_checks.specs.Tallies.{count_with, tally as noted, count_at, StayBelow, CountsAre, is_counted, procedure_takes, takers, CountsEnds};
 
 use crate::procedures::is_interior;
-use ss_model::{Catalog, Kind, Step};
+use ss_model::{Catalog, ProcedureKind, Step};
 use ss_value::{NoMemory, Seq};
 use std::alloc::Global;
 
@@ -42,7 +42,7 @@ pub(crate) struct StreamEnds {
 }
 
 /// Whether procedures of this kind are counted.
-fn is_counted(kinds: Takers, kind: Kind) -> bool
+fn is_counted(kinds: Takers, kind: ProcedureKind) -> bool
     ensures { result ≡ is_counted kinds kind }
 {
     match kinds {

@@ -8,8 +8,8 @@ use Rattle.std.proofs.lemmas.List.Sums.{sum-map}
 use Rattle.ss_value.specs.declared.schema.Column.{Column}
 use Rattle.ss_sql_trees.specs.declared.typed.Statement.{Statement}
 use Rattle.ss_model.specs.declared.catalog.Catalog.{Catalog}
-use Rattle.ss_model.specs.declared.catalog.Kind.{Kind}
-use Rattle.ss_model.specs.declared.catalog.Kind.TheVariants.{Call as CallKind, Border, Interior}
+use Rattle.ss_model.specs.declared.catalog.ProcedureKind.{ProcedureKind}
+use Rattle.ss_model.specs.declared.catalog.ProcedureKind.TheVariants.{Call as CallKind, Border, Interior}
 use Rattle.ss_model.specs.declared.catalog.On.TheVariants.{Stream as OnStream, Window as OnWindow}
 use Rattle.ss_model.specs.declared.catalog.Procedure.{Procedure}
 use Rattle.ss_model.specs.declared.catalog.Step.{Step}
@@ -60,13 +60,13 @@ pub record ProcedureForm (streams : ℕ) (p : Procedure) : Type 0 where
   pub somewhere : IsSomewhere p.touch
 
 -- as many numbers as names
-inputs_kept : (kind : Kind) (f : List ℕ → ℕ) (inputs : List (List ℕ)) → AreInputs kind inputs → inputs_of_kind kind (map f inputs) ≡ true
+inputs_kept : (kind : ProcedureKind) (f : List ℕ → ℕ) (inputs : List (List ℕ)) → AreInputs kind inputs → inputs_of_kind kind (map f inputs) ≡ true
 inputs_kept CallKind f [] h = refl
 inputs_kept CallKind f (x ∷ inputs) h = absurd (cc)
 inputs_kept Border f inputs h = ap (λ n. n == 1) (length-map inputs f) ∙ h
 inputs_kept Interior f inputs h = some_map f inputs h
 
-touch_ranges : (args : List Column) (kind : Kind) (t : TouchOutline) → IsTouch kind t → TouchesBy (map column_name args) t → touch_in_range args (touch_of args t) ≡ true
+touch_ranges : (args : List Column) (kind : ProcedureKind) (t : TouchOutline) → IsTouch kind t → TouchesBy (map column_name args) t → touch_in_range args (touch_of args t) ≡ true
 touch_ranges args kind (Part x) is by = is
 touch_ranges args kind (Arg name) is by = number_below column_name args name by
 touch_ranges args kind (Multi xs) is by = all_pass IsPart (λ x. nat_lt x 8) (λ x h. h) xs is.0
@@ -82,7 +82,7 @@ parts_distinct args (Arg name) once = refl
 parts_distinct args All once = refl
 
 -- only a call touches by an argument
-no_arg_touched : (args : List Column) (kind : Kind) (t : TouchOutline) → IsTouch kind t → is_streaming kind ≡ true → IsArg (touch_of args t) → ⊥
+no_arg_touched : (args : List Column) (kind : ProcedureKind) (t : TouchOutline) → IsTouch kind t → is_streaming kind ≡ true → IsArg (touch_of args t) → ⊥
 no_arg_touched args CallKind (Arg name) is streaming arg = cc
 no_arg_touched args Border (Arg name) is streaming arg = cc
 no_arg_touched args Interior (Arg name) is streaming arg = cc
@@ -91,7 +91,7 @@ no_arg_touched args kind (Multi xs) is streaming arg = arg
 no_arg_touched args kind All is streaming arg = arg
 
 -- a list of parts is not empty
-touches_some : (args : List Column) (kind : Kind) (t : TouchOutline) → IsTouch kind t → IsSomewhere (touch_of args t)
+touches_some : (args : List Column) (kind : ProcedureKind) (t : TouchOutline) → IsTouch kind t → IsSomewhere (touch_of args t)
 touches_some args kind (Multi []) is = absurd (let none : ⊥ = cc in none)
 touches_some args kind (Multi (x ∷ xs)) is = tt
 touches_some args kind (Part x) is = tt

@@ -9,8 +9,8 @@ use Rattle.serde_json.specs.Find.{as_str}
 use Rattle.ss_value.specs.declared.schema.Column.{Column}
 use Rattle.ss_model.specs.CatalogForm.{is_some_list, args_of_kind}
 use Rattle.ss_model.specs.Database.{is_call}
-use Rattle.ss_model.specs.declared.catalog.Kind.{Kind}
-use Rattle.ss_model.specs.declared.catalog.Kind.TheVariants.{Call, Border, Interior}
+use Rattle.ss_model.specs.declared.catalog.ProcedureKind.{ProcedureKind}
+use Rattle.ss_model.specs.declared.catalog.ProcedureKind.TheVariants.{Call, Border, Interior}
 use Rattle.ss_catalog_outline.specs.declared.types.TouchOutline.{TouchOutline}
 use Rattle.ss_catalog_outline.specs.declared.types.TouchOutline.TheVariants.{Part, Arg, Multi, All}
 use Rattle.ss_catalog_outline.specs.declared.types.StepOutline.{StepOutline}
@@ -28,21 +28,21 @@ use Rattle.ss_catalog_laws.proofs.SectionsRead.{IsPart, part_holds}
 
 -- ---- arguments and inputs
 
-abbrev pub AreArgs : Kind → List Column → Type 0
+abbrev pub AreArgs : ProcedureKind → List Column → Type 0
 AreArgs kind args = args_of_kind kind args ≡ true
 
-args_read : (kind : Kind) (d : Data) → IfOk (read_args kind d) (AreArgs kind)
+args_read : (kind : ProcedureKind) (d : Data) → IfOk (read_args kind d) (AreArgs kind)
 args_read Call d = any_holds (AreArgs Call) (λ args. refl) (read_key_or (codes "args") (read_array_of Any read_column) [] d)
 args_read Border d = then_any ⊤ (AreArgs Border) (no_key (codes "args") d) (λ u. Ok []) (λ u. refl)
 args_read Interior d = then_any ⊤ (AreArgs Interior) (no_key (codes "args") d) (λ u. Ok []) (λ u. refl)
 
 -- as many as a procedure of this kind takes
-abbrev pub AreInputs : Kind → List (List ℕ) → Type 0
+abbrev pub AreInputs : ProcedureKind → List (List ℕ) → Type 0
 AreInputs Call inputs = is_some_list inputs ≡ false
 AreInputs Border inputs = IsOne inputs
 AreInputs Interior inputs = IsSome inputs
 
-inputs_read : (kind : Kind) (d : Data) → IfOk (read_inputs kind d) (AreInputs kind)
+inputs_read : (kind : ProcedureKind) (d : Data) → IfOk (read_inputs kind d) (AreInputs kind)
 inputs_read Call d = then_any ⊤ (AreInputs Call) (no_key (codes "inputs") d) (λ u. Ok []) (λ u. refl)
 inputs_read Border d = key_holds IsOne (read_array_of JustOne read_word) (one_holds read_word) (codes "inputs") d
 inputs_read Interior d = key_holds IsSome (read_array_of AtLeastOne read_word) (some_holds read_word) (codes "inputs") d
@@ -50,13 +50,13 @@ inputs_read Interior d = key_holds IsSome (read_array_of AtLeastOne read_word) (
 -- ---- touch sets
 
 -- parts from 0 to 7, at least one, and an argument only in a call
-abbrev pub IsTouch : Kind → TouchOutline → Type 0
+abbrev pub IsTouch : ProcedureKind → TouchOutline → Type 0
 IsTouch kind (Part x) = IsPart x
 IsTouch kind (Arg name) = is_call kind ≡ true
 IsTouch kind (Multi xs) = AllByRecursion IsPart xs × IsSome xs
 IsTouch kind All = Unit {0}
 
-module _ (kind : Kind) (d : Data) where
+module _ (kind : ProcedureKind) (d : Data) where
   part_read : IfOk (read_touch_part d) (IsTouch kind)
   part_read = then_any ⊤ (IsTouch kind) (object_of (codes "part" ∷ []) d) _ (λ u. then_key_with (IsTouch kind) read_part (codes "part") d _ IsPart part_holds (λ x p. p))
 
@@ -84,7 +84,7 @@ module _ (kind : Kind) (d : Data) where
 -- ---- steps
 
 -- a step that a procedure of this kind may have
-abbrev pub StandsIn : Kind → StepOutline → Type 0
+abbrev pub StandsIn : ProcedureKind → StepOutline → Type 0
 StandsIn kind (Sql text) = Unit {0}
 StandsIn kind (AbortIf test code) = Unit {0}
 StandsIn kind (Emit stream query) = not (is_call kind) ≡ true
@@ -93,7 +93,7 @@ StandsIn kind (Insert table values) = is_call kind ≡ true
 StandsIn kind (ReturnAll table) = is_call kind ≡ true
 StandsIn kind (Return query) = is_call kind ≡ true
 
-module _ (kind : Kind) where
+module _ (kind : ProcedureKind) where
   step_as_read : (form : StepForm) (d : Data) → may_stand kind form ≡ true → IfOk (read_step_as form d) (StandsIn kind)
   step_as_read SqlForm d may = then_any (List ℕ) (StandsIn kind) (read_alone (codes "sql") d) (λ text. Ok (Sql text)) (λ text. tt)
   step_as_read AbortIfForm d may = then_any (List ℕ × ℤ) (StandsIn kind) (read_test d) (λ t. Ok (AbortIf t.0 t.1)) (λ t. tt)

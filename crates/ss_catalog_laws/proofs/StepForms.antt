@@ -6,8 +6,8 @@ use Rattle.ss_sql_trees.specs.declared.typed.Condition.{Condition}
 use Rattle.ss_sql_trees.specs.declared.typed.Query.{Query}
 use Rattle.ss_sql_trees.specs.declared.typed.Statement.{Statement}
 use Rattle.ss_model.specs.declared.catalog.Inner.{Inner}
-use Rattle.ss_model.specs.declared.catalog.Kind.{Kind}
-use Rattle.ss_model.specs.declared.catalog.Kind.TheVariants.{Call as CallKind, Border, Interior}
+use Rattle.ss_model.specs.declared.catalog.ProcedureKind.{ProcedureKind}
+use Rattle.ss_model.specs.declared.catalog.ProcedureKind.TheVariants.{Call as CallKind, Border, Interior}
 use Rattle.ss_model.specs.declared.catalog.Step.{Step}
 use Rattle.ss_model.specs.declared.catalog.Step.TheVariants.{Sql, AbortIf, ForEach, Emit, Return}
 use Rattle.ss_model.specs.Accepted.{IsCallStep}
@@ -57,36 +57,36 @@ module _ (o : Outline) (p : ProcedureOutline) where
 
 -- ---- which kinds may have it
 
-sql_stands : (kind : Kind) (s : Statement) → step_of_kind kind (Sql s) ≡ true
+sql_stands : (kind : ProcedureKind) (s : Statement) → step_of_kind kind (Sql s) ≡ true
 sql_stands CallKind s = refl
 sql_stands Border s = refl
 sql_stands Interior s = refl
 
-abort_stands : (kind : Kind) (c : Condition) (code : ℤ) → step_of_kind kind (AbortIf c code) ≡ true
+abort_stands : (kind : ProcedureKind) (c : Condition) (code : ℤ) → step_of_kind kind (AbortIf c code) ≡ true
 abort_stands CallKind c code = refl
 abort_stands Border c code = refl
 abort_stands Interior c code = refl
 
-for_each_stands : (kind : Kind) (input : ℕ) (xs : List Inner) → not (is_call kind) ≡ true → step_of_kind kind (ForEach input xs) ≡ true
+for_each_stands : (kind : ProcedureKind) (input : ℕ) (xs : List Inner) → not (is_call kind) ≡ true → step_of_kind kind (ForEach input xs) ≡ true
 for_each_stands CallKind input xs h = h
 for_each_stands Border input xs h = h
 for_each_stands Interior input xs h = h
 
-emit_stands : (kind : Kind) (s : ℕ) (q : Query) → not (is_call kind) ≡ true → step_of_kind kind (Emit s q) ≡ true
+emit_stands : (kind : ProcedureKind) (s : ℕ) (q : Query) → not (is_call kind) ≡ true → step_of_kind kind (Emit s q) ≡ true
 emit_stands CallKind s q h = h
 emit_stands Border s q h = h
 emit_stands Interior s q h = h
 
-return_stands : (kind : Kind) (q : Query) → is_call kind ≡ true → step_of_kind kind (Return q) ≡ true
+return_stands : (kind : ProcedureKind) (q : Query) → is_call kind ≡ true → step_of_kind kind (Return q) ≡ true
 return_stands CallKind q h = h
 return_stands Border q h = h
 return_stands Interior q h = h
 
 -- a step of its kind
-abbrev pub IsOfKind : Kind → Step → Type 0
+abbrev pub IsOfKind : ProcedureKind → Step → Type 0
 IsOfKind kind b = step_of_kind kind b ≡ true
 
-stands_by : (kind : Kind) (s : StepOutline) (b : Step) → IsStepOf s b → StandsIn kind s → IsOfKind kind b
+stands_by : (kind : ProcedureKind) (s : StepOutline) (b : Step) → IsStepOf s b → StandsIn kind s → IsOfKind kind b
 stands_by kind (outline.Insert table values) b is may = subst (IsOfKind kind) (sym is.1) (sql_stands kind is.0)
 stands_by kind (outline.ReturnAll table) b is may = subst (IsOfKind kind) (sym is.1) (return_stands kind is.0 may)
 stands_by kind (outline.Sql text) b is may = subst (IsOfKind kind) (sym is.1) (sql_stands kind is.0)
@@ -96,7 +96,7 @@ stands_by kind (outline.Emit stream query) b is may = subst (IsOfKind kind) (sym
 stands_by kind (outline.Return query) b is may = subst (IsOfKind kind) (sym is.1) (return_stands kind is.0 may)
 
 -- a step of a call procedure
-pub call_step : (kind : Kind) (b : Step) → is_call kind ≡ true → IsOfKind kind b → IsCallStep b
+pub call_step : (kind : ProcedureKind) (b : Step) → is_call kind ≡ true → IsOfKind kind b → IsCallStep b
 call_step CallKind (Sql s) call h = tt
 call_step CallKind (AbortIf c code) call h = tt
 call_step CallKind (Return q) call h = tt

@@ -3,8 +3,8 @@ use Rattle.std.specs.Prelude.{ℕ, List, [], ◌∷◌, cond, Option, Some, None
 use Rattle.std.specs.Str.{bytes_eq}
 use Rattle.serde_json.specs.Find.{as_str}
 use Rattle.ss_value.specs.declared.schema.Column.{Column}
-use Rattle.ss_model.specs.declared.catalog.Kind.{Kind}
-use Rattle.ss_model.specs.declared.catalog.Kind.TheVariants.{Call, Border, Interior}
+use Rattle.ss_model.specs.declared.catalog.ProcedureKind.{ProcedureKind}
+use Rattle.ss_model.specs.declared.catalog.ProcedureKind.TheVariants.{Call, Border, Interior}
 use Rattle.ss_model.specs.Database.{is_call}
 use Rattle.ss_catalog_json.specs.declared.json_readers.ItemCount.TheVariants.{Any, AtLeastOne, JustOne}
 use Rattle.ss_catalog_outline.specs.declared.types.TouchOutline.{TouchOutline}
@@ -23,7 +23,7 @@ abbrev pub read_touch_multi : Reading TouchOutline
 read_touch_multi d = object_of (codes "multi" ∷ []) d >>= λ _. read_key (codes "multi") (read_array_of AtLeastOne read_part) d >>= λ ps. Ok (Multi ps)
 
 -- the form is that of the first of these keys that is there; only a call may have the form `arg`
-abbrev pub read_touch_form : Kind → Reading TouchOutline
+abbrev pub read_touch_form : ProcedureKind → Reading TouchOutline
 read_touch_form kind d =
     cond (has_key (codes "part") d) (read_touch_part d)
     (cond (has_key (codes "arg") d) (only_where (is_call kind) (read_alone (codes "arg") d >>= λ name. Ok (Arg name)))
@@ -34,29 +34,29 @@ abbrev pub all_or : Option (List ℕ) → OrFault TouchOutline → OrFault Touch
 all_or (Some word) r = only_where (bytes_eq word (codes "all")) (Ok All)
 all_or None r = r
 
-abbrev pub read_touch : Kind → Reading TouchOutline
+abbrev pub read_touch : ProcedureKind → Reading TouchOutline
 read_touch kind d = all_or (as_str d) (read_touch_form kind d)
 
 -- ---- procedures
 
-abbrev pub kind_word : List ℕ → Option Kind
+abbrev pub kind_word : List ℕ → Option ProcedureKind
 kind_word word =
     cond (bytes_eq word (codes "call")) (Some Call)
     (cond (bytes_eq word (codes "border")) (Some Border)
     (cond (bytes_eq word (codes "interior")) (Some Interior) None))
 
 -- a procedure's kind: who starts it
-abbrev pub read_procedure_kind : Reading Kind
+abbrev pub read_procedure_kind : Reading ProcedureKind
 read_procedure_kind d = or_here (option_and_then kind_word (as_str d))
 
 -- a call may have arguments, and no other kind may
-abbrev pub read_args : Kind → Reading (List Column)
+abbrev pub read_args : ProcedureKind → Reading (List Column)
 read_args kind d =
     cond (is_call kind) (read_key_or (codes "args") (read_array_of Any read_column) [] d)
     (no_key (codes "args") d >>= λ _. Ok [])
 
 -- a border procedure has one input, an interior one at least one, a call none
-abbrev pub read_inputs : Kind → Reading (List (List ℕ))
+abbrev pub read_inputs : ProcedureKind → Reading (List (List ℕ))
 read_inputs Call d = no_key (codes "inputs") d >>= λ _. Ok []
 read_inputs Border d = read_key (codes "inputs") (read_array_of JustOne read_word) d
 read_inputs Interior d = read_key (codes "inputs") (read_array_of AtLeastOne read_word) d

@@ -3,7 +3,7 @@ use Rattle.std.specs.Prelude.{ℕ, ℤ, List, [], ◌∷◌, Bool, true, cond, n
 use Rattle.serde_json.specs.Data.{Data}
 use Rattle.serde_json.specs.Find.{as_str, as_number, as_i64}
 use Rattle.ss_value.specs.declared.value.Value.TheVariants.{Int, Text}
-use Rattle.ss_model.specs.declared.catalog.Kind.{Kind}
+use Rattle.ss_model.specs.declared.catalog.ProcedureKind.{ProcedureKind}
 use Rattle.ss_model.specs.Database.{is_call}
 use Rattle.ss_catalog_json.specs.declared.json_readers.ItemCount.TheVariants.{Any}
 use Rattle.ss_catalog_outline.specs.declared.types.GivenOutline.{GivenOutline}
@@ -55,7 +55,7 @@ form_of d =
     None))))))
 
 -- each kind may have SQL and tests; of the other forms some are only for calls, and the others for all kinds but calls
-abbrev pub may_stand : Kind → StepForm → Bool
+abbrev pub may_stand : ProcedureKind → StepForm → Bool
 may_stand kind SqlForm = true
 may_stand kind AbortIfForm = true
 may_stand kind EmitForm = not (is_call kind)
@@ -125,5 +125,5 @@ read_step_as ForEachForm d = read_for_each d
 read_step_as ReturnForm d = read_alone (codes "return") d >>= λ query. Ok (Return query)
 
 -- a step of a procedure of this kind; a form that this kind may not have is a fault of the step itself
-abbrev pub read_step : Kind → Reading StepOutline
+abbrev pub read_step : ProcedureKind → Reading StepOutline
 read_step kind d = or_here (form_of d) >>= λ form. only_where (may_stand kind form) (read_step_as form d)

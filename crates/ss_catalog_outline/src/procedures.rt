@@ -14,7 +14,7 @@ use ss_catalog_json::{
     ArrayOf, ItemCount, NameReader, ReadError, Reader, Word, WordReader, fault_here, has_key,
     no_key, object_of, read_key, read_key_or,
 };
-use ss_model::Kind;
+use ss_model::ProcedureKind;
 use ss_value::{Schema, Seq};
 use std::alloc::Global;
 
@@ -42,7 +42,11 @@ fn read_touch_multi(alloc: Global, value: &Json) -> Result<TouchOutline, ReadErr
     Ok(TouchOutline::Multi(parts))
 }
 
-fn read_touch_form(alloc: Global, kind: Kind, value: &Json) -> Result<TouchOutline, ReadError>
+fn read_touch_form(
+    alloc: Global,
+    kind: ProcedureKind,
+    value: &Json,
+) -> Result<TouchOutline, ReadError>
     ensures ok { IfOk result (λ t. read_touch_form kind (view value.now) ≡ Ok t) }
     ensures refused { IfErr result (FaultsAs (read_touch_form kind (view value.now))) }
 {
@@ -67,7 +71,7 @@ fn read_touch_form(alloc: Global, kind: Kind, value: &Json) -> Result<TouchOutli
 /// The touch set of a procedure of this kind.
 #[derive(Drop)]
 pub struct TouchReader {
-    pub kind: Kind,
+    pub kind: ProcedureKind,
 }
 
 impl Reader for TouchReader {
@@ -91,21 +95,21 @@ impl Reader for TouchReader {
 
 // ---- procedures
 
-fn kind_word(word: &str) -> Option<Kind>
+fn kind_word(word: &str) -> Option<ProcedureKind>
     ensures { result ≡ kind_word word.now }
 {
     if word == "call" {
-        Some(Kind::Call)
+        Some(ProcedureKind::Call)
     } else if word == "border" {
-        Some(Kind::Border)
+        Some(ProcedureKind::Border)
     } else if word == "interior" {
-        Some(Kind::Interior)
+        Some(ProcedureKind::Interior)
     } else {
         None
     }
 }
 
-fn kind_from(value: &Json) -> Option<Kind>
+fn kind_from(value: &Json) -> Option<ProcedureKind>
     ensures { result ≡ option_and_then kind_word (as_str (view value.now)) }
 {
     match value.as_str() {
@@ -119,11 +123,11 @@ fn kind_from(value: &Json) -> Option<Kind>
 pub struct ProcedureKindReader;
 
 impl Reader for ProcedureKindReader {
-    type Read = Kind;
+    type Read = ProcedureKind;
 
     ghost reading = { λ _. read_procedure_kind };
 
-    fn read(&self, alloc: Global, value: &Json) -> Result<Kind, ReadError> {
+    fn read(&self, alloc: Global, value: &Json) -> Result<ProcedureKind, ReadError> {
         match kind_from(value) {
             Some(kind) => Ok(kind),
             None => Err(fault_here(alloc)),
@@ -131,7 +135,7 @@ impl Reader for ProcedureKindReader {
     }
 }
 
-fn read_args(alloc: Global, kind: Kind, value: &Json) -> Result<Schema, ReadError>
+fn read_args(alloc: Global, kind: ProcedureKind, value: &Json) -> Result<Schema, ReadError>
     ensures ok { IfOk result (λ args. read_args kind (view value.now) ≡ Ok args) }
     ensures refused { IfErr result (FaultsAs (read_args kind (view value.now))) }
 {
@@ -158,17 +162,17 @@ fn read_input_list(alloc: Global, many: ItemCount, value: &Json) -> Result<Seq<W
     read_key(alloc, value, "inputs", &inputs)
 }
 
-fn read_inputs(alloc: Global, kind: Kind, value: &Json) -> Result<Seq<Word>, ReadError>
+fn read_inputs(alloc: Global, kind: ProcedureKind, value: &Json) -> Result<Seq<Word>, ReadError>
     ensures ok { IfOk result (λ inputs. read_inputs kind (view value.now) ≡ Ok inputs) }
     ensures refused { IfErr result (FaultsAs (read_inputs kind (view value.now))) }
 {
     match kind {
-        Kind::Call => {
+        ProcedureKind::Call => {
             no_key(alloc, value, "inputs")?;
             Ok(Seq::new(alloc))
         }
-        Kind::Border => read_input_list(alloc, ItemCount::JustOne, value),
-        Kind::Interior => read_input_list(alloc, ItemCount::AtLeastOne, value),
+        ProcedureKind::Border => read_input_list(alloc, ItemCount::JustOne, value),
+        ProcedureKind::Interior => read_input_list(alloc, ItemCount::AtLeastOne, value),
     }
 }
 

@@ -11,7 +11,7 @@ use ss_catalog_json::{
     ArrayOf, ItemCount, ReadError, Reader, Word, WordReader, fault_here, has_key, object_of,
     read_key,
 };
-use ss_model::Kind;
+use ss_model::ProcedureKind;
 use ss_value::{Value, ValueError, text_of};
 use std::alloc::Global;
 
@@ -94,7 +94,7 @@ fn form_of(value: &Json) -> Option<StepForm>
     }
 }
 
-fn may_stand(kind: Kind, form: StepForm) -> bool
+fn may_stand(kind: ProcedureKind, form: StepForm) -> bool
     ensures { result ≡ may_stand kind form }
 {
     match form {
@@ -250,7 +250,7 @@ fn read_step_as(alloc: Global, form: StepForm, value: &Json) -> Result<StepOutli
 /// A step of a procedure of this kind.
 #[derive(Drop)]
 pub struct StepReader {
-    pub kind: Kind,
+    pub kind: ProcedureKind,
 }
 
 impl Reader for StepReader {

@@ -3,7 +3,7 @@
 //! Each value here takes memory linear in what it was read from.
 
 use ss_catalog_json::Word;
-use ss_model::Kind;
+use ss_model::ProcedureKind;
 use ss_value::{Name, Schema, Seq, Unit, Value};
 
 /// Where a table's rows are.
@@ -115,7 +115,7 @@ pub enum StepOutline {
 #[derive(Drop)]
 pub struct ProcedureOutline {
     pub name: Name,
-    pub kind: Kind,
+    pub kind: ProcedureKind,
     pub args: Schema,
     pub inputs: Seq<Word>,
     pub touch: TouchOutline,

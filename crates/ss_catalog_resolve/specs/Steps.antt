@@ -7,8 +7,8 @@ use Rattle.ss_value.specs.declared.schema.Column.{Column}
 use Rattle.ss_value.specs.Fit.{fits_kind}
 use Rattle.ss_sql_trees.specs.declared.typed.Expr.{Expr}
 use Rattle.ss_sql_trees.specs.declared.typed.Expr.TheVariants.{Lit, Param, Col}
-use Rattle.ss_sql_trees.specs.declared.typed.Item.{Item}
-use Rattle.ss_sql_trees.specs.declared.typed.Item.TheVariants.{Plain}
+use Rattle.ss_sql_trees.specs.declared.typed.SelectItem.{SelectItem}
+use Rattle.ss_sql_trees.specs.declared.typed.SelectItem.TheVariants.{Plain}
 use Rattle.ss_sql_trees.specs.declared.typed.Query.{Query}
 use Rattle.ss_sql_trees.specs.declared.typed.SourceId.TheVariants.{Table as FromTable}
 use Rattle.ss_sql_trees.specs.declared.typed.Target.TheVariants.{Table as IntoTable}
@@ -71,7 +71,7 @@ module _ (args : List Column) where
 -- ---- `return_all`
 
 -- the item of this column of the only source
-abbrev pub column_item : ℕ → Item
+abbrev pub column_item : ℕ → SelectItem
 column_item c = Plain (Col 0 c)
 
 -- the query of all columns of a table in their order, without further clauses

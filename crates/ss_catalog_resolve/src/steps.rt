@@ -19,7 +19,7 @@ use crate::texts::{condition_of, query_of, statement_of};
 use ss_catalog_json::Word;
 use ss_catalog_outline::{InnerOutline, StepOutline};
 use ss_model::{Inner, Step};
-use ss_sql_trees::{Expr, Item, Query, SourceId, Statement};
+use ss_sql_trees::{Expr, Query, SelectItem, SourceId, Statement};
 use ss_sql_type::Scope;
 use ss_value::{Column, NoMemory, Seq};
 use std::alloc::Global;
@@ -145,7 +145,7 @@ impl<'a> ItemReader for InnerSteps<'a> {
 
 // ---- `return_all`
 
-fn column_items(alloc: Global, count: usize) -> Result<Seq<Item>, NoMemory>
+fn column_items(alloc: Global, count: usize) -> Result<Seq<SelectItem>, NoMemory>
     requires { count ≤ 256 }
     ensures { IfOk result (λ items. items ≡ map column_item (range_with_len 0 count)) }
 {
@@ -155,7 +155,7 @@ fn column_items(alloc: Global, count: usize) -> Result<Seq<Item>, NoMemory>
             source: 0,
             column: column as u8,
         };
-        items.push(Item::Plain(column))?;
+        items.push(SelectItem::Plain(column))?;
     }
     Ok(items)
 }

@@ -10,7 +10,7 @@ use Rattle.ss_model.specs.declared.life.Life.{Ghosts}
 use Rattle.ss_stream.proofs.Crossing.{streams_send}
 use Rattle.ss_commitlog.specs.contracts.desk.Desk as desk
 use Rattle.ss_commitlog.specs.contracts.log.CommitLog as log
-use Rattle.ss_commitlog.specs.contracts.token.Token as token
+use Rattle.ss_commitlog.specs.contracts.token.LogToken as token
 
 module _ (I : RattleType) (life : Ghosts I.Denot) where
   pub note_send : IsSend I → IsSend (token.the_row I life)

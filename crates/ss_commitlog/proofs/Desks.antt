@@ -12,8 +12,8 @@ use Rattle.ss_lemmas.proofs.Bools.{at_index, first_of_two, second_of_two}
 use Rattle.ss_lemmas.proofs.Numbers.{eqb_is, eqb_self}
 use Rattle.ss_value.specs.Rows.{Row, Rows}
 use Rattle.ss_model.specs.declared.catalog.Catalog.{Catalog}
-use Rattle.ss_model.specs.declared.catalog.Kind.{Kind}
-use Rattle.ss_model.specs.declared.catalog.Kind.TheVariants.{Call as CallKind, Border, Interior}
+use Rattle.ss_model.specs.declared.catalog.ProcedureKind.{ProcedureKind}
+use Rattle.ss_model.specs.declared.catalog.ProcedureKind.TheVariants.{Call as CallKind, Border, Interior}
 use Rattle.ss_model.specs.declared.catalog.Procedure.{Procedure}
 use Rattle.ss_model.specs.declared.entry.Entry.{Entry}
 use Rattle.ss_model.specs.declared.entry.Entry.TheVariants.{Call, Push, Step as StepEntry}
@@ -78,7 +78,7 @@ counts_follow catalog d (StepEntry n r) a is = stepped_counts catalog d n r (sli
 some_input : (catalog : Catalog) (q : ℕ) (p : Procedure) → list_all is_of_kind catalog.procedures ≡ true → slice_get catalog.procedures q ≡ Some p → is_streaming p.kind ≡ true → 1 ≤ length p.inputs
 some_input catalog q p kinds is streams = by p.kind p.inputs (first_of_two _ _ (first_of_two _ _ (at_index is_of_kind catalog.procedures kinds q p is))) streams
   where
-    by : (k : Kind) (inputs : List ℕ) → inputs_of_kind k inputs ≡ true → is_streaming k ≡ true → 1 ≤ length inputs
+    by : (k : ProcedureKind) (inputs : List ℕ) → inputs_of_kind k inputs ≡ true → is_streaming k ≡ true → 1 ≤ length inputs
     by CallKind inputs e s = cc
     by Border [] e s = cc
     by Border (x ∷ xs) e s = omega arith

@@ -9,7 +9,7 @@ ghost use Rattle.ss_commitlog.specs.Meaning.{IsLegal};
 ghost use Rattle.ss_commitlog.specs.Tokens.{joined, cut, token, log_view, roles_of, AllKnow, AllContinue, added};
 
 use crate::rule::{Adds, First, LogSeat, LogTable, Looks, TakesIn};
-use crate::token::{Marks, Token};
+use crate::token::{LogToken, Marks};
 use ss_model::{Life, Listed};
 use ss_value::Seq;
 use std::alloc::Global;
@@ -17,14 +17,18 @@ use std::marker::PhantomData;
 use std::mem::replace;
 
 /// All tokens go into the log's seat, the last one first. Their list keeps its room.
-pub(crate) fn take_in_all<I: Life>(table: &LogTable, seat: &mut LogSeat, tokens: &mut Vec<Token<I>>)
+pub(crate) fn take_in_all<I: Life>(
+    table: &LogTable,
+    seat: &mut LogSeat,
+    tokens: &mut Vec<LogToken<I>>,
+)
     requires table { (table.now.shared.table_id ≡ I.table) × (seat.old.table_id ≡ I.table) × (0 < I.table.words) }
     requires log { In Log seat.old.me.0.now.roles }
     ensures seat { (seat.new.table_id ≡ I.table) × (seat.new.me ≡ (joined seat.old.me.0 tokens.old.items, seat.old.me.1)) }
     ensures tokens { (tokens.new.items ≡ []) × (vec_capacity tokens.new ≡ vec_capacity tokens.old) }
 {
     while let Some(token) = tokens.pop() {
-        let Token { seat: other, of: _ } = token;
+        let LogToken { seat: other, of: _ } = token;
         table.shared.join_seat::<TakesIn>(seat, other);
     }
 }
@@ -33,7 +37,7 @@ pub(crate) fn take_in_all<I: Life>(table: &LogTable, seat: &mut LogSeat, tokens:
 pub(crate) fn give_back<I: Life>(
     table: &LogTable,
     seat: &mut LogSeat,
-    tokens: &mut Vec<Token<I>>,
+    tokens: &mut Vec<LogToken<I>>,
     count: usize,
 )
     requires table { (table.now.shared.table_id ≡ I.table) × (seat.old.table_id ≡ I.table) × (0 < I.table.words) }
@@ -45,7 +49,7 @@ pub(crate) fn give_back<I: Life>(
 {
     for _i in 0..count {
         let other = table.shared.split_seat::<First>(seat);
-        tokens.push_reserved(Token {
+        tokens.push_reserved(LogToken {
             seat: other,
             of: PhantomData,
         });
@@ -53,7 +57,7 @@ pub(crate) fn give_back<I: Life>(
 }
 
 /// The log's seat shows these tokens its list.
-fn show_all<I: Life>(table: &LogTable, seat: &mut LogSeat, tokens: &mut Vec<Token<I>>)
+fn show_all<I: Life>(table: &LogTable, seat: &mut LogSeat, tokens: &mut Vec<LogToken<I>>)
     requires table { (table.now.shared.table_id ≡ I.table) × (seat.old.table_id ≡ I.table) × (0 < I.table.words) }
     requires log { seat.old.me ≡ (log_view seat.old.me.0.now.known seat.old.me.0.now.count seat.old.me.0.now.faults, []) }
     requires legal { IsLegal I.catalog I.parts I.clients I.limit I.opening seat.old.me.0.now.known }
@@ -74,7 +78,7 @@ fn show_all<I: Life>(table: &LogTable, seat: &mut LogSeat, tokens: &mut Vec<Toke
 fn add_all<I: Life>(
     table: &LogTable,
     seat: &mut LogSeat,
-    tokens: &mut Vec<Token<I>>,
+    tokens: &mut Vec<LogToken<I>>,
     place: u64,
     listed: &Listed,
 )

@@ -89,4 +89,4 @@ pub use placed::{Placed, Unlisted};
 pub use posted::Posted;
 pub use role::Role;
 pub use rule::Opening;
-pub use token::{Mark, Marks, Note, Notes, Token};
+pub use token::{LogToken, Mark, Marks, Note, Notes};

@@ -13,13 +13,13 @@ use crate::rule::{
     First, LogSeat, LogTable, Looks, NewReader, PostsCount, PostsFaults, SeesCount, SeesFaults,
     TakesIn,
 };
-use crate::token::Token;
+use crate::token::LogToken;
 use ss_model::Life;
 use std::marker::PhantomData;
 use std::mem::replace;
 
 /// Reads the two posted numbers.
-pub(crate) fn see<I: Life>(table: &LogTable, token: &mut Token<I>) -> Posted
+pub(crate) fn see<I: Life>(table: &LogTable, token: &mut LogToken<I>) -> Posted
     requires { (table.now.shared.table_id ≡ I.table) × (I.table.words ≡ 3) }
     ensures seen { token.new ≡ known token.old.role token.old.list result.count result.faults }
     ensures more { (token.old.count ≤ result.count) × ((token.old.faults ≡ 0) ⊎ (token.old.faults ≡ result.faults)) }
@@ -31,7 +31,7 @@ pub(crate) fn see<I: Life>(table: &LogTable, token: &mut Token<I>) -> Posted
 }
 
 /// Posts the two numbers, which the disk's token alone may do.
-pub(crate) fn post<I: Life>(table: &LogTable, token: &mut Token<I>, count: u64, faults: u64)
+pub(crate) fn post<I: Life>(table: &LogTable, token: &mut LogToken<I>, count: u64, faults: u64)
     requires table { (table.now.shared.table_id ≡ I.table) × (I.table.words ≡ 3) }
     requires disk { token.old.role ≡ Disk }
     requires count { token.old.count ≤ count }
@@ -45,23 +45,23 @@ pub(crate) fn post<I: Life>(table: &LogTable, token: &mut Token<I>, count: u64, 
 }
 
 /// A token goes into the log's seat.
-fn take_in<I: Life>(table: &LogTable, seat: &mut LogSeat, token: Token<I>)
+fn take_in<I: Life>(table: &LogTable, seat: &mut LogSeat, token: LogToken<I>)
     requires table { (table.now.shared.table_id ≡ I.table) × (seat.old.table_id ≡ I.table) × (0 < I.table.words) }
     requires log { In Log seat.old.me.0.now.roles }
     ensures { (seat.new.table_id ≡ I.table) × (seat.new.me ≡ (joined seat.old.me.0 (token ∷ []), seat.old.me.1)) }
 {
-    let Token { seat: other, of: _ } = token;
+    let LogToken { seat: other, of: _ } = token;
     table.shared.join_seat::<TakesIn>(seat, other);
 }
 
 /// A token that is lent goes into the log's seat. A reader's note stands in its place until it comes out again.
-fn take_in_lent<I: Life>(table: &LogTable, seat: &mut LogSeat, token: &mut Token<I>)
+fn take_in_lent<I: Life>(table: &LogTable, seat: &mut LogSeat, token: &mut LogToken<I>)
     requires table { (table.now.shared.table_id ≡ I.table) × (seat.old.table_id ≡ I.table) × (0 < I.table.words) }
     requires log { In Log seat.old.me.0.now.roles }
     requires legal { IsLegal I.catalog I.parts I.clients I.limit I.opening seat.old.me.0.now.known }
     ensures { (seat.new.table_id ≡ I.table) × (seat.new.me ≡ (joined seat.old.me.0 (token.old ∷ []), seat.old.me.1)) }
 {
-    let note = Token {
+    let note = LogToken {
         seat: table.shared.split_seat::<NewReader>(seat),
         of: PhantomData,
     };
@@ -69,7 +69,7 @@ fn take_in_lent<I: Life>(table: &LogTable, seat: &mut LogSeat, token: &mut Token
 }
 
 /// The first role of a seat goes to a token, which knows what the seat knows.
-pub(crate) fn give_one<I: Life>(table: &LogTable, seat: &mut LogSeat) -> Token<I>
+pub(crate) fn give_one<I: Life>(table: &LogTable, seat: &mut LogSeat) -> LogToken<I>
     requires table { (table.now.shared.table_id ≡ I.table) × (seat.old.table_id ≡ I.table) × (0 < I.table.words) }
     requires roles { (0 < length seat.old.me.0.now.roles) × (seat.old.me.0 ≡ at_rest seat.old.me.0.now) }
     requires legal { IsLegal I.catalog I.parts I.clients I.limit I.opening seat.old.me.0.now.known }
@@ -77,14 +77,14 @@ pub(crate) fn give_one<I: Life>(table: &LogTable, seat: &mut LogSeat) -> Token<I
     ensures token { result ≡ token seat.old.me.0.now (head_or_reader seat.old.me.0.now.roles) }
 {
     let other = table.shared.split_seat::<First>(seat);
-    Token {
+    LogToken {
         seat: other,
         of: PhantomData,
     }
 }
 
 /// A token sees the list.
-pub(crate) fn show<I: Life>(table: &LogTable, seat: &mut LogSeat, token: &mut Token<I>)
+pub(crate) fn show<I: Life>(table: &LogTable, seat: &mut LogSeat, token: &mut LogToken<I>)
     requires table { (table.now.shared.table_id ≡ I.table) × (seat.old.table_id ≡ I.table) × (0 < I.table.words) }
     requires log { seat.old.me ≡ (log_view seat.old.me.0.now.known seat.old.me.0.now.count seat.old.me.0.now.faults, []) }
     requires legal { IsLegal I.catalog I.parts I.clients I.limit I.opening seat.old.me.0.now.known }
@@ -100,8 +100,8 @@ pub(crate) fn show<I: Life>(table: &LogTable, seat: &mut LogSeat, token: &mut To
 pub(crate) fn show_two<I: Life>(
     table: &LogTable,
     seat: &mut LogSeat,
-    mark: &mut Token<I>,
-    note: &mut Token<I>,
+    mark: &mut LogToken<I>,
+    note: &mut LogToken<I>,
 )
     requires table { (table.now.shared.table_id ≡ I.table) × (seat.old.table_id ≡ I.table) × (0 < I.table.words) }
     requires log { seat.old.me ≡ (log_view seat.old.me.0.now.known seat.old.me.0.now.count seat.old.me.0.now.faults, []) }
@@ -124,8 +124,8 @@ pub(crate) fn show_two<I: Life>(
 pub(crate) fn end_all<I: Life>(
     table: &LogTable,
     seat: &mut LogSeat,
-    mut marks: Vec<Token<I>>,
-    note: Token<I>,
+    mut marks: Vec<LogToken<I>>,
+    note: LogToken<I>,
 )
     requires table { (table.now.shared.table_id ≡ I.table) × (seat.old.table_id ≡ I.table) × (0 < I.table.words) }
     requires log { seat.old.me ≡ (log_view seat.old.me.0.now.known seat.old.me.0.now.count seat.old.me.0.now.faults, []) }

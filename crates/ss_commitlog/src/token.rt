@@ -13,16 +13,16 @@ use std::marker::{Model, PhantomData};
 /// A mark and a note are one type, whose role contracts see, instead of two: the role is all that tells them apart, and
 /// two types would double each proof and add no fact.
 #[derive(Drop)]
-pub struct Token<I: Life> {
+pub struct LogToken<I: Life> {
     pub(crate) seat: LogSeat,
     pub(crate) of: PhantomData<I>,
 }
 
 /// The token of a partition or a client.
-pub type Mark<I> = Token<I>;
+pub type Mark<I> = LogToken<I>;
 
 /// The token of a reader, or of the disk.
-pub type Note<I> = Token<I>;
+pub type Note<I> = LogToken<I>;
 
 /// Marks, each of its own role.
 pub type Marks<I> = Seq<Mark<I>>;
@@ -30,7 +30,7 @@ pub type Marks<I> = Seq<Mark<I>>;
 /// Notes.
 pub type Notes<I> = Seq<Note<I>>;
 
-impl<I: Life> Model for Token<I> {
+impl<I: Life> Model for LogToken<I> {
     ghost use Rattle.std.specs.Prelude.{◌≡◌, []};
     ghost use Rattle.ss_commitlog.specs.Meaning.{IsLegal};
     ghost use Rattle.ss_commitlog.specs.Tokens.{Known, known_of, seat_view};
@@ -44,7 +44,7 @@ impl<I: Life> Model for Token<I> {
         × IsLegal I.catalog I.parts I.clients I.limit I.opening (known_of m.seat.me.0).list };
 }
 
-impl<I: Life> Token<I> {
+impl<I: Life> LogToken<I> {
     ghost use Rattle.std.specs.Prelude.{◌≤◌, length};
     ghost use Rattle.ss_model.specs.Replays.{Replays};
     ghost use Rattle.ss_commitlog.specs.Meaning.{listed_of};

@@ -2,7 +2,7 @@
 use Rattle.std.specs.Prelude.{codes, List, [], ◌∷◌}
 use Rattle.ss_value.specs.declared.schema.ColType.TheVariants.{Int as IntColumn}
 use Rattle.ss_model.specs.declared.catalog.Catalog.{Catalog}
-use Rattle.ss_model.specs.declared.catalog.Kind.TheVariants.{Call as CallKind, Border}
+use Rattle.ss_model.specs.declared.catalog.ProcedureKind.TheVariants.{Call as CallKind, Border}
 use Rattle.ss_model.specs.declared.catalog.Procedure.{Procedure}
 use Rattle.ss_model.specs.declared.catalog.StreamDef.{StreamDef}
 use Rattle.ss_model.specs.declared.catalog.Touch.TheVariants.{Part}

@@ -1,12 +1,12 @@
 -- What a disk in memory holds, and what a crash may leave of it.
 use Rattle.std.specs.Prelude.{◌≡◌, List, [], ◌∷◌, Bool, true, ◌&&◌, nat_le, if◌then◌else◌, length}
-use Rattle.ss_disk.specs.declared.contents.Contents.{Contents}
+use Rattle.ss_disk.specs.declared.contents.FileContents.{FileContents}
 use Rattle.ss_disk.specs.declared.events.Event.{Event}
 use Rattle.ss_disk.specs.declared.events.Event.TheVariants.{Wrote, Cut, Synced}
 use Rattle.ss_disk.specs.Files.{Files, file, with_write, with_cut}
 use Rattle.ss_disk.specs.Crash.{After, TornWrite, TornCut}
 
-abbrev pub files_of : Contents → Files
+abbrev pub files_of : FileContents → Files
 files_of c = record { selector = c.selector.items; first = c.first.items; second = c.second.items }
 
 abbrev pub no_files : Files

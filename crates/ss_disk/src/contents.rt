@@ -9,7 +9,7 @@ use std::alloc::Global;
 
 /// The bytes of each file.
 #[derive(Drop)]
-pub(crate) struct Contents {
+pub(crate) struct FileContents {
     pub selector: Vec<u8>,
     pub first: Vec<u8>,
     pub second: Vec<u8>,
@@ -37,14 +37,14 @@ pub(crate) fn overwrite(bytes: &mut Vec<u8>, at: usize, new: &[u8]) -> Result<()
     }
 }
 
-impl Contents {
+impl FileContents {
     ghost use Rattle.ss_disk.specs.Memory.{files_of};
 
     /// Files of nothing.
-    pub fn empty(alloc: Global) -> Contents
+    pub fn empty(alloc: Global) -> FileContents
         ensures { files_of result ≡ record { selector = []; first = []; second = [] } }
     {
-        Contents {
+        FileContents {
             selector: Vec::new(alloc),
             first: Vec::new(alloc),
             second: Vec::new(alloc),
@@ -87,10 +87,10 @@ impl Contents {
     }
 
     /// The same files again.
-    pub fn copy(&self, alloc: Global) -> Result<Contents, NoMemory>
+    pub fn copy(&self, alloc: Global) -> Result<FileContents, NoMemory>
         ensures { IfOk result (λ copy. files_of copy ≡ files_of self.now) }
     {
-        Ok(Contents {
+        Ok(FileContents {
             selector: Vec::from_slice(alloc, self.selector.as_slice())?,
             first: Vec::from_slice(alloc, self.first.as_slice())?,
             second: Vec::from_slice(alloc, self.second.as_slice())?,

@@ -4,7 +4,7 @@ ghost use Rattle.std.specs.Prelude.{◌≡◌, ◌≤◌, length, replicate, IsT
 ghost use Rattle.ss_disk.specs.Memory.{files_of, seen_behind, seen_after, is_within, are_within};
 ghost use Rattle.ss_disk.specs.Tearing.{is_before, crash_moment, synced_count, written_within, torn_write, torn_cut, torn_event, torn_events};
 
-use crate::contents::Contents;
+use crate::contents::FileContents;
 use crate::disk::FileNo;
 use crate::events::Event;
 use ss_value::NoMemory;
@@ -61,7 +61,7 @@ pub(crate) fn up_to_sync(events: &[Event]) -> usize
 }
 
 /// What a read gives behind one event.
-fn apply(files: &mut Contents, event: &Event) -> Result<(), NoMemory>
+fn apply(files: &mut FileContents, event: &Event) -> Result<(), NoMemory>
     requires { IsTrue (is_within event.now (files_of files.old)) }
     ensures { OnOk result (files_of files.new ≡ seen_behind event.now (files_of files.old)) }
 {
@@ -93,7 +93,7 @@ fn apply(files: &mut Contents, event: &Event) -> Result<(), NoMemory>
 }
 
 /// What a read gives behind these events.
-pub(crate) fn replay(files: &mut Contents, events: &[Event]) -> Result<(), NoMemory>
+pub(crate) fn replay(files: &mut FileContents, events: &[Event]) -> Result<(), NoMemory>
     requires { IsTrue (are_within events.now (files_of files.old)) }
     ensures { OnOk result (files_of files.new ≡ seen_after events.now (files_of files.old)) }
 {
@@ -104,7 +104,12 @@ pub(crate) fn replay(files: &mut Contents, events: &[Event]) -> Result<(), NoMem
 }
 
 /// Writes these bytes, unless they would begin behind the end of their file.
-fn write_within(files: &mut Contents, which: FileNo, at: u64, bytes: &[u8]) -> Result<(), NoMemory>
+fn write_within(
+    files: &mut FileContents,
+    which: FileNo,
+    at: u64,
+    bytes: &[u8],
+) -> Result<(), NoMemory>
     ensures { OnOk result (files_of files.new ≡ written_within which at bytes.now (files_of files.old)) }
 {
     if at <= files.file(which).len() as u64 {
@@ -116,7 +121,7 @@ fn write_within(files: &mut Contents, which: FileNo, at: u64, bytes: &[u8]) -> R
 /// Fills so many bytes from an offset on, unless they would begin behind the end of their file.
 fn fill_within(
     alloc: Global,
-    files: &mut Contents,
+    files: &mut FileContents,
     which: FileNo,
     at: u64,
     count: usize,
@@ -131,7 +136,7 @@ fn fill_within(
 /// What a crash leaves of a write that no sync has made last.
 fn tear_write(
     alloc: Global,
-    files: &mut Contents,
+    files: &mut FileContents,
     which: FileNo,
     at: u64,
     bytes: &[u8],
@@ -149,7 +154,7 @@ fn tear_write(
 /// What a crash leaves of a cut that no sync has made last.
 fn tear_cut(
     alloc: Global,
-    files: &mut Contents,
+    files: &mut FileContents,
     which: FileNo,
     len: u64,
     torn: Torn,
@@ -168,7 +173,12 @@ fn tear_cut(
 }
 
 /// What a crash leaves of an event that no sync has made last.
-fn tear_one(alloc: Global, files: &mut Contents, event: &Event, torn: Torn) -> Result<(), NoMemory>
+fn tear_one(
+    alloc: Global,
+    files: &mut FileContents,
+    event: &Event,
+    torn: Torn,
+) -> Result<(), NoMemory>
     ensures { OnOk result (files_of files.new ≡ torn_event torn event.now (files_of files.old)) }
 {
     match event {
@@ -186,7 +196,7 @@ fn tear_one(alloc: Global, files: &mut Contents, event: &Event, torn: Torn) -> R
 /// The same of many events, the first of them first.
 pub(crate) fn tear(
     alloc: Global,
-    files: &mut Contents,
+    files: &mut FileContents,
     events: &[Event],
     torn: Torn,
 ) -> Result<(), NoMemory>

@@ -4,7 +4,7 @@ ghost use Rattle.std.specs.Prelude.{◌≡◌, ◌<◌, false, true, IsTrue, len
 ghost use Rattle.ss_disk.specs.Files.{Files};
 ghost use Rattle.ss_disk.specs.Memory.{files_of, seen_after, left_of, are_within};
 
-use crate::contents::Contents;
+use crate::contents::FileContents;
 use crate::crash::{Torn, events_before, replay, tear, up_to_sync};
 use crate::disk::{Disk, DiskError, FileNo};
 use crate::events::Event;
@@ -21,8 +21,8 @@ pub struct MemoryDisk {
     fails: Seq<u64>,
     calls: u64,
     faults: u64,
-    initial: Contents,
-    files: Contents,
+    initial: FileContents,
+    files: FileContents,
     events: Vec<Event>,
     /// Whether an event stands behind the last sync.
     unsynced: bool,
@@ -51,8 +51,8 @@ impl MemoryDisk {
             fails,
             calls: 0,
             faults: 0,
-            initial: Contents::empty(alloc),
-            files: Contents::empty(alloc),
+            initial: FileContents::empty(alloc),
+            files: FileContents::empty(alloc),
             events: Vec::new(alloc),
             unsynced: false,
         }

@@ -17,7 +17,7 @@ use Rattle.atomic_table.proofs.shared.Shared.TheSendSync as table
 use Rattle.atomic_table.proofs.send_lease.SendLease.TheSendSync as lease
 use Rattle.atomic_table.specs.contracts.owned.Table as owned
 use Rattle.ss_commitlog.proofs.Crossing.{note_send}
-use Rattle.ss_commitlog.specs.contracts.token.Token as token
+use Rattle.ss_commitlog.specs.contracts.token.LogToken as token
 use Rattle.ss_hand.proofs.Crossing.{partition_send}
 use Rattle.ss_lanes.proofs.Crossing.{hub_sync}
 use Rattle.ss_model.proofs.Crossing.{catalog_sync, request_sync}

@@ -12,7 +12,7 @@ use Rattle.std.proofs.lemmas.Bool.Decides.{nat_tests}
 use Rattle.ss_value.specs.Rows.{Row}
 use Rattle.ss_value.specs.Order.{row_cmp}
 use Rattle.ss_fragment.specs.declared.cell.Cell.{Cell}
-use Rattle.ss_fragment.specs.declared.mark.Mark.{Mark}
+use Rattle.ss_fragment.specs.declared.mark.PrefixedSlot.{PrefixedSlot}
 use Rattle.ss_fragment.specs.Cells.{row_of, by_sought, is_live}
 use Rattle.ss_fragment.specs.Prefixes.{key_prefix, sought_prefix}
 use Rattle.ss_fragment.specs.Targets.{target_at, row_cmp_to, slot_cmp, is_before_slot, slot_rank, is_before, rank, is_past_row, is_past_slot, is_past, slot_stops, stops}
@@ -25,20 +25,20 @@ use Rattle.ss_fragment.proofs.Fronts.{keys_less, keys_greater, sought_prefix-key
 
 -- ---- tests of marks and of their slots
 
-module _ (p : Mark → Bool) (q : ℕ → Bool) where
-  prefix_slots : (marks : List Mark) → AllByRecursion (λ m. p m ≡ q m.slot) marks → prefix_len p marks ≡ prefix_len q (slots_of marks)
+module _ (p : PrefixedSlot → Bool) (q : ℕ → Bool) where
+  prefix_slots : (marks : List PrefixedSlot) → AllByRecursion (λ m. p m ≡ q m.slot) marks → prefix_len p marks ≡ prefix_len q (slots_of marks)
   prefix_slots [] a = refl
   prefix_slots (m ∷ ms) a = λ i. cond (a.0 i) (1 + prefix_slots ms a.1 i) 0
 
-  find_slots : (marks : List Mark) → AllByRecursion (λ m. p m ≡ q m.slot) marks → option_map (λ m. m.slot) (find p marks) ≡ find q (slots_of marks)
+  find_slots : (marks : List PrefixedSlot) → AllByRecursion (λ m. p m ≡ q m.slot) marks → option_map (λ m. m.slot) (find p marks) ≡ find q (slots_of marks)
   find_slots [] a = refl
   find_slots (m ∷ ms) a = one (p m) ∙ (λ i. cond (a.0 i) (Some m.slot) (find_slots ms a.1 i))
     where
-      one : (b : Bool) → option_map (λ (x : Mark). x.slot) (cond b (Some m) (find p ms)) ≡ cond b (Some m.slot) (option_map (λ (x : Mark). x.slot) (find p ms))
+      one : (b : Bool) → option_map (λ (x : PrefixedSlot). x.slot) (cond b (Some m) (find p ms)) ≡ cond b (Some m.slot) (option_map (λ (x : PrefixedSlot). x.slot) (find p ms))
       one true = refl
       one false = refl
 
-map_slots : {B : Type 0} (f : ℕ → B) (marks : List Mark) → map f (slots_of marks) ≡ map (λ m. f m.slot) marks
+map_slots : {B : Type 0} (f : ℕ → B) (marks : List PrefixedSlot) → map f (slots_of marks) ≡ map (λ m. f m.slot) marks
 map_slots f [] = refl
 map_slots f (m ∷ ms) = ap (λ l. f m.slot ∷ l) (map_slots f ms)
 
@@ -55,7 +55,7 @@ less_ranked x y e = ranked x y Less (sym e)
 greater_ranked : (x y : ℕ) → nat_cmp x y ≡ Greater → y < x
 greater_ranked x y e = ranked x y Greater (sym e)
 
-module _ (cells : List Cell) (key : List ℕ) (is_key : Bool) (values : Row) (from : ℕ) (m : Mark) (row : Row) (e : row_of cells m.slot ≡ Some row) (has : HasKey key row) (q : is_key ≡ false → HasKey key values) (is : IsMark key cells m) where
+module _ (cells : List Cell) (key : List ℕ) (is_key : Bool) (values : Row) (from : ℕ) (m : PrefixedSlot) (row : Row) (e : row_of cells m.slot ≡ Some row) (has : HasKey key row) (q : is_key ≡ false → HasKey key values) (is : IsMark key cells m) where
   -- the prefixes are those of the keys
   here : m.prefix ≡ key_prefix (key_of key row)
   here = is ∙ ap (λ o. key_prefix (option_map_or (key_of key) o [])) e
@@ -91,25 +91,25 @@ module _ (cells : List Cell) (key : List ℕ) (is_key : Bool) (values : Row) (fr
 
 -- ---- all marks of a fragment
 
-module _ (cells : List Cell) (key : List ℕ) (is_key : Bool) (values : Row) (from : ℕ) (marks : List Mark) (t : IsFragment key cells (slots_of marks)) (marked : AllByRecursion (IsMark key cells) marks) (q : is_key ≡ false → HasKey key values) where
+module _ (cells : List Cell) (key : List ℕ) (is_key : Bool) (values : Row) (from : ℕ) (marks : List PrefixedSlot) (t : IsFragment key cells (slots_of marks)) (marked : AllByRecursion (IsMark key cells) marks) (q : is_key ≡ false → HasKey key values) where
   rows : AllByRecursion (λ m. (row : Row) × (row_of cells m.slot ≡ Some row)) marks
-  rows = every_map (λ s. (row : Row) × (row_of cells s ≡ Some row)) (λ (m : Mark). m.slot) marks t.held
+  rows = every_map (λ s. (row : Row) × (row_of cells s ≡ Some row)) (λ (m : PrefixedSlot). m.slot) marks t.held
 
   before_slots : AllByRecursion (λ m. is_before (target_at cells key is_key values from) m ≡ is_before_slot cells key is_key values from m.slot) marks
-  before_slots = every_with (λ (m : Mark). (row : Row) × (row_of cells m.slot ≡ Some row)) (IsMark key cells) (λ m. is_before (target_at cells key is_key values from) m ≡ is_before_slot cells key is_key values from m.slot) marks
+  before_slots = every_with (λ (m : PrefixedSlot). (row : Row) × (row_of cells m.slot ≡ Some row)) (IsMark key cells) (λ m. is_before (target_at cells key is_key values from) m ≡ is_before_slot cells key is_key values from m.slot) marks
       (λ m r is. before_slot cells key is_key values from m r.0 r.1 (t.keyed m.slot r.0 r.1) q is) rows marked
 
   before_positions : AllByRecursion (λ m. is_before (target_at cells key is_key values from) m ≡ is_lt (order_cmp (order_key cells key m.slot) (sought_key is_key key values, from))) marks
-  before_positions = every_with (λ (m : Mark). (row : Row) × (row_of cells m.slot ≡ Some row)) (λ m. is_before (target_at cells key is_key values from) m ≡ is_before_slot cells key is_key values from m.slot)
+  before_positions = every_with (λ (m : PrefixedSlot). (row : Row) × (row_of cells m.slot ≡ Some row)) (λ m. is_before (target_at cells key is_key values from) m ≡ is_before_slot cells key is_key values from m.slot)
       (λ m. is_before (target_at cells key is_key values from) m ≡ is_lt (order_cmp (order_key cells key m.slot) (sought_key is_key key values, from))) marks
       (λ m r same. same ∙ is_before-position cells key is_key values from m.slot r.0 r.1 (t.keyed m.slot r.0 r.1) q) rows before_slots
 
   stops_slots : AllByRecursion (λ m. stops (target_at cells key is_key values from) m ≡ slot_stops cells key is_key values m.slot) marks
-  stops_slots = every_with (λ (m : Mark). (row : Row) × (row_of cells m.slot ≡ Some row)) (IsMark key cells) (λ m. stops (target_at cells key is_key values from) m ≡ slot_stops cells key is_key values m.slot) marks
+  stops_slots = every_with (λ (m : PrefixedSlot). (row : Row) × (row_of cells m.slot ≡ Some row)) (IsMark key cells) (λ m. stops (target_at cells key is_key values from) m ≡ slot_stops cells key is_key values m.slot) marks
       (λ m r is. ap (λ b. is_live cells m.slot || b) (past_slot cells key is_key values from m r.0 r.1 (t.keyed m.slot r.0 r.1) q is)) rows marked
 
   pub parted_marks : IsPartitionedBy (is_before (target_at cells key is_key values from)) marks
-  parted_marks = parted positions_total (λ (m : Mark). order_key cells key m.slot) (is_before (target_at cells key is_key values from)) (sought_key is_key key values, from) marks before_positions
+  parted_marks = parted positions_total (λ (m : PrefixedSlot). order_key cells key m.slot) (is_before (target_at cells key is_key values from)) (sought_key is_key key values, from) marks before_positions
       (subst (Rises order_cmp) (map_slots (order_key cells key) marks) t.rises)
 
   pub rank_slots : rank (target_at cells key is_key values from) marks ≡ slot_rank cells key is_key values from (slots_of marks)
@@ -117,7 +117,7 @@ module _ (cells : List Cell) (key : List ℕ) (is_key : Bool) (values : Row) (fr
 
   -- the slots from an aim on
   pub rest_slots : slots_of (drop (rank (target_at cells key is_key values from) marks) marks) ≡ drop (slot_rank cells key is_key values from (slots_of marks)) (slots_of marks)
-  rest_slots = sym (drop-map (λ (m : Mark). m.slot) (rank (target_at cells key is_key values from) marks) marks) ∙ ap (λ n. drop n (slots_of marks)) rank_slots
+  rest_slots = sym (drop-map (λ (m : PrefixedSlot). m.slot) (rank (target_at cells key is_key values from) marks) marks) ∙ ap (λ n. drop n (slots_of marks)) rank_slots
 
   pub stop_slots : option_map (λ m. m.slot) (find (stops (target_at cells key is_key values from)) (drop (rank (target_at cells key is_key values from) marks) marks))
       ≡ find (slot_stops cells key is_key values) (drop (slot_rank cells key is_key values from (slots_of marks)) (slots_of marks))

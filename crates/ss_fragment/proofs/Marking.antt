@@ -17,7 +17,7 @@ use Rattle.ss_fragment.specs.Invariant.{live_list, dead_list, fragment_of, IsFra
 use Rattle.ss_fragment.proofs.Maps.{find-past}
 use Rattle.ss_fragment.proofs.Cells.{dead_get, sorted_live, around}
 use Rattle.ss_fragment.proofs.Steps.{minus_is, plus_is, minus_loose, plus_loose, Apart, apart_front, apart_back, no_dead}
-use Rattle.ss_fragment.specs.declared.mark.Mark.{Mark}
+use Rattle.ss_fragment.specs.declared.mark.PrefixedSlot.{PrefixedSlot}
 use Rattle.ss_fragment.specs.Chunks.{slots_of}
 use Rattle.ss_fragment.proofs.Answered.{row_at_is, dead_at_is}
 use Rattle.ss_fragment.proofs.Cases.{if_some_at, length_set}
@@ -115,7 +115,7 @@ module _ (key : List ℕ) (cells : List Cell) (slot : ℕ) (row : Row) (is : sli
 
 -- ---- as the calls do it
 
-module _ (key : List ℕ) (cells made : List Cell) (marks : List Mark) (count spare : ℕ) (h : FragmentValue) (slot : ℕ) (kept : FragmentInvariant key cells marks count spare) (view : fragment_of key cells (slots_of marks) ≡ h) where
+module _ (key : List ℕ) (cells made : List Cell) (marks : List PrefixedSlot) (count spare : ℕ) (h : FragmentValue) (slot : ℕ) (kept : FragmentInvariant key cells marks count spare) (view : fragment_of key cells (slots_of marks) ≡ h) where
   pub mark_step : is_some (row_at h.live slot) ≡ true → IfSome (row_of cells slot) (λ row. made ≡ slice_set cells slot (Dead row)) → Becomes key made marks (count - 1) spare (mark_dead h slot)
   mark_step some wrote =
       let l = live_slot key cells (slots_of marks) h slot kept.fragment view some in

@@ -3,7 +3,7 @@ use Rattle.std.proofs.Common.{◌≡◌, ℕ, List, [], ◌∷◌, ◌++◌, sli
 use Rattle.std.specs.Prelude.{IsSome}
 use Rattle.std.specs.FinMap as finite
 use Rattle.ss_fragment.specs.declared.cell.Cell.{Cell}
-use Rattle.ss_fragment.specs.declared.mark.Mark.{Mark}
+use Rattle.ss_fragment.specs.declared.mark.PrefixedSlot.{PrefixedSlot}
 use Rattle.ss_value.specs.Rows.{Row}
 use Rattle.ss_fragment.specs.declared.cell.Cell.TheVariants.{Free, Live, Dead}
 use Rattle.ss_fragment.specs.FragmentValue.{row_at, after_in}
@@ -13,11 +13,11 @@ use Rattle.ss_fragment.proofs.Answered.{row_at_is, after_here}
 use Rattle.ss_fragment.specs.Chunks.{slots_of}
 use Rattle.ss_fragment.specs.Near.{IsBehind}
 
-slots_append : (xs ys : List Mark) → slots_of (xs ++ ys) ≡ slots_of xs ++ slots_of ys
+slots_append : (xs ys : List PrefixedSlot) → slots_of (xs ++ ys) ≡ slots_of xs ++ slots_of ys
 slots_append [] ys = refl
 slots_append (x ∷ xs) ys = ap (λ s. x.slot ∷ s) (slots_append xs ys)
 
-module _ (key : List ℕ) (cells : List Cell) (marks : List Mark) (slot : ℕ) (t : IsFragment key cells (slots_of marks)) where
+module _ (key : List ℕ) (cells : List Cell) (marks : List PrefixedSlot) (slot : ℕ) (t : IsFragment key cells (slots_of marks)) where
   at_live : (o : Option Cell) → slice_get cells slot ≡ o → IsSome (live_row o) → (row : Row) × (slice_get cells slot ≡ Some (Live row))
   at_live None e some = cc
   at_live (Some (Free n)) e some = cc

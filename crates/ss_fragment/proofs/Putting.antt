@@ -23,7 +23,7 @@ use Rattle.ss_fragment.proofs.Rising.{every_so, every_with, every_map, every-app
 use Rattle.ss_fragment.proofs.Keys.{positions_total}
 use Rattle.ss_fragment.proofs.Cells.{live_get, live_entries, sorted_live, get_set_other, get_set_same, among_here, among_more, same_tests}
 use Rattle.ss_fragment.proofs.Steps.{plus_is, map_mid, map_two, Apart, live_two, dead_two, Agree, live_agree, dead_agree, position_agree}
-use Rattle.ss_fragment.specs.declared.mark.Mark.{Mark}
+use Rattle.ss_fragment.specs.declared.mark.PrefixedSlot.{PrefixedSlot}
 use Rattle.ss_fragment.specs.Prefixes.{key_prefix}
 use Rattle.ss_fragment.specs.Chunks.{slots_of}
 use Rattle.ss_fragment.proofs.Answered.{is_same}
@@ -80,7 +80,7 @@ grown_is key cells new order before now n t g counted = subst (λ s. Turns key s
     agree = every_so (λ s. (row : Row) × (row_of cells s ≡ Some row)) (λ s. slice_get (cells ++ g.more) s ≡ slice_get cells s) order (λ s r. let c = cell_some (slice_get cells s) r.0 r.1 in get_more cells g.more s c.0 c.1) t.held
 
 -- the same fragment, with more free cells
-pub grown_step : (key : List ℕ) (cells made : List Cell) (marks : List Mark) (count spare now : ℕ) (h : FragmentValue) → FragmentInvariant key cells marks count spare → fragment_of key cells (slots_of marks) ≡ h → Grown cells made spare now → length made ≤ 2 ^ 56 → Becomes key made marks count now h
+pub grown_step : (key : List ℕ) (cells made : List Cell) (marks : List PrefixedSlot) (count spare now : ℕ) (h : FragmentValue) → FragmentInvariant key cells marks count spare → fragment_of key cells (slots_of marks) ≡ h → Grown cells made spare now → length made ≤ 2 ^ 56 → Becomes key made marks count now h
 grown_step key cells made marks count spare now h kept view g few =
     let turns : Turns key made (slots_of marks) count (fragment_of key cells (slots_of marks)) = grown_is key cells made (slots_of marks) spare now count kept.fragment g kept.counted in
     let long = ap length g.is in
@@ -196,19 +196,19 @@ module _ (key : List ℕ) (cells made : List Cell) (order put : List ℕ) (count
 
 -- ---- as the call does it
 
-module _ (key : List ℕ) (cells made : List Cell) (marks put : List Mark) (count spare : ℕ) (h : FragmentValue) (slot : ℕ) (row : Row) (m : ℕ) (kept : FragmentInvariant key cells marks count spare) (view : fragment_of key cells (slots_of marks) ≡ h)
+module _ (key : List ℕ) (cells made : List Cell) (marks put : List PrefixedSlot) (count spare : ℕ) (h : FragmentValue) (slot : ℕ) (row : Row) (m : ℕ) (kept : FragmentInvariant key cells marks count spare) (view : fragment_of key cells (slots_of marks) ≡ h)
     (is : slice_get cells slot ≡ Some (Free m)) (has : HasKey key row) (free : finite.get h.live (key_of key row) ≡ None) (wrote : made ≡ slice_set cells slot (Live row))
     (linked : put ≡ insert marks (slot_rank cells key false row slot (slots_of marks)) (target_mark (target_at cells key false row slot))) (some : 1 ≤ spare) where
   put_slots : slots_of put ≡ insert (slots_of marks) (slot_rank cells key false row slot (slots_of marks)) slot
   put_slots =
       let n : ℕ = slot_rank cells key false row slot (slots_of marks) in
-      ap slots_of linked ∙ map_mid (λ (x : Mark). x.slot) (take n marks) (target_mark (target_at cells key false row slot)) (drop n marks)
-      ∙ (λ i. sym (take-map (λ (x : Mark). x.slot) n marks) i ++ slot ∷ sym (drop-map (λ (x : Mark). x.slot) n marks) i)
+      ap slots_of linked ∙ map_mid (λ (x : PrefixedSlot). x.slot) (take n marks) (target_mark (target_at cells key false row slot)) (drop n marks)
+      ∙ (λ i. sym (take-map (λ (x : PrefixedSlot). x.slot) n marks) i ++ slot ∷ sym (drop-map (λ (x : PrefixedSlot). x.slot) n marks) i)
 
   off_slots : AllByRecursion (λ x. x.slot ≡ slot → ⊥) marks
-  off_slots = every_so (λ (x : Mark). (r : Row) × (row_of cells x.slot ≡ Some r)) (λ (x : Mark). x.slot ≡ slot → ⊥) marks
+  off_slots = every_so (λ (x : PrefixedSlot). (r : Row) × (row_of cells x.slot ≡ Some r)) (λ (x : PrefixedSlot). x.slot ≡ slot → ⊥) marks
       (λ x r q. let no : None ≡ Some r.0 = sym (ap (option_and_then row_in) is) ∙ subst (λ u. row_of cells u ≡ Some r.0) q r.1 in elim (subst (λ b. T (not b)) (ap is_some no) tt) [ ])
-      (every_map (λ s. (r : Row) × (row_of cells s ≡ Some r)) (λ (x : Mark). x.slot) marks kept.fragment.held)
+      (every_map (λ s. (r : Row) × (row_of cells s ≡ Some r)) (λ (x : PrefixedSlot). x.slot) marks kept.fragment.held)
 
   put_here : IsMark key (slice_set cells slot (Live row)) (target_mark (target_at cells key false row slot))
   put_here = row_prefix-key key row has ∙ sym (ap (λ o. key_prefix (option_map_or (key_of key) (option_and_then row_in o) [])) (get_set_same cells slot (Live row) (Free m) is))
@@ -216,7 +216,7 @@ module _ (key : List ℕ) (cells made : List Cell) (marks put : List Mark) (coun
   put_marked : AllByRecursion (IsMark key made) put
   put_marked =
       let n : ℕ = slot_rank cells key false row slot (slots_of marks) in
-      let P : Mark → Type 0 = IsMark key (slice_set cells slot (Live row)) in
+      let P : PrefixedSlot → Type 0 = IsMark key (slice_set cells slot (Live row)) in
       let parts : AllByRecursion (IsMark key (slice_set cells slot (Live row))) (take n marks ++ drop n marks) =
       subst (AllByRecursion (IsMark key (slice_set cells slot (Live row)))) (sym (take-append-drop n marks)) (marked_off key cells slot (Live row) marks off_slots kept.marked) in
       let all : AllByRecursion (IsMark key (slice_set cells slot (Live row))) (take n marks ++ target_mark (target_at cells key false row slot) ∷ drop n marks) =
@@ -248,7 +248,7 @@ none_from_key key h row same gone = ap (λ k. finite.get h.live (key_of k row)) 
 
 -- ---- a row put in a free slot, where there may be more free cells than before
 
-module _ (key : List ℕ) (cells made filled : List Cell) (marks put linked : List Mark) (count spare now : ℕ) (h : FragmentValue) (slot : ℕ) (row : Row) where
+module _ (key : List ℕ) (cells made filled : List Cell) (marks put linked : List PrefixedSlot) (count spare now : ℕ) (h : FragmentValue) (slot : ℕ) (row : Row) where
   pub put_step : {A B E F : Type 0} (freed : Result A E) (did : Result B F) → FragmentInvariant key cells marks count spare → fragment_of key cells (slots_of marks) ≡ h → Grown cells made spare now → length made ≤ 2 ^ 56 → HasKey h.key row → finite.contains_key h.live (key_of h.key row) ≡ false
       → is_err freed ≡ false → OnOk freed ((m : ℕ) × (slice_get made slot ≡ Some (Free m))) → OnOk freed (1 ≤ now) → filled ≡ slice_set made slot (Live row)
       → is_err did ≡ false → OnOk did (put ≡ linked) → linked ≡ linked_order made key row slot marks → Becomes key filled put (count + 1) (now - 1) (inserted h slot row)

@@ -21,7 +21,7 @@ use Rattle.ss_fragment.proofs.Rising.{every_with, every_map, every-append, every
 use Rattle.ss_fragment.proofs.Keys.{positions_total}
 use Rattle.ss_fragment.proofs.Cells.{sorted_live, get_set_other, get_set_same, among_less, same_tests}
 use Rattle.ss_fragment.proofs.Steps.{minus_is, minus_loose, map_mid, map_two, Apart, apart_front, apart_back, before_front}
-use Rattle.ss_fragment.specs.declared.mark.Mark.{Mark}
+use Rattle.ss_fragment.specs.declared.mark.PrefixedSlot.{PrefixedSlot}
 use Rattle.ss_fragment.specs.Chunks.{slots_of}
 use Rattle.ss_fragment.proofs.Answered.{row_at_is}
 use Rattle.ss_fragment.proofs.Cases.{length_set}
@@ -45,30 +45,30 @@ remove_mid : {A : Type 0} (front : List A) (x : A) (back : List A) → remove (f
 remove_mid [] x back = refl
 remove_mid (y ∷ ys) x back = ap (λ l. y ∷ l) (remove_mid ys x back)
 
-slots_long : (marks : List Mark) → length (slots_of marks) ≡ length marks
+slots_long : (marks : List PrefixedSlot) → length (slots_of marks) ≡ length marks
 slots_long [] = refl
 slots_long (m ∷ ms) = ap suc (slots_long ms)
 
-slots_mid : (front : List Mark) (mark : Mark) (back : List Mark) (slot : ℕ) → mark.slot ≡ slot → slots_of (front ++ mark ∷ back) ≡ slots_of front ++ slot ∷ slots_of back
-slots_mid front mark back slot here = map_mid (λ (m : Mark). m.slot) front mark back ∙ ap (λ s. slots_of front ++ s ∷ slots_of back) here
+slots_mid : (front : List PrefixedSlot) (mark : PrefixedSlot) (back : List PrefixedSlot) (slot : ℕ) → mark.slot ≡ slot → slots_of (front ++ mark ∷ back) ≡ slots_of front ++ slot ∷ slots_of back
+slots_mid front mark back slot here = map_mid (λ (m : PrefixedSlot). m.slot) front mark back ∙ ap (λ s. slots_of front ++ s ∷ slots_of back) here
 
 -- what is taken out at a slot's position is its mark
-pub unlinked : (key : List ℕ) (cells : List Cell) (marks gone : List Mark) (slot : ℕ) (row : Row) → IsFragment key cells (slots_of marks) → row_of cells slot ≡ Some row → gone ≡ remove marks (slot_rank cells key false row slot (slots_of marks))
-    → (front back : List Mark) (mark : Mark) → marks ≡ front ++ mark ∷ back → mark.slot ≡ slot → gone ≡ front ++ back
+pub unlinked : (key : List ℕ) (cells : List Cell) (marks gone : List PrefixedSlot) (slot : ℕ) (row : Row) → IsFragment key cells (slots_of marks) → row_of cells slot ≡ Some row → gone ≡ remove marks (slot_rank cells key false row slot (slots_of marks))
+    → (front back : List PrefixedSlot) (mark : PrefixedSlot) → marks ≡ front ++ mark ∷ back → mark.slot ≡ slot → gone ≡ front ++ back
 unlinked key cells marks gone slot row t e is front back mark at here =
     let slots : slots_of marks ≡ slots_of front ++ slot ∷ slots_of back = ap slots_of at ∙ slots_mid front mark back slot here in
     let place : slot_rank cells key false row slot (slots_of marks) ≡ length front =
     ap (slot_rank cells key false row slot) slots ∙ rank_step key cells (slots_of front) slot (slots_of back) row (subst (IsFragment key cells) slots t) e ∙ slots_long front in
     is ∙ (λ i. remove (at i) (place i)) ∙ remove_mid front mark back
 
-record AroundMark (marks : List Mark) (slot : ℕ) : Type 0 where
-  front : List Mark
-  mark : Mark
-  back : List Mark
+record AroundMark (marks : List PrefixedSlot) (slot : ℕ) : Type 0 where
+  front : List PrefixedSlot
+  mark : PrefixedSlot
+  back : List PrefixedSlot
   is : marks ≡ front ++ mark ∷ back
   here : mark.slot ≡ slot
 
-around_mark : (marks : List Mark) (slot : ℕ) → Among slot (slots_of marks) → AroundMark marks slot
+around_mark : (marks : List PrefixedSlot) (slot : ℕ) → Among slot (slots_of marks) → AroundMark marks slot
 around_mark [] slot h = absurd h
 around_mark (m ∷ ms) slot (inl e) = record { front = []; mark = m; back = ms; is = refl; here = e }
 around_mark (m ∷ ms) slot (inr h) = let r = around_mark ms slot h in record { front = m ∷ r.front; mark = r.mark; back = r.back; is = ap (λ l. m ∷ l) r.is; here = r.here }
@@ -148,8 +148,8 @@ module _ (key : List ℕ) (cells : List Cell) (front : List ℕ) (slot : ℕ) (b
 
 -- ---- as the calls do it
 
-module _ (key : List ℕ) (cells made : List Cell) (marks left : List Mark) (count spare next : ℕ) (h : FragmentValue) (slot : ℕ) (kept : FragmentInvariant key cells marks count spare) (view : fragment_of key cells (slots_of marks) ≡ h)
-    (wrote : made ≡ slice_set cells slot (Free next)) (out : (front back : List Mark) (mark : Mark) → marks ≡ front ++ mark ∷ back → mark.slot ≡ slot → left ≡ front ++ back) where
+module _ (key : List ℕ) (cells made : List Cell) (marks left : List PrefixedSlot) (count spare next : ℕ) (h : FragmentValue) (slot : ℕ) (kept : FragmentInvariant key cells marks count spare) (view : fragment_of key cells (slots_of marks) ≡ h)
+    (wrote : made ≡ slice_set cells slot (Free next)) (out : (front back : List PrefixedSlot) (mark : PrefixedSlot) → marks ≡ front ++ mark ∷ back → mark.slot ≡ slot → left ≡ front ++ back) where
   around_slots : (a : AroundMark marks slot) → slots_of marks ≡ slots_of a.front ++ slot ∷ slots_of a.back
   around_slots a = ap slots_of a.is ∙ slots_mid a.front a.mark a.back slot a.here
 
@@ -157,18 +157,18 @@ module _ (key : List ℕ) (cells made : List Cell) (marks left : List Mark) (cou
   around_fragment a = subst (IsFragment key cells) (around_slots a) kept.fragment
 
   left_slots : (a : AroundMark marks slot) → slots_of left ≡ slots_of a.front ++ slots_of a.back
-  left_slots a = ap slots_of (out a.front a.back a.mark a.is a.here) ∙ map_two (λ (m : Mark). m.slot) a.front a.back
+  left_slots a = ap slots_of (out a.front a.back a.mark a.is a.here) ∙ map_two (λ (m : PrefixedSlot). m.slot) a.front a.back
 
   left_marked : (a : AroundMark marks slot) → AllByRecursion (IsMark key made) left
   left_marked a =
       let t = around_fragment a in
-      let in_front : AllByRecursion (λ m. m.slot ≡ slot → ⊥) a.front = every_map (λ s. s ≡ slot → ⊥) (λ (m : Mark). m.slot) a.front (apart_front key cells (slots_of a.front) slot (slots_of a.back) t.rises) in
-      let behind : AllByRecursion (λ m. m.slot ≡ slot → ⊥) a.back = every_map (λ s. s ≡ slot → ⊥) (λ (m : Mark). m.slot) a.back (apart_back key cells (slots_of a.front) slot (slots_of a.back) t.rises) in
+      let in_front : AllByRecursion (λ m. m.slot ≡ slot → ⊥) a.front = every_map (λ s. s ≡ slot → ⊥) (λ (m : PrefixedSlot). m.slot) a.front (apart_front key cells (slots_of a.front) slot (slots_of a.back) t.rises) in
+      let behind : AllByRecursion (λ m. m.slot ≡ slot → ⊥) a.back = every_map (λ s. s ≡ slot → ⊥) (λ (m : PrefixedSlot). m.slot) a.back (apart_back key cells (slots_of a.front) slot (slots_of a.back) t.rises) in
       let all : AllByRecursion (IsMark key cells) (a.front ++ a.mark ∷ a.back) = subst (AllByRecursion (IsMark key cells)) a.is kept.marked in
       let rest = every_back (IsMark key cells) a.front (a.mark ∷ a.back) all in
       let both : AllByRecursion (IsMark key (slice_set cells slot (Free next))) (a.front ++ a.back) = every-append (IsMark key (slice_set cells slot (Free next))) a.front a.back
       (marked_off key cells slot (Free next) a.front in_front (every_front (IsMark key cells) a.front (a.mark ∷ a.back) all)) (marked_off key cells slot (Free next) a.back behind rest.1) in
-      let P : List Cell → List Mark → Type 0 = λ c m. AllByRecursion (IsMark key c) m in
+      let P : List Cell → List PrefixedSlot → Type 0 = λ c m. AllByRecursion (IsMark key c) m in
       subst (λ c. P c left) (sym wrote) (subst (P (slice_set cells slot (Free next))) (sym (out a.front a.back a.mark a.is a.here)) both)
 
   left_spared : (a : AroundMark marks slot) → length (slots_of left) + (spare + 1) ≡ length made

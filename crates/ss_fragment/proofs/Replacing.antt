@@ -14,7 +14,7 @@ use Rattle.ss_fragment.specs.FragmentValue.{FragmentValue, key_of, HasKey, row_a
 use Rattle.ss_fragment.specs.Invariant.{live_list, dead_list, fragment_of, IsFragment, FragmentInvariant}
 use Rattle.ss_fragment.proofs.Cells.{sorted_live, get_set_other, get_set_same, around}
 use Rattle.ss_fragment.proofs.Steps.{swap_is, apart_front, apart_back}
-use Rattle.ss_fragment.specs.declared.mark.Mark.{Mark}
+use Rattle.ss_fragment.specs.declared.mark.PrefixedSlot.{PrefixedSlot}
 use Rattle.ss_fragment.specs.Chunks.{slots_of}
 use Rattle.ss_fragment.proofs.Answered.{row_at_is, is_same}
 use Rattle.ss_fragment.proofs.Cases.{if_some_at, length_set}
@@ -73,7 +73,7 @@ module _ (key : List ℕ) (cells : List Cell) (slot : ℕ) (row other : Row) (is
 
 -- ---- as the call does it
 
-module _ (key : List ℕ) (cells made : List Cell) (marks : List Mark) (count spare : ℕ) (h : FragmentValue) (slot : ℕ) (kept : FragmentInvariant key cells marks count spare) (view : fragment_of key cells (slots_of marks) ≡ h) where
+module _ (key : List ℕ) (cells made : List Cell) (marks : List PrefixedSlot) (count spare : ℕ) (h : FragmentValue) (slot : ℕ) (kept : FragmentInvariant key cells marks count spare) (view : fragment_of key cells (slots_of marks) ≡ h) where
   pub replace_step : (other : Row) → is_some (row_at h.live slot) ≡ true → IfSome (row_at h.live slot) (λ old. key_of h.key other ≡ key_of h.key old) → made ≡ slice_set cells slot (Live other) → Becomes key made marks count spare (replace h slot other)
   replace_step other some same put =
       let l = live_slot key cells (slots_of marks) h slot kept.fragment view some in

@@ -18,7 +18,7 @@ use Rattle.ss_fragment.proofs.Rising.{every_so, every_with}
 use Rattle.ss_fragment.proofs.Maps.{none_back, find-past}
 use Rattle.ss_fragment.proofs.Cells.{live_fewer, live_get, get_set_other, get_set_same, around, live_cell, dead_cell}
 use Rattle.ss_fragment.proofs.Steps.{Apart, live_mid, live_two, dead_mid, dead_two, live_agree, dead_agree, position_agree, agree_set, no_dead}
-use Rattle.ss_fragment.specs.declared.mark.Mark.{Mark}
+use Rattle.ss_fragment.specs.declared.mark.PrefixedSlot.{PrefixedSlot}
 use Rattle.ss_fragment.specs.Prefixes.{key_prefix}
 use Rattle.ss_fragment.specs.Chunks.{slots_of}
 use Rattle.ss_fragment.proofs.Answered.{row_at_is, dead_at_is, is_same}
@@ -29,11 +29,11 @@ pub record Turns (key : List ℕ) (cells : List Cell) (slots : List ℕ) (count 
   pub count_is : count ≡ length (live_list cells key slots)
   pub view : fragment_of key cells slots ≡ h
 
-pub record Becomes (key : List ℕ) (cells : List Cell) (marks : List Mark) (count spare : ℕ) (h : FragmentValue) : Type 0 where
+pub record Becomes (key : List ℕ) (cells : List Cell) (marks : List PrefixedSlot) (count spare : ℕ) (h : FragmentValue) : Type 0 where
   pub kept : FragmentInvariant key cells marks count spare
   pub view : fragment_of key cells (slots_of marks) ≡ h
 
-pub becomes : (key : List ℕ) (cells : List Cell) (marks : List Mark) (count spare : ℕ) (h : FragmentValue) → Turns key cells (slots_of marks) count h → AllByRecursion (IsMark key cells) marks → length (slots_of marks) + spare ≡ length cells
+pub becomes : (key : List ℕ) (cells : List Cell) (marks : List PrefixedSlot) (count spare : ℕ) (h : FragmentValue) → Turns key cells (slots_of marks) count h → AllByRecursion (IsMark key cells) marks → length (slots_of marks) + spare ≡ length cells
     → length cells ≤ 2 ^ 56 → Becomes key cells marks count spare h
 becomes key cells marks count spare h t m s few = record { kept = record { fragment = t.fragment; marked = m; counted = t.count_is; spared = s; few = few }; view = t.view }
 
@@ -126,14 +126,14 @@ pub positions_apart : (key : List ℕ) (cells : List Cell) (slot : ℕ) (cell : 
 positions_apart key cells slot cell slots a = position_agree key (slice_set cells slot cell) cells slots (every_so (λ s. s ≡ slot → ⊥) (λ s. row_of (slice_set cells slot cell) s ≡ row_of cells s) slots (λ s n. ap (option_and_then row_in) (get_set_other cells slot s cell n)) a)
 
 -- marks stay where the keys of their slots do
-pub marked_same : (key : List ℕ) (made cells : List Cell) (marks : List Mark) → ((s : ℕ) → order_key made key s ≡ order_key cells key s) → AllByRecursion (IsMark key cells) marks → AllByRecursion (IsMark key made) marks
+pub marked_same : (key : List ℕ) (made cells : List Cell) (marks : List PrefixedSlot) → ((s : ℕ) → order_key made key s ≡ order_key cells key s) → AllByRecursion (IsMark key cells) marks → AllByRecursion (IsMark key made) marks
 marked_same key made cells marks f m = every_so (IsMark key cells) (IsMark key made) marks (λ x is. is ∙ ap (λ (p : Row × ℕ). key_prefix p.0) (sym (f x.slot))) m
 
 pub position_off : (key : List ℕ) (cells : List Cell) (slot : ℕ) (cell : Cell) (s : ℕ) → (s ≡ slot → ⊥) → order_key (slice_set cells slot cell) key s ≡ order_key cells key s
 position_off key cells slot cell s n = ap (λ o. (option_map_or (key_of key) (option_and_then row_in o) [], s)) (get_set_other cells slot s cell n)
 
-pub marked_off : (key : List ℕ) (cells : List Cell) (slot : ℕ) (cell : Cell) (marks : List Mark) → AllByRecursion (λ m. m.slot ≡ slot → ⊥) marks → AllByRecursion (IsMark key cells) marks → AllByRecursion (IsMark key (slice_set cells slot cell)) marks
-marked_off key cells slot cell marks a m = every_with (λ (x : Mark). x.slot ≡ slot → ⊥) (IsMark key cells) (IsMark key (slice_set cells slot cell)) marks
+pub marked_off : (key : List ℕ) (cells : List Cell) (slot : ℕ) (cell : Cell) (marks : List PrefixedSlot) → AllByRecursion (λ m. m.slot ≡ slot → ⊥) marks → AllByRecursion (IsMark key cells) marks → AllByRecursion (IsMark key (slice_set cells slot cell)) marks
+marked_off key cells slot cell marks a m = every_with (λ (x : PrefixedSlot). x.slot ≡ slot → ⊥) (IsMark key cells) (IsMark key (slice_set cells slot cell)) marks
     (λ x n is. is ∙ ap (λ (p : Row × ℕ). key_prefix p.0) (sym (position_off key cells slot cell x.slot n))) a m
 
 pub positions_set : (key : List ℕ) (cells made : List Cell) (slot : ℕ) (was now : Cell) → slice_get cells slot ≡ Some was → option_map (key_of key) (row_in now) ≡ option_map (key_of key) (row_in was) → made ≡ slice_set cells slot now → (s : ℕ) → order_key made key s ≡ order_key cells key s
@@ -224,7 +224,7 @@ live_counted key cells slots h slot count t view some counted =
     omega (arith, one, counted)
 
 -- no more rows are live than there are cells
-pub count_below : (key : List ℕ) (cells : List Cell) (marks : List Mark) (count spare : ℕ) → FragmentInvariant key cells marks count spare → count ≤ length cells
+pub count_below : (key : List ℕ) (cells : List Cell) (marks : List PrefixedSlot) (count spare : ℕ) → FragmentInvariant key cells marks count spare → count ≤ length cells
 count_below key cells marks count spare kept =
     let few = live_fewer cells key (slots_of marks) in
     let counted = kept.counted in

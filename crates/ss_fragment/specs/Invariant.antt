@@ -10,7 +10,7 @@ use Rattle.ss_value.specs.Rows.{Row}
 use Rattle.ss_value.specs.Order.{row_cmp}
 use Rattle.ss_fragment.specs.declared.cell.Cell.{Cell}
 use Rattle.ss_fragment.specs.declared.cell.Cell.TheVariants.{Free, Live, Dead}
-use Rattle.ss_fragment.specs.declared.mark.Mark.{Mark}
+use Rattle.ss_fragment.specs.declared.mark.PrefixedSlot.{PrefixedSlot}
 use Rattle.ss_fragment.specs.Cells.{row_of}
 use Rattle.ss_fragment.specs.Prefixes.{key_prefix}
 use Rattle.ss_fragment.specs.Chunks.{slots_of}
@@ -76,11 +76,11 @@ pub record IsFragment (key : List ℕ) (cells : List Cell) (slots : List ℕ) : 
   pub single : (s t : ℕ) (a b : Row) → slice_get cells s ≡ Some (Live a) → slice_get cells t ≡ Some (Live b) → key_of key a ≡ key_of key b → s ≡ t
 
 -- a mark has the prefix of its row's key
-abbrev pub IsMark : List ℕ → List Cell → Mark → Type 0
+abbrev pub IsMark : List ℕ → List Cell → PrefixedSlot → Type 0
 IsMark key cells m = m.prefix ≡ key_prefix (order_key cells key m.slot).0
 
 -- what holds of a fragment's fields
-pub record FragmentInvariant (key : List ℕ) (cells : List Cell) (marks : List Mark) (count spare : ℕ) : Type 0 where
+pub record FragmentInvariant (key : List ℕ) (cells : List Cell) (marks : List PrefixedSlot) (count spare : ℕ) : Type 0 where
   pub fragment : IsFragment key cells (slots_of marks)
   pub marked : AllByRecursion (IsMark key cells) marks
   -- count rows are live, and spare cells free

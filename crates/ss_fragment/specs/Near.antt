@@ -4,7 +4,7 @@ use Rattle.std.specs.Option.{option_map}
 use Rattle.std.specs.List.{find}
 use Rattle.ss_chunks.specs.declared.rest.Hint.{Hint}
 use Rattle.ss_fragment.specs.declared.cell.Cell.{Cell}
-use Rattle.ss_fragment.specs.declared.mark.Mark.{Mark}
+use Rattle.ss_fragment.specs.declared.mark.PrefixedSlot.{PrefixedSlot}
 use Rattle.ss_fragment.specs.Chunks.{slots_of}
 use Rattle.ss_fragment.specs.Cells.{is_live}
 
@@ -13,11 +13,11 @@ abbrev pub without_hint : Option (ℕ × Hint) → Option ℕ
 without_hint found = option_map (λ p. p.0) found
 
 -- a slot has one of these marks, and this is the first live slot behind it
-abbrev pub IsBehind : List Mark → ℕ → List Cell → Option ℕ → Type 0
+abbrev pub IsBehind : List PrefixedSlot → ℕ → List Cell → Option ℕ → Type 0
 IsBehind marks slot cells found =
-    (front back : List Mark) × (mark : Mark) × (marks ≡ front ++ mark ∷ back) × (mark.slot ≡ slot) × (found ≡ find (is_live cells) (slots_of back))
+    (front back : List PrefixedSlot) × (mark : PrefixedSlot) × (marks ≡ front ++ mark ∷ back) × (mark.slot ≡ slot) × (found ≡ find (is_live cells) (slots_of back))
 
 -- the first of these marks is a slot's, and this is the first live slot behind it
-abbrev pub IsBehindFirst : List Mark → ℕ → List Cell → Option ℕ → Type 0
+abbrev pub IsBehindFirst : List PrefixedSlot → ℕ → List Cell → Option ℕ → Type 0
 IsBehindFirst marks slot cells found =
-    (back : List Mark) × (mark : Mark) × (marks ≡ mark ∷ back) × (mark.slot ≡ slot) × (found ≡ find (is_live cells) (slots_of back))
+    (back : List PrefixedSlot) × (mark : PrefixedSlot) × (marks ≡ mark ∷ back) × (mark.slot ≡ slot) × (found ≡ find (is_live cells) (slots_of back))

@@ -6,7 +6,7 @@ use Rattle.std.specs.declared.cmp.Ordering.{Ordering}
 use Rattle.std.specs.declared.cmp.Ordering.TheVariants.{Greater}
 use Rattle.ss_value.specs.Rows.{Row}
 use Rattle.ss_fragment.specs.declared.cell.Cell.{Cell}
-use Rattle.ss_fragment.specs.declared.mark.Mark.{Mark}
+use Rattle.ss_fragment.specs.declared.mark.PrefixedSlot.{PrefixedSlot}
 use Rattle.ss_fragment.specs.declared.search.Aim.{Aim as HeldAim}
 use Rattle.ss_fragment.specs.Chunks.{slots_of}
 use Rattle.ss_fragment.specs.Cells.{row_of, by_sought, is_live}
@@ -44,7 +44,7 @@ target_at cells key is_key values slot = record {
 }
 
 -- the mark of an aim's slot
-abbrev pub target_mark : Target → Mark
+abbrev pub target_mark : Target → PrefixedSlot
 target_mark a = record { prefix = a.prefix; slot = a.slot }
 
 -- how a slot with this row compares to what is sought, and at equal keys to the slot `from`; a slot without a row comes behind
@@ -65,15 +65,15 @@ abbrev pub slot_rank : List Cell → List ℕ → Bool → Row → ℕ → List 
 slot_rank cells key is_key sought from slots = prefix_len (is_before_slot cells key is_key sought from) slots
 
 -- an order with the mark of a slot added, at the position of this row's key
-abbrev pub linked_order : List Cell → List ℕ → Row → ℕ → List Mark → List Mark
+abbrev pub linked_order : List Cell → List ℕ → Row → ℕ → List PrefixedSlot → List PrefixedSlot
 linked_order cells key row slot order = insert order (slot_rank cells key false row slot (slots_of order)) (target_mark (target_at cells key false row slot))
 
 -- whether a mark stands before an aim: by its prefix, and where the prefixes tie by its slot
-abbrev pub is_before : Target → Mark → Bool
+abbrev pub is_before : Target → PrefixedSlot → Bool
 is_before a m = is_lt (ordering_then (nat_cmp m.prefix a.prefix) (slot_cmp a.cells a.key a.is_key a.values a.slot m.slot))
 
 -- how many marks of an order stand before an aim
-abbrev pub rank : Target → List Mark → ℕ
+abbrev pub rank : Target → List PrefixedSlot → ℕ
 rank a marks = prefix_len (is_before a) marks
 
 -- whether a row has another key than the one that is sought
@@ -86,7 +86,7 @@ abbrev pub is_past_slot : List Cell → List ℕ → Bool → Row → ℕ → Bo
 is_past_slot cells key is_key sought slot = is_past_row key is_key sought (row_of cells slot)
 
 -- whether a mark's row has another key than the one that is sought: by its prefix, and where the prefixes tie by its slot
-abbrev pub is_past : Target → Mark → Bool
+abbrev pub is_past : Target → PrefixedSlot → Bool
 is_past a m = not (m.prefix == a.prefix) || is_past_slot a.cells a.key a.is_key a.values m.slot
 
 -- whether a search for a live row with a key ends at a slot: its row is live, or has another key
@@ -94,5 +94,5 @@ abbrev pub slot_stops : List Cell → List ℕ → Bool → Row → ℕ → Bool
 slot_stops cells key is_key sought slot = is_live cells slot || is_past_slot cells key is_key sought slot
 
 -- whether it ends at a mark
-abbrev pub stops : Target → Mark → Bool
+abbrev pub stops : Target → PrefixedSlot → Bool
 stops a m = is_live a.cells m.slot || is_past a m

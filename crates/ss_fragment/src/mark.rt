@@ -11,7 +11,7 @@ use ss_value::Value;
 
 /// A slot in an order, with the prefix of its row's key.
 #[derive(Clone, Copy, Drop)]
-pub struct Mark {
+pub struct PrefixedSlot {
     pub prefix: u64,
     pub slot: usize,
 }

@@ -10,7 +10,7 @@ ghost use Rattle.ss_fragment.specs.Chunks.{slots_of};
 ghost use Rattle.ss_fragment.specs.Near.{without_hint, IsBehind, IsBehindFirst};
 
 use crate::cell::{Cell, is_live};
-use crate::mark::Mark;
+use crate::mark::PrefixedSlot;
 use crate::search::{Aim, stops};
 use ss_chunks::{Chunked, Hint, Rest};
 use ss_value::NoMemory;
@@ -20,20 +20,20 @@ use std::marker::Model;
 /// The slots with a row, live and dead, by key and at equal keys by slot: marks of 16 bytes, in chunks.
 #[derive(Drop)]
 pub struct Order {
-    marks: Chunked<Mark>,
+    marks: Chunked<PrefixedSlot>,
 }
 
 impl Model for Order {
     ghost use Rattle.std.specs.Prelude.{List};
-    ghost use Rattle.ss_fragment.specs.declared.mark.Mark.{Mark};
+    ghost use Rattle.ss_fragment.specs.declared.mark.PrefixedSlot.{PrefixedSlot};
 
-    ghost Value = { List Mark };
+    ghost Value = { List PrefixedSlot };
 
     ghost view = { λ o. o.marks };
 }
 
 /// The first live slot of some marks.
-fn live_in(rest: Rest<'_, Mark>, cells: &[Cell]) -> Option<usize>
+fn live_in(rest: Rest<'_, PrefixedSlot>, cells: &[Cell]) -> Option<usize>
     ensures { result ≡ find (is_live cells.now) (slots_of (rest_items rest.entry)) }
 {
     let mut behind = rest;
@@ -46,7 +46,7 @@ fn live_in(rest: Rest<'_, Mark>, cells: &[Cell]) -> Option<usize>
 }
 
 /// The first live slot of some marks, with a hint where it stands.
-fn live_near(rest: Rest<'_, Mark>, cells: &[Cell]) -> Option<(usize, Hint)>
+fn live_near(rest: Rest<'_, PrefixedSlot>, cells: &[Cell]) -> Option<(usize, Hint)>
     ensures { without_hint result ≡ find (is_live cells.now) (slots_of (rest_items rest.entry)) }
 {
     let mut behind = rest;
@@ -62,7 +62,11 @@ fn live_near(rest: Rest<'_, Mark>, cells: &[Cell]) -> Option<(usize, Hint)>
 
 /// The first live slot behind the first of some marks, with a hint where it stands, and None where the first mark is not
 /// that of this slot.
-fn live_behind(rest: Rest<'_, Mark>, slot: usize, cells: &[Cell]) -> Option<Option<(usize, Hint)>>
+fn live_behind(
+    rest: Rest<'_, PrefixedSlot>,
+    slot: usize,
+    cells: &[Cell],
+) -> Option<Option<(usize, Hint)>>
     ensures { IfSome result (λ found. IsBehindFirst (rest_items rest.entry) slot cells.now (without_hint found)) }
 {
     let mut behind = rest;
@@ -79,7 +83,7 @@ fn live_behind(rest: Rest<'_, Mark>, slot: usize, cells: &[Cell]) -> Option<Opti
 }
 
 /// The first slot of some marks at which a search for a live row with a key ends.
-fn stop_in(rest: Rest<'_, Mark>, aim: &Aim) -> Option<usize>
+fn stop_in(rest: Rest<'_, PrefixedSlot>, aim: &Aim) -> Option<usize>
     ensures { let a = target_of aim.now in result ≡ option_map (λ m. m.slot) (find (stops a) (rest_items rest.entry)) }
 {
     let mut behind = rest;
@@ -149,7 +153,7 @@ impl Order {
         ensures ok { let a = target_of aim.now in OnOk result (self.new ≡ insert self.old (rank a self.old) (target_mark a)) }
         ensures err { OnErr result (self.new ≡ self.old) }
     {
-        let mark = Mark {
+        let mark = PrefixedSlot {
             prefix: aim.prefix,
             slot: aim.slot,
         };

@@ -6,7 +6,7 @@ ghost use Rattle.ss_fragment.specs.Cells.{at_cmp, rows_by, row_by_key, by_sought
 ghost use Rattle.ss_fragment.specs.Targets.{target_of, target_at, is_before, is_past, stops, slot_cmp, is_past_slot};
 
 use crate::cell::{Cell, any_row, is_live, live_row};
-use crate::mark::{Mark, sought_prefix};
+use crate::mark::{PrefixedSlot, sought_prefix};
 use ss_value::{Value, compare};
 use std::cmp::Ordering;
 
@@ -122,7 +122,7 @@ fn compare_slot(aim: &Aim, slot: usize) -> Ordering
 
 /// Whether a mark stands before an aim: by its prefix, and by its row only where the prefixes tie.
 #[inline]
-pub fn is_before(aim: &Aim, mark: &Mark) -> bool
+pub fn is_before(aim: &Aim, mark: &PrefixedSlot) -> bool
     ensures { result ≡ is_before (target_of aim.now) mark.now }
 {
     match mark.prefix.cmp(&aim.prefix) {
@@ -132,10 +132,10 @@ pub fn is_before(aim: &Aim, mark: &Mark) -> bool
     }
 }
 
-impl<'a> ss_chunks::Aim<Mark> for Aim<'a> {
+impl<'a> ss_chunks::Aim<PrefixedSlot> for Aim<'a> {
     ghost before = { λ a m. is_before (target_of a) m };
 
-    fn is_before(&self, item: &Mark) -> bool {
+    fn is_before(&self, item: &PrefixedSlot) -> bool {
         is_before(self, item)
     }
 }
@@ -152,7 +152,7 @@ fn is_past_slot(aim: &Aim, slot: usize) -> bool
 
 /// Whether a mark's row has another key than the one that is sought: by its prefix first.
 #[inline]
-fn is_past(aim: &Aim, mark: &Mark) -> bool
+fn is_past(aim: &Aim, mark: &PrefixedSlot) -> bool
     ensures { result ≡ is_past (target_of aim.now) mark.now }
 {
     mark.prefix != aim.prefix || is_past_slot(aim, mark.slot)
@@ -160,7 +160,7 @@ fn is_past(aim: &Aim, mark: &Mark) -> bool
 
 /// Whether a search for a live row with a key ends at a mark: its row is live, or has another key.
 #[inline]
-pub fn stops(aim: &Aim, mark: &Mark) -> bool
+pub fn stops(aim: &Aim, mark: &PrefixedSlot) -> bool
     ensures { result ≡ stops (target_of aim.now) mark.now }
 {
     is_live(aim.cells, mark.slot) || is_past(aim, mark)

@@ -11,7 +11,7 @@ use Rattle.ss_lanes.specs.contracts.hub.Hub as hub
 use Rattle.ss_lanes.specs.contracts.inbox.SharedInbox as inbox
 use Rattle.ss_lanes.specs.contracts.job.Job as job
 use Rattle.ss_lanes.specs.contracts.reply.Reply as reply
-use Rattle.ss_lanes.specs.contracts.slot.Slot as slot
+use Rattle.ss_lanes.specs.contracts.slot.ReplySlot as slot
 
 module _ (I : RattleType) (life : Ghosts I.Denot) where
   job_send : IsSend I → IsSend (job.the_row I life)

@@ -12,11 +12,11 @@ use crate::inbox::SharedInbox;
 use crate::job::Job;
 use crate::lookers::Lookers;
 use crate::reply::{Reply, reply_of};
-use crate::slot::Slot;
+use crate::slot::ReplySlot;
 use crate::ticket::Ticket;
 use ss_commitlog::{CommitLog, Mark, Placed, Unlisted};
 use ss_model::{Asked, Life};
-use ss_sched::Work;
+use ss_sched::Task;
 use ss_value::NoMemory;
 use std::alloc::Global;
 use std::sync::Wait;
@@ -31,7 +31,7 @@ pub struct Hub<I: Life> {
     /// The list of executions, with a lock of its own.
     pub log: CommitLog<I>,
     inboxes: Vec<SharedInbox<I>>,
-    slots: Vec<Slot<I>>,
+    slots: Vec<ReplySlot<I>>,
     lookers: Lookers,
     ghost inboxes_are: { length inboxes.items ≡ I.parts },
     ghost slots_are: { length slots.items ≡ I.clients },
@@ -70,7 +70,7 @@ impl<I: Life> Hub<I> {
     }
 
     /// Takes the next item of a partition's inbox: the first hint where one waits, else the first job.
-    pub fn take<R: Wait>(&self, rt: &R, p: u8) -> Option<Work<Job<I>>>
+    pub fn take<R: Wait>(&self, rt: &R, p: u8) -> Option<Task<Job<I>>>
         requires { p < I.parts }
     {
         self.inboxes[p as usize].take(rt)
@@ -194,12 +194,12 @@ fn inboxes<I: Life>(alloc: Global, parts: u8, jobs: usize) -> Result<Vec<SharedI
 }
 
 /// An empty slot for each client.
-fn slots<I: Life>(alloc: Global, clients: u8) -> Result<Vec<Slot<I>>, NoMemory>
+fn slots<I: Life>(alloc: Global, clients: u8) -> Result<Vec<ReplySlot<I>>, NoMemory>
     ensures { IfOk result (λ made. length made.items ≡ clients) }
 {
     let mut made = Vec::with_capacity(alloc, usize::from(clients))?;
     for _ in 0..clients {
-        made.push_reserved(Slot::new());
+        made.push_reserved(ReplySlot::new());
     }
     Ok(made)
 }

@@ -6,7 +6,7 @@ use crate::job::Job;
 use crate::lookers::Lookers;
 use crate::signal::Signal;
 use ss_model::Life;
-use ss_sched::{Inbox, Work};
+use ss_sched::{Inbox, Task};
 use ss_value::NoMemory;
 use std::alloc::Global;
 use std::sync::atomic::{AtomicBool, AtomicU32, Ordering};
@@ -96,13 +96,13 @@ impl<I: Life> SharedInbox<I> {
     }
 
     /// Takes the next item: the first hint where one waits, else the first job. Where nothing is told of it takes no lock.
-    pub fn take<R: Wait>(&self, rt: &R) -> Option<Work<Job<I>>> {
+    pub fn take<R: Wait>(&self, rt: &R) -> Option<Task<Job<I>>> {
         if !self.there.is_raised() {
             return None;
         }
         let mut waiting = self.waiting.lock(rt);
         let item = waiting.work.take();
-        if let Some(Work::Job(_)) = &item {
+        if let Some(Task::Job(_)) = &item {
             self.jobs.fetch_sub(1, Ordering::Relaxed);
         }
         if waiting.work.is_empty() && !waiting.stopped {

@@ -1,4 +1,4 @@
-//! A client's job, which waits in an inbox: there it is a `Work::Job` of `ss_sched`, beside hints.
+//! A client's job, which waits in an inbox: there it is a `Task::Job` of `ss_sched`, beside hints.
 
 ghost use Rattle.std.specs.Prelude.{◌≡◌, ◌<◌, true, length};
 ghost use Rattle.ss_model.specs.Database.{fits_entry};

@@ -28,7 +28,7 @@
 //!   each once; all of these but 16 at most stand below a receipted count that it has seen (`IsDue`).
 //! - `answered` keeps that, once a reply of its own has come back (`IsAnswered`); `unsent` and `halted` answer a request that was
 //!   never sent (`IsSubmitted`).
-//! - `Slot::take` gives a reply exactly where it is the client's own (`IsOwn`); `reply_of` makes one of what may be said
+//! - `ReplySlot::take` gives a reply exactly where it is the client's own (`IsOwn`); `reply_of` makes one of what may be said
 //!   (`MaySay`).
 //! - `Hub::take_reply` promises the same of all slots, and `put_job` gives a job back as it was where it has no room for it.
 //! - `fresh_lanes` gives each client its lane (`AreFresh`), and `take_apart` takes them apart: each mark knows its lane's list

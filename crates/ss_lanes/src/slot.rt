@@ -15,16 +15,16 @@ use std::sync::{Condvar, Mutex, Wait};
 ///
 /// Each call takes the lock once at most, but `look` none, and no memory.
 #[derive(Drop)]
-pub struct Slot<I: Life> {
+pub struct ReplySlot<I: Life> {
     reply: Mutex<Option<Reply<I>>>,
     moved: Condvar,
     there: Signal,
 }
 
-impl<I: Life> Slot<I> {
+impl<I: Life> ReplySlot<I> {
     /// An empty slot.
-    pub fn new() -> Slot<I> {
-        Slot {
+    pub fn new() -> ReplySlot<I> {
+        ReplySlot {
             reply: Mutex::new(None),
             moved: Condvar::new(),
             there: Signal::new(),

@@ -25,19 +25,19 @@ use crate::queries::join::join_rows;
 use crate::queries::limit::take_limit;
 use crate::queries::sort::sort_rows;
 use ss_model::RunError;
-use ss_sql_trees::{Item, Query};
+use ss_sql_trees::{Query, SelectItem};
 use ss_value::{NoMemory, Row, Rows, Seq};
 use std::alloc::Global;
 
 /// Whether an item is COUNT, SUM, MIN or MAX.
-fn is_aggregate(item: &Item) -> bool
+fn is_aggregate(item: &SelectItem) -> bool
     ensures { result ≡ is_aggregate item.now }
 {
-    !matches!(item, Item::Plain(_))
+    !matches!(item, SelectItem::Plain(_))
 }
 
 /// Whether one of the items is an aggregate.
-fn has_aggregate(items: &[Item]) -> bool
+fn has_aggregate(items: &[SelectItem]) -> bool
     ensures { result ≡ list_any is_aggregate items.now }
 {
     items.iter().any(|item| is_aggregate(item))

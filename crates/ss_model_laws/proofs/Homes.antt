@@ -7,8 +7,8 @@ use Rattle.std.specs.List.{find, range_with_len}
 use Rattle.ss_lemmas.proofs.Numbers.{eqb_self}
 use Rattle.ss_value.specs.Rows.{Row, Rows, column_value}
 use Rattle.ss_model.specs.declared.catalog.Catalog.{Catalog}
-use Rattle.ss_model.specs.declared.catalog.Kind.{Kind}
-use Rattle.ss_model.specs.declared.catalog.Kind.TheVariants.{Call as CallKind, Border, Interior}
+use Rattle.ss_model.specs.declared.catalog.ProcedureKind.{ProcedureKind}
+use Rattle.ss_model.specs.declared.catalog.ProcedureKind.TheVariants.{Call as CallKind, Border, Interior}
 use Rattle.ss_model.specs.declared.catalog.Procedure.{Procedure}
 use Rattle.ss_model.specs.declared.catalog.Touch.{Touch}
 use Rattle.ss_model.specs.declared.catalog.Touch.TheVariants.{Part, Arg, Multi, All}
@@ -63,7 +63,7 @@ home_touched n p args l k h =
     let (x, u, t) = touched_below n p.touch l k h in
     no_args n p.touch args _ k ∙ find_passes (in_touch_set n p.touch []) n 0 x 0 (omega arith) (omega arith) t
 
-call_streams : (k : Kind) → k ≡ CallKind → is_streaming k ≡ true → ⊥
+call_streams : (k : ProcedureKind) → k ≡ CallKind → is_streaming k ≡ true → ⊥
 call_streams CallKind e f = cc
 call_streams Border e f = cc
 call_streams Interior e f = cc
@@ -79,7 +79,7 @@ module _ (catalog : Catalog) (accepted : Accepted catalog) (n : ℕ) (some : 1 �
   streaming_uses : (args : Row) (batches : List Rows) → is_streaming p.kind ≡ true → UsesOnly (inside_scope (touched_keys catalog n p args) (touched_windows catalog n p args) (context_of catalog q p args batches)) catalog q args p
   streaming_uses args batches s = stream_covered catalog n q p args batches some accepted.structure.keyed (accepted.structure.no_arg q p is s) (home_in args s) ((accepted.uses q p is).local args)
 
-  uses_in : (args : Row) (batches : List Rows) (k : Kind) → p.kind ≡ k → UsesOnly (inside_scope (touched_keys catalog n p args) (touched_windows catalog n p args) (context_of catalog q p args batches)) catalog q args p
+  uses_in : (args : Row) (batches : List Rows) (k : ProcedureKind) → p.kind ≡ k → UsesOnly (inside_scope (touched_keys catalog n p args) (touched_windows catalog n p args) (context_of catalog q p args batches)) catalog q args p
   uses_in args batches CallKind e =
       call_covered catalog n q p args batches some accepted.structure.keyed (λ w o. call_streams p.kind e (owned_by w o)) (accepted.call_steps q p is (ap is_call e)) ((accepted.uses q p is).local args)
   uses_in args batches Border e = streaming_uses args batches (ap is_streaming e)

@@ -17,8 +17,8 @@ use Rattle.ss_value.specs.Order.{row_cmp, value_cmp}
 use Rattle.ss_sql_trees.specs.declared.typed.ColAt.{ColAt}
 use Rattle.ss_sql_trees.specs.declared.typed.Expr.{Expr}
 use Rattle.ss_sql_trees.specs.declared.typed.SourceId.{SourceId}
-use Rattle.ss_sql_trees.specs.declared.typed.Item.{Item}
-use Rattle.ss_sql_trees.specs.declared.typed.Item.TheVariants.{Count, Sum, Min, Max, Plain}
+use Rattle.ss_sql_trees.specs.declared.typed.SelectItem.{SelectItem}
+use Rattle.ss_sql_trees.specs.declared.typed.SelectItem.TheVariants.{Count, Sum, Min, Max, Plain}
 use Rattle.ss_sql_trees.specs.declared.typed.Joined.{Joined}
 use Rattle.ss_sql_trees.specs.declared.typed.Query.{Query}
 use Rattle.ss_model.specs.declared.entry.Reason.TheVariants.{Overflow}
@@ -113,26 +113,26 @@ module _ (sources : List (List Column)) where
   groups_added key (here ∷ found) gs f h = groups_added key found (add_to_group (key here) here gs) f.1 (group_added (key here) here gs f.0 h)
 
   -- a group whose rows fit, and which has some unless the items name no column
-  abbrev GoodGroup : List Item → List Rows → Type 0
+  abbrev GoodGroup : List SelectItem → List Rows → Type 0
   GoodGroup items group = AllByRecursion (Here sources) group × (group ≡ [] → list_all (item_grouped []) items ≡ true)
 
   some_is : {A : Type 0} (xs : List A) → IsSome xs → xs ≡ [] → ⊥
   some_is [] h e = h
   some_is (x ∷ xs) h e = cc
 
-  good_keyed : (items : List Item) (gs : List (Row × List Rows)) → AllByRecursion KeyedGroup gs → AllByRecursion (GoodGroup items) (map (λ g. g.1) gs)
+  good_keyed : (items : List SelectItem) (gs : List (Row × List Rows)) → AllByRecursion KeyedGroup gs → AllByRecursion (GoodGroup items) (map (λ g. g.1) gs)
   good_keyed items [] h = tt
   good_keyed items (g ∷ gs) h = (((h.0).0, λ e. absurd (some_is g.1 (h.0).1 e)), good_keyed items gs h.1)
 
-  good_grouped : (items : List Item) (cs : List ColAt) (found : List Rows) → AllByRecursion (Here sources) found → list_all (item_grouped cs) items ≡ true → AllByRecursion (GoodGroup items) (group_rows cs found)
+  good_grouped : (items : List SelectItem) (cs : List ColAt) (found : List Rows) → AllByRecursion (Here sources) found → list_all (item_grouped cs) items ≡ true → AllByRecursion (GoodGroup items) (group_rows cs found)
   good_grouped items [] found f g = ((f, λ e. g), tt)
   good_grouped items (c ∷ cs) found f g = good_keyed items _ (groups_added (λ here. map (λ c. source_column c here) (c ∷ cs)) found [] f tt)
 
-  good_singles : (items : List Item) (found : List Rows) → AllByRecursion (Here sources) found → AllByRecursion (GoodGroup items) (map (λ here. here ∷ []) found)
+  good_singles : (items : List SelectItem) (found : List Rows) → AllByRecursion (Here sources) found → AllByRecursion (GoodGroup items) (map (λ here. here ∷ []) found)
   good_singles items [] f = tt
   good_singles items (here ∷ found) f = (((f.0, tt), λ e. cc), good_singles items found f.1)
 
-  good_groups : (items : List Item) (aggregated : Bool) (cs : List ColAt) (found : List Rows) → AllByRecursion (Here sources) found → (not aggregated || list_all (item_grouped cs) items) ≡ true → AllByRecursion (GoodGroup items) (query_groups aggregated cs found)
+  good_groups : (items : List SelectItem) (aggregated : Bool) (cs : List ColAt) (found : List Rows) → AllByRecursion (Here sources) found → (not aggregated || list_all (item_grouped cs) items) ≡ true → AllByRecursion (GoodGroup items) (query_groups aggregated cs found)
   good_groups items true cs found f g = good_grouped items cs found f g
   good_groups items false cs found f g = good_singles items found f
 
@@ -169,7 +169,7 @@ module _ (sources : List (List Column)) (columns : List Column) (params : Row) (
   plain_value k e [] is f g = constant_sound sources columns params args k e (g refl) is
   plain_value k e (here ∷ group) is f g = value_sound sources columns here params f.0 args k e is
 
-  item_sound : (k : ColType) (item : Item) (group : List Rows) → is_type (column_type k) (item_type sources columns item) ≡ true → AllByRecursion (Here sources) group → (group ≡ [] → item_grouped [] item ≡ true) → GivesKind k (item_value params group item)
+  item_sound : (k : ColType) (item : SelectItem) (group : List Rows) → is_type (column_type k) (item_type sources columns item) ≡ true → AllByRecursion (Here sources) group → (group ≡ [] → item_grouped [] item ≡ true) → GivesKind k (item_value params group item)
   item_sound IntColumn Count group is f g = refl
   item_sound TextColumn Count group is f g = cc
   item_sound IntColumn (Sum e) group is f g = when_ok_then (λ _. Unit {0}) _ (try_map (λ here. expr_value here params e) group) _ (anything (try_map (λ here. expr_value here params e) group)) (λ vs _. checked_kind (sum_values vs))
@@ -178,7 +178,7 @@ module _ (sources : List (List Column)) (columns : List Column) (params : Row) (
   item_sound k (Max e) group is f g = when_ok_then _ _ (try_map (λ here. expr_value here params e) group) _ (each_value k e group is f) (λ vs h. extreme_kind k is_gt vs h)
   item_sound k (Plain e) group is f g = plain_value k e group is f g
 
-  items_sound : (items : List Item) (group : List Rows) (into : List Column) → types_fit (map (item_type sources columns) items) into ≡ true → AllByRecursion (Here sources) group → (group ≡ [] → list_all (item_grouped []) items ≡ true) → WhenOk (λ row. fits_schema into row ≡ true) (try_map (item_value params group) items)
+  items_sound : (items : List SelectItem) (group : List Rows) (into : List Column) → types_fit (map (item_type sources columns) items) into ≡ true → AllByRecursion (Here sources) group → (group ≡ [] → list_all (item_grouped []) items ≡ true) → WhenOk (λ row. fits_schema into row ≡ true) (try_map (item_value params group) items)
   items_sound [] group [] is f g = refl
   items_sound [] group (c ∷ into) is f g = cc
   items_sound (item ∷ items) group [] is f g = cc

@@ -16,8 +16,8 @@ use Rattle.ss_value.specs.Fit.{fits_schema}
 use Rattle.ss_value.specs.Rows.{Row, Rows}
 use Rattle.ss_value.specs.Order.{row_cmp}
 use Rattle.ss_model.specs.declared.catalog.Catalog.{Catalog}
-use Rattle.ss_model.specs.declared.catalog.Kind.{Kind}
-use Rattle.ss_model.specs.declared.catalog.Kind.TheVariants.{Call as CallKind, Border, Interior}
+use Rattle.ss_model.specs.declared.catalog.ProcedureKind.{ProcedureKind}
+use Rattle.ss_model.specs.declared.catalog.ProcedureKind.TheVariants.{Call as CallKind, Border, Interior}
 use Rattle.ss_model.specs.declared.catalog.Placement.{Placement}
 use Rattle.ss_model.specs.declared.catalog.Placement.TheVariants.{Part, By}
 use Rattle.ss_model.specs.declared.catalog.Procedure.{Procedure}
@@ -127,12 +127,12 @@ inputs_fit catalog f [] i h = tt
 inputs_fit catalog f (s ∷ ss) zero h = h s (or_left (s == s) _ ((Decides-eqb s s).1 refl))
 inputs_fit catalog f (s ∷ ss) (suc i) h = inputs_fit catalog f ss i (λ z e. h z (or_right (s == z) _ e))
 
-pub call_or_not : (k : Kind) → is_call k ≡ true → is_streaming k ≡ true → ⊥
+pub call_or_not : (k : ProcedureKind) → is_call k ≡ true → is_streaming k ≡ true → ⊥
 call_or_not CallKind c s = cc
 call_or_not Border c s = cc
 call_or_not Interior c s = cc
 
-no_args : (k : Kind) (args : List Column) → is_streaming k ≡ true → args_of_kind k args ≡ true → fits_schema args [] ≡ true
+no_args : (k : ProcedureKind) (args : List Column) → is_streaming k ≡ true → args_of_kind k args ≡ true → fits_schema args [] ≡ true
 no_args CallKind args s h = cc
 no_args Border [] s h = refl
 no_args Border (c ∷ args) s h = cc
@@ -320,7 +320,7 @@ module _ (catalog : Catalog) (accepted : Accepted catalog) where
 
   -- ---- how many batches
 
-  some_input : (k : Kind) (inputs : List ℕ) → is_streaming k ≡ true → inputs_of_kind k inputs ≡ true → (s : ℕ) × (list_any (λ i. i == s) inputs ≡ true)
+  some_input : (k : ProcedureKind) (inputs : List ℕ) → is_streaming k ≡ true → inputs_of_kind k inputs ≡ true → (s : ℕ) × (list_any (λ i. i == s) inputs ≡ true)
   some_input CallKind inputs streams h = cc
   some_input Border [] streams h = cc
   some_input Border (s ∷ inputs) streams h = (s, or_left (s == s) _ ((Decides-eqb s s).1 refl))
@@ -338,7 +338,7 @@ module _ (catalog : Catalog) (accepted : Accepted catalog) where
       none : batch_count db q ≡ 0 → batch_count db q ≤ n
       none e = omega arith
 
-      of_kind : (p : Procedure) → slice_get catalog.procedures q ≡ Some p → (k : Kind) → p.kind ≡ k → batch_count db q ≤ n
+      of_kind : (p : Procedure) → slice_get catalog.procedures q ≡ Some p → (k : ProcedureKind) → p.kind ≡ k → batch_count db q ≤ n
       of_kind p is CallKind e = none (h.calls q p is (ap is_call e))
       of_kind p is Border e = let (s, takes) = has_input q p is (ap is_streaming e) in le_trans (h.in_step.within s q takes) (lengths s)
       of_kind p is Interior e = let (s, takes) = has_input q p is (ap is_streaming e) in le_trans (h.in_step.within s q takes) (lengths s)

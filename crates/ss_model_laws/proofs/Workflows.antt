@@ -6,8 +6,8 @@ use Rattle.std.proofs.Math.Nat.{le_trans}
 use Rattle.std.specs.Option.{option_map}
 use Rattle.std.specs.List.{list_all, list_any}
 use Rattle.ss_model.specs.declared.catalog.Catalog.{Catalog}
-use Rattle.ss_model.specs.declared.catalog.Kind.{Kind}
-use Rattle.ss_model.specs.declared.catalog.Kind.TheVariants.{Call as CallKind, Border, Interior}
+use Rattle.ss_model.specs.declared.catalog.ProcedureKind.{ProcedureKind}
+use Rattle.ss_model.specs.declared.catalog.ProcedureKind.TheVariants.{Call as CallKind, Border, Interior}
 use Rattle.ss_model.specs.declared.catalog.Procedure.{Procedure}
 use Rattle.ss_model.specs.declared.catalog.Step.{Step}
 use Rattle.ss_model.specs.declared.catalog.Step.TheVariants.{Sql, AbortIf, ForEach, Emit, Return}
@@ -32,7 +32,7 @@ some_index test (x ∷ xs) e = by (some_index test xs) (either_so _ _ e)
     by later (inl h) = (0, x, refl, h)
     by later (inr h) = let (n, y, is, k) = later h in (suc n, y, is, k)
 
-emits_streams : (k : Kind) (s : ℕ) (body : List Step) → list_any (emits_to s) body ≡ true → list_all (step_of_kind k) body ≡ true → is_streaming k ≡ true
+emits_streams : (k : ProcedureKind) (s : ℕ) (body : List Step) → list_any (emits_to s) body ≡ true → list_all (step_of_kind k) body ≡ true → is_streaming k ≡ true
 emits_streams Border s body e h = refl
 emits_streams Interior s body e h = refl
 emits_streams CallKind s body e h = absurd (none body e h)
@@ -98,7 +98,7 @@ module _ (catalog : Catalog) (accepted : Accepted catalog) where
       let (p, is, t) = named (takes_stream s) (slice_get catalog.procedures q) takes in
       by p is t p.kind refl
     where
-      apart : (k : Kind) → k ≡ Interior → is_border k ≡ true → ⊥
+      apart : (k : ProcedureKind) → k ≡ Interior → is_border k ≡ true → ⊥
       apart CallKind e b = cc
       apart Border e b = cc
       apart Interior e b = cc
@@ -111,7 +111,7 @@ module _ (catalog : Catalog) (accepted : Accepted catalog) where
           let same : n ≡ q = accepted.structure.streams.one_consumer n q s border other takes in
           absurd (apart p.kind interior (sym (ap (procedure_has (λ p. is_border p.kind)) (ap (slice_get catalog.procedures) same ∙ is)) ∙ ap (procedure_has (λ p. is_border p.kind)) at_n ∙ first_of_two _ _ passes))
 
-      by : (p : Procedure) → slice_get catalog.procedures q ≡ Some p → takes_stream s p ≡ true → (k : Kind) → p.kind ≡ k → Source q s
+      by : (p : Procedure) → slice_get catalog.procedures q ≡ Some p → takes_stream s p ≡ true → (k : ProcedureKind) → p.kind ≡ k → Source q s
       by p is t CallKind e = let no : false ≡ true = sym (ap (procedure_has (λ p. is_streaming p.kind)) is ∙ ap is_streaming e) ∙ streams in cc
       by p is t Border e = at_border (stream_of_border q s p is e t) (border_at q s p is e t)
       by p is t Interior e = inner p is e (accepted.structure.streams.fed s (within_streams q s takes))

@@ -3,8 +3,8 @@ use Rattle.std.proofs.Common.{◌≡◌, ◌≤◌, ◌&&◌, inl, inr, ℕ, Lis
 use Rattle.std.specs.Str.{bytes_eq}
 use Rattle.std.proofs.lemmas.Bool.{and_parts, or_cases}
 use Rattle.serde_json.specs.Data.{Data, null, boolean, number, string, array, object, Items, no_items, item, depth, items_depth}
-use Rattle.ss_report_lines.specs.declared.kind.Kind.{Kind}
-use Rattle.ss_report_lines.specs.declared.kind.Kind.TheVariants.{Reply, Call, Push, Step, Table, Done}
+use Rattle.ss_report_lines.specs.declared.kind.LineKind.{LineKind}
+use Rattle.ss_report_lines.specs.declared.kind.LineKind.TheVariants.{Reply, Call, Push, Step, Table, Done}
 use Rattle.ss_report_lines.specs.Kinds.{items_all, is_count, is_integer, is_text, is_word, is_value, is_row, is_rows, reason_has, are_reason, is_one, are_outcome, is_outcome, number_at, client_at, reply_kind, asked_by, step_kind, table_kind, row_kind, done_kind, items_kind, kind_of}
 use Rattle.ss_report_lines.proofs.Floats.{chosen, mapped, client_counts, either, both_there, made}
 
@@ -124,7 +124,7 @@ is_outcome-shallow (object ms) h = absurd (cc)
 
 -- ---- lines
 
-reply-shallow : (ds : Items) (k : Kind) → reply_kind ds ≡ Some k → items_depth ds ≤ 3
+reply-shallow : (ds : Items) (k : LineKind) → reply_kind ds ≡ Some k → items_depth ds ≤ 3
 reply-shallow no_items k h = omega arith
 reply-shallow (item a no_items) k h = absurd (cc)
 reply-shallow (item a (item b no_items)) k h =
@@ -163,7 +163,7 @@ asked-shallow (item a (item b (item c (item d no_items)))) by h =
     omega arith
 asked-shallow (item a (item b (item c (item d (item e ds))))) by h = absurd (cc)
 
-step-shallow : (ds : Items) (k : Kind) → step_kind ds ≡ Some k → items_depth ds ≤ 3
+step-shallow : (ds : Items) (k : LineKind) → step_kind ds ≡ Some k → items_depth ds ≤ 3
 step-shallow no_items k h = omega arith
 step-shallow (item a no_items) k h = absurd (cc)
 step-shallow (item a (item b no_items)) k h = absurd (cc)
@@ -179,7 +179,7 @@ step-shallow (item a (item b (item c (item d no_items)))) k h =
     omega arith
 step-shallow (item a (item b (item c (item d (item e ds))))) k h = absurd (cc)
 
-table-shallow : (ds : Items) (k : Kind) → table_kind ds ≡ Some k → items_depth ds ≤ 3
+table-shallow : (ds : Items) (k : LineKind) → table_kind ds ≡ Some k → items_depth ds ≤ 3
 table-shallow no_items k h = omega arith
 table-shallow (item a no_items) k h = absurd (cc)
 table-shallow (item a (item b no_items)) k h =
@@ -189,7 +189,7 @@ table-shallow (item a (item b no_items)) k h =
     omega arith
 table-shallow (item a (item b (item c ds))) k h = absurd (cc)
 
-row-shallow : (ds : Items) (k : Kind) → row_kind ds ≡ Some k → items_depth ds ≤ 3
+row-shallow : (ds : Items) (k : LineKind) → row_kind ds ≡ Some k → items_depth ds ≤ 3
 row-shallow no_items k h = omega arith
 row-shallow (item a no_items) k h = absurd (cc)
 row-shallow (item a (item b no_items)) k h =
@@ -200,12 +200,12 @@ row-shallow (item a (item b no_items)) k h =
     omega arith
 row-shallow (item a (item b (item c ds))) k h = absurd (cc)
 
-done-shallow : (ds : Items) (k : Kind) → done_kind ds ≡ Some k → items_depth ds ≤ 3
+done-shallow : (ds : Items) (k : LineKind) → done_kind ds ≡ Some k → items_depth ds ≤ 3
 done-shallow no_items k h = omega arith
 done-shallow (item a no_items) k h = let one : depth a ≤ 0 = is_count-flat a (mapped Done (number_at a) k h) in omega arith
 done-shallow (item a (item b ds)) k h = absurd (cc)
 
-words : (r c p s t w d : Bool) (ds : Items) (k : Kind)
+words : (r c p s t w d : Bool) (ds : Items) (k : LineKind)
     → cond r (reply_kind ds) (cond c (option_map (λ by. Call by.0 by.1) (asked_by ds)) (cond p (option_map (λ by. Push by.0 by.1) (asked_by ds)) (cond s (step_kind ds) (cond t (table_kind ds) (cond w (row_kind ds) (cond d (done_kind ds) None)))))) ≡ Some k
     → items_depth ds ≤ 3
 words true c p s t w d ds k h = reply-shallow ds k h
@@ -217,7 +217,7 @@ words false false false false false true d ds k h = row-shallow ds k h
 words false false false false false false true ds k h = done-shallow ds k h
 words false false false false false false false ds k h = absurd (cc)
 
-items-shallow : (ds : Items) (k : Kind) → items_kind ds ≡ Some k → items_depth ds ≤ 3
+items-shallow : (ds : Items) (k : LineKind) → items_kind ds ≡ Some k → items_depth ds ≤ 3
 items-shallow no_items k h = omega arith
 items-shallow (item null ds) k h = absurd (cc)
 items-shallow (item (boolean b) ds) k h = absurd (cc)
@@ -226,7 +226,7 @@ items-shallow (item (string s) ds) k h = let rest = words _ _ _ _ _ _ _ ds k h i
 items-shallow (item (array es) ds) k h = absurd (cc)
 items-shallow (item (object ms) ds) k h = absurd (cc)
 
-kind-shallow : (d : Data) (k : Kind) → kind_of d ≡ Some k → depth d ≤ 4
+kind-shallow : (d : Data) (k : LineKind) → kind_of d ≡ Some k → depth d ≤ 4
 kind-shallow null k h = absurd (cc)
 kind-shallow (boolean b) k h = absurd (cc)
 kind-shallow (number n) k h = absurd (cc)
@@ -235,6 +235,6 @@ kind-shallow (array ds) k h = let inside = items-shallow ds k h in omega arith
 kind-shallow (object ms) k h = absurd (cc)
 
 -- the same where a value has a kind
-pub has_kind-shallow : (d : Data) (k : Option Kind) → kind_of d ≡ k → is_some k ≡ true → depth d ≤ 4
+pub has_kind-shallow : (d : Data) (k : Option LineKind) → kind_of d ≡ k → is_some k ≡ true → depth d ≤ 4
 has_kind-shallow d (Some k) e h = kind-shallow d k e
 has_kind-shallow d None e h = absurd (cc)

@@ -4,8 +4,8 @@ use Rattle.std.specs.Str.{bytes_eq}
 use Rattle.std.proofs.lemmas.Bool.{and_parts, or_cases}
 use Rattle.serde_json.specs.Data.{Data, null, boolean, number, string, array, object, unsigned, negative, float, Items, no_items, item}
 use Rattle.serde_json.specs.Written.{has_float, items_have_float}
-use Rattle.ss_report_lines.specs.declared.kind.Kind.{Kind}
-use Rattle.ss_report_lines.specs.declared.kind.Kind.TheVariants.{Reply, Call, Push, Step, Table, Done}
+use Rattle.ss_report_lines.specs.declared.kind.LineKind.{LineKind}
+use Rattle.ss_report_lines.specs.declared.kind.LineKind.TheVariants.{Reply, Call, Push, Step, Table, Done}
 use Rattle.ss_report_lines.specs.Kinds.{items_all, is_count, is_integer, is_text, is_word, is_value, is_row, is_rows, reason_has, are_reason, is_one, are_outcome, is_outcome, number_at, client_at, reply_kind, asked_by, step_kind, table_kind, row_kind, done_kind, items_kind, kind_of}
 
 -- a test that no value with a float passes
@@ -168,7 +168,7 @@ none_three a b c x y z = rw (x, y, z) refl
 none_four : (a b c d : Data) → has_float a ≡ false → has_float b ≡ false → has_float c ≡ false → has_float d ≡ false → items_have_float (item a (item b (item c (item d no_items)))) ≡ false
 none_four a b c d x y z w = rw (x, y, z, w) refl
 
-reply-whole : (ds : Items) (k : Kind) → reply_kind ds ≡ Some k → items_have_float ds ≡ false
+reply-whole : (ds : Items) (k : LineKind) → reply_kind ds ≡ Some k → items_have_float ds ≡ false
 reply-whole no_items k h = refl
 reply-whole (item a no_items) k h = absurd (cc)
 reply-whole (item a (item b no_items)) k h =
@@ -204,7 +204,7 @@ asked-whole (item a (item b (item c (item d no_items)))) by h =
     none_four a b c d (is_count-whole a parts.0) (is_count-whole b (client_counts b there.0)) (is_count-whole c there.1) (is_outcome-whole d parts.1)
 asked-whole (item a (item b (item c (item d (item e ds))))) by h = absurd (cc)
 
-step-whole : (ds : Items) (k : Kind) → step_kind ds ≡ Some k → items_have_float ds ≡ false
+step-whole : (ds : Items) (k : LineKind) → step_kind ds ≡ Some k → items_have_float ds ≡ false
 step-whole no_items k h = refl
 step-whole (item a no_items) k h = absurd (cc)
 step-whole (item a (item b no_items)) k h = absurd (cc)
@@ -216,7 +216,7 @@ step-whole (item a (item b (item c (item d no_items)))) k h =
     none_four a b c d (is_count-whole a q.0) (is_text-whole b q.1) (is_count-whole c (mapped Step (number_at c) k t.1)) (is_outcome-whole d p.1)
 step-whole (item a (item b (item c (item d (item e ds))))) k h = absurd (cc)
 
-table-whole : (ds : Items) (k : Kind) → table_kind ds ≡ Some k → items_have_float ds ≡ false
+table-whole : (ds : Items) (k : LineKind) → table_kind ds ≡ Some k → items_have_float ds ≡ false
 table-whole no_items k h = refl
 table-whole (item a no_items) k h = absurd (cc)
 table-whole (item a (item b no_items)) k h =
@@ -224,7 +224,7 @@ table-whole (item a (item b no_items)) k h =
     none_two a b (is_text-whole a t.0) (is_count-whole b (mapped Table (number_at b) k t.1))
 table-whole (item a (item b (item c ds))) k h = absurd (cc)
 
-row-whole : (ds : Items) (k : Kind) → row_kind ds ≡ Some k → items_have_float ds ≡ false
+row-whole : (ds : Items) (k : LineKind) → row_kind ds ≡ Some k → items_have_float ds ≡ false
 row-whole no_items k h = refl
 row-whole (item a no_items) k h = absurd (cc)
 row-whole (item a (item b no_items)) k h =
@@ -233,16 +233,16 @@ row-whole (item a (item b no_items)) k h =
     none_two a b (is_text-whole a p.0) (is_row-whole b p.1)
 row-whole (item a (item b (item c ds))) k h = absurd (cc)
 
-done-whole : (ds : Items) (k : Kind) → done_kind ds ≡ Some k → items_have_float ds ≡ false
+done-whole : (ds : Items) (k : LineKind) → done_kind ds ≡ Some k → items_have_float ds ≡ false
 done-whole no_items k h = refl
 done-whole (item a no_items) k h = rw (is_count-whole a (mapped Done (number_at a) k h)) refl
 done-whole (item a (item b ds)) k h = absurd (cc)
 
-pub made : {A : Type 0} (f : A → Kind) (x : Option A) (k : Kind) → option_map f x ≡ Some k → (a : A) × (x ≡ Some a)
+pub made : {A : Type 0} (f : A → LineKind) (x : Option A) (k : LineKind) → option_map f x ≡ Some k → (a : A) × (x ≡ Some a)
 made f (Some a) k h = (a, refl)
 made f None k h = absurd (cc)
 
-words : (r c p s t w d : Bool) (ds : Items) (k : Kind)
+words : (r c p s t w d : Bool) (ds : Items) (k : LineKind)
     → cond r (reply_kind ds) (cond c (option_map (λ by. Call by.0 by.1) (asked_by ds)) (cond p (option_map (λ by. Push by.0 by.1) (asked_by ds)) (cond s (step_kind ds) (cond t (table_kind ds) (cond w (row_kind ds) (cond d (done_kind ds) None)))))) ≡ Some k
     → items_have_float ds ≡ false
 words true c p s t w d ds k h = reply-whole ds k h
@@ -254,7 +254,7 @@ words false false false false false true d ds k h = row-whole ds k h
 words false false false false false false true ds k h = done-whole ds k h
 words false false false false false false false ds k h = absurd (cc)
 
-items-whole : (ds : Items) (k : Kind) → items_kind ds ≡ Some k → items_have_float ds ≡ false
+items-whole : (ds : Items) (k : LineKind) → items_kind ds ≡ Some k → items_have_float ds ≡ false
 items-whole no_items k h = refl
 items-whole (item null ds) k h = absurd (cc)
 items-whole (item (boolean b) ds) k h = absurd (cc)
@@ -263,7 +263,7 @@ items-whole (item (string s) ds) k h = words _ _ _ _ _ _ _ ds k h
 items-whole (item (array es) ds) k h = absurd (cc)
 items-whole (item (object ms) ds) k h = absurd (cc)
 
-kind-whole : (d : Data) (k : Kind) → kind_of d ≡ Some k → has_float d ≡ false
+kind-whole : (d : Data) (k : LineKind) → kind_of d ≡ Some k → has_float d ≡ false
 kind-whole null k h = refl
 kind-whole (boolean b) k h = refl
 kind-whole (number n) k h = absurd (cc)
@@ -272,6 +272,6 @@ kind-whole (array ds) k h = items-whole ds k h
 kind-whole (object ms) k h = absurd (cc)
 
 -- the same where a value has a kind
-pub has_kind-whole : (d : Data) (k : Option Kind) → kind_of d ≡ k → is_some k ≡ true → has_float d ≡ false
+pub has_kind-whole : (d : Data) (k : Option LineKind) → kind_of d ≡ k → is_some k ≡ true → has_float d ≡ false
 has_kind-whole d (Some k) e h = kind-whole d k e
 has_kind-whole d None e h = absurd (cc)

@@ -3,8 +3,8 @@ use Rattle.std.specs.Prelude.{ℕ, Bool, true, false, cond, not, nat_le, ◌||�
 use Rattle.std.specs.Str.{bytes_eq}
 use Rattle.serde_json.specs.Data.{Data, Items, no_items, item}
 use Rattle.serde_json.specs.Find.{as_number, as_u64, as_array, as_str, is_float}
-use Rattle.ss_report_lines.specs.declared.kind.Kind.{Kind}
-use Rattle.ss_report_lines.specs.declared.kind.Kind.TheVariants.{Reply, Call, Push, Step, Table, Row, Done}
+use Rattle.ss_report_lines.specs.declared.kind.LineKind.{LineKind}
+use Rattle.ss_report_lines.specs.declared.kind.LineKind.TheVariants.{Reply, Call, Push, Step, Table, Row, Done}
 
 -- ---- parts of lines
 
@@ -98,7 +98,7 @@ is_outcome d = unwrap_or (option_map are_outcome (as_array d)) false
 -- ---- lines
 
 -- a reply: its request's line, and a place with an outcome, or why there is none
-abbrev pub reply_kind : Items → Option Kind
+abbrev pub reply_kind : Items → Option LineKind
 reply_kind (item line (item word no_items)) =
     cond (is_word (codes "no_memory") word || is_word (codes "list_full") word) (option_map Reply (number_at line)) None
 reply_kind (item line (item first (item second no_items))) =
@@ -112,28 +112,28 @@ asked_by (item place (item client (item index (item outcome no_items)))) =
 asked_by _ = None
 
 -- a step
-abbrev pub step_kind : Items → Option Kind
+abbrev pub step_kind : Items → Option LineKind
 step_kind (item place (item name (item batch (item outcome no_items)))) =
     cond (is_count place && is_text name && is_outcome outcome) (option_map Step (number_at batch)) None
 step_kind _ = None
 
 -- the head of a table
-abbrev pub table_kind : Items → Option Kind
+abbrev pub table_kind : Items → Option LineKind
 table_kind (item name (item rows no_items)) = cond (is_text name) (option_map Table (number_at rows)) None
 table_kind _ = None
 
 -- a row of a table
-abbrev pub row_kind : Items → Option Kind
+abbrev pub row_kind : Items → Option LineKind
 row_kind (item name (item row no_items)) = cond (is_text name && is_row row) (Some Row) None
 row_kind _ = None
 
 -- the end
-abbrev pub done_kind : Items → Option Kind
+abbrev pub done_kind : Items → Option LineKind
 done_kind (item entries no_items) = option_map Done (number_at entries)
 done_kind _ = None
 
 -- the kind of a line that begins with this word
-abbrev pub worded : List ℕ → Items → Option Kind
+abbrev pub worded : List ℕ → Items → Option LineKind
 worded word ds =
     cond (bytes_eq word (codes "reply")) (reply_kind ds)
     (cond (bytes_eq word (codes "call")) (option_map (λ by. Call by.0 by.1) (asked_by ds))
@@ -144,10 +144,10 @@ worded word ds =
     (cond (bytes_eq word (codes "done")) (done_kind ds) None))))))
 
 -- the kind of an array with these items
-abbrev pub items_kind : Items → Option Kind
+abbrev pub items_kind : Items → Option LineKind
 items_kind no_items = None
 items_kind (item word ds) = option_and_then (λ w. worded w ds) (as_str word)
 
 -- the kind of a line of a report, where a value has the form of one
-abbrev pub kind_of : Data → Option Kind
+abbrev pub kind_of : Data → Option LineKind
 kind_of d = option_and_then items_kind (as_array d)

@@ -27,6 +27,6 @@ mod outcome;
 mod part;
 mod reading;
 
-pub use kind::Kind;
+pub use kind::LineKind;
 pub use kinds::kind_of;
 pub use reading::{bytes_of, is_text_of, said};

@@ -9,20 +9,20 @@ ghost use Rattle.ss_rows.specs.Early.{AlwaysHasItem, AlwaysHasRow, AlwaysHasAnsw
 
 use crate::never_aborts::{always_has_test, always_has_value};
 use crate::query_kind::is_aggregated;
-use ss_sql_trees::{Expr, Item, Query};
+use ss_sql_trees::{Expr, Query, SelectItem};
 
 /// Whether an item is a literal, a parameter or a column, which have a value for each group.
-fn always_has_item(item: &Item) -> bool
+fn always_has_item(item: &SelectItem) -> bool
     ensures { result ≡ true → AlwaysHasItem item.now }
 {
     match item {
-        Item::Plain(tree) => always_has_value(tree),
-        Item::Count | Item::Sum(_) | Item::Min(_) | Item::Max(_) => false,
+        SelectItem::Plain(tree) => always_has_value(tree),
+        SelectItem::Count | SelectItem::Sum(_) | SelectItem::Min(_) | SelectItem::Max(_) => false,
     }
 }
 
 /// Whether all of these items are literals, parameters or columns.
-fn always_has_row(items: &[Item]) -> bool
+fn always_has_row(items: &[SelectItem]) -> bool
     ensures { result ≡ true → AlwaysHasRow items.now }
 {
     for item in items {

@@ -4,13 +4,15 @@ ghost use Rattle.std.specs.Prelude.{◌≡◌};
 ghost use Rattle.std.specs.List.{list_any};
 ghost use Rattle.ss_sql_trees.specs.WellTyped.{is_aggregate, query_aggregated};
 
-use ss_sql_trees::{Item, Query};
+use ss_sql_trees::{Query, SelectItem};
 
 /// Whether one of these items is COUNT, SUM, MIN or MAX.
-fn has_aggregate(items: &[Item]) -> bool
+fn has_aggregate(items: &[SelectItem]) -> bool
     ensures { result ≡ list_any is_aggregate items.now }
 {
-    items.iter().any(|item| !matches!(item, Item::Plain(_)))
+    items
+        .iter()
+        .any(|item| !matches!(item, SelectItem::Plain(_)))
 }
 
 /// Whether a query has an aggregate item or GROUP BY, so that its rows are those of groups and not of tuples.

@@ -11,7 +11,7 @@ use crate::origin::Origin;
 use crate::steps::run_step;
 use ss_model::Catalog;
 use ss_sched::ready::ready;
-use ss_sched::{Inbox, Work, wake_list};
+use ss_sched::{Inbox, Task, wake_list};
 use ss_value::ProcSet;
 use std::alloc::Global;
 
@@ -109,9 +109,9 @@ pub fn run_hints<O: Origin, J>(
 {
     while let Some(work) = inbox.take() {
         match work {
-            Work::Hint(procedure) => run_hint::<O, J>(alloc, catalog, store, inbox, procedure),
+            Task::Hint(procedure) => run_hint::<O, J>(alloc, catalog, store, inbox, procedure),
             // No job waits at first, and a hint puts none.
-            Work::Job(_) => unreachable!(),
+            Task::Job(_) => unreachable!(),
         }
     }
 }

@@ -12,7 +12,7 @@ use crate::entry::{Store, answer_entry};
 use crate::hints::{put_hints, run_hints};
 use crate::origin::Origin;
 use ss_model::{Answer, Catalog, Outcome, Request, asked_entry};
-use ss_sched::{Inbox, Work, wake_list};
+use ss_sched::{Inbox, Task, wake_list};
 use ss_value::{Copies, Seq};
 use std::alloc::Global;
 
@@ -97,7 +97,7 @@ pub fn pump<O: Origin>(
 {
     // Nothing else waits, so the job that is put is the one that is taken.
     inbox.put_job(number);
-    let Some(Work::Job(number)) = inbox.take() else {
+    let Some(Task::Job(number)) = inbox.take() else {
         unreachable!()
     };
     let request = requests.at(number);

@@ -9,7 +9,7 @@ use Rattle.ss_stream.specs.OfDatabase.{kept_streams}
 use Rattle.ss_sched.specs.Lanes.{Lanes, Taken, with_hint}
 use Rattle.ss_sched.specs.Progress.{HasProgress}
 use Rattle.ss_sched.specs.Ranks.{AreRanks}
-use Rattle.ss_sched.specs.declared.inbox.Work.TheVariants.{Hint, Job}
+use Rattle.ss_sched.specs.declared.inbox.Task.TheVariants.{Hint, Job}
 use Rattle.ss_model_laws.proofs.worked.Workflow as flow
 use Rattle.ss_model_laws.proofs.worked.WorkflowRun as run
 

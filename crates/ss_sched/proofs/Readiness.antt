@@ -4,8 +4,8 @@ use Rattle.std.proofs.Math.ListN.{get_or-map}
 use Rattle.std.proofs.lemmas.Bool.Decides.{Decides-eqb}
 use Rattle.std.specs.List.{list_all}
 use Rattle.ss_value.specs.Rows.{Rows}
-use Rattle.ss_model.specs.declared.catalog.Kind.{Kind}
-use Rattle.ss_model.specs.declared.catalog.Kind.TheVariants.{Call as CallKind, Border, Interior}
+use Rattle.ss_model.specs.declared.catalog.ProcedureKind.{ProcedureKind}
+use Rattle.ss_model.specs.declared.catalog.ProcedureKind.TheVariants.{Call as CallKind, Border, Interior}
 use Rattle.ss_model.specs.declared.catalog.Procedure.{Procedure}
 use Rattle.ss_model.specs.declared.catalog.Catalog.{Catalog}
 use Rattle.ss_model.specs.Accepted.{Accepted}
@@ -21,7 +21,7 @@ pub inputs_are_streams : (catalog : Catalog) (streams : List Pending) (q : ℕ) 
 inputs_are_streams catalog streams q d accepted long here = inputs_below catalog accepted (length streams) q d (omega arith) here
 
 -- a kind is called or takes batches, and not both
-pub call_or_streams : (k : Kind) (b : Bool) → is_call k ≡ b → is_streaming k ≡ not b
+pub call_or_streams : (k : ProcedureKind) (b : Bool) → is_call k ≡ b → is_streaming k ≡ not b
 call_or_streams CallKind b e = ap not e
 call_or_streams Border b e = ap not e
 call_or_streams Interior b e = ap not e

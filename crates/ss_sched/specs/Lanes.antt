@@ -1,8 +1,8 @@
 -- An inbox as contracts see it: its two lanes.
 use Rattle.std.specs.Prelude.{◌≡◌, ◌<◌, ◌==◌, ℕ, Bool, false, cond, List, [], ◌∷◌, ◌++◌, length, get_or}
 use Rattle.std.specs.List.{AllByRecursion, IsDistinct, list_any}
-use Rattle.ss_sched.specs.declared.inbox.Work.{Work}
-use Rattle.ss_sched.specs.declared.inbox.Work.TheVariants.{Hint, Job}
+use Rattle.ss_sched.specs.declared.inbox.Task.{Task}
+use Rattle.ss_sched.specs.declared.inbox.Task.TheVariants.{Hint, Job}
 
 -- the hints and the jobs that wait, each in order, and how many jobs there is room for in all
 pub record Lanes (J : Type 0) : Type 0 where
@@ -28,6 +28,6 @@ abbrev pub IsMarked : List ℕ → List Bool → Type 0
 IsMarked hints flags = (length flags ≡ 64) × ((p : ℕ) → get_or flags p false ≡ has_hint hints p)
 
 -- the item that was taken: the first hint, or where no hint waits the first job; all else is as it was
-abbrev pub Taken : {J : Type 0} → Lanes J → Work J → Lanes J → Type 0
+abbrev pub Taken : {J : Type 0} → Lanes J → Task J → Lanes J → Type 0
 Taken old (Hint p) new = (old.hints ≡ p ∷ new.hints) × (new.jobs ≡ old.jobs) × (new.room ≡ old.room)
 Taken old (Job j) new = (old.hints ≡ []) × (new.hints ≡ []) × (old.jobs ≡ j ∷ new.jobs) × (new.room ≡ old.room)

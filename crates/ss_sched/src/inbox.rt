@@ -13,7 +13,7 @@ const HINTS: usize = 64;
 
 /// One item of an inbox.
 #[derive(Drop)]
-pub enum Work<J> {
+pub enum Task<J> {
     /// The number of a procedure that may be ready.
     Hint(u16),
     /// A job: what a client asks for.
@@ -112,16 +112,16 @@ impl<J> Inbox<J> {
     }
 
     /// Takes the next item: the first hint where one waits, else the first job; None exactly where nothing waits.
-    pub fn take(&mut self) -> Option<Work<J>>
+    pub fn take(&mut self) -> Option<Task<J>>
         ensures some { IfSome result (λ work. Taken self.old work self.new) }
         ensures none { IfNone result ((self.old.hints ≡ []) × (self.old.jobs ≡ []) × (self.new ≡ self.old)) }
     {
         if let Some(procedure) = self.hints.pop_front() {
             self.waits[usize::from(procedure)] = false;
-            return Some(Work::Hint(procedure));
+            return Some(Task::Hint(procedure));
         }
         match self.jobs.pop_front() {
-            Some(job) => Some(Work::Job(job)),
+            Some(job) => Some(Task::Job(job)),
             None => None,
         }
     }

@@ -31,7 +31,7 @@ pub mod ready;
 mod settle;
 mod wake;
 
-pub use inbox::{Inbox, Work};
+pub use inbox::{Inbox, Task};
 pub use rank::Ranks;
 pub use settle::{next_ranked, next_settled};
 pub use wake::wake_list;

@@ -28,7 +28,7 @@ use Rattle.ss_commitlog.specs.Rule.{item}
 use Rattle.ss_commitlog.specs.Tokens.{Known, roles_of}
 use Rattle.ss_commitlog.proofs.CallerLemmas.{after-append, length-listed_of, listed_of-append, on_longer}
 use Rattle.ss_turns.specs.Executed.{IsStepped}
-use Rattle.ss_turns.specs.Stepping.{AllGoOn}
+use Rattle.ss_turns.specs.Stepping.{EachGoesOn}
 use Rattle.ss_turns.proofs.CallerLemmas.{all_met, went_in}
 use Rattle.ss_settle.specs.Ready.{FoundNext}
 use Rattle.ss_settle.specs.Settlings.{AreSettling, EndedWith, SettledFrom, SettledInOrder, SettlesFrom, entries_of}
@@ -52,7 +52,7 @@ next_number catalog d q r outcome e = let (a, is) = applied_of (apply catalog d 
     by (Some p) a is = sym ((Decides-eqb (batch_count d q) r).0 (second_of_two _ _ (first_of_two _ _ (tested (is_ready d q r p) _ a is))))
 
 -- marks that went on meanwhile
-pub settles_on : (catalog : Catalog) (n : ℕ) (db : Database) (old ks ls : List Known) (ran : ℕ) → AllGoOn catalog n ks ls → SettlesFrom catalog n db old ks ran → SettlesFrom catalog n db old ls ran
+pub settles_on : (catalog : Catalog) (n : ℕ) (db : Database) (old ks ls : List Known) (ran : ℕ) → EachGoesOn catalog n ks ls → SettlesFrom catalog n db old ks ran → SettlesFrom catalog n db old ls ran
 settles_on catalog n db old ks ls ran on far = λ list may. far list (whole_before catalog n db list ks ls on may)
 
 module _ (catalog : Catalog) (n : ℕ) (db : Database) (old : List Known) (ran : ℕ) (list : List Item) (far : SettledFrom catalog n db old ran list) where
@@ -105,7 +105,7 @@ module _ (catalog : Catalog) (n : ℕ) (db : Database) (old : List Known) (ran :
 abbrev pub AllHave : ℕ → List Known → Type 0
 AllHave count ks = (k : Known) → In k ks → count ≤ length k.list
 
-pub all_have : (catalog : Catalog) (n : ℕ) (count : ℕ) (ks ls : List Known) → AllGoOn catalog n ks ls → AllHave count ks → AllHave count ls
+pub all_have : (catalog : Catalog) (n : ℕ) (count : ℕ) (ks ls : List Known) → EachGoesOn catalog n ks ls → AllHave count ks → AllHave count ls
 all_have catalog n count ks ls on have l there =
     let (k, was, goes) = went_in catalog n ks ls on l there in
     let longer = on_longer catalog n l.list k goes.on in
@@ -120,7 +120,7 @@ pub record WentOn (catalog : Catalog) (n : ℕ) (db : Database) (old ls : List K
   pub have : AllHave ran ls
 
 -- marks that went on
-pub went_on : (catalog : Catalog) (n : ℕ) (db : Database) (old ks ls : List Known) (ran : ℕ) → AllGoOn catalog n ks ls → WentOn catalog n db old ks ran → WentOn catalog n db old ls ran
+pub went_on : (catalog : Catalog) (n : ℕ) (db : Database) (old ks ls : List Known) (ran : ℕ) → EachGoesOn catalog n ks ls → WentOn catalog n db old ks ran → WentOn catalog n db old ls ran
 went_on catalog n db old ks ls ran on was = record { far = settles_on catalog n db old ks ls ran on was.far; have = all_have catalog n ran ks ls on was.have }
 
 module _ (catalog : Catalog) (n : ℕ) (some : 1 ≤ n) (db : Database) (old ks ls : List Known) (roles : roles_of ks ≡ map Part (all_partitions n)) (new_roles : roles_of ls ≡ map Part (all_partitions n))

@@ -35,7 +35,7 @@ use Rattle.ss_settle.specs.Ready.{FoundNext, NoneReady, NoneReadyBehind, StepsWh
 use Rattle.ss_settle.specs.Settlings.{SettledTo}
 use Rattle.ss_settle.specs.Wholes.{AllAt, EachTouches, MayBeWhole}
 use Rattle.ss_turns.specs.Executed.{HoldsFor, IsStepped}
-use Rattle.ss_turns.specs.Stepping.{AllGoOn}
+use Rattle.ss_turns.specs.Stepping.{EachGoesOn}
 use Rattle.ss_settle.proofs.FirstIsNext.{first_is_next}
 use Rattle.ss_turns.proofs.CallerLemmas.{all_met, all_on_and_on, continue_through, first_goes_on, first_in, reaching, roles_go_on}
 
@@ -62,7 +62,7 @@ first_met catalog n limit (k ∷ ks) [] (list, short, know, on) some = absurd kn
 first_met catalog n limit (k ∷ ks) (m ∷ ms) met some = omega arith
 
 -- a list that may be the whole one for later marks may be so for earlier ones
-pub whole_before : (catalog : Catalog) (n : ℕ) (db : Database) (list : List Item) (ks ls : List Known) → AllGoOn catalog n ks ls → MayBeWhole catalog n db list ls → MayBeWhole catalog n db list ks
+pub whole_before : (catalog : Catalog) (n : ℕ) (db : Database) (list : List Item) (ks ls : List Known) → EachGoesOn catalog n ks ls → MayBeWhole catalog n db list ls → MayBeWhole catalog n db list ks
 whole_before catalog n db list ks ls all whole = record { touch = whole.touch; replays = whole.replays; on = continue_through catalog n list ks ls all whole.on }
 
 -- ---- lists of entries that touch something
@@ -212,7 +212,7 @@ next_behind catalog n some ranks are db list old new q w first at on =
 -- marks that met, the first of which then looked
 module _ (catalog : Catalog) (n limit : ℕ) (ks ms : List Known) (k l : Known) (met : MeetAll catalog n limit ks ms) (looks : slice_get ms 0 ≡ Some k) (goes : GoesOn catalog n k l) where
   -- they went on
-  pub looked_on : AllGoOn catalog n ks (slice_set ms 0 l)
+  pub looked_on : EachGoesOn catalog n ks (slice_set ms 0 l)
   looked_on = let (list, short, know, on) = met in all_on_and_on catalog n ks ms (slice_set ms 0 l) (all_met catalog n list ks ms know on) (first_goes_on catalog n ms k l looks goes)
 
   module _ (some : 1 ≤ n) (roles : roles_of ks ≡ map Part (all_partitions n)) where

@@ -13,7 +13,7 @@ ghost use Rattle.ss_settle.specs.Settlings.{SettledTo, SettlesFrom};
 ghost use Rattle.ss_settle.specs.Wholes.{MayBeWhole};
 ghost use Rattle.ss_commitlog.specs.Growing.{GoesOn};
 ghost use Rattle.ss_sched.specs.Ranks.{AreRanks};
-ghost use Rattle.ss_turns.specs.Stepping.{AllGoOn};
+ghost use Rattle.ss_turns.specs.Stepping.{EachGoesOn};
 
 use crate::gate::Gate;
 use crate::ranking::first_ranked;
@@ -70,7 +70,7 @@ fn ready_in_hand<I: Life, N: Runner, R: Wait>(
     requires ranks { AreRanks I.catalog ranks.now }
     requires in_hand { IsInHand I.catalog I.parts I.opening (all_partitions I.parts) hand.old }
     ensures in_hand { IsInHand I.catalog I.parts I.opening (all_partitions I.parts) hand.new }
-    ensures marks { AllGoOn I.catalog I.parts hand.old.marks hand.new.marks }
+    ensures marks { EachGoesOn I.catalog I.parts hand.old.marks hand.new.marks }
     ensures some { IfSome result (FoundNext I.catalog I.parts I.opening hand.new.marks) }
     ensures none { IfNone result ((list : List Item) → MayBeWhole I.catalog I.parts I.opening list hand.new.marks
         → NoneReadyBehind I.catalog I.parts I.opening list) }

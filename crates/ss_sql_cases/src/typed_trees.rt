@@ -15,7 +15,7 @@
 use crate::shown::{Show, Shown, ShownIfAny, ShownList, show_behind};
 use crate::signs::{binary_sign, cmp_sign, unary_sign};
 use ss_sql_trees::{
-    ColAt, Condition, Expr, Item, Joined, OrderBy, Query, SetTo, SourceId, Statement, Target,
+    ColAt, Condition, Expr, Joined, OrderBy, Query, SelectItem, SetTo, SourceId, Statement, Target,
 };
 use ss_sql_type::TypeError;
 use ss_value::Value;
@@ -53,14 +53,14 @@ impl Show for Expr {
 
 // ---- queries
 
-impl Show for Item {
+impl Show for SelectItem {
     fn show<W: fmt::Write>(&self, f: &mut fmt::Formatter<W>) -> fmt::Result {
         let (word, side) = match self {
-            Item::Count => return f.write_str("COUNT"),
-            Item::Sum(side) => ("SUM ", side),
-            Item::Min(side) => ("MIN ", side),
-            Item::Max(side) => ("MAX ", side),
-            Item::Plain(side) => ("", side),
+            SelectItem::Count => return f.write_str("COUNT"),
+            SelectItem::Sum(side) => ("SUM ", side),
+            SelectItem::Min(side) => ("MIN ", side),
+            SelectItem::Max(side) => ("MAX ", side),
+            SelectItem::Plain(side) => ("", side),
         };
         f.write_str(word)?;
         side.show(f)

@@ -14,8 +14,8 @@ use Rattle.ss_sql_trees.specs.declared.typed.Expr.TheFolds.{fold-Expr}
 use Rattle.ss_sql_trees.specs.declared.typed.Expr.TheOpen.{Expr-F}
 use Rattle.ss_sql_trees.specs.declared.typed.SourceId.{SourceId}
 use Rattle.ss_sql_trees.specs.declared.typed.ColAt.{ColAt}
-use Rattle.ss_sql_trees.specs.declared.typed.Item.{Item}
-use Rattle.ss_sql_trees.specs.declared.typed.Item.TheVariants.{Count, Sum, Min, Max, Plain}
+use Rattle.ss_sql_trees.specs.declared.typed.SelectItem.{SelectItem}
+use Rattle.ss_sql_trees.specs.declared.typed.SelectItem.TheVariants.{Count, Sum, Min, Max, Plain}
 use Rattle.ss_sql_trees.specs.declared.typed.Joined.{Joined}
 use Rattle.ss_sql_trees.specs.declared.typed.OrderBy.{OrderBy}
 use Rattle.ss_sql_trees.specs.declared.typed.Query.{Query}
@@ -92,7 +92,7 @@ test_typed sources params (Some e) = is_type BoolType (expr_type sources params 
 -- ---- items
 
 -- the type that an item gives
-abbrev pub item_type : List (List Column) → List Column → Item → Option ExprType
+abbrev pub item_type : List (List Column) → List Column → SelectItem → Option ExprType
 item_type sources params Count = Some IntType
 item_type sources params (Sum e) = typed_when (is_type IntType (expr_type sources params e)) IntType
 item_type sources params (Min e) = expr_type sources params e
@@ -100,7 +100,7 @@ item_type sources params (Max e) = expr_type sources params e
 item_type sources params (Plain e) = expr_type sources params e
 
 -- whether an item is COUNT, SUM, MIN or MAX
-abbrev pub is_aggregate : Item → Bool
+abbrev pub is_aggregate : SelectItem → Bool
 is_aggregate (Plain e) = false
 is_aggregate _ = true
 
@@ -120,7 +120,7 @@ level_grouped groups (Expr-F.Binary op left right) = left && right
 level_grouped groups _ = true
 
 -- whether an item is an aggregate, or all its columns are grouped
-abbrev pub item_grouped : List ColAt → Item → Bool
+abbrev pub item_grouped : List ColAt → SelectItem → Bool
 item_grouped groups (Plain e) = fold-Expr Bool (level_grouped groups) e
 item_grouped groups _ = true
 

@@ -5,7 +5,7 @@
 
 ghost use Rattle.std.specs.Prelude.{◌≡◌, IfOk};
 
-use crate::typed::{ColAt, Condition, Expr, Item, OrderBy, Query, SetTo, Statement};
+use crate::typed::{ColAt, Condition, Expr, OrderBy, Query, SelectItem, SetTo, Statement};
 use ss_value::{Boxed, Copies, NoMemory};
 use std::alloc::Global;
 
@@ -45,14 +45,14 @@ impl Copies for Expr {
     }
 }
 
-impl Copies for Item {
-    fn duplicate(&self, alloc: Global) -> Result<Item, NoMemory> {
+impl Copies for SelectItem {
+    fn duplicate(&self, alloc: Global) -> Result<SelectItem, NoMemory> {
         match self {
-            Item::Count => Ok(Item::Count),
-            Item::Sum(expr) => Ok(Item::Sum(copy_expr(alloc, expr)?)),
-            Item::Min(expr) => Ok(Item::Min(copy_expr(alloc, expr)?)),
-            Item::Max(expr) => Ok(Item::Max(copy_expr(alloc, expr)?)),
-            Item::Plain(expr) => Ok(Item::Plain(copy_expr(alloc, expr)?)),
+            SelectItem::Count => Ok(SelectItem::Count),
+            SelectItem::Sum(expr) => Ok(SelectItem::Sum(copy_expr(alloc, expr)?)),
+            SelectItem::Min(expr) => Ok(SelectItem::Min(copy_expr(alloc, expr)?)),
+            SelectItem::Max(expr) => Ok(SelectItem::Max(copy_expr(alloc, expr)?)),
+            SelectItem::Plain(expr) => Ok(SelectItem::Plain(copy_expr(alloc, expr)?)),
         }
     }
 }

@@ -18,6 +18,6 @@ mod typed;
 
 pub use copies::{copy_expr, copy_test};
 pub use typed::{
-    BinaryOp, Cmp, ColAt, Condition, Expr, Item, Joined, OrderBy, Query, SetTo, SourceId,
+    BinaryOp, Cmp, ColAt, Condition, Expr, Joined, OrderBy, Query, SelectItem, SetTo, SourceId,
     Statement, Target, UnaryOp,
 };

@@ -103,7 +103,7 @@ pub enum Expr {
 
 /// An item of SELECT.
 #[derive(Drop)]
-pub enum Item {
+pub enum SelectItem {
     /// `COUNT(*)`
     Count,
     /// `SUM` of an expression.
@@ -149,7 +149,7 @@ pub struct OrderBy {
 #[derive(Drop)]
 pub struct Query {
     /// The items of SELECT.
-    pub items: Seq<Item>,
+    pub items: Seq<SelectItem>,
     /// The source behind FROM.
     pub from: SourceId,
     /// The JOIN, if there is one.

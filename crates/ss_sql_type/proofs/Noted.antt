@@ -3,7 +3,7 @@ use Rattle.std.proofs.Common.{◌≡◌, refl, sym, ap, ◌∙◌, List, [], ◌
 use Rattle.ss_sql_trees.specs.declared.typed.BinaryOp.{BinaryOp}
 use Rattle.ss_sql_trees.specs.declared.typed.BinaryOp.TheVariants.{Compare}
 use Rattle.ss_sql_type.specs.declared.scope.TypeError.{TypeError}
-use Rattle.ss_sql_type.specs.declared.kinds.Kind.{Kind}
+use Rattle.ss_sql_type.specs.declared.kinds.ValueKind.{ValueKind}
 use Rattle.ss_sql_type.specs.declared.expr.TypedExpr.{TypedExpr}
 use Rattle.ss_sql_type.specs.Refusals.{least_with, least_of, fault_unless}
 use Rattle.ss_sql_type.specs.Expressions.{Typed, set_of, Shows, side_faults, sides_faults}
@@ -18,7 +18,7 @@ pub noted_twice : (a b c : Option TypeError) (xs ys : List TypeError) → b ≡ 
 noted_twice a b c xs ys e f = f ∙ ap (λ o. least_of o ys) e ∙ sym (all_noted_append a xs ys)
 
 -- what the program's struct has is all that an operator needs
-pub side_shown : (kind : Kind) (side : TypedExpr) (t : Typed) → Shows side t → side_faults kind (set_of side) ≡ side_faults kind t
+pub side_shown : (kind : ValueKind) (side : TypedExpr) (t : Typed) → Shows side t → side_faults kind (set_of side) ≡ side_faults kind t
 side_shown kind side t is = rw (is.1, is.2) refl
 
 pub sides_shown : (op : BinaryOp) (left right : TypedExpr) (l r : Typed) → Shows left l → Shows right r → sides_faults op (set_of left) (set_of right) ≡ sides_faults op l r
@@ -31,7 +31,7 @@ on_ok (Ok x) p = p
 on_ok (Err e) p = tt
 
 -- an operator's side, and then what the operator says of it
-pub unary_noted : (a b c : Option TypeError) (k l : Kind) (side : TypedExpr) (t : Typed) → Shows side t → k ≡ l → b ≡ least_of a t.faults → c ≡ least_of b (side_faults k (set_of side)) → c ≡ least_of a (t.faults ++ side_faults l t)
+pub unary_noted : (a b c : Option TypeError) (k l : ValueKind) (side : TypedExpr) (t : Typed) → Shows side t → k ≡ l → b ≡ least_of a t.faults → c ≡ least_of b (side_faults k (set_of side)) → c ≡ least_of a (t.faults ++ side_faults l t)
 unary_noted a b c k l side t is same first second =
     noted_twice a b c t.faults (side_faults l t) first (second ∙ ap (λ x. least_of b (side_faults x (set_of side))) same ∙ ap (least_of b) (side_shown l side t is))
 

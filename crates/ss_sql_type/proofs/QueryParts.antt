@@ -4,7 +4,7 @@ use Rattle.std.specs.Option.{option_map}
 use Rattle.ss_sql_lex.specs.declared.tree.QueryTree.{QueryTree}
 use Rattle.ss_sql_trees.specs.declared.typed.ColAt.{ColAt}
 use Rattle.ss_sql_trees.specs.declared.typed.Expr.{Expr}
-use Rattle.ss_sql_trees.specs.declared.typed.Item.{Item}
+use Rattle.ss_sql_trees.specs.declared.typed.SelectItem.{SelectItem}
 use Rattle.ss_sql_trees.specs.declared.typed.Joined.{Joined}
 use Rattle.ss_sql_trees.specs.declared.typed.OrderBy.{OrderBy}
 use Rattle.ss_sql_trees.specs.declared.typed.Query.{Query}
@@ -13,10 +13,10 @@ use Rattle.ss_sql_type.specs.Names.{Reach}
 use Rattle.ss_sql_type.specs.Items.{typed_item, typed_value, typed_groups, typed_order}
 use Rattle.ss_sql_type.specs.Queries.{source_id, typed_join, grouped_columns, limit_of, typed_within}
 
-abbrev pub made : List Item → SourceId → Option Joined → Option Expr → List ColAt → List OrderBy → Option ℕ → Query
+abbrev pub made : List SelectItem → SourceId → Option Joined → Option Expr → List ColAt → List OrderBy → Option ℕ → Query
 made items from joined test groups order limit = record { items = items; from = from; joined = joined; test = test; groups = groups; order = order; limit = limit }
 
-pub query_made : (reach : Reach) (q : QueryTree) (items : List Item) (from : SourceId) (joined : Option Joined) (test : Option Expr) (groups : List ColAt) (order : List OrderBy) (limit : Option ℕ)
+pub query_made : (reach : Reach) (q : QueryTree) (items : List SelectItem) (from : SourceId) (joined : Option Joined) (test : Option Expr) (groups : List ColAt) (order : List OrderBy) (limit : Option ℕ)
     → items ≡ map (typed_item reach (grouped_columns reach q)) q.items
     → from ≡ source_id reach.first
     → joined ≡ option_map (typed_join reach) q.joined

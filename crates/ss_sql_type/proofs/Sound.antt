@@ -25,8 +25,8 @@ use Rattle.ss_sql_lex.specs.declared.tree.ExprTree.TheOpen.{ExprTree-F}
 use Rattle.ss_sql_trees.specs.WellTyped.{ExprType, are_comparable, column_type, schema_type, typed_when, level_type, expr_type, level_grouped}
 use Rattle.ss_sql_trees.specs.WellTyped.ExprType.{IntType, TextType, BoolType}
 use Rattle.ss_sql_type.specs.declared.scope.TypeError.{TypeError}
-use Rattle.ss_sql_type.specs.declared.kinds.Kind.{Kind}
-use Rattle.ss_sql_type.specs.declared.kinds.Kind.TheVariants.{Int, Text, Bool as Truth}
+use Rattle.ss_sql_type.specs.declared.kinds.ValueKind.{ValueKind}
+use Rattle.ss_sql_type.specs.declared.kinds.ValueKind.TheVariants.{Int, Text, Bool as Truth}
 use Rattle.ss_sql_type.specs.Refusals.{fault_unless}
 use Rattle.ss_sql_type.specs.Kinds.{kind_of, may_be, may_compare, sign_kind, gives}
 use Rattle.ss_sql_type.specs.declared.scope.TypeError.TheVariants.{UnknownName, WrongType, NotAggregated}
@@ -45,7 +45,7 @@ no_fault false f e = absurd cc
 -- ---- types
 
 -- the type of this name
-abbrev pub type_of : Kind → ExprType
+abbrev pub type_of : ValueKind → ExprType
 type_of Int = IntType
 type_of Text = TextType
 type_of Truth = BoolType
@@ -55,7 +55,7 @@ column_types column.Int = refl
 column_types column.Text = refl
 
 -- what may be of a type is of that type, where it has one
-pub same_kind : (k l : Kind) → may_be k (Some l) ≡ true → k ≡ l
+pub same_kind : (k l : ValueKind) → may_be k (Some l) ≡ true → k ≡ l
 same_kind Int Int e = refl
 same_kind Int Text e = absurd cc
 same_kind Int Truth e = absurd cc
@@ -66,7 +66,7 @@ same_kind Truth Int e = absurd cc
 same_kind Truth Text e = absurd cc
 same_kind Truth Truth e = refl
 
-pub compared : (k l : Kind) → may_compare (Some k) (Some l) ≡ true → are_comparable (Some (type_of k)) (Some (type_of l)) ≡ true
+pub compared : (k l : ValueKind) → may_compare (Some k) (Some l) ≡ true → are_comparable (Some (type_of k)) (Some (type_of l)) ≡ true
 compared Int Int e = refl
 compared Int Text e = absurd cc
 compared Int Truth e = absurd cc
@@ -81,7 +81,7 @@ compared Truth Truth e = absurd cc
 
 -- a column with its type
 pub record HasKind (columns : List Column) (n : ℕ) : Type 0 where
-  pub kind : Kind
+  pub kind : ValueKind
   pub known : kind_in columns n ≡ Some kind
   pub typed : schema_type columns n ≡ Some (type_of kind)
 
@@ -155,7 +155,7 @@ all_grouped (Some groups) e = fold-Expr Bool (level_grouped groups) e
 
 -- a typed expression that has the type that it is said to have
 pub record Sound (sources : List (List Column)) (params : List Column) (grouped : Option (List ColAt)) (t : Typed) : Type 0 where
-  pub kind : Kind
+  pub kind : ValueKind
   pub known : t.kind ≡ Some kind
   pub typed : expr_type sources params t.expr ≡ Some (type_of kind)
   pub all : all_grouped grouped t.expr ≡ true
@@ -200,17 +200,17 @@ grouped_binary (Some g) op left right e f = fold_binary Bool (level_grouped g) o
 
 module _ (sources : List (List Column)) (reach : Reach) (grouped : Option (List ColAt)) where
   -- no other type than an operator takes: this type
-  side_is : (k : Kind) (t : Typed) → Sound sources reach.params grouped t → side_faults k t ≡ [] → expr_type sources reach.params t.expr ≡ Some (type_of k)
+  side_is : (k : ValueKind) (t : Typed) → Sound sources reach.params grouped t → side_faults k t ≡ [] → expr_type sources reach.params t.expr ≡ Some (type_of k)
   side_is k t s e =
       let may : may_be k t.kind ≡ true = no_fault (may_be k t.kind) (WrongType t.at) e in
-      let same = same_kind k s.kind (subst (λ (o : Option Kind). may_be k o ≡ true) s.known may) in
-      s.typed ∙ ap (λ (z : Kind). Some (type_of z)) (sym same)
+      let same = same_kind k s.kind (subst (λ (o : Option ValueKind). may_be k o ≡ true) s.known may) in
+      s.typed ∙ ap (λ (z : ValueKind). Some (type_of z)) (sym same)
 
   unary_type : (op : UnaryOp) (x : Option ExprType) → x ≡ Some (type_of (sign_kind op)) → level_type sources reach.params (Expr-F.Unary op x) ≡ Some (type_of (sign_kind op))
   unary_type Not x e = rw e refl
   unary_type Negate x e = rw e refl
 
-  two_sides : (k : Kind) (op : BinaryOp) (l r : Typed) → gives op ≡ k → Sound sources reach.params grouped l → Sound sources reach.params grouped r → side_faults k l ++ side_faults k r ≡ [] → (expr_type sources reach.params l.expr ≡ Some (type_of k)) × (expr_type sources reach.params r.expr ≡ Some (type_of k))
+  two_sides : (k : ValueKind) (op : BinaryOp) (l r : Typed) → gives op ≡ k → Sound sources reach.params grouped l → Sound sources reach.params grouped r → side_faults k l ++ side_faults k r ≡ [] → (expr_type sources reach.params l.expr ≡ Some (type_of k)) × (expr_type sources reach.params r.expr ≡ Some (type_of k))
   two_sides k op l r g sl sr e = (side_is k l sl (empty_left (side_faults k l) (side_faults k r) e), side_is k r sr (empty_right (side_faults k l) (side_faults k r) e))
 
   compare_type : (c : Cmp) (x y : Option ExprType) → are_comparable x y ≡ true → level_type sources reach.params (Expr-F.Binary (Compare c) x y) ≡ Some BoolType
@@ -219,7 +219,7 @@ module _ (sources : List (List Column)) (reach : Reach) (grouped : Option (List 
   binary_type : (op : BinaryOp) (l r : Typed) → Sound sources reach.params grouped l → Sound sources reach.params grouped r → sides_faults op l r ≡ [] → level_type sources reach.params (Expr-F.Binary op (expr_type sources reach.params l.expr) (expr_type sources reach.params r.expr)) ≡ Some (type_of (gives op))
   binary_type (Compare c) l r sl sr e =
       let may : may_compare l.kind r.kind ≡ true = no_fault (may_compare l.kind r.kind) (WrongType r.at) e in
-      let known : may_compare (Some sl.kind) (Some sr.kind) ≡ true = subst (λ (o : Option Kind). may_compare (Some sl.kind) o ≡ true) sr.known (subst (λ (o : Option Kind). may_compare o r.kind ≡ true) sl.known may) in
+      let known : may_compare (Some sl.kind) (Some sr.kind) ≡ true = subst (λ (o : Option ValueKind). may_compare (Some sl.kind) o ≡ true) sr.known (subst (λ (o : Option ValueKind). may_compare o r.kind ≡ true) sl.known may) in
       let types : are_comparable (expr_type sources reach.params l.expr) (expr_type sources reach.params r.expr) ≡ true =
       subst (λ (o : Option ExprType). are_comparable o (expr_type sources reach.params r.expr) ≡ true) (sym sl.typed) (subst (λ (o : Option ExprType). are_comparable (Some (type_of sl.kind)) o ≡ true) (sym sr.typed) (compared sl.kind sr.kind known)) in
       compare_type c _ _ types

@@ -15,8 +15,8 @@ use Rattle.ss_sql_type.specs.declared.scope.Scope.{Scope}
 use Rattle.ss_sql_type.specs.declared.scope.TypeError.TheVariants.{WrongType, WrongCount}
 use Rattle.ss_sql_type.specs.declared.kinds.Needs.{Needs}
 use Rattle.ss_sql_type.specs.declared.kinds.Needs.TheVariants.{Value, Only}
-use Rattle.ss_sql_type.specs.declared.kinds.Kind.{Kind}
-use Rattle.ss_sql_type.specs.declared.kinds.Kind.TheVariants.{Int}
+use Rattle.ss_sql_type.specs.declared.kinds.ValueKind.{ValueKind}
+use Rattle.ss_sql_type.specs.declared.kinds.ValueKind.TheVariants.{Int}
 use Rattle.ss_sql_type.specs.Refusals.{fault_unless}
 use Rattle.ss_sql_type.specs.Kinds.{fits, first_needs, others, may_be_value, may_compare, value_kind}
 use Rattle.ss_sql_type.specs.Names.{Reach}
@@ -52,7 +52,7 @@ module _ (reach : Reach) (grouped : Option (List ColAt)) where
 
 -- an item with its type
 record ItemKnown (sources : List (List Column)) (reach : Reach) (grouped : Option (List ColAt)) (item : ItemTree) : Type 0 where
-  kind : Kind
+  kind : ValueKind
   known : item_kind reach item ≡ Some kind
   typed : item_type sources reach.params (typed_item reach grouped item) ≡ Some (type_of kind)
 
@@ -60,11 +60,11 @@ module _ (sources : List (List Column)) (reach : Reach) (grouped : Option (List 
   own_sound : (g : Option (List ColAt)) (needs : Needs) (e : ExprTree) → expr_faults reach g needs e ≡ [] → Sound sources reach.params g (typed_expr reach g e)
   own_sound g needs e none = let t = typed_expr reach g e in expr_sound sources reach g covers e (empty_left t.faults (fault_unless (fits needs t.kind) (WrongType t.at)) none)
 
-  own_value : (e : ExprTree) (k : Kind) → (typed_expr reach None e).kind ≡ Some k → expr_faults reach None Value e ≡ [] → value_kind (typed_expr reach None e).kind ≡ Some k
+  own_value : (e : ExprTree) (k : ValueKind) → (typed_expr reach None e).kind ≡ Some k → expr_faults reach None Value e ≡ [] → value_kind (typed_expr reach None e).kind ≡ Some k
   own_value e k known none =
       let t = typed_expr reach None e in
       let may : may_be_value t.kind ≡ true = no_fault (fits Value t.kind) (WrongType t.at) (empty_right t.faults (fault_unless (fits Value t.kind) (WrongType t.at)) none) in
-      ap value_kind known ∙ value_known k (subst (λ (o : Option Kind). may_be_value o ≡ true) known may)
+      ap value_kind known ∙ value_known k (subst (λ (o : Option ValueKind). may_be_value o ≡ true) known may)
 
   item_known : (needs : Needs) (item : ItemTree) → item_faults reach grouped needs item ≡ [] → ItemKnown sources reach grouped item
   item_known needs (tree.Count at) e = record { kind = Int; known = refl; typed = refl }
@@ -84,12 +84,12 @@ module _ (sources : List (List Column)) (reach : Reach) (grouped : Option (List 
       record { kind = s.kind; known = sym (same_kind_of reach grouped x) ∙ s.known; typed = s.typed }
 
   -- the first item, and the only one, against a right side
-  compare_first : (columns : List Column) (items : List ItemTree) (k : Kind) → (length items == 1) ≡ true → items_faults reach grouped columns items ≡ [] → may_compare (first_kind reach items) (Some k) ≡ true
+  compare_first : (columns : List Column) (items : List ItemTree) (k : ValueKind) → (length items == 1) ≡ true → items_faults reach grouped columns items ≡ [] → may_compare (first_kind reach items) (Some k) ≡ true
       → are_comparable (get_or (map (item_type sources reach.params) (map (typed_item reach grouped) items)) 0 None) (Some (type_of k)) ≡ true
   compare_first columns [] k one e may = absurd cc
   compare_first columns (item ∷ items) k one e may =
       let i = item_known (first_needs columns) item (empty_left (item_faults reach grouped (first_needs columns) item) (items_faults reach grouped (others columns) items) e) in
-      let kinds : may_compare (Some i.kind) (Some k) ≡ true = subst (λ (o : Option Kind). may_compare o (Some k) ≡ true) i.known may in
+      let kinds : may_compare (Some i.kind) (Some k) ≡ true = subst (λ (o : Option ValueKind). may_compare o (Some k) ≡ true) i.known may in
       subst (λ (o : Option ExprType). are_comparable o (Some (type_of k)) ≡ true) (sym i.typed) (compared i.kind k kinds)
 
 module _ (scope : Scope) (s : Schemas) (agrees : Agrees scope s) where
@@ -111,7 +111,7 @@ module _ (scope : Scope) (s : Schemas) (agrees : Agrees scope s) where
       let single : (length q.items == 1) ≡ true = no_fault (length q.items == 1) (WrongCount q.at) (empty_left one right e1) in
       let r = expr_sound [] (bare scope) None (bare_covered scope s agrees) c.right (empty_left t.faults differ e2) in
       let may : may_compare kind t.kind ≡ true = no_fault (may_compare kind t.kind) (WrongType t.at) (empty_right t.faults differ e2) in
-      let known : may_compare kind (Some r.kind) ≡ true = subst (λ (o : Option Kind). may_compare kind o ≡ true) r.known may in
+      let known : may_compare kind (Some r.kind) ≡ true = subst (λ (o : Option ValueKind). may_compare kind o ≡ true) r.known may in
       let f1 = unknown_faults reach.first q.from.at in
       let f2 = join_faults reach q.from q.joined in
       let f3 = groups_faults reach q.groups in

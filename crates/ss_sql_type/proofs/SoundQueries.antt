@@ -26,8 +26,8 @@ use Rattle.ss_sql_type.specs.declared.scope.TypeError.{TypeError}
 use Rattle.ss_sql_type.specs.declared.scope.TypeError.TheVariants.{UnknownName, WrongType, WrongCount}
 use Rattle.ss_sql_type.specs.declared.kinds.Needs.{Needs}
 use Rattle.ss_sql_type.specs.declared.kinds.Needs.TheVariants.{Value, Only}
-use Rattle.ss_sql_type.specs.declared.kinds.Kind.{Kind}
-use Rattle.ss_sql_type.specs.declared.kinds.Kind.TheVariants.{Int, Text, Bool as Truth}
+use Rattle.ss_sql_type.specs.declared.kinds.ValueKind.{ValueKind}
+use Rattle.ss_sql_type.specs.declared.kinds.ValueKind.TheVariants.{Int, Text, Bool as Truth}
 use Rattle.ss_sql_type.specs.Refusals.{fault_unless}
 use Rattle.ss_sql_type.specs.Kinds.{kind_of, may_be_value, may_compare, fits, first_needs, others, value_kind}
 use Rattle.ss_sql_type.specs.Names.{Reach, same_name, source_named, columns_of, resolve, column_meant, name_faults, known_kind, source_columns, column_offset}
@@ -44,19 +44,19 @@ abbrev pub is_needed : Needs → Option ExprType → Bool
 is_needed Value t = is_value_type t
 is_needed (Only k) t = is_type (type_of k) t
 
-own_type : (k : Kind) → is_type (type_of k) (Some (type_of k)) ≡ true
+own_type : (k : ValueKind) → is_type (type_of k) (Some (type_of k)) ≡ true
 own_type Int = refl
 own_type Text = refl
 own_type Truth = refl
 
-value_needed : (k : Kind) → may_be_value (Some k) ≡ true → is_value_type (Some (type_of k)) ≡ true
+value_needed : (k : ValueKind) → may_be_value (Some k) ≡ true → is_value_type (Some (type_of k)) ≡ true
 value_needed Int e = refl
 value_needed Text e = refl
 value_needed Truth e = absurd cc
 
-needed : (needs : Needs) (k : Kind) → fits needs (Some k) ≡ true → is_needed needs (Some (type_of k)) ≡ true
+needed : (needs : Needs) (k : ValueKind) → fits needs (Some k) ≡ true → is_needed needs (Some (type_of k)) ≡ true
 needed Value k e = value_needed k e
-needed (Only wanted_columns) k e = subst (λ (x : Kind). is_type (type_of wanted_columns) (Some (type_of x)) ≡ true) (same_kind wanted_columns k e) (own_type wanted_columns)
+needed (Only wanted_columns) k e = subst (λ (x : ValueKind). is_type (type_of wanted_columns) (Some (type_of x)) ≡ true) (same_kind wanted_columns k e) (own_type wanted_columns)
 
 -- a type that a column needs is that of a value
 column_needed : (k : ColType) (t : Option ExprType) → is_needed (Only (kind_of k)) t ≡ true → is_type (column_type k) t ≡ true
@@ -70,7 +70,7 @@ module _ (sources : List (List Column)) (reach : Reach) (grouped : Option (List 
       let t = typed_expr reach grouped e in
       let s = expr_sound sources reach grouped covers e (empty_left t.faults (fault_unless (fits needs t.kind) (WrongType t.at)) none) in
       let fit : fits needs t.kind ≡ true = no_fault (fits needs t.kind) (WrongType t.at) (empty_right t.faults (fault_unless (fits needs t.kind) (WrongType t.at)) none) in
-      subst (λ (o : Option ExprType). is_needed needs o ≡ true) (sym s.typed) (needed needs s.kind (subst (λ (o : Option Kind). fits needs o ≡ true) s.known fit))
+      subst (λ (o : Option ExprType). is_needed needs o ≡ true) (sym s.typed) (needed needs s.kind (subst (λ (o : Option ValueKind). fits needs o ≡ true) s.known fit))
 
   -- where columns have to be grouped, they are
   placed_grouped : (needs : Needs) (e : ExprTree) → expr_faults reach grouped needs e ≡ [] → all_grouped grouped (typed_expr reach grouped e).expr ≡ true
@@ -86,7 +86,7 @@ module _ (sources : List (List Column)) (reach : Reach) (covers : Covers sources
   given_int : (needs : Needs) (at : ℕ) → given_faults needs (Some Int) at ≡ [] → is_needed needs (Some IntType) ≡ true
   given_int needs at e = needed needs Int (no_fault (fits needs (Some Int)) (WrongType at) e)
 
-pub value_known : (k : Kind) → may_be_value (Some k) ≡ true → value_kind (Some k) ≡ Some k
+pub value_known : (k : ValueKind) → may_be_value (Some k) ≡ true → value_kind (Some k) ≡ Some k
 value_known Int e = refl
 value_known Text e = refl
 value_known Truth e = absurd cc
@@ -112,8 +112,8 @@ module _ (sources : List (List Column)) (reach : Reach) (grouped : Option (List 
       let s = expr_sound sources reach None covers side (empty_left t.faults (fault_unless (fits Value t.kind) (WrongType t.at)) own) in
       let may : may_be_value t.kind ≡ true = no_fault (fits Value t.kind) (WrongType t.at) (empty_right t.faults (fault_unless (fits Value t.kind) (WrongType t.at)) own) in
       let fit : fits needs (value_kind t.kind) ≡ true = no_fault (fits needs (value_kind t.kind)) (WrongType at) given in
-      let same : value_kind t.kind ≡ Some s.kind = ap value_kind s.known ∙ value_known s.kind (subst (λ (o : Option Kind). may_be_value o ≡ true) s.known may) in
-      subst (λ (o : Option ExprType). is_needed needs o ≡ true) (sym s.typed) (needed needs s.kind (subst (λ (o : Option Kind). fits needs o ≡ true) same fit))
+      let same : value_kind t.kind ≡ Some s.kind = ap value_kind s.known ∙ value_known s.kind (subst (λ (o : Option ValueKind). may_be_value o ≡ true) s.known may) in
+      subst (λ (o : Option ExprType). is_needed needs o ≡ true) (sym s.typed) (needed needs s.kind (subst (λ (o : Option ValueKind). fits needs o ≡ true) same fit))
 
   item_sound : (needs : Needs) (item : ItemTree) → item_faults reach grouped needs item ≡ [] → is_needed needs (item_type sources reach.params (typed_item reach grouped item)) ≡ true
   item_sound needs (tree.Count at) e = given_int sources reach covers needs at e
@@ -262,7 +262,7 @@ column_known reach tree (Ok c) is e = (c, refl)
 column_known reach tree (Err f) is e = absurd cc
 
 record Column-is (sources : List (List Column)) (reach : Reach) (tree : ColumnTree) : Type 0 where
-  kind : Kind
+  kind : ValueKind
   known_as : known_kind reach (resolve reach tree) ≡ Some kind
   typed : column_at sources (column_or_first (column_meant (resolve reach tree))) ≡ Some (type_of kind)
 
@@ -283,7 +283,7 @@ join_sound : (sources : List (List Column)) (reach : Reach) → Covers sources r
 join_sound sources reach covers j el er may =
     let l = column_is sources reach covers j.left el in
     let r = column_is sources reach covers j.right er in
-    let kinds : may_compare (Some l.kind) (Some r.kind) ≡ true = subst (λ (o : Option Kind). may_compare (Some l.kind) o ≡ true) r.known_as (subst (λ (o : Option Kind). may_compare o (known_kind reach (resolve reach j.right)) ≡ true) l.known_as may) in
+    let kinds : may_compare (Some l.kind) (Some r.kind) ≡ true = subst (λ (o : Option ValueKind). may_compare (Some l.kind) o ≡ true) r.known_as (subst (λ (o : Option ValueKind). may_compare o (known_kind reach (resolve reach j.right)) ≡ true) l.known_as may) in
     subst (λ (o : Option ExprType). are_comparable o (column_at sources (column_or_first (column_meant (resolve reach j.right)))) ≡ true) (sym l.typed) (subst (λ (o : Option ExprType). are_comparable (Some (type_of l.kind)) o ≡ true) (sym r.typed) (compared l.kind r.kind kinds))
 
 -- ---- GROUP BY
@@ -293,7 +293,7 @@ column_kind_value column.Int = refl
 column_kind_value column.Text = refl
 
 -- the type of a column is that of a value
-value_column : (o : Option Column) (k : Kind) → option_map (λ (c : Column). kind_of c.kind) o ≡ Some k → is_value_type (option_map (λ (d : Column). column_type d.kind) o) ≡ true
+value_column : (o : Option Column) (k : ValueKind) → option_map (λ (c : Column). kind_of c.kind) o ≡ Some k → is_value_type (option_map (λ (d : Column). column_type d.kind) o) ≡ true
 value_column None k e = absurd cc
 value_column (Some c) k e = column_kind_value c.kind
 

@@ -19,7 +19,7 @@ use Rattle.ss_sql_trees.specs.WellTyped.{ExprType, Schemas, schema_type, expr_ty
 use Rattle.ss_sql_type.specs.declared.scope.Named.{Named}
 use Rattle.ss_sql_type.specs.declared.scope.Scope.{Scope}
 use Rattle.ss_sql_type.specs.declared.scope.TypeError.TheVariants.{KeyIsSet, WrongCount}
-use Rattle.ss_sql_type.specs.declared.kinds.Kind.{Kind}
+use Rattle.ss_sql_type.specs.declared.kinds.ValueKind.{ValueKind}
 use Rattle.ss_sql_type.specs.declared.kinds.Needs.TheVariants.{Only}
 use Rattle.ss_sql_type.specs.Refusals.{fault_unless}
 use Rattle.ss_sql_type.specs.Names.{same_name, columns_of, source_columns}
@@ -102,7 +102,7 @@ module _ (scope : Scope) (s : Schemas) (agrees : Agrees scope s) where
         let first = fault_unless (not (has key c)) (KeyIsSet set.column.at) in
         let second = fault_unless (not (has earlier c)) (WrongCount set.column.at) in
         let covers = one_covered (columns_of table) (of_table scope table) refl refl in
-        let faults = subst (λ (n : Option Kind). expr_faults (of_table scope table) None (kind_needs n) set.value ≡ []) k.known f in
+        let faults = subst (λ (n : Option ValueKind). expr_faults (of_table scope table) None (kind_needs n) set.value ≡ []) k.known f in
         let right = placed_sound (columns_of table ∷ []) (of_table scope table) None covers (Only k.kind) set.value faults in (
           subst (λ (o : Option ExprType). has_type o (expr_type (columns_of table ∷ []) scope.params (typed_value (of_table scope table) set.value)) ≡ true) (sym k.typed) right,
           no_fault (not (has key c)) (KeyIsSet set.column.at) (empty_left first second e),

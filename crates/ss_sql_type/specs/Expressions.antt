@@ -19,8 +19,8 @@ use Rattle.ss_sql_type.specs.declared.scope.TypeError.{TypeError}
 use Rattle.ss_sql_type.specs.declared.scope.TypeError.TheVariants.{UnknownName, WrongType, NotAggregated}
 use Rattle.ss_sql_type.specs.declared.expr.TypedExpr.{TypedExpr}
 use Rattle.ss_sql_type.specs.declared.kinds.Needs.{Needs}
-use Rattle.ss_sql_type.specs.declared.kinds.Kind.{Kind}
-use Rattle.ss_sql_type.specs.declared.kinds.Kind.TheVariants.{Int, Text}
+use Rattle.ss_sql_type.specs.declared.kinds.ValueKind.{ValueKind}
+use Rattle.ss_sql_type.specs.declared.kinds.ValueKind.TheVariants.{Int, Text}
 use Rattle.ss_sql_type.specs.Refusals.{fault_unless}
 use Rattle.ss_sql_type.specs.Kinds.{may_be, may_compare, fits, sign_kind, gives}
 use Rattle.ss_sql_type.specs.Names.{Reach, column_named, resolve, column_offset, kind_in, column_meant, name_faults, known_kind}
@@ -28,7 +28,7 @@ use Rattle.ss_sql_type.specs.Names.{Reach, column_named, resolve, column_offset,
 -- an expression: its typed tree, with 0 for what is not known; its type; its offset; and its faults
 pub record Typed : Type 0 where
   pub expr : Expr
-  pub kind : Option Kind
+  pub kind : Option ValueKind
   pub at : ℕ
   pub faults : List TypeError
 
@@ -61,7 +61,7 @@ typed_column reach grouped at tree found = record {
 -- ---- operators
 
 -- an operator's side is of the type that it takes
-abbrev pub side_faults : Kind → Typed → List TypeError
+abbrev pub side_faults : ValueKind → Typed → List TypeError
 side_faults kind side = fault_unless (may_be kind side.kind) (WrongType side.at)
 
 -- an operator's sides are both of the type that it takes; those of a comparison can be compared, which is reported at the right side

@@ -9,16 +9,16 @@ use Rattle.ss_sql_lex.specs.declared.tree.ItemTree.TheVariants as tree
 use Rattle.ss_sql_lex.specs.declared.tree.OrderTree.{OrderTree}
 use Rattle.ss_sql_trees.specs.declared.typed.ColAt.{ColAt}
 use Rattle.ss_sql_trees.specs.declared.typed.Expr.{Expr}
-use Rattle.ss_sql_trees.specs.declared.typed.Item.{Item}
-use Rattle.ss_sql_trees.specs.declared.typed.Item.TheVariants.{Count, Sum, Min, Max, Plain}
+use Rattle.ss_sql_trees.specs.declared.typed.SelectItem.{SelectItem}
+use Rattle.ss_sql_trees.specs.declared.typed.SelectItem.TheVariants.{Count, Sum, Min, Max, Plain}
 use Rattle.ss_sql_trees.specs.declared.typed.OrderBy.{OrderBy}
 use Rattle.ss_sql_lex.specs.Trees.{offset_of}
 use Rattle.ss_sql_type.specs.declared.scope.TypeError.{TypeError}
 use Rattle.ss_sql_type.specs.declared.scope.TypeError.TheVariants.{WrongType, WrongCount}
 use Rattle.ss_sql_type.specs.declared.kinds.Needs.{Needs}
 use Rattle.ss_sql_type.specs.declared.kinds.Needs.TheVariants.{Value, Only}
-use Rattle.ss_sql_type.specs.declared.kinds.Kind.{Kind}
-use Rattle.ss_sql_type.specs.declared.kinds.Kind.TheVariants.{Int, Bool as Truth}
+use Rattle.ss_sql_type.specs.declared.kinds.ValueKind.{ValueKind}
+use Rattle.ss_sql_type.specs.declared.kinds.ValueKind.TheVariants.{Int, Bool as Truth}
 use Rattle.ss_sql_type.specs.Refusals.{fault_unless}
 use Rattle.ss_sql_type.specs.Kinds.{fits, first_needs, others, value_kind}
 use Rattle.ss_sql_type.specs.Names.{Reach, resolve, column_meant, name_faults}
@@ -35,7 +35,7 @@ item_offset (tree.Max at side) = at
 item_offset (tree.Plain e) = offset_of e
 
 -- the type that an item gives
-abbrev pub item_kind : Reach → ItemTree → Option Kind
+abbrev pub item_kind : Reach → ItemTree → Option ValueKind
 item_kind reach (tree.Count at) = Some Int
 item_kind reach (tree.Sum at side) = Some Int
 item_kind reach (tree.Min at side) = value_kind (typed_expr reach None side).kind
@@ -43,7 +43,7 @@ item_kind reach (tree.Max at side) = value_kind (typed_expr reach None side).kin
 item_kind reach (tree.Plain e) = (typed_expr reach None e).kind
 
 -- the typed tree of an item
-abbrev pub typed_item : Reach → Option (List ColAt) → ItemTree → Item
+abbrev pub typed_item : Reach → Option (List ColAt) → ItemTree → SelectItem
 typed_item reach grouped (tree.Count at) = Count
 typed_item reach grouped (tree.Sum at side) = Sum (typed_expr reach None side).expr
 typed_item reach grouped (tree.Min at side) = Min (typed_expr reach None side).expr
@@ -51,7 +51,7 @@ typed_item reach grouped (tree.Max at side) = Max (typed_expr reach None side).e
 typed_item reach grouped (tree.Plain e) = Plain (typed_expr reach grouped e).expr
 
 -- an aggregate gives what the context of the item needs; else the fault is at its keyword
-abbrev pub given_faults : Needs → Option Kind → ℕ → List TypeError
+abbrev pub given_faults : Needs → Option ValueKind → ℕ → List TypeError
 given_faults needs kind at = fault_unless (fits needs kind) (WrongType at)
 
 -- SUM needs an Int, MIN and MAX an Int or a Text; the item has to be what its context needs

@@ -9,16 +9,16 @@ use Rattle.ss_sql_trees.specs.declared.typed.BinaryOp.TheVariants.{Or, And, Comp
 use Rattle.ss_value.specs.declared.schema.Column.{Column}
 use Rattle.ss_sql_type.specs.declared.kinds.Needs.{Needs}
 use Rattle.ss_sql_type.specs.declared.kinds.Needs.TheVariants.{Value, Only}
-use Rattle.ss_sql_type.specs.declared.kinds.Kind.{Kind}
-use Rattle.ss_sql_type.specs.declared.kinds.Kind.TheVariants.{Int, Text, Bool as Truth}
+use Rattle.ss_sql_type.specs.declared.kinds.ValueKind.{ValueKind}
+use Rattle.ss_sql_type.specs.declared.kinds.ValueKind.TheVariants.{Int, Text, Bool as Truth}
 
 -- the type of a column's values
-abbrev pub kind_of : ColType → Kind
+abbrev pub kind_of : ColType → ValueKind
 kind_of column.Int = Int
 kind_of column.Text = Text
 
 -- whether an expression has this type, or none that is known
-abbrev pub may_be : Kind → Option Kind → Bool
+abbrev pub may_be : ValueKind → Option ValueKind → Bool
 may_be kind None = true
 may_be Int (Some Int) = true
 may_be Text (Some Text) = true
@@ -26,15 +26,15 @@ may_be Truth (Some Truth) = true
 may_be _ _ = false
 
 -- whether an expression is an Int or a Text, as items need, or has no type that is known
-abbrev pub may_be_value : Option Kind → Bool
+abbrev pub may_be_value : Option ValueKind → Bool
 may_be_value kind = may_be Int kind || may_be Text kind
 
 -- whether two sides may be two Ints or two Texts, as a comparison takes
-abbrev pub may_compare : Option Kind → Option Kind → Bool
+abbrev pub may_compare : Option ValueKind → Option ValueKind → Bool
 may_compare left right = (may_be Int left && may_be Int right) || (may_be Text left && may_be Text right)
 
 -- whether an expression is what its context needs: an Int or a Text, or one type and no other
-abbrev pub fits : Needs → Option Kind → Bool
+abbrev pub fits : Needs → Option ValueKind → Bool
 fits Value kind = may_be_value kind
 fits (Only wanted) kind = may_be wanted kind
 
@@ -49,12 +49,12 @@ others [] = []
 others (c ∷ cs) = cs
 
 -- NOT takes and gives Bool, a minus sign Int
-abbrev pub sign_kind : UnaryOp → Kind
+abbrev pub sign_kind : UnaryOp → ValueKind
 sign_kind Not = Truth
 sign_kind Negate = Int
 
 -- what an operator between two sides gives, and takes unless it compares
-abbrev pub gives : BinaryOp → Kind
+abbrev pub gives : BinaryOp → ValueKind
 gives Or = Truth
 gives And = Truth
 gives (Compare cmp) = Truth
@@ -62,6 +62,6 @@ gives Concat = Text
 gives _ = Int
 
 -- MIN and MAX give the type that they take, which is Int or Text
-abbrev pub value_kind : Option Kind → Option Kind
+abbrev pub value_kind : Option ValueKind → Option ValueKind
 value_kind (Some Truth) = None
 value_kind kind = kind

@@ -9,7 +9,7 @@ use Rattle.ss_sql_trees.specs.declared.typed.ColAt.{ColAt}
 use Rattle.ss_sql_type.specs.declared.scope.Named.{Named}
 use Rattle.ss_sql_type.specs.declared.scope.TypeError.{TypeError}
 use Rattle.ss_sql_type.specs.declared.scope.TypeError.TheVariants.{UnknownName}
-use Rattle.ss_sql_type.specs.declared.kinds.Kind.{Kind}
+use Rattle.ss_sql_type.specs.declared.kinds.ValueKind.{ValueKind}
 use Rattle.ss_sql_type.specs.Kinds.{kind_of}
 
 -- whether two names are the same
@@ -83,11 +83,11 @@ abbrev pub source_columns : Reach → ℕ → List Column
 source_columns reach source = if source == 0 then columns_of reach.first else columns_of reach.second
 
 -- the type of the column at a position, where it is there
-abbrev pub kind_in : List Column → ℕ → Option Kind
+abbrev pub kind_in : List Column → ℕ → Option ValueKind
 kind_in columns column = option_map (λ (c : Column). kind_of c.kind) (slice_get columns column)
 
 -- the type of a column of a source
-abbrev pub kind_at : Reach → ColAt → Option Kind
+abbrev pub kind_at : Reach → ColAt → Option ValueKind
 kind_at reach at = kind_in (source_columns reach at.source) at.column
 
 -- the column that was meant, where there is one
@@ -101,6 +101,6 @@ name_faults (Ok at) = []
 name_faults (Err fault) = fault ∷ []
 
 -- the type of what was meant, where it is known
-abbrev pub known_kind : Reach → Result ColAt TypeError → Option Kind
+abbrev pub known_kind : Reach → Result ColAt TypeError → Option ValueKind
 known_kind reach (Ok at) = kind_at reach at
 known_kind reach (Err fault) = None

@@ -23,7 +23,7 @@ use Rattle.ss_sql_type.specs.declared.scope.Named.{Named}
 use Rattle.ss_sql_type.specs.declared.scope.Scope.{Scope}
 use Rattle.ss_sql_type.specs.declared.scope.TypeError.{TypeError}
 use Rattle.ss_sql_type.specs.declared.scope.TypeError.TheVariants.{UnknownName, WrongType, KeyIsSet, WrongCount}
-use Rattle.ss_sql_type.specs.declared.kinds.Kind.{Kind}
+use Rattle.ss_sql_type.specs.declared.kinds.ValueKind.{ValueKind}
 use Rattle.ss_sql_type.specs.declared.kinds.Needs.{Needs}
 use Rattle.ss_sql_type.specs.declared.kinds.Needs.TheVariants.{Value, Only}
 use Rattle.ss_sql_type.specs.Refusals.{fault_unless}
@@ -92,7 +92,7 @@ column_faults key earlier at None = UnknownName at ∷ []
 column_faults key earlier at (Some c) = fault_unless (not (has key c)) (KeyIsSet at) ++ fault_unless (not (has earlier c)) (WrongCount at)
 
 -- a value of this type is needed, and any value where the type is not known
-abbrev pub kind_needs : Option Kind → Needs
+abbrev pub kind_needs : Option ValueKind → Needs
 kind_needs None = Value
 kind_needs (Some kind) = Only kind
 
@@ -174,11 +174,11 @@ typed_statement scope (tree.Delete at table test) = typed_delete scope (table_na
 -- ---- conditions
 
 -- the type of a query's first item, where there is one
-abbrev pub first_kind : Reach → List ItemTree → Option Kind
+abbrev pub first_kind : Reach → List ItemTree → Option ValueKind
 first_kind reach items = option_and_then (item_kind reach) (slice_get items 0)
 
 -- the faults of a right side, which has to be comparable with the first item
-abbrev pub right_faults : Option Kind → Typed → List TypeError
+abbrev pub right_faults : Option ValueKind → Typed → List TypeError
 right_faults kind t = t.faults ++ fault_unless (may_compare kind t.kind) (WrongType t.at)
 
 -- the faults of a condition

@@ -9,7 +9,7 @@ ghost use Rattle.ss_sql_type.specs.Expressions.{typed_param, typed_column, typed
 
 use crate::first_fault::{check, record_fault};
 use crate::grouped::Grouped;
-use crate::kinds::{Kind, Needs, fits, gives, may_be, may_compare, sign_kind};
+use crate::kinds::{Needs, ValueKind, fits, gives, may_be, may_compare, sign_kind};
 use crate::names::{Names, column_offset, kind_at, kind_in, resolve};
 use crate::scope::TypeError;
 use ss_sql_lex::{ColumnTree, ExprTree, NameTree};
@@ -23,7 +23,7 @@ pub struct TypedExpr {
     /// The expression. A name that is not known is number 0 in it: its fault refuses the whole tree.
     pub expr: Expr,
     /// Its type; None where its name is not known.
-    pub kind: Option<Kind>,
+    pub kind: Option<ValueKind>,
     /// The offset of its first token.
     pub at: usize,
 }
@@ -101,7 +101,7 @@ fn column_of(
 }
 
 /// Checks a side of an operator against the type that the operator takes.
-fn check_side(found: &mut Option<TypeError>, kind: Kind, side: &TypedExpr)
+fn check_side(found: &mut Option<TypeError>, kind: ValueKind, side: &TypedExpr)
     ensures { found.new ≡ least_of found.old (side_faults kind (set_of side.now)) }
 {
     check(
@@ -145,12 +145,12 @@ pub(crate) fn expr_of(
     match tree {
         ExprTree::Number { at, number } => Ok(TypedExpr {
             expr: Expr::Lit(Value::Int(number.value)),
-            kind: Some(Kind::Int),
+            kind: Some(ValueKind::Int),
             at: *at,
         }),
         ExprTree::Text { at, text } => Ok(TypedExpr {
             expr: Expr::Lit(Value::Text(text.value.copy(alloc)?)),
-            kind: Some(Kind::Text),
+            kind: Some(ValueKind::Text),
             at: *at,
         }),
         ExprTree::Param { at, param } => Ok(param_of(names, *at, param, found)),
@@ -228,13 +228,13 @@ pub(crate) fn expr_at(
 }
 
 /// The type of an expression, which its outermost node decides. Takes the time of two hashes at most.
-pub fn kind_of_expr(names: &Names, tree: &ExprTree) -> Option<Kind>
+pub fn kind_of_expr(names: &Names, tree: &ExprTree) -> Option<ValueKind>
     requires { IsTrue (is_narrow names.now) }
     ensures { result ≡ (typed_expr names.now None tree.now).kind }
 {
     match tree {
-        ExprTree::Number { .. } => Some(Kind::Int),
-        ExprTree::Text { .. } => Some(Kind::Text),
+        ExprTree::Number { .. } => Some(ValueKind::Int),
+        ExprTree::Text { .. } => Some(ValueKind::Text),
         ExprTree::Param { param, .. } => match names.in_params(&param.name) {
             Some(number) => kind_in(names.params(), number),
             None => None,

@@ -12,11 +12,11 @@ ghost use Rattle.ss_sql_type.specs.Items.{item_offset, item_kind, typed_item, it
 use crate::expr::{expr_at, kind_of_expr};
 use crate::first_fault::{check, record_fault};
 use crate::grouped::Grouped;
-use crate::kinds::{Kind, Needs, first_needs, fits, value_kind};
+use crate::kinds::{Needs, ValueKind, first_needs, fits, value_kind};
 use crate::names::{Names, resolve};
 use crate::scope::TypeError;
 use ss_sql_lex::{ColumnTree, ExprTree, ItemTree, OrderTree};
-use ss_sql_trees::{ColAt, Expr, Item, OrderBy};
+use ss_sql_trees::{ColAt, Expr, OrderBy, SelectItem};
 use ss_value::{Column, NoMemory, Seq};
 use std::alloc::Global;
 
@@ -34,13 +34,13 @@ fn item_offset(item: &ItemTree) -> usize
 }
 
 /// The type that an item gives. Takes the time of two hashes at most.
-pub fn item_kind(names: &Names, item: &ItemTree) -> Option<Kind>
+pub fn item_kind(names: &Names, item: &ItemTree) -> Option<ValueKind>
     requires { IsTrue (is_narrow names.now) }
     ensures { result ≡ item_kind names.now item.now }
 {
     match item {
-        ItemTree::Count { .. } => Some(Kind::Int),
-        ItemTree::Sum { .. } => Some(Kind::Int),
+        ItemTree::Count { .. } => Some(ValueKind::Int),
+        ItemTree::Sum { .. } => Some(ValueKind::Int),
         ItemTree::Min { side, .. } => value_kind(kind_of_expr(names, side)),
         ItemTree::Max { side, .. } => value_kind(kind_of_expr(names, side)),
         ItemTree::Plain(expr) => kind_of_expr(names, expr),
@@ -82,10 +82,10 @@ fn sum_side(
     ensures ok { IfOk result (λ expr. expr ≡ typed_value names.now side.now) }
     ensures faults { OnOk result (found.new ≡ least_of found.old (item_faults names.now None needs (Sum at side.now))) }
 {
-    let typed = expr_at(alloc, names, None, Needs::Only(Kind::Int), side, found)?;
+    let typed = expr_at(alloc, names, None, Needs::Only(ValueKind::Int), side, found)?;
     check(
         found,
-        fits(needs, Some(Kind::Int)),
+        fits(needs, Some(ValueKind::Int)),
         TypeError::WrongType(at),
     );
     Ok(typed.expr)
@@ -100,7 +100,7 @@ fn item_of(
     needs: Needs,
     item: &ItemTree,
     found: &mut Option<TypeError>,
-) -> Result<Item, NoMemory>
+) -> Result<SelectItem, NoMemory>
     requires { IsTrue (is_narrow names.now) }
     ensures ok { IfOk result (λ typed. typed ≡ typed_item names.now (grouping grouped.entry) item.now) }
     ensures faults { OnOk result (found.new ≡ least_of found.old (item_faults names.now (grouping grouped.entry) needs item.now)) }
@@ -109,26 +109,26 @@ fn item_of(
         ItemTree::Count { at } => {
             check(
                 found,
-                fits(needs, Some(Kind::Int)),
+                fits(needs, Some(ValueKind::Int)),
                 TypeError::WrongType(*at),
             );
-            Ok(Item::Count)
+            Ok(SelectItem::Count)
         }
         ItemTree::Sum { at, side } => {
             let side = sum_side(alloc, names, needs, *at, side, found)?;
-            Ok(Item::Sum(side))
+            Ok(SelectItem::Sum(side))
         }
         ItemTree::Min { at, side } => {
             let side = value_side(alloc, names, needs, *at, side, found)?;
-            Ok(Item::Min(side))
+            Ok(SelectItem::Min(side))
         }
         ItemTree::Max { at, side } => {
             let side = value_side(alloc, names, needs, *at, side, found)?;
-            Ok(Item::Max(side))
+            Ok(SelectItem::Max(side))
         }
         ItemTree::Plain(expr) => {
             let typed = expr_at(alloc, names, grouped, needs, expr, found)?;
-            Ok(Item::Plain(typed.expr))
+            Ok(SelectItem::Plain(typed.expr))
         }
     }
 }
@@ -141,7 +141,7 @@ pub(crate) fn items_of(
     columns: &[Column],
     items: &[ItemTree],
     found: &mut Option<TypeError>,
-) -> Result<Seq<Item>, NoMemory>
+) -> Result<Seq<SelectItem>, NoMemory>
     requires { IsTrue (is_narrow names.now) }
     ensures ok { IfOk result (λ typed. typed ≡ map (typed_item names.now (grouping grouped.entry)) items.now) }
     ensures faults { OnOk result (found.new ≡ least_of found.old (items_faults names.now (grouping grouped.entry) columns.now items.now)) }
@@ -220,7 +220,14 @@ pub(crate) fn test_of(
 {
     match test {
         Some(test) => {
-            let typed = expr_at(alloc, names, None, Needs::Only(Kind::Bool), test, found)?;
+            let typed = expr_at(
+                alloc,
+                names,
+                None,
+                Needs::Only(ValueKind::Bool),
+                test,
+                found,
+            )?;
             Ok(Some(typed.expr))
         }
         None => Ok(None),

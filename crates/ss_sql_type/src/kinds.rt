@@ -8,7 +8,7 @@ use ss_value::{ColType, Column};
 
 /// The type of an expression.
 #[derive(Clone, Copy, Debug, PartialEq, Eq, Drop)]
-pub enum Kind {
+pub enum ValueKind {
     /// A number.
     Int,
     /// A text.
@@ -18,41 +18,41 @@ pub enum Kind {
 }
 
 /// The type of a column's values.
-pub fn kind_of(column: ColType) -> Kind
+pub fn kind_of(column: ColType) -> ValueKind
     ensures { result ≡ kind_of column }
 {
     match column {
-        ColType::Int => Kind::Int,
-        ColType::Text => Kind::Text,
+        ColType::Int => ValueKind::Int,
+        ColType::Text => ValueKind::Text,
     }
 }
 
 /// Whether an expression has this type, or none that is known.
-pub fn may_be(kind: Kind, found: Option<Kind>) -> bool
+pub fn may_be(kind: ValueKind, found: Option<ValueKind>) -> bool
     ensures { result ≡ may_be kind found }
 {
     match (kind, found) {
         (_, None) => true,
-        (Kind::Int, Some(Kind::Int)) => true,
-        (Kind::Text, Some(Kind::Text)) => true,
-        (Kind::Bool, Some(Kind::Bool)) => true,
+        (ValueKind::Int, Some(ValueKind::Int)) => true,
+        (ValueKind::Text, Some(ValueKind::Text)) => true,
+        (ValueKind::Bool, Some(ValueKind::Bool)) => true,
         _ => false,
     }
 }
 
 /// Whether an expression is an Int or a Text, or has no type that is known.
-pub fn may_be_value(found: Option<Kind>) -> bool
+pub fn may_be_value(found: Option<ValueKind>) -> bool
     ensures { result ≡ may_be_value found }
 {
-    may_be(Kind::Int, found) || may_be(Kind::Text, found)
+    may_be(ValueKind::Int, found) || may_be(ValueKind::Text, found)
 }
 
 /// Whether two sides can be compared: both are Ints, or both Texts, as far as their types are known.
-pub fn may_compare(left: Option<Kind>, right: Option<Kind>) -> bool
+pub fn may_compare(left: Option<ValueKind>, right: Option<ValueKind>) -> bool
     ensures { result ≡ may_compare left right }
 {
-    let ints = may_be(Kind::Int, left) && may_be(Kind::Int, right);
-    let texts = may_be(Kind::Text, left) && may_be(Kind::Text, right);
+    let ints = may_be(ValueKind::Int, left) && may_be(ValueKind::Int, right);
+    let texts = may_be(ValueKind::Text, left) && may_be(ValueKind::Text, right);
     ints || texts
 }
 
@@ -62,11 +62,11 @@ pub enum Needs {
     /// An Int or a Text.
     Value,
     /// This type and no other.
-    Only(Kind),
+    Only(ValueKind),
 }
 
 /// Whether an expression has what its context needs.
-pub fn fits(needs: Needs, found: Option<Kind>) -> bool
+pub fn fits(needs: Needs, found: Option<ValueKind>) -> bool
     ensures { result ≡ fits needs found }
 {
     match needs {
@@ -87,33 +87,34 @@ pub fn first_needs(columns: &[Column]) -> (Needs, &[Column])
 }
 
 /// The type that an operator before its side takes and gives.
-pub fn sign_kind(op: UnaryOp) -> Kind
+pub fn sign_kind(op: UnaryOp) -> ValueKind
     ensures { result ≡ sign_kind op }
 {
     match op {
-        UnaryOp::Not => Kind::Bool,
-        UnaryOp::Negate => Kind::Int,
+        UnaryOp::Not => ValueKind::Bool,
+        UnaryOp::Negate => ValueKind::Int,
     }
 }
 
 /// The type that an operator between its sides gives, and takes unless it compares.
-pub fn gives(op: BinaryOp) -> Kind
+pub fn gives(op: BinaryOp) -> ValueKind
     ensures { result ≡ gives op }
 {
     match op {
-        BinaryOp::Or | BinaryOp::And | BinaryOp::Compare(_) => Kind::Bool,
-        BinaryOp::Concat => Kind::Text,
-        BinaryOp::Add | BinaryOp::Sub | BinaryOp::Mul | BinaryOp::Div | BinaryOp::Rem => Kind::Int,
+        BinaryOp::Or | BinaryOp::And | BinaryOp::Compare(_) => ValueKind::Bool,
+        BinaryOp::Concat => ValueKind::Text,
+        BinaryOp::Add | BinaryOp::Sub | BinaryOp::Mul | BinaryOp::Div | BinaryOp::Rem =>
+            ValueKind::Int,
     }
 }
 
 /// The type that MIN and MAX give over an expression of this type. Of a Bool they have none, which is reported as the
 /// expression's fault already.
-pub fn value_kind(kind: Option<Kind>) -> Option<Kind>
+pub fn value_kind(kind: Option<ValueKind>) -> Option<ValueKind>
     ensures { result ≡ value_kind kind }
 {
     match kind {
-        Some(Kind::Bool) => None,
+        Some(ValueKind::Bool) => None,
         _ => kind,
     }
 }

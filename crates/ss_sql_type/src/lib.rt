@@ -48,8 +48,8 @@ pub use first_fault::{check, record_fault};
 pub use grouped::Grouped;
 pub use items::{check_item_limit, has_aggregate, is_aggregate, item_kind, nat_of};
 pub use kinds::{
-    Kind, Needs, first_needs, fits, gives, kind_of, may_be, may_be_value, may_compare, sign_kind,
-    value_kind,
+    Needs, ValueKind, first_needs, fits, gives, kind_of, may_be, may_be_value, may_compare,
+    sign_kind, value_kind,
 };
 pub use laws::a_tree_has_one_answer;
 pub use names::{

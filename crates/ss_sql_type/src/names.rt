@@ -6,7 +6,7 @@ ghost use Rattle.ss_sql_type.specs.declared.scope.TypeError.TheVariants.{Unknown
 ghost use Rattle.ss_sql_type.specs.Names.{same_name, source_named, column_named, columns_of, is_narrow, is_source, one_of, column_of, column_behind, resolve, column_offset, kind_in, kind_at};
 
 use crate::columns::Columns;
-use crate::kinds::{Kind, kind_of};
+use crate::kinds::{ValueKind, kind_of};
 use crate::scope::{Named, TypeError};
 use ss_sql_lex::{ColumnTree, NameTree};
 use ss_sql_trees::ColAt;
@@ -230,7 +230,7 @@ pub fn column_offset(tree: &ColumnTree) -> usize
 }
 
 /// The type of the column at a position of a list, if there is one.
-pub fn kind_in(columns: &[Column], column: u8) -> Option<Kind>
+pub fn kind_in(columns: &[Column], column: u8) -> Option<ValueKind>
     ensures { result ≡ kind_in columns.now column }
 {
     match columns.get(column as usize) {
@@ -240,7 +240,7 @@ pub fn kind_in(columns: &[Column], column: u8) -> Option<Kind>
 }
 
 /// The type of a column of a source.
-pub fn kind_at(names: &Names, at: ColAt) -> Option<Kind>
+pub fn kind_at(names: &Names, at: ColAt) -> Option<ValueKind>
     ensures { result ≡ kind_at names.now at }
 {
     if at.source == 0 {

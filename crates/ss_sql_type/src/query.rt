@@ -13,11 +13,11 @@ use crate::grouped::Grouped;
 use crate::items::{
     check_item_limit, groups_of, has_aggregate, items_of, nat_of, order_of, test_of,
 };
-use crate::kinds::{Kind, may_compare};
+use crate::kinds::{ValueKind, may_compare};
 use crate::names::{Names, column_offset, kind_at, resolve, same_name, source_named};
 use crate::scope::{Named, Scope, TypeError};
 use ss_sql_lex::{ColumnTree, JoinTree, NameTree, NumberTree, QueryTree};
-use ss_sql_trees::{ColAt, Item, Joined, Query, SourceId};
+use ss_sql_trees::{ColAt, Joined, Query, SelectItem, SourceId};
 use ss_value::{Column, NoMemory, Seq};
 use std::alloc::Global;
 
@@ -70,7 +70,7 @@ fn column_of_join(
     names: &Names,
     tree: &ColumnTree,
     found: &mut Option<TypeError>,
-) -> (ColAt, Option<Kind>)
+) -> (ColAt, Option<ValueKind>)
     requires { IsTrue (is_narrow names.now) }
     ensures column { result.0 ≡ column_or_first (column_meant (resolve names.now tree.now)) }
     ensures kind { result.1 ≡ known_kind names.now (resolve names.now tree.now) }
@@ -227,7 +227,7 @@ fn grouped_items(
     columns: &[Column],
     tree: &QueryTree,
     found: &mut Option<TypeError>,
-) -> Result<Seq<Item>, NoMemory>
+) -> Result<Seq<SelectItem>, NoMemory>
     requires narrow { IsTrue (is_narrow names.now) }
     requires groups { groups.now ≡ typed_groups names.now tree.now.groups }
     ensures ok { IfOk result (λ items. items ≡ map (typed_item names.now (grouped_columns names.now tree.now)) tree.now.items) }

@@ -12,7 +12,7 @@ ghost use Rattle.ss_sql_type.specs.Statements.{target_of, table_of, insert_targe
 use crate::expr::{expr_at, expr_of};
 use crate::first_fault::{check, record_fault};
 use crate::items::{item_kind, test_of, values_of};
-use crate::kinds::{Kind, Needs, may_compare};
+use crate::kinds::{Needs, ValueKind, may_compare};
 use crate::names::{Names, columns_of, kind_in, same_name};
 use crate::query::{check_count, check_known, query_names, query_of, query_within, wanted_columns};
 use crate::scope::{Named, Scope, TypeError};
@@ -360,7 +360,7 @@ pub(crate) fn statement_of(
 }
 
 /// The type of a query's first item.
-fn first_kind(names: &Names, items: &[ItemTree]) -> Option<Kind>
+fn first_kind(names: &Names, items: &[ItemTree]) -> Option<ValueKind>
     requires { IsTrue (is_narrow names.now) }
     ensures { result ≡ first_kind names.now items.now }
 {
@@ -374,7 +374,7 @@ fn first_kind(names: &Names, items: &[ItemTree]) -> Option<Kind>
 fn right_of(
     alloc: Global,
     scope: &Scope,
-    kind: Option<Kind>,
+    kind: Option<ValueKind>,
     right: &ExprTree,
     found: &mut Option<TypeError>,
 ) -> Result<Expr, NoMemory>

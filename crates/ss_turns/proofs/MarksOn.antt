@@ -12,15 +12,15 @@ use Rattle.ss_commitlog.proofs.CallerLemmas.{own_part}
 use Rattle.ss_hand.specs.declared.hand.Hand.{Hand}
 use Rattle.ss_hand.specs.Hands.{IsInHand}
 use Rattle.ss_commitlog.specs.Growing.{GoesOn}
-use Rattle.ss_turns.specs.Stepping.{AllGoOn}
+use Rattle.ss_turns.specs.Stepping.{EachGoesOn}
 use Rattle.ss_commitlog.proofs.CallerLemmas.{on_and_on, on_itself}
 
 -- marks that came back as they were
-pub all_on_itself : (catalog : Catalog) (parts : ℕ) (ks : List Known) → AllGoOn catalog parts ks ks
+pub all_on_itself : (catalog : Catalog) (parts : ℕ) (ks : List Known) → EachGoesOn catalog parts ks ks
 all_on_itself catalog parts [] = tt
 all_on_itself catalog parts (k ∷ ks) = (on_itself catalog parts k, all_on_itself catalog parts ks)
 
-pub all_on_and_on : (catalog : Catalog) (parts : ℕ) (ks ls ms : List Known) → AllGoOn catalog parts ks ls → AllGoOn catalog parts ls ms → AllGoOn catalog parts ks ms
+pub all_on_and_on : (catalog : Catalog) (parts : ℕ) (ks ls ms : List Known) → EachGoesOn catalog parts ks ls → EachGoesOn catalog parts ls ms → EachGoesOn catalog parts ks ms
 all_on_and_on catalog parts [] [] ms a b = b
 all_on_and_on catalog parts [] (l ∷ ls) ms a b = absurd a
 all_on_and_on catalog parts (k ∷ ks) [] ms a b = absurd a
@@ -28,7 +28,7 @@ all_on_and_on catalog parts (k ∷ ks) (l ∷ ls) [] a b = absurd b
 all_on_and_on catalog parts (k ∷ ks) (l ∷ ls) (m ∷ ms) a b = (on_and_on catalog parts k l m a.0 b.0, all_on_and_on catalog parts ks ls ms a.1 b.1)
 
 -- marks that know a list which goes on from what each of them knew
-pub all_met : (catalog : Catalog) (parts : ℕ) (list : List Item) (ks ls : List Known) → AllKnow list ks ls → AllContinue catalog parts list ks → AllGoOn catalog parts ks ls
+pub all_met : (catalog : Catalog) (parts : ℕ) (list : List Item) (ks ls : List Known) → AllKnow list ks ls → AllContinue catalog parts list ks → EachGoesOn catalog parts ks ls
 all_met catalog parts list [] [] know on = tt
 all_met catalog parts list [] (l ∷ ls) know on = absurd know
 all_met catalog parts list (k ∷ ks) [] know on = absurd know
@@ -38,7 +38,7 @@ all_met catalog parts list (k ∷ ks) (l ∷ ls) know on = (
 )
 
 -- the first mark of some goes on
-pub first_goes_on : (catalog : Catalog) (parts : ℕ) (ks : List Known) (k l : Known) → slice_get ks 0 ≡ Some k → GoesOn catalog parts k l → AllGoOn catalog parts ks (slice_set ks 0 l)
+pub first_goes_on : (catalog : Catalog) (parts : ℕ) (ks : List Known) (k l : Known) → slice_get ks 0 ≡ Some k → GoesOn catalog parts k l → EachGoesOn catalog parts ks (slice_set ks 0 l)
 first_goes_on catalog parts [] k l first on = absurd (cc)
 first_goes_on catalog parts (x ∷ ks) k l first on =
     let here : k ≡ x = cc in
@@ -48,14 +48,14 @@ pub first_in : (ks : List Known) (k l : Known) → slice_get ks 0 ≡ Some k →
 first_in [] k l first = absurd (cc)
 first_in (x ∷ ks) k l first = inl refl
 
-pub roles_go_on : (catalog : Catalog) (parts : ℕ) (ks ls : List Known) → AllGoOn catalog parts ks ls → roles_of ls ≡ roles_of ks
+pub roles_go_on : (catalog : Catalog) (parts : ℕ) (ks ls : List Known) → EachGoesOn catalog parts ks ls → roles_of ls ≡ roles_of ks
 roles_go_on catalog parts [] [] all = refl
 roles_go_on catalog parts [] (l ∷ ls) all = absurd all
 roles_go_on catalog parts (k ∷ ks) [] all = absurd all
 roles_go_on catalog parts (k ∷ ks) (l ∷ ls) all = λ i. all.0.role i ∷ roles_go_on catalog parts ks ls all.1 i
 
 -- the mark that it was
-pub went_in : (catalog : Catalog) (parts : ℕ) (ks ls : List Known) → AllGoOn catalog parts ks ls → (l : Known) → In l ls → (k : Known) × In k ks × GoesOn catalog parts k l
+pub went_in : (catalog : Catalog) (parts : ℕ) (ks ls : List Known) → EachGoesOn catalog parts ks ls → (l : Known) → In l ls → (k : Known) × In k ks × GoesOn catalog parts k l
 went_in catalog parts [] [] all l i = absurd i
 went_in catalog parts [] (x ∷ ls) all l i = absurd all
 went_in catalog parts (k ∷ ks) [] all l i = absurd all
@@ -64,7 +64,7 @@ went_in catalog parts (k ∷ ks) (x ∷ ls) all l i =
     (λ (j : In l ls). let (m, there, on) = went_in catalog parts ks ls all.1 l j in (m, inr there, on)) i
 
 -- and the one that it is
-came_out : (catalog : Catalog) (parts : ℕ) (ks ls : List Known) → AllGoOn catalog parts ks ls → (k : Known) → In k ks → (l : Known) × In l ls × GoesOn catalog parts k l
+came_out : (catalog : Catalog) (parts : ℕ) (ks ls : List Known) → EachGoesOn catalog parts ks ls → (k : Known) → In k ks → (l : Known) × In l ls × GoesOn catalog parts k l
 came_out catalog parts [] [] all k i = absurd i
 came_out catalog parts [] (l ∷ ls) all k i = absurd all
 came_out catalog parts (x ∷ ks) [] all k i = absurd all
@@ -73,14 +73,14 @@ came_out catalog parts (x ∷ ks) (l ∷ ls) all k i =
     (λ (j : In k ks). let (m, there, on) = came_out catalog parts ks ls all.1 k j in (m, inr there, on)) i
 
 -- each mark's own part stays as it was
-pub agree_on : (catalog : Catalog) → Accepted catalog → (n : ℕ) → 1 ≤ n → (db d : Database) (ks ls : List Known) → AllGoOn catalog n ks ls → AgreesWith catalog n db ks d → AgreesWith catalog n db ls d
+pub agree_on : (catalog : Catalog) → Accepted catalog → (n : ℕ) → 1 ≤ n → (db d : Database) (ks ls : List Known) → EachGoesOn catalog n ks ls → AgreesWith catalog n db ks d → AgreesWith catalog n db ls d
 agree_on catalog accepted n some db d ks ls all agrees p l i is =
     let (k, there, on) = went_in catalog n ks ls all l i in
     let own : k.role ≡ Part p = sym on.role ∙ is in
     let alone : AllContinue catalog n l.list (k ∷ []) = λ x j. ⊎_elim (λ (e : x ≡ k). subst (Continues catalog n l.list) (sym e) on.on) (λ (z : ⊥). absurd z) j in
     agrees p k there own ∙ sym (own_part catalog accepted n some db l.list (k ∷ []) alone p k (inl refl) own)
 
-pub looked_in_hand : {I : Type 0} (catalog : Catalog) → Accepted catalog → (n : ℕ) → 1 ≤ n → (db : Database) (held : List ℕ) (hand : Hand I) (ks : List Known) → AllGoOn catalog n hand.marks ks → IsInHand catalog n db held hand
+pub looked_in_hand : {I : Type 0} (catalog : Catalog) → Accepted catalog → (n : ℕ) → 1 ≤ n → (db : Database) (held : List ℕ) (hand : Hand I) (ks : List Known) → EachGoesOn catalog n hand.marks ks → IsInHand catalog n db held hand
     → IsInHand catalog n db held (record hand { marks = ks })
 looked_in_hand catalog accepted n some db held hand ks all in_hand = record {
   rising = in_hand.rising;
@@ -98,7 +98,7 @@ looked_in_hand catalog accepted n some db held hand ks all in_hand = record {
 pub reaching : (catalog : Catalog) (parts : ℕ) (list : List Item) (k : Known) → Continues catalog parts list k → GoesOn catalog parts k (known k.role list k.count k.faults)
 reaching catalog parts list k on = record { role = refl; sees = record { count = omega arith; faults = omega arith; disk = λ d. (refl, refl) }; on = on }
 
-pub continue_through : (catalog : Catalog) (parts : ℕ) (list : List Item) (ks ls : List Known) → AllGoOn catalog parts ks ls → AllContinue catalog parts list ls → AllContinue catalog parts list ks
+pub continue_through : (catalog : Catalog) (parts : ℕ) (list : List Item) (ks ls : List Known) → EachGoesOn catalog parts ks ls → AllContinue catalog parts list ls → AllContinue catalog parts list ks
 continue_through catalog parts list ks ls all on k i =
     let (l, there, goes) = came_out catalog parts ks ls all k i in
     (on_and_on catalog parts k l (known l.role list l.count l.faults) goes (reaching catalog parts list l (on l there))).on
@@ -114,7 +114,7 @@ know_one catalog parts list k l m on knows = record {
   };
 }
 
-pub know_through : (catalog : Catalog) (parts : ℕ) (list : List Item) (ks ls ms : List Known) → AllGoOn catalog parts ks ls → AllKnow list ls ms → AllKnow list ks ms
+pub know_through : (catalog : Catalog) (parts : ℕ) (list : List Item) (ks ls ms : List Known) → EachGoesOn catalog parts ks ls → AllKnow list ls ms → AllKnow list ks ms
 know_through catalog parts list [] [] ms all know = know
 know_through catalog parts list [] (l ∷ ls) ms all know = absurd all
 know_through catalog parts list (k ∷ ks) [] ms all know = absurd all

@@ -17,7 +17,7 @@ use Rattle.ss_commitlog.specs.Tokens.{Known, AllKnow, added, roles_of}
 use Rattle.ss_turns.specs.Commits.{CommitsListed}
 use Rattle.ss_turns.specs.Executed.{IsStepped}
 use Rattle.ss_turns.specs.Runs.{SaysOnly}
-use Rattle.ss_turns.specs.Stepping.{AllGoOn, LacksWhereNotReady, stepped_of}
+use Rattle.ss_turns.specs.Stepping.{EachGoesOn, LacksWhereNotReady, stepped_of}
 use Rattle.ss_turns.proofs.InHand.{Came}
 use Rattle.ss_turns.proofs.MarksOn.{all_on_and_on, all_on_itself, continue_through, know_through, roles_go_on}
 
@@ -57,10 +57,10 @@ pub stepped_so : (catalog : Catalog) (parts first limit q r : ℕ) (ks ms : List
 stepped_so catalog parts first limit q r ks ms l is (Ok placed) done =
     let (list, at, small, same, know, all) = done in
     (list, r, at, small, ap (λ (x : Listed). x.entry) same ∙ is, subst (λ (x : Listed). AllKnow (added list (roles_of ks) x) ks ms) (sym same) know, all)
-stepped_so catalog parts first limit q r ks ms l is (Err NoMemory) done = subst (λ (x : List Known). AllGoOn catalog parts ks x) (sym done) (all_on_itself catalog parts ks)
+stepped_so catalog parts first limit q r ks ms l is (Err NoMemory) done = subst (λ (x : List Known). EachGoesOn catalog parts ks x) (sym done) (all_on_itself catalog parts ks)
 stepped_so catalog parts first limit q r ks ms l is (Err (ListFull count)) done = done
 
-pub stepped_through : (catalog : Catalog) (parts first limit q : ℕ) (ks ls ms : List Known) → AllGoOn catalog parts ks ls → (did : Result (Option Placed) Unlisted) → IsStepped catalog parts first limit q ls ms did
+pub stepped_through : (catalog : Catalog) (parts first limit q : ℕ) (ks ls ms : List Known) → EachGoesOn catalog parts ks ls → (did : Result (Option Placed) Unlisted) → IsStepped catalog parts first limit q ls ms did
     → IsStepped catalog parts first limit q ks ms did
 stepped_through catalog parts first limit q ks ls ms all (Ok (Some placed)) done =
     let (list, r, at, small, is, know, on) = done in (

@@ -19,7 +19,7 @@ use Rattle.ss_hand.specs.Hands.{IsInHand}
 use Rattle.ss_hand.specs.declared.hand.Hand.{Hand}
 use Rattle.ss_shard.specs.Parts.{is_among}
 use Rattle.ss_turns.specs.Commits.{CommitsAsked}
-use Rattle.ss_turns.specs.Stepping.{AllGoOn}
+use Rattle.ss_turns.specs.Stepping.{EachGoesOn}
 
 -- the entry is what a client asked for, whose role this is
 abbrev pub IsOfRole : Role → Entry → Type 0
@@ -49,7 +49,7 @@ abbrev pub IsStepped : Catalog → ℕ → ℕ → ℕ → ℕ → List Known �
 IsStepped catalog n first limit q ks ks' (Ok (Some placed)) =
     (list : List Item) × (r : ℕ) × (placed.place ≡ first + length list) × (placed.place < 2 ^ 60) × (placed.listed.entry ≡ StepEntry q r)
     × AllKnow (added list (roles_of ks) placed.listed) ks ks' × AllContinue catalog n list ks
-IsStepped catalog n first limit q ks ks' (Ok None) = AllGoOn catalog n ks ks'
-IsStepped catalog n first limit q ks ks' (Err NoMemory) = AllGoOn catalog n ks ks'
+IsStepped catalog n first limit q ks ks' (Ok None) = EachGoesOn catalog n ks ks'
+IsStepped catalog n first limit q ks ks' (Err NoMemory) = EachGoesOn catalog n ks ks'
 IsStepped catalog n first limit q ks ks' (Err (ListFull count)) =
     (list : List Item) × (count ≡ limit) × (length list ≡ limit) × AllKnow list ks ks' × AllContinue catalog n list ks

@@ -17,10 +17,10 @@ use Rattle.ss_commitlog.specs.Tokens.{Known}
 use Rattle.ss_turns.specs.Runs.{AreGiven}
 
 -- marks, each of which goes on
-abbrev pub AllGoOn : Catalog → ℕ → List Known → List Known → Type 0
-AllGoOn catalog parts [] [] = Unit {0}
-AllGoOn catalog parts (k ∷ ks) (l ∷ ls) = GoesOn catalog parts k l × AllGoOn catalog parts ks ls
-AllGoOn catalog parts _ _ = ⊥
+abbrev pub EachGoesOn : Catalog → ℕ → List Known → List Known → Type 0
+EachGoesOn catalog parts [] [] = Unit {0}
+EachGoesOn catalog parts (k ∷ ks) (l ∷ ls) = GoesOn catalog parts k l × EachGoesOn catalog parts ks ls
+EachGoesOn catalog parts _ _ = ⊥
 
 -- the batches with this number of these streams, where all were found; else one of the streams has none for the consumer
 abbrev pub AreFound : {E : Type 0} → Database → ℕ → ℕ → List ℕ → Result (Option (List Rows)) E → Type 0

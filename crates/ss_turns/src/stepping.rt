@@ -10,7 +10,7 @@ ghost use Rattle.ss_shard.specs.Shards.{IsCommitted};
 ghost use Rattle.ss_commitlog.specs.Growing.{GoesOn};
 ghost use Rattle.ss_commitlog.specs.Right.{known_database};
 ghost use Rattle.ss_turns.specs.Runs.{HasRun, HasStayed};
-ghost use Rattle.ss_turns.specs.Stepping.{AllGoOn, AreFound, AreFoundFor};
+ghost use Rattle.ss_turns.specs.Stepping.{EachGoesOn, AreFound, AreFoundFor};
 
 use crate::running::run;
 use crate::works::Works;
@@ -73,7 +73,7 @@ pub(crate) fn look_for<I: Life, N: Runner, R: Wait>(
 ) -> Result<Option<Seq<Rows>>, NoMemory>
     requires there { procedure < length I.catalog.procedures }
     requires some { marks.old ≡ [] → ⊥ }
-    ensures marks { AllGoOn I.catalog I.parts marks.old marks.new }
+    ensures marks { EachGoesOn I.catalog I.parts marks.old marks.new }
     ensures found { AreFoundFor I.catalog I.opening marks.new procedure r result }
 {
     let streams = works

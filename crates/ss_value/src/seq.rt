@@ -6,10 +6,12 @@
 
 ghost use Rattle.std.specs.Prelude.{◌≡◌, ◌<◌, ◌≤◌, ◌+◌, List, [], ◌∷◌, ◌++◌, length, IfOk, OnOk, IfErr, OnErr, IfSome, IfNone, OnSome, IsSome, IsOk, IsTrue, slice_get, slice_set, take, ◌-◌, ◌↔◌};
 ghost use Rattle.std.specs.Option.{option_copied};
+ghost use Rattle.std.specs.Slice.Iter.{iter_rest};
 
 use crate::NoMemory;
 use std::alloc::{AllocFailed, Global};
 use std::marker::Model;
+use std::slice;
 
 /// A list of items, over a `Vec`: access by position is constant, a push is constant on average over many,
 /// and the memory is that of the items and at most as much again as spare room.
@@ -93,6 +95,13 @@ impl<T> Seq<T> {
         ensures item { IfSome result (λ x. slice_get self.now at ≡ Some x.now) }
     {
         self.items.get(at)
+    }
+
+    /// Lends the items in their order, one by one.
+    pub fn iter(&self) -> slice::Iter<'_, T>
+        ensures { iter_rest result ≡ self.now }
+    {
+        self.items.iter()
     }
 
     /// All items, at no cost.

@@ -3,7 +3,9 @@
 ghost use Rattle.std.specs.Prelude.{◌≡◌, IfSome};
 ghost use Rattle.ss_commitlog_tests.specs.Workflow.{stream, taker, note, workflow, push, pushed, step, call};
 
-use ss_model::{Catalog, Emitted, Entry, Kind, Listed, Outcome, Procedure, StreamDef, Touch};
+use ss_model::{
+    Catalog, Emitted, Entry, Listed, Outcome, Procedure, ProcedureKind, StreamDef, Touch,
+};
 use ss_value::{ColType, Column, Seq, name_of};
 use std::alloc::Global;
 
@@ -29,7 +31,7 @@ fn taking(alloc: Global) -> Option<Procedure>
     inputs.push(0u16).ok()?;
     Some(Procedure {
         name: name_of(alloc, b"a").ok()?,
-        kind: Kind::Border,
+        kind: ProcedureKind::Border,
         args: Seq::new(alloc),
         inputs,
         touch: Touch::Part(0),
@@ -42,7 +44,7 @@ fn noting(alloc: Global) -> Option<Procedure>
 {
     Some(Procedure {
         name: name_of(alloc, b"note").ok()?,
-        kind: Kind::Call,
+        kind: ProcedureKind::Call,
         args: Seq::new(alloc),
         inputs: Seq::new(alloc),
         touch: Touch::Part(1),

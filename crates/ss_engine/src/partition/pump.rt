@@ -9,7 +9,7 @@ use crate::partition::pumped::Pumped;
 use ss_commitlog::Note;
 use ss_model::Life;
 use ss_proc::Runner;
-use ss_sched::Work;
+use ss_sched::Task;
 use ss_settle::Gate;
 use ss_turns::Works;
 use std::alloc::Global;
@@ -47,8 +47,8 @@ impl<I: Life, N: Runner + Drop, G: Gate + Drop> Engine<I, N, G> {
         ensures { IsTried I.catalog I.parts I.opening I.first I.limit p note.old note.new result }
     {
         match self.hub.take(works.rt, p) {
-            Some(Work::Job(job)) => Some(self.serve(works, note, p, job)),
-            Some(Work::Hint(procedure)) => self.follow(works, note, p, procedure),
+            Some(Task::Job(job)) => Some(self.serve(works, note, p, job)),
+            Some(Task::Hint(procedure)) => self.follow(works, note, p, procedure),
             None => self.look_around(works, note, p),
         }
     }

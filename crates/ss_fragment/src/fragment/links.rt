@@ -2,7 +2,7 @@
 
 ghost use Rattle.std.specs.Prelude.{◌≡◌, ◌++◌, ◌∷◌, List, OnOk, OnErr, IsSome, false, drop};
 ghost use Rattle.std.specs.List.{find, AllByRecursion};
-ghost use Rattle.ss_fragment.specs.declared.mark.Mark.{Mark};
+ghost use Rattle.ss_fragment.specs.declared.mark.PrefixedSlot.{PrefixedSlot};
 ghost use Rattle.ss_fragment.specs.Cells.{is_live, row_of};
 ghost use Rattle.ss_fragment.specs.Targets.{slot_rank, linked_order};
 ghost use Rattle.ss_fragment.specs.Chunks.{slots_of};
@@ -75,7 +75,7 @@ pub(super) fn unlink(order: &mut Order, cells: &[Cell], key: &[u8], slot: usize)
     requires fragment { IsFragment key.now cells.now (slots_of order.old) }
     requires marked { AllByRecursion (IsMark key.now cells.now) order.old }
     requires row { IsSome (row_of cells.now slot) }
-    ensures { (front back : List Mark) (mark : Mark) → order.old ≡ front ++ mark ∷ back → mark.slot ≡ slot → order.new ≡ front ++ back }
+    ensures { (front back : List PrefixedSlot) (mark : PrefixedSlot) → order.old ≡ front ++ mark ∷ back → mark.slot ≡ slot → order.new ≡ front ++ back }
 {
     match any_row(cells, slot) {
         None => (),

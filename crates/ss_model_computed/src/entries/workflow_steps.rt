@@ -8,12 +8,12 @@ ghost use Rattle.ss_model_computed.specs.Databases.{StepAnswers, appended_batch,
 use crate::bodies::runs::run_procedure;
 use crate::entries::database::{Applied, Database};
 use crate::lists::{copy_at, set_at};
-use ss_model::{Catalog, Kind, Procedure};
+use ss_model::{Catalog, Procedure, ProcedureKind};
 use ss_value::{Copies, NoMemory, Rows, Seq};
 use std::alloc::Global;
 
 /// Whether procedures of this kind take batches.
-fn is_streaming(kind: Kind) -> bool
+fn is_streaming(kind: ProcedureKind) -> bool
     ensures { result ≡ is_streaming kind }
 {
     !kind.is_call()

@@ -10,7 +10,7 @@ ghost use Rattle.ss_model.specs.Stops.{StopsAs};
 use crate::expressions::evaluate;
 use crate::queries::extreme::extreme_value;
 use ss_model::{Extreme, RunError, checked_int, int_of};
-use ss_sql_trees::{Expr, Item};
+use ss_sql_trees::{Expr, SelectItem};
 use ss_value::{NoMemory, Row, Rows, Seq, Value};
 use std::alloc::Global;
 
@@ -71,32 +71,42 @@ fn first_value(alloc: Global, tree: &Expr, group: &[Rows], params: &Row) -> Resu
 ///
 /// Aborts as the first evaluation that does, and then with `Overflow` for a sum that is no Int, and with
 /// `EmptyAggregate` for the least or the greatest of no tuple.
-fn item_value(alloc: Global, item: &Item, group: &[Rows], params: &Row) -> Result<Value, RunError>
+fn item_value(
+    alloc: Global,
+    item: &SelectItem,
+    group: &[Rows],
+    params: &Row,
+) -> Result<Value, RunError>
     ensures ok { IfOk result (λ v. item_value params.now group.now item.now ≡ Ok v) }
     ensures stops { IfErr result (λ stop. StopsAs (item_value params.now group.now item.now) stop) }
 {
     match item {
-        Item::Count => Ok(count(group)?),
-        Item::Sum(tree) => {
+        SelectItem::Count => Ok(count(group)?),
+        SelectItem::Sum(tree) => {
             let values = group_values(alloc, tree, group, params)?;
             // All tuples are evaluated before the sum is tested, since an abort of any of them goes before `Overflow`.
             let total = sum_values(values.as_slice())?;
             Ok(checked_int(total)?)
         }
-        Item::Min(tree) => {
+        SelectItem::Min(tree) => {
             let values = group_values(alloc, tree, group, params)?;
             extreme_value(alloc, Extreme::Least, values.as_slice())
         }
-        Item::Max(tree) => {
+        SelectItem::Max(tree) => {
             let values = group_values(alloc, tree, group, params)?;
             extreme_value(alloc, Extreme::Greatest, values.as_slice())
         }
-        Item::Plain(tree) => first_value(alloc, tree, group, params),
+        SelectItem::Plain(tree) => first_value(alloc, tree, group, params),
     }
 }
 
 /// The row of a group: its items in order. Aborts as the first item that does.
-fn group_row(alloc: Global, items: &[Item], group: &[Rows], params: &Row) -> Result<Row, RunError>
+fn group_row(
+    alloc: Global,
+    items: &[SelectItem],
+    group: &[Rows],
+    params: &Row,
+) -> Result<Row, RunError>
     ensures ok { IfOk result (λ row. try_map (item_value params.now group.now) items.now ≡ Ok row) }
     ensures stops { IfErr result (λ stop. StopsAs (try_map (item_value params.now group.now) items.now) stop) }
 {
@@ -111,7 +121,7 @@ fn group_row(alloc: Global, items: &[Item], group: &[Rows], params: &Row) -> Res
 /// A row for each group, in order. Aborts as the first group that does.
 pub fn group_results(
     alloc: Global,
-    items: &[Item],
+    items: &[SelectItem],
     groups: &[Seq<Rows>],
     params: &Row,
 ) -> Result<Rows, RunError>

@@ -2,7 +2,7 @@
 use Rattle.std.proofs.Common.{◌≡◌, ◌<◌, ℕ, zero, suc, codes, List, [], ◌∷◌, true, refl, Some, None}
 use Rattle.std.specs.List.{AllByRecursion, filter}
 use Rattle.ss_value.specs.declared.Unit.TheVariants.{Batches as BatchesUnit}
-use Rattle.ss_sql_trees.specs.declared.typed.Item.TheVariants.{Plain}
+use Rattle.ss_sql_trees.specs.declared.typed.SelectItem.TheVariants.{Plain}
 use Rattle.ss_sql_trees.specs.declared.typed.Query.{Query}
 use Rattle.ss_sql_trees.specs.declared.typed.SourceId.{SourceId}
 use Rattle.ss_sql_trees.specs.declared.typed.SourceId.TheVariants.{Window as FromWindow, Batch as FromBatch}
@@ -14,7 +14,7 @@ use Rattle.ss_model.specs.declared.catalog.StreamDef.{StreamDef}
 use Rattle.ss_model.specs.declared.catalog.WindowDef.{WindowDef}
 use Rattle.ss_model.specs.declared.catalog.TriggerDef.{TriggerDef}
 use Rattle.ss_model.specs.declared.catalog.Procedure.{Procedure}
-use Rattle.ss_model.specs.declared.catalog.Kind.TheVariants.{Border}
+use Rattle.ss_model.specs.declared.catalog.ProcedureKind.TheVariants.{Border}
 use Rattle.ss_model.specs.declared.catalog.Placement.TheVariants.{Part as PlacedAt}
 use Rattle.ss_model.specs.declared.catalog.Touch.TheVariants.{Part}
 use Rattle.ss_model.specs.declared.catalog.On.TheVariants.{Window as OnWindow}

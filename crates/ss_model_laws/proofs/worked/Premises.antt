@@ -6,7 +6,7 @@ use Rattle.ss_value.specs.Rows.{Row, Rows}
 use Rattle.ss_sql_trees.specs.declared.typed.BinaryOp.TheVariants.{Add}
 use Rattle.ss_sql_trees.specs.declared.typed.Expr.{Expr}
 use Rattle.ss_sql_trees.specs.declared.typed.Expr.TheVariants.{Param, Col, Binary}
-use Rattle.ss_sql_trees.specs.declared.typed.Item.TheVariants.{Plain}
+use Rattle.ss_sql_trees.specs.declared.typed.SelectItem.TheVariants.{Plain}
 use Rattle.ss_sql_trees.specs.declared.typed.SourceId.TheVariants.{Batch as FromBatch}
 use Rattle.ss_model.specs.declared.entry.Entry.{Entry}
 use Rattle.ss_model.specs.declared.entry.Entry.TheVariants.{Call, Push, Step as StepEntry}

@@ -4,14 +4,14 @@ use Rattle.std.proofs.Common.{◌≡◌, pos, codes, [], ◌∷◌, true, refl, 
 use Rattle.ss_sql_trees.specs.declared.typed.Cmp.TheVariants.{Eq, Gt}
 use Rattle.ss_sql_trees.specs.declared.typed.BinaryOp.TheVariants.{Add}
 use Rattle.ss_sql_trees.specs.declared.typed.Expr.TheVariants.{Param, Binary}
-use Rattle.ss_sql_trees.specs.declared.typed.Item.TheVariants.{Sum}
+use Rattle.ss_sql_trees.specs.declared.typed.SelectItem.TheVariants.{Sum}
 use Rattle.ss_sql_trees.specs.declared.typed.SourceId.TheVariants.{Table as FromTable}
 use Rattle.ss_sql_trees.specs.declared.typed.Target.TheVariants.{Table as IntoTable}
 use Rattle.ss_sql_trees.specs.declared.typed.Statement.TheVariants.{InsertValues, Delete}
 use Rattle.ss_model.specs.declared.catalog.Catalog.{Catalog}
 use Rattle.ss_model.specs.declared.catalog.TableDef.{TableDef}
 use Rattle.ss_model.specs.declared.catalog.Procedure.{Procedure}
-use Rattle.ss_model.specs.declared.catalog.Kind.TheVariants.{Call as CallKind}
+use Rattle.ss_model.specs.declared.catalog.ProcedureKind.TheVariants.{Call as CallKind}
 use Rattle.ss_model.specs.declared.catalog.Placement.TheVariants.{Part as PlacedAt}
 use Rattle.ss_model.specs.declared.catalog.Touch.TheVariants.{Part}
 use Rattle.ss_model.specs.declared.catalog.Step.TheVariants.{Sql, AbortIf, Return}

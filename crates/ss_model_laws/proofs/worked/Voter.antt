@@ -7,7 +7,7 @@ use Rattle.ss_sql_trees.specs.declared.typed.Cmp.TheVariants.{Eq, Ne, Gt}
 use Rattle.ss_sql_trees.specs.declared.typed.BinaryOp.TheVariants.{And, Add, Sub, Rem}
 use Rattle.ss_sql_trees.specs.declared.typed.Expr.{Expr}
 use Rattle.ss_sql_trees.specs.declared.typed.Expr.TheVariants.{Param, Col, Binary}
-use Rattle.ss_sql_trees.specs.declared.typed.Item.TheVariants.{Count, Plain}
+use Rattle.ss_sql_trees.specs.declared.typed.SelectItem.TheVariants.{Count, Plain}
 use Rattle.ss_sql_trees.specs.declared.typed.ColAt.{ColAt}
 use Rattle.ss_sql_trees.specs.declared.typed.Joined.{Joined}
 use Rattle.ss_sql_trees.specs.declared.typed.OrderBy.{OrderBy}
@@ -21,7 +21,7 @@ use Rattle.ss_model.specs.declared.catalog.StreamDef.{StreamDef}
 use Rattle.ss_model.specs.declared.catalog.WindowDef.{WindowDef}
 use Rattle.ss_model.specs.declared.catalog.TriggerDef.{TriggerDef}
 use Rattle.ss_model.specs.declared.catalog.Procedure.{Procedure}
-use Rattle.ss_model.specs.declared.catalog.Kind.TheVariants.{Call as CallKind, Border, Interior}
+use Rattle.ss_model.specs.declared.catalog.ProcedureKind.TheVariants.{Call as CallKind, Border, Interior}
 use Rattle.ss_model.specs.declared.catalog.Placement.TheVariants.{Part as PlacedAt}
 use Rattle.ss_model.specs.declared.catalog.Touch.TheVariants.{Part}
 use Rattle.ss_model.specs.declared.catalog.On.TheVariants.{Window as OnWindow}

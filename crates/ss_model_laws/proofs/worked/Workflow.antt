@@ -3,7 +3,7 @@ use Rattle.std.proofs.Common.{◌≡◌, ℕ, pos, codes, List, [], ◌∷◌, t
 use Rattle.ss_sql_trees.specs.declared.typed.Cmp.TheVariants.{Eq, Gt}
 use Rattle.ss_sql_trees.specs.declared.typed.BinaryOp.TheVariants.{Add}
 use Rattle.ss_sql_trees.specs.declared.typed.Expr.TheVariants.{Binary}
-use Rattle.ss_sql_trees.specs.declared.typed.Item.TheVariants.{Plain}
+use Rattle.ss_sql_trees.specs.declared.typed.SelectItem.TheVariants.{Plain}
 use Rattle.ss_sql_trees.specs.declared.typed.SourceId.TheVariants.{Batch as FromBatch}
 use Rattle.ss_sql_trees.specs.declared.typed.Target.TheVariants.{Table as IntoTable}
 use Rattle.ss_sql_trees.specs.declared.typed.Statement.TheVariants.{InsertQuery}
@@ -11,7 +11,7 @@ use Rattle.ss_model.specs.declared.catalog.Catalog.{Catalog}
 use Rattle.ss_model.specs.declared.catalog.TableDef.{TableDef}
 use Rattle.ss_model.specs.declared.catalog.StreamDef.{StreamDef}
 use Rattle.ss_model.specs.declared.catalog.Procedure.{Procedure}
-use Rattle.ss_model.specs.declared.catalog.Kind.TheVariants.{Border, Interior}
+use Rattle.ss_model.specs.declared.catalog.ProcedureKind.TheVariants.{Border, Interior}
 use Rattle.ss_model.specs.declared.catalog.Placement.TheVariants.{Part as PlacedAt}
 use Rattle.ss_model.specs.declared.catalog.Touch.TheVariants.{Part}
 use Rattle.ss_model.specs.declared.catalog.Step.TheVariants.{Sql, AbortIf, Emit}

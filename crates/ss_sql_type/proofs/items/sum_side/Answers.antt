@@ -1,7 +1,7 @@
 use Rattle.std.proofs.Common.{refl, None, Some}
 use Rattle.ss_sql_type.specs.declared.scope.TypeError.TheVariants.{WrongType}
 use Rattle.ss_sql_type.specs.declared.kinds.Needs.TheVariants.{Only}
-use Rattle.ss_sql_type.specs.declared.kinds.Kind.TheVariants.{Int}
+use Rattle.ss_sql_type.specs.declared.kinds.ValueKind.TheVariants.{Int}
 use Rattle.ss_sql_type.specs.Kinds.{fits}
 use Rattle.ss_sql_type.specs.Expressions.{expr_faults}
 use Rattle.ss_sql_type.proofs.Noted.{check_noted}

@@ -1,7 +1,7 @@
 use Rattle.std.proofs.Common.{◌≡◌, ap, ◌∙◌, sym, Bool, Option, ◌++◌}
 use Rattle.std.specs.Prelude.{not}
 use Rattle.ss_sql_lex.specs.declared.tree.JoinTree.{JoinTree}
-use Rattle.ss_sql_type.specs.declared.kinds.Kind.{Kind}
+use Rattle.ss_sql_type.specs.declared.kinds.ValueKind.{ValueKind}
 use Rattle.ss_sql_type.specs.declared.scope.TypeError.TheVariants.{UnknownName, WrongType}
 use Rattle.ss_sql_type.specs.declared.scope.Named.{Named}
 use Rattle.ss_sql_type.specs.Refusals.{least_of, fault_unless}
@@ -25,8 +25,8 @@ returns-in-Some-clause-faults c =
     let f5 = c.check-in-Some.new.found in
     let kinds : c.may_compare.result ≡ may_compare (known_kind reach l) (known_kind reach r) =
     c.may_compare.ensures
-    ∙ ap (λ (k : Option Kind). may_compare k c.column_of_join-right_kind.result.1) c.column_of_join-left_kind.ensures.kind
-    ∙ ap (λ (k : Option Kind). may_compare (known_kind reach l) k) c.column_of_join-right_kind.ensures.kind in
+    ∙ ap (λ (k : Option ValueKind). may_compare k c.column_of_join-right_kind.result.1) c.column_of_join-left_kind.ensures.kind
+    ∙ ap (λ (k : Option ValueKind). may_compare (known_kind reach l) k) c.column_of_join-right_kind.ensures.kind in
     let last = check_noted f3 f4 f5 (name_faults r) c.may_compare.result (may_compare (known_kind reach l) (known_kind reach r)) (WrongType c.column_offset.result) (WrongType (column_offset j.right)) c.column_of_join-right_kind.ensures.faults kinds (ap WrongType c.column_offset.ensures) c.check-in-Some.ensures in
     let third = noted_twice f2 f3 f5 (name_faults l) (name_faults r ++ fault_unless (may_compare (known_kind reach l) (known_kind reach r)) (WrongType (column_offset j.right))) c.column_of_join-left_kind.ensures.faults last in
     let other : f2 ≡ least_of f1 (fault_unless (not (same_name c.args.from.now.name j.name.name)) (UnknownName j.name.at)) =

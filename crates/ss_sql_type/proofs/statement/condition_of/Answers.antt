@@ -4,7 +4,7 @@ use Rattle.ss_sql_lex.specs.declared.tree.ItemTree.{ItemTree}
 use Rattle.ss_sql_trees.specs.declared.typed.Condition.{Condition}
 use Rattle.ss_sql_trees.specs.declared.typed.Expr.{Expr}
 use Rattle.ss_sql_trees.specs.declared.typed.Query.{Query}
-use Rattle.ss_sql_type.specs.declared.kinds.Kind.{Kind}
+use Rattle.ss_sql_type.specs.declared.kinds.ValueKind.{ValueKind}
 use Rattle.ss_sql_type.specs.declared.scope.TypeError.TheVariants.{WrongCount}
 use Rattle.ss_sql_type.specs.Refusals.{least_of, fault_unless}
 use Rattle.ss_sql_type.specs.Names.{Reach}
@@ -36,5 +36,5 @@ returns-clause-faults c =
     c.first_kind-kind.ensures
     ∙ ap (λ (x : List ItemTree). first_kind c.in_ok-names.names x) c.as_slice.ensures
     ∙ ap (λ (r : Reach). first_kind r tree.query.items) c.in_ok-names.ensures.ok in
-    let e3 : f3 ≡ least_of f2 (right_faults (first_kind (query_reach scope tree.query) tree.query.items) t) = c.in_ok-right.ensures.faults ∙ ap (λ (k : Option Kind). least_of f2 (right_faults k t)) kind in
+    let e3 : f3 ≡ least_of f2 (right_faults (first_kind (query_reach scope tree.query) tree.query.items) t) = c.in_ok-right.ensures.faults ∙ ap (λ (k : Option ValueKind). least_of f2 (right_faults k t)) kind in
     noted_twice f0 f1 f3 (query_faults scope None 0 tree.query) _ e1 (noted_twice f1 f2 f3 (fault_unless (length tree.query.items == 1) (WrongCount tree.query.at)) _ e2 e3)
