@@ -6,7 +6,7 @@ use Rattle.std.specs.Option.{IfSome}
 use Rattle.std.proofs.lemmas.Bool.{cases_Bool, false_from_ne_true}
 use Rattle.std.proofs.lemmas.List.Folds.{length-flat_map-take}
 use Rattle.std.proofs.lemmas.List.Concat.{get_or-flat_map, flat_map-append}
-use Rattle.ss_chunks.specs.Chunks.{items_in, IsFilled, starts, SearchStopsIn, PassIn}
+use Rattle.ss_chunks.specs.Chunks.{items_in, IsFilled, starts, SearchStopsIn, PassIn, Mid, EndsAt}
 use Rattle.std.specs.Global.{Vec}
 
 get_front : {A : Type 0} (xs ys : List A) (k : ℕ) (d : A) → k < length xs → slice_index_or (xs ++ ys) k d ≡ slice_index_or xs k d
@@ -14,7 +14,7 @@ get_front [] ys k d l = absurd (omega arith)
 get_front (x ∷ xs) ys zero d l = refl
 get_front (x ∷ xs) ys (suc k) d l = get_front xs ys k d (omega arith)
 
-get_at : {A : Type 0} (xs : List A) (y : A) (ys : List A) (d : A) → slice_index_or (xs ++ y ∷ ys) (length xs) d ≡ y
+pub get_at : {A : Type 0} (xs : List A) (y : A) (ys : List A) (d : A) → slice_index_or (xs ++ y ∷ ys) (length xs) d ≡ y
 get_at [] y ys d = refl
 get_at (x ∷ xs) y ys d = get_at xs y ys d
 
@@ -38,7 +38,7 @@ module _ {T : Type 0} where
       let rest : prefix_len p (xs ++ ys) ≡ length xs + prefix_len p ys = prefix_past p xs ys (λ k d l. h (suc k) d (omega arith)) in
       ap (λ b. cond b (1 + prefix_len p (xs ++ ys)) 0) (h 0 x (omega arith)) ∙ omega (arith, rest)
 
-  prefix_stop : (p : T → Bool) (xs ys : List T) → starts p ys ≡ false → prefix_len p (xs ++ ys) ≡ prefix_len p xs
+  pub prefix_stop : (p : T → Bool) (xs ys : List T) → starts p ys ≡ false → prefix_len p (xs ++ ys) ≡ prefix_len p xs
   prefix_stop p [] [] e = refl
   prefix_stop p [] (y ∷ ys) e = ap (λ b. cond b (1 + prefix_len p ys) 0) e
   prefix_stop p (x ∷ xs) ys e = ap (λ n. cond (p x) (1 + n) 0) (prefix_stop p xs ys e)
@@ -177,13 +177,6 @@ module _ {T : Type 0} where
 
   -- ---- one chunk among others
 
-  pub record Mid (cs : List (Vec T)) (at : ℕ) : Type 0 where
-    pub front : List (Vec T)
-    pub chunk : Vec T
-    pub back : List (Vec T)
-    pub is : cs ≡ front ++ chunk ∷ back
-    pub here : length front ≡ at
-
   pub mid : (cs : List (Vec T)) (at : ℕ) → at < length cs → Mid cs at
   mid [] at l = absurd (omega arith)
   mid (c ∷ cs) zero l = record { front = []; chunk = c; back = cs; is = refl; here = refl }
@@ -253,13 +246,7 @@ module _ {T : Type 0} where
   pub length_at : (cs : List (Vec T)) (at : ℕ) (m : Mid cs at) (got : Vec T) (n : ℕ) → n ≡ length got.items → got ≡ slice_index_or cs at got → n ≡ length m.chunk.items
   length_at cs at m got n long is = long ∙ ap (λ x. length x.items) (is ∙ chunk_at cs m.front m.chunk m.back at got m.is m.here)
 
-  -- the items that pass are those before a chunk, and some of it
-  pub record Sought (p : T → Bool) (cs : List (Vec T)) (at n : ℕ) : Type 0 where
-    pub around : Mid cs at
-    pub position : n ≡ prefix_len p around.chunk.items
-    pub ends : prefix_len p (items_in cs) ≡ length (items_in around.front) + prefix_len p around.chunk.items
-
-  pub sought : (p : T → Bool) (cs seen again : List (Vec T)) (at position : ℕ) → at < length cs → seen ≡ cs → again ≡ cs → SearchStopsIn p seen at → PassIn p again at position → Sought p cs at position
+  pub sought : (p : T → Bool) (cs seen again : List (Vec T)) (at position : ℕ) → at < length cs → seen ≡ cs → again ≡ cs → SearchStopsIn p seen at → PassIn p again at position → EndsAt p cs at position
   sought p cs seen again at position l e f ends placed =
       let m = mid cs at l in
       record {

@@ -1,4 +1,4 @@
-//! What a search looks for.
+//! What a search looks for, and what a look near a hint.
 
 ghost use Rattle.std.specs.Prelude.{◌≡◌, Bool};
 
@@ -10,4 +10,14 @@ pub trait Aim<T> {
     /// Whether an item stands before the position. A search asks this once for each halving of the list.
     fn is_before(&self, item: &T) -> bool
         ensures { result ≡ before self.now item.now };
+}
+
+/// Which item is looked for, without a search: an item tells by itself whether it is wanted.
+pub trait Wanted<T> {
+    /// Which items are wanted.
+    ghost wants: { Self → T → Bool };
+
+    /// Whether an item is wanted. A look near a hint asks this once for each item.
+    fn is_wanted(&self, item: &T) -> bool
+        ensures { result ≡ wants self.now item.now };
 }

@@ -1,21 +1,24 @@
 //! Lists in chunks.
 
-ghost use Rattle.std.specs.Prelude.{◌≡◌, List, [], ◌++◌, OnOk, OnErr, IfSome, drop};
+ghost use Rattle.std.specs.Prelude.{◌≡◌, List, [], ◌++◌, OnOk, OnErr, IfSome, IfNone, drop};
 ghost use Rattle.std.specs.List.{insert, remove, prefix_len};
 ghost use Rattle.std.specs.List.Sorted.{IsPartitionedBy};
-ghost use Rattle.ss_chunks.specs.Chunks.{items_in, rest_items};
+ghost use Rattle.ss_chunks.specs.Chunks.{items_in, rest_items, WasTaken};
 
-use crate::aim::Aim;
+use crate::aim::{Aim, Wanted};
 use crate::rest::{Hint, Rest};
 use ss_value::NoMemory;
 use std::alloc::Global;
 use std::marker::Model;
 
 mod chunks;
+mod near;
 
 use chunks::{
     all_of, back_from, chunk_with_room, position_in, push_first, put_in, rest_from, take_at,
+    take_out,
 };
+use near::{found_near, place_near};
 
 /// A list of items, in chunks of at most 256, none empty.
 ///
@@ -93,15 +96,47 @@ impl<T: Drop> Chunked<T> {
         put_in(&mut self.chunks, at, position, item)
     }
 
-    /// Takes out the first item that doesn't stand before an aim, if there is one. A search and a move of one chunk.
-    /// Takes no memory.
-    pub fn remove<A: Aim<T>>(&mut self, aim: &A)
+    /// Puts an item where `insert` puts it. Where that is a hint's place, or the one behind it, two or three comparisons and no
+    /// search; else these and what `insert` costs. Out of memory drops the item and changes nothing else.
+    pub fn insert_near<A: Aim<T>>(&mut self, hint: Hint, aim: &A, item: T) -> Result<(), NoMemory>
+        requires { IsPartitionedBy (A.before aim.now) self.old }
+        ensures ok { OnOk result (self.new ≡ insert self.old (prefix_len (A.before aim.now) self.old) item) }
+        ensures err { OnErr result (self.new ≡ self.old) }
+    {
+        match place_near(self.chunks.as_slice(), hint, aim) {
+            None => self.insert(aim, item),
+            Some(place) => put_in(&mut self.chunks, place.chunk, place.position, item),
+        }
+    }
+
+    /// Takes out the first item that doesn't stand before an aim, if there is one, and gives a hint where it stood. A search
+    /// and a move of one chunk. Takes no memory.
+    pub fn remove<A: Aim<T>>(&mut self, aim: &A) -> Hint
         requires { IsPartitionedBy (A.before aim.now) self.old }
         ensures { self.new ≡ remove self.old (prefix_len (A.before aim.now) self.old) }
     {
         if self.chunks.is_empty() {
-            return;
+            return Hint {
+                chunk: 0,
+                position: 0,
+            };
         }
         take_at(&mut self.chunks, aim)
+    }
+
+    /// Takes out an item that is wanted, where one stands near a hint, and gives a hint where it stood; None where none does,
+    /// and then nothing has changed. A look at sixteen items at most, eight before the hint's place and eight from there on, and
+    /// the move of one chunk. Takes no memory.
+    pub fn take_near<W: Wanted<T>>(&mut self, hint: Hint, wanted: &W) -> Option<Hint>
+        ensures some { IfSome result (λ place. WasTaken (W.wants wanted.now) self.old self.new) }
+        ensures none { IfNone result (self.new ≡ self.old) }
+    {
+        match found_near(self.chunks.as_slice(), hint, wanted) {
+            None => None,
+            Some(place) => {
+                take_out(&mut self.chunks, place.chunk, place.position);
+                Some(place)
+            }
+        }
     }
 }

@@ -1,12 +1,10 @@
 -- Where the prefixes of two keys differ, the keys compare as they do.
-use Rattle.std.proofs.Common.{◌≡◌, ℕ, ◌+◌, ◌-◌, ◌*◌, ◌^◌, ◌<◌, ◌≤◌, zero, suc, Bool, true, false, List, [], ◌∷◌, refl, ap, sym, subst, ◌∙◌, ◌⊎◌, inl, inr, nat_lt, arith}
+use Rattle.std.proofs.Common.{◌≡◌, ℕ, ◌+◌, ◌-◌, ◌*◌, ◌/◌, ◌^◌, ◌<◌, ◌≤◌, suc, Bool, true, false, List, [], ◌∷◌, Option, Some, None, slice_get, refl, ap, sym, subst, ◌∙◌, arith}
 use Rattle.std.specs.Prelude.{ℤ, pos, negsuc}
 use Rattle.std.specs.Cmp.Lexicographic.{slice_cmp}
 use Rattle.std.specs.Ordering.{nat_cmp, int_cmp, ordering_then, ordering_reverse}
 use Rattle.std.specs.declared.cmp.Ordering.TheVariants.{Less, Greater}
-use Rattle.std.specs.Prelude.{if◌then◌else◌}
-use Rattle.std.proofs.Math.Nat.{one-le-pow, mul-le-mul_right, pow-suc}
-use Rattle.std.proofs.lemmas.Bool.{cases_lt}
+use Rattle.std.proofs.Math.Nat.{mul-le-mul_right}
 use Rattle.std.proofs.lemmas.Cmp.{ranked, by_ranked}
 use Rattle.std.proofs.lemmas.Bool.Decides.{nat_tests}
 use Rattle.ss_lemmas.proofs.LoopItem.{some_at}
@@ -15,10 +13,11 @@ use Rattle.ss_value.specs.declared.value.Value.TheVariants.{Int, Text}
 use Rattle.ss_value.specs.Rows.{Row}
 use Rattle.ss_value.specs.Order.{value_cmp, row_cmp}
 use Rattle.ss_value.specs.ValueOrder.{row_cmp_total}
-use Rattle.ss_fragment.specs.Prefixes.{number_prefix, bytes_prefix, value_prefix, key_prefix, row_prefix, sought_prefix}
+use Rattle.ss_fragment.specs.Prefixes.{number_prefix, next_prefix, share, text_prefix, key_prefix, row_prefix, sought_prefix}
 use Rattle.ss_fragment.specs.FragmentValue.{key_of, HasKey, sought_key}
+use Rattle.ss_fragment.proofs.Shares.{share_some, share_rises, both, all_fit, up_to}
 
-number_top : (n : ℤ) → number_prefix n < 2 ^ 63
+number_top : (n : ℤ) → number_prefix n < 2 ^ 63 - 1
 number_top (pos n) = omega arith
 number_top (negsuc n) = omega arith
 
@@ -28,82 +27,101 @@ numbers_less (pos a) (negsuc b) h = absurd (omega arith)
 numbers_less (negsuc a) (pos b) h = refl
 numbers_less (negsuc a) (negsuc b) h = let l : b < a = omega arith in grind (arith, nat_tests)
 
--- ---- Texts: so many first bytes as digits
+-- ---- what stands behind a Text
 
-digits_room : (n : ℕ) → 1 ≤ 256 ^ n
-digits_room n = one-le-pow n 256 (omega arith)
+next_value : (room : ℕ) (v w : Value) → next_prefix room (Some v) < next_prefix room (Some w) → value_cmp v w ≡ Less
+next_value room (Int (pos a)) (Int (pos b)) h = let l : a < b = omega (arith, h) in grind (arith, nat_tests)
+next_value room (Int (pos a)) (Int (negsuc b)) h = absurd (omega (arith, h))
+next_value room (Int (negsuc a)) (Int (pos b)) h = refl
+next_value room (Int (negsuc a)) (Int (negsuc b)) h = absurd (omega (arith, h))
+next_value room (Int n) (Text t) h = refl
+next_value room (Text s) (Int (pos b)) h = absurd (omega (arith, h))
+next_value room (Text s) (Int (negsuc b)) h = absurd (omega (arith, h))
+next_value room (Text s) (Text t) h = absurd (omega (arith, h))
 
-module _ (n b : ℕ) (bs : List ℕ) where
-  -- a byte is a digit
-  pub digit : b < 256 → bytes_prefix (suc n) (b ∷ bs) ≡ b * 256 ^ n + bytes_prefix n bs
-  digit h = let e : nat_lt b 256 ≡ true = grind (arith, nat_tests) in ap (λ (t : Bool). if t then b * 256 ^ n + bytes_prefix n bs else 256 ^ suc n - 1) e
+next_less : (room : ℕ) (vs ws : Row) → next_prefix room (slice_get vs 0) < next_prefix room (slice_get ws 0) → row_cmp vs ws ≡ Less
+next_less room [] [] h = absurd (omega (arith, h))
+next_less room [] (w ∷ ws) h = refl
+next_less room (v ∷ vs) [] h = absurd (omega (arith, h))
+next_less room (v ∷ vs) (w ∷ ws) h = ap (λ r. ordering_then r (row_cmp vs ws)) (next_value room v w h)
 
-  no_digit : 256 ≤ b → bytes_prefix (suc n) (b ∷ bs) ≡ 256 ^ suc n - 1
-  no_digit h = let e : nat_lt b 256 ≡ false = grind (arith, nat_tests) in ap (λ (t : Bool). if t then b * 256 ^ n + bytes_prefix n bs else 256 ^ suc n - 1) e
+next_top : (room : ℕ) (next : Option Value) → next_prefix room next ≤ room
+next_top room None = omega arith
+next_top room (Some (Int (pos n))) = omega arith
+next_top room (Some (Int (negsuc n))) = omega arith
+next_top room (Some (Text t)) = omega arith
 
--- so many digits make a number below that power of the base
-bytes_top : (n : ℕ) (s : List ℕ) → bytes_prefix n s < 256 ^ n
-bytes_top zero s = omega arith
-bytes_top (suc n) [] = let r = digits_room (suc n) in omega (arith, r)
-bytes_top (suc n) (b ∷ bs) = by (bytes_top n bs) (cases_lt b 256)
+-- ---- Texts
+
+-- what is in a room is at most its size
+text_top : (s : List ℕ) (room : ℕ) (next : Option Value) → text_prefix room s next ≤ room
+text_top [] room next = let top = next_top (32 * (room / 512)) next in let fit = all_fit room in omega (arith, top, fit)
+text_top (b ∷ bs) room next = let top = text_top bs ((share (suc b) - share b) * (room / 512)) next in within _ _ _ _ top (up_to room b)
   where
-    by : bytes_prefix n bs < 256 ^ n → (b < 256) ⊎ (256 ≤ b) → bytes_prefix (suc n) (b ∷ bs) < 256 ^ suc n
-    by top (inl h) =
-        let e = digit n b bs h in
-        let up : b * 256 ^ n ≤ 255 * 256 ^ n = mul-le-mul_right (256 ^ n) (let l : b ≤ 255 = omega (arith, h) in l) in
-        let s = pow-suc 256 n in
-        omega (arith, e, up, top, s)
-    by top (inr h) = let e = no_digit n b bs h in let r = digits_room (suc n) in omega (arith, e, r)
+    within : (n x y m : ℕ) → x ≤ y → n + y ≤ m → n + x ≤ m
+    within n x y m p q = omega (arith, p, q)
+
+-- the end of a Text is before all bytes
+end_less : (room a : ℕ) (xs : List ℕ) (v w : Option Value) → text_prefix room [] w ≤ text_prefix room (a ∷ xs) v
+end_less room a xs v w =
+    let top = next_top (32 * (room / 512)) w in
+    let some : 32 * (room / 512) ≤ share a * (room / 512) = mul-le-mul_right (room / 512) (share_some a) in
+    through _ _ _ _ top some
+  where
+    through : (x y z more : ℕ) → x ≤ y → y ≤ z → x ≤ z + more
+    through x y z more p q = omega (arith, p, q)
 
 -- a lower first byte makes no greater number
-first_less : (n a b : ℕ) (xs ys : List ℕ) → b < a → bytes_prefix (suc n) (b ∷ ys) ≤ bytes_prefix (suc n) (a ∷ xs)
-first_less n a b xs ys h = by (cases_lt a 256)
+first_less : (room a b : ℕ) (xs ys : List ℕ) (v w : Option Value) → b < a → text_prefix room (b ∷ ys) w ≤ text_prefix room (a ∷ xs) v
+first_less room a b xs ys v w h =
+    let top = text_top ys ((share (suc b) - share b) * (room / 512)) w in
+    let own = both (share b) (share (suc b)) (room / 512) (share_rises b (suc b) (omega arith)) in
+    let before : share (suc b) * (room / 512) ≤ share a * (room / 512) = mul-le-mul_right (room / 512) (share_rises (suc b) a h) in
+    through _ _ _ _ _ _ top own before
   where
-    by : (a < 256) ⊎ (256 ≤ a) → bytes_prefix (suc n) (b ∷ ys) ≤ bytes_prefix (suc n) (a ∷ xs)
-    by (inl l) =
-        let low = digit n b ys (let m : b < 256 = omega (arith, h, l) in m) in
-        let high = digit n a xs l in
-        let up : suc b * 256 ^ n ≤ a * 256 ^ n = mul-le-mul_right (256 ^ n) h in
-        let top = bytes_top n ys in
-        omega (arith, low, high, up, top)
-    by (inr l) = let top = bytes_top (suc n) (b ∷ ys) in let e = no_digit n a xs l in omega (arith, top, e)
+    through : (n x y end z more : ℕ) → x ≤ y → n + y ≡ end → end ≤ z → n + x ≤ z + more
+    through n x y end z more p q r = omega (arith, p, q, r)
 
--- equal first bytes leave it to the others
-others_less : (n a : ℕ) (xs ys : List ℕ) → bytes_prefix (suc n) (a ∷ xs) < bytes_prefix (suc n) (a ∷ ys) → bytes_prefix n xs < bytes_prefix n ys
-others_less n a xs ys h = by (cases_lt a 256)
-  where
-    by : (a < 256) ⊎ (256 ≤ a) → bytes_prefix n xs < bytes_prefix n ys
-    by (inl l) = let low = digit n a xs l in let high = digit n a ys l in omega (arith, low, high, h)
-    by (inr l) = let low = no_digit n a xs l in let high = no_digit n a ys l in absurd (omega (arith, low, high, h))
+more_less : (n x y : ℕ) → n + x < n + y → x < y
+more_less n x y h = omega (arith, h)
 
-texts_less : (n : ℕ) (s t : List ℕ) → bytes_prefix n s < bytes_prefix n t → slice_cmp nat_cmp s t ≡ Less
-texts_less zero s t h = absurd (omega (arith, h))
-texts_less (suc n) [] [] h = absurd (omega (arith, h))
-texts_less (suc n) [] (b ∷ ys) h = refl
-texts_less (suc n) (a ∷ xs) [] h = absurd (omega (arith, h))
-texts_less (suc n) (a ∷ xs) (b ∷ ys) h = by_ranked (a < b) (a ≡ b) (b < a) (nat_cmp a b) (ranked a b (nat_cmp a b) refl)
-    (λ e _. ap (λ r. ordering_then r (slice_cmp nat_cmp xs ys)) e)
-    (λ e t. ap (λ r. ordering_then r (slice_cmp nat_cmp xs ys)) e ∙ texts_less n xs ys (others_less n a xs ys (subst (λ (x : ℕ). bytes_prefix (suc n) (a ∷ xs) < bytes_prefix (suc n) (x ∷ ys)) (sym t) h)))
-    (λ _ g. let le = first_less n a b xs ys g in absurd (omega (arith, le, h)))
+not_both : (x y : ℕ) → x ≤ y → y < x → ⊥
+not_both x y p q = omega (arith, p, q)
 
-values_less : (v w : Value) → value_prefix v < value_prefix w → value_cmp v w ≡ Less
-values_less (Int m) (Int n) h = numbers_less m n h
-values_less (Int m) (Text t) h = refl
-values_less (Text s) (Int n) h = let top = number_top n in absurd (omega (arith, top))
-values_less (Text s) (Text t) h = texts_less 7 s t (omega arith)
+-- Texts, and what stands behind them
+texts_less : (s t : List ℕ) (room : ℕ) (vs ws : Row) → text_prefix room s (slice_get vs 0) < text_prefix room t (slice_get ws 0)
+    → ordering_then (slice_cmp nat_cmp s t) (row_cmp vs ws) ≡ Less
+texts_less [] [] room vs ws h = next_less (32 * (room / 512)) vs ws h
+texts_less [] (b ∷ ys) room vs ws h = refl
+texts_less (a ∷ xs) [] room vs ws h = let le = end_less room a xs (slice_get vs 0) (slice_get ws 0) in absurd (not_both _ _ le h)
+texts_less (a ∷ xs) (b ∷ ys) room vs ws h = by_ranked (a < b) (a ≡ b) (b < a) (nat_cmp a b) (ranked a b (nat_cmp a b) refl)
+    (λ e _. ap (λ r. ordering_then (ordering_then r (slice_cmp nat_cmp xs ys)) (row_cmp vs ws)) e)
+    (λ e t. ap (λ r. ordering_then (ordering_then r (slice_cmp nat_cmp xs ys)) (row_cmp vs ws)) e
+    ∙ texts_less xs ys ((share (suc a) - share a) * (room / 512)) vs ws
+    (more_less (share a * (room / 512)) _ _ (subst (λ (x : ℕ). text_prefix room (a ∷ xs) (slice_get vs 0) < text_prefix room (x ∷ ys) (slice_get ws 0)) (sym t) h)))
+    (λ _ g. let le = first_less room a b xs ys (slice_get vs 0) (slice_get ws 0) g in absurd (not_both _ _ le h))
+
+-- ---- keys
 
 pub keys_less : (a b : Row) → key_prefix a < key_prefix b → row_cmp a b ≡ Less
-keys_less [] [] h = absurd (omega arith)
+keys_less [] [] h = absurd (omega (arith, h))
 keys_less [] (w ∷ ws) h = refl
-keys_less (v ∷ vs) [] h = absurd (omega arith)
-keys_less (v ∷ vs) (w ∷ ws) h = ap (λ r. ordering_then r (row_cmp vs ws)) (values_less v w h)
+keys_less (v ∷ vs) [] h = absurd (omega (arith, h))
+keys_less (Int m ∷ vs) (Int n ∷ ws) h = ap (λ r. ordering_then r (row_cmp vs ws)) (numbers_less m n h)
+keys_less (Int m ∷ vs) (Text t ∷ ws) h = refl
+keys_less (Text s ∷ vs) (Int n ∷ ws) h = let top = number_top n in absurd (behind _ _ _ top h)
+  where
+    behind : (n x m : ℕ) → m < n → n + x < m → ⊥
+    behind n x m p q = omega (arith, p, q)
+keys_less (Text s ∷ vs) (Text t ∷ ws) h = texts_less s t (2 ^ 63) vs ws (more_less (2 ^ 63 - 1) _ _ h)
 
 pub keys_greater : (a b : Row) → key_prefix b < key_prefix a → row_cmp a b ≡ Greater
 keys_greater a b h = row_cmp_total.antisymm a b ∙ ap ordering_reverse (keys_less b a h)
 
 pub row_prefix-key : (key : List ℕ) (row : Row) → HasKey key row → row_prefix key row ≡ key_prefix (key_of key row)
 row_prefix-key [] row h = refl
-row_prefix-key (c ∷ cs) row h = let x = some_at row c h.0 in rw x.1 refl
+row_prefix-key (c ∷ []) row h = let x = some_at row c h.0 in rw x.1 refl
+row_prefix-key (c ∷ d ∷ ds) row h = let x = some_at row c h.0 in let y = some_at row d h.1.0 in rw x.1 (rw y.1 refl)
 
 pub sought_prefix-key : (is_key : Bool) (key : List ℕ) (sought : Row) → (is_key ≡ false → HasKey key sought) → sought_prefix is_key key sought ≡ key_prefix (sought_key is_key key sought)
 sought_prefix-key true key sought q = refl

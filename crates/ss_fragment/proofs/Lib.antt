@@ -5,7 +5,7 @@ pub mod Cases
 pub mod Cells
 pub mod Cut
 pub mod Fronts
-pub mod Digits
+pub mod Shares
 pub mod Keyed
 pub mod Keys
 pub mod Maps
@@ -21,3 +21,4 @@ pub mod Sought
 pub mod Steps
 pub mod Turned
 pub mod Crossing
+pub mod worked

@@ -1,6 +1,7 @@
 -- A slot freed.
 use Rattle.std.proofs.Common.{◌≡◌, ℕ, suc, ◌+◌, ◌-◌, Bool, true, false, not, List, [], ◌∷◌, ◌++◌, length, map, refl, sym, ap, subst, ◌∙◌, Option, Some, None, T, inl, inr, arith, slice_get, slice_set, length-append}
 use Rattle.std.specs.List.{AllByRecursion, remove}
+use Rattle.std.specs.Prelude.{IsSome}
 use Rattle.std.specs.Option.{option_map_or, option_and_then, is_some}
 use Rattle.std.specs.Ordering.{nat_cmp, is_lt}
 use Rattle.std.specs.declared.cmp.Ordering.TheVariants.{Less}
@@ -12,6 +13,7 @@ use Rattle.ss_value.specs.Order.{row_cmp}
 use Rattle.ss_fragment.specs.declared.cell.Cell.{Cell}
 use Rattle.ss_fragment.specs.declared.cell.Cell.TheVariants.{Free, Live, Dead}
 use Rattle.ss_fragment.specs.Cells.{row_of, row_in, live_row}
+use Rattle.ss_fragment.specs.Near.{LostMark}
 use Rattle.ss_fragment.specs.Targets.{is_before_slot, slot_rank}
 use Rattle.ss_value.specs.Rows.{Row}
 use Rattle.ss_value.specs.ValueOrder.{row_cmp_total, row_cmp-IsAntisymmetric}
@@ -60,6 +62,17 @@ unlinked key cells marks gone slot row t e is front back mark at here =
     let place : slot_rank cells key false row slot (slots_of marks) ≡ length front =
     ap (slot_rank cells key false row slot) slots ∙ rank_step key cells (slots_of front) slot (slots_of back) row (subst (IsFragment key cells) slots t) e ∙ slots_long front in
     is ∙ (λ i. remove (at i) (place i)) ∙ remove_mid front mark back
+
+-- so is what is taken out as a slot's mark, wherever it was found
+pub unlinked_near : (key : List ℕ) (cells : List Cell) (marks gone : List PrefixedSlot) (slot : ℕ) → IsFragment key cells (slots_of marks) → IsSome (row_of cells slot) → LostMark marks gone slot
+    → (front back : List PrefixedSlot) (mark : PrefixedSlot) → marks ≡ front ++ mark ∷ back → mark.slot ≡ slot → gone ≡ front ++ back
+unlinked_near key cells marks gone slot t some lost front back mark at here = by (row_of cells slot) refl some
+  where
+    by : (o : Option Row) → row_of cells slot ≡ o → IsSome o → gone ≡ front ++ back
+    by None e s = cc
+    by (Some row) e s =
+        let place : List PrefixedSlot = remove marks (slot_rank cells key false row slot (slots_of marks)) in
+        lost.is ∙ sym (unlinked key cells marks place slot row t e refl lost.front lost.back lost.mark lost.was lost.here) ∙ unlinked key cells marks place slot row t e refl front back mark at here
 
 record AroundMark (marks : List PrefixedSlot) (slot : ℕ) : Type 0 where
   front : List PrefixedSlot

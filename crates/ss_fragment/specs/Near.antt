@@ -21,3 +21,12 @@ IsBehind marks slot cells found =
 abbrev pub IsBehindFirst : List PrefixedSlot → ℕ → List Cell → Option ℕ → Type 0
 IsBehindFirst marks slot cells found =
     (back : List PrefixedSlot) × (mark : PrefixedSlot) × (marks ≡ mark ∷ back) × (mark.slot ≡ slot) × (found ≡ find (is_live cells) (slots_of back))
+
+-- the mark of a slot was taken out, and all others are as before
+pub record LostMark (old new : List PrefixedSlot) (slot : ℕ) : Type 0 where
+  pub front : List PrefixedSlot
+  pub mark : PrefixedSlot
+  pub back : List PrefixedSlot
+  pub was : old ≡ front ++ mark ∷ back
+  pub is : new ≡ front ++ back
+  pub here : mark.slot ≡ slot

@@ -1,11 +1,12 @@
-//! Marks: slots with the prefixes of their rows' keys. A prefix is a key's first value as a number, a Text by its first bytes.
+//! Marks: slots with the prefixes of their rows' keys. A prefix is the front of a key as a number: its first column, and
+//! where that is a Text that ends in the prefix, the second one behind it.
 //!
 //! A search through an order compares prefixes, which are side by side in memory, and reads a row, which is
 //! elsewhere, only where two prefixes are equal.
 
-ghost use Rattle.std.specs.Prelude.{◌≡◌, ◌≤◌, ◌<◌, ◌+◌, ◌-◌, ◌*◌, ◌^◌};
+ghost use Rattle.std.specs.Prelude.{◌≡◌, ◌≤◌, ◌<◌, ◌+◌, ◌-◌, ◌^◌, suc};
 ghost use Rattle.std.specs.Option.{option_copied};
-ghost use Rattle.ss_fragment.specs.Prefixes.{number_prefix, bytes_prefix, value_prefix, optional_prefix, sought_prefix};
+ghost use Rattle.ss_fragment.specs.Prefixes.{number_prefix, next_prefix, share, text_prefix, columns_prefix, column_at, sought_prefix};
 
 use ss_value::Value;
 
@@ -20,10 +21,22 @@ pub struct PrefixedSlot {
 const LEAST: i64 = -(1 << 62);
 
 /// The least prefix of a Text: those of Ints are below it.
-const TEXTS: u64 = 1 << 63;
+const TEXTS: u64 = (1 << 63) - 1;
 
-/// How many bytes of a Text its prefix has.
-const DIGITS: u32 = 7;
+/// The room of Texts.
+const ROOM: u64 = 1 << 63;
+
+/// The parts of a room.
+const PARTS: u64 = 512;
+
+/// The parts of a room for the end of a Text.
+const END: u64 = 32;
+
+/// The first of the bytes with eight parts, which are the small letters and a few more.
+const LETTERS: u64 = 96;
+
+/// The first byte behind those.
+const BEHIND_LETTERS: u64 = 128;
 
 /// An Int as a number without a sign, in the same order.
 #[inline]
@@ -33,40 +46,74 @@ fn number_prefix(number: i64) -> u64
     number.max(LEAST).abs_diff(LEAST).min(TEXTS - 1)
 }
 
-/// A number with so many bytes more, as its last digits to the base 256. Behind the last byte come zeros.
-fn with_bytes(number: u64, digits: u32, bytes: &[u8]) -> u64
-    requires few { digits ≤ 7 }
-    requires room { number < 256 ^ (7 - digits) }
-    ensures { result ≡ number * 256 ^ digits + bytes_prefix digits bytes.now }
+/// What stands behind a Text as a number in a room. Ints below 0 have one number, and so have those past the room.
+#[inline]
+fn next_prefix(room: u64, next: Option<&Value>) -> u64
+    requires { 0 < room }
+    ensures { result ≡ next_prefix room (option_copied next.entry) }
 {
-    if digits == 0 {
+    match next {
+        None => 0,
+        Some(Value::Int(number)) => (*number).max(0).unsigned_abs().min(room - 1),
+        Some(Value::Text(_)) => room - 1,
+    }
+}
+
+/// The part at which a byte's parts begin, and how many they are.
+#[inline]
+fn share(byte: u8) -> (u64, u64)
+    ensures begin { result.0 ≡ share byte }
+    ensures parts { result.1 ≡ share (suc byte) - share byte }
+{
+    let number = u64::from(byte);
+    if LETTERS <= number && number < BEHIND_LETTERS {
+        (128 + 8 * (number - LETTERS), 8)
+    } else if number < LETTERS {
+        (END + number, 1)
+    } else {
+        (256 + number, 1)
+    }
+}
+
+/// A number with that of a Text and what stands behind it added, in a room. One step for each byte that has room: ten
+/// small letters, or seven other bytes.
+fn with_text(number: u64, room: u64, bytes: &[u8], next: Option<&Value>) -> u64
+    requires { number + room < 2 ^ 64 }
+    ensures { result ≡ number + text_prefix room bytes.now (option_copied next.entry) }
+{
+    let part = room / PARTS;
+    if part == 0 {
         return number;
     }
     match bytes.split_first() {
-        None => with_bytes(number * 256, digits - 1, bytes),
-        Some((byte, rest)) => with_bytes(number * 256 + u64::from(*byte), digits - 1, rest),
+        None => number + next_prefix(END * part, next),
+        Some((byte, rest)) => {
+            let (begin, parts) = share(*byte);
+            with_text(number + begin * part, parts * part, rest, next)
+        }
     }
 }
 
-/// A value as a number: a Text by its first bytes, behind all Ints.
+/// The prefix of a key with these first two columns.
 #[inline]
-fn value_prefix(value: &Value) -> u64
-    ensures { result ≡ value_prefix value.now }
+fn columns_prefix(first: Option<&Value>, next: Option<&Value>) -> u64
+    ensures { result ≡ columns_prefix (option_copied first.entry) (option_copied next.entry) }
 {
-    match value {
-        Value::Int(number) => number_prefix(*number),
-        Value::Text(text) => TEXTS + with_bytes(0, DIGITS, text.as_bytes()),
-    }
-}
-
-/// A value that may be missing as a number; a missing one has the least.
-#[inline]
-fn optional_prefix(value: Option<&Value>) -> u64
-    ensures { result ≡ optional_prefix (option_copied value.entry) }
-{
-    match value {
+    match first {
         None => 0,
-        Some(value) => value_prefix(value),
+        Some(Value::Int(number)) => number_prefix(*number),
+        Some(Value::Text(text)) => with_text(TEXTS, ROOM, text.as_bytes(), next),
+    }
+}
+
+/// A row's value in a column, where there are both.
+#[inline]
+fn column_at<'a>(row: &'a [Value], column: Option<&u8>) -> Option<&'a Value>
+    ensures { option_copied result ≡ column_at row.now (option_copied column.entry) }
+{
+    match column {
+        None => None,
+        Some(column) => row.get(usize::from(*column)),
     }
 }
 
@@ -75,10 +122,10 @@ pub fn sought_prefix(key: &[u8], is_key: bool, values: &[Value]) -> u64
     ensures { result ≡ sought_prefix is_key key.now values.now }
 {
     if is_key {
-        return optional_prefix(values.first());
+        return columns_prefix(values.first(), values.get(1));
     }
-    match key.first() {
-        None => 0,
-        Some(column) => optional_prefix(values.get(usize::from(*column))),
-    }
+    columns_prefix(
+        column_at(values, key.first()),
+        column_at(values, key.get(1)),
+    )
 }

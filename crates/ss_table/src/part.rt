@@ -9,7 +9,7 @@ ghost use Rattle.ss_table.specs.Unions.{head};
 ghost use Rattle.ss_table.specs.Parts.{wide, wide_live, rows_beyond, live_beyond, IsHead, HasKeyIfAny, WasPut};
 
 use ss_fragment::{Fragment, Hint};
-use ss_value::{Row, Slot};
+use ss_value::{Row, Slot, Value};
 
 /// The rows of one part, whose number is below 8.
 #[derive(Drop)]
@@ -20,7 +20,7 @@ pub struct Part {
 
 impl Part {
     /// The slot of the live row with a key.
-    pub fn get(&self, key: &Row) -> Option<Slot>
+    pub fn get(&self, key: &[Value]) -> Option<Slot>
         requires { self.now.number < 8 }
         ensures { result ≡ option_map (λ p. p.0) (finite.get (wide_live self.now) key.now) }
     {
@@ -74,9 +74,9 @@ impl Part {
         }
     }
 
-    /// Puts a row with a new key in a slot that no row had, and gives the slot. Out of memory hands the row back and changes
-    /// nothing.
-    pub fn put_new(&mut self, row: Row) -> Result<Slot, Row>
+    /// Puts a row with a new key in a slot that no row had, and gives the slot. It goes where its key does, which a hint may
+    /// tell. Out of memory hands the row back and changes nothing.
+    pub fn put_new(&mut self, row: Row, hint: Hint) -> Result<Slot, Row>
         requires below { self.old.number < 8 }
         requires has_key { HasKey self.old.rows.key row }
         requires free { finite.contains_key self.old.rows.live (key_of self.old.rows.key row) ≡ false }
@@ -85,7 +85,7 @@ impl Part {
         ensures err { IfErr result (λ e. (self.new ≡ self.old) × (e ≡ row)) }
     {
         let number = self.number;
-        match self.rows.put_new(row) {
+        match self.rows.put_new(row, hint) {
             Ok(slot) => {
                 self.rows.rows_are_keyed();
                 Ok(wide(number, slot))

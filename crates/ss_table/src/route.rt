@@ -28,7 +28,7 @@ fn optional_part(parts: u8, value: Option<&Value>) -> u8
 }
 
 /// The part of a key. A division, and linear in the bytes of the Text that is there.
-pub fn part_of(route: Route, key: &Row) -> u8
+pub fn part_of(route: Route, key: &[Value]) -> u8
     requires { IsRoute route }
     ensures { result ≡ part_of route key.now }
 {

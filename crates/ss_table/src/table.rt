@@ -16,7 +16,7 @@ use crate::part::{Part, narrow, part_of_slot};
 use crate::route::{Route, part_of, part_of_row};
 use ss_fragment::Fragment;
 pub use ss_fragment::Hint;
-use ss_value::{NoMemory, Row, Seq, Slot};
+use ss_value::{NoMemory, Row, Seq, Slot, Value};
 use std::alloc::Global;
 use std::marker::Model;
 
@@ -51,7 +51,8 @@ pub enum TableError {
 /// What the calls cost, where a table has one part:
 ///
 /// - `row`, `mark_dead`, `unmark`, `replace`: constant.
-/// - `get`, `insert`, `remove_fresh`, `purge`, `after`: a search, logarithmic in the number of all rows, live and dead.
+/// - `get`, `insert`, `remove_fresh`, `purge`, `after`: a search, logarithmic in the number of all rows, live and dead; but
+///   `remove_fresh` and `purge` of a row near to the one that was freed last need none.
 /// - `first`, `first_near`, and `after_near` with the hint that came with the slot: constant.
 /// - What comes besides, for dead rows and for the move of a chunk, is said at `Fragment`.
 /// - No call copies a row or a key.
@@ -111,7 +112,7 @@ impl Table {
     }
 
     /// The slot of the live row with a key, and None exactly where no live row has it.
-    pub fn get(&self, key: &Row) -> Option<Slot>
+    pub fn get(&self, key: &[Value]) -> Option<Slot>
         ensures { result ≡ option_map (λ p. p.0) (finite.get self.now.live key.now) }
     {
         let others = self.others.as_slice();
@@ -322,19 +323,21 @@ impl Table {
         part_of_row(self.route, self.first.rows.key(), row)
     }
 
-    /// Why a row is refused, memory aside, where this is its part.
-    fn refuses(&self, number: u8, row: &Row) -> Option<TableError>
+    /// Why a row is refused, memory aside, where this is its part, and a hint where it goes there.
+    fn refuses(&self, number: u8, row: &Row) -> (Option<TableError>, Hint)
         requires has_key { HasKey self.now.key row.now }
         requires own { place_of self.now.parts number ≡ place_of self.now.parts (part_of self.now.route (key_of self.now.key row.now)) }
-        ensures { result ≡ refusal self.now row.now }
+        ensures { result.0 ≡ refusal self.now row.now }
     {
         let others = self.others.as_slice();
-        let taken = own(&self.first, others, number).rows.holds_key_of(row);
-        refusal_by(taken, are_at_limit(self.limit, &self.first, others))
+        let (taken, hint) = own(&self.first, others, number).rows.holds_key_of(row);
+        let full = are_at_limit(self.limit, &self.first, others);
+        (refusal_by(taken, full), hint)
     }
 
-    /// Puts a row with a new key into its part, which has this number. Out of memory hands it back and changes nothing.
-    fn put_new(&mut self, number: u8, row: Row) -> Result<Slot, Row>
+    /// Puts a row with a new key into its part, which has this number, with a hint where it goes there. Out of memory hands it
+    /// back and changes nothing.
+    fn put_new(&mut self, number: u8, row: Row, hint: Hint) -> Result<Slot, Row>
         requires has_key { HasKey self.old.key row }
         requires free { finite.get self.old.live (key_of self.old.key row) ≡ None }
         requires own { place_of self.old.parts number ≡ place_of self.old.parts (part_of self.old.route (key_of self.old.key row)) }
@@ -344,10 +347,10 @@ impl Table {
         ensures err { IfErr result (λ e. (self.new ≡ self.old) × (e ≡ row)) }
     {
         match other_place(&self.first, self.others.as_slice(), number) {
-            None => self.first.put_new(row),
+            None => self.first.put_new(row, hint),
             Some(at) => match self.others.get_mut(at) {
                 None => unreachable!(),
-                Some(part) => part.put_new(row),
+                Some(part) => part.put_new(row, hint),
             },
         }
     }
@@ -366,9 +369,11 @@ impl Table {
         ensures refused { IfErr result (λ e. RefusesAs (refusal self.old row) e.0) }
     {
         let number = self.part_for(&row);
-        match self.refuses(number, &row) {
+        // The position that the search for its key found is where the row goes, so a table is searched once.
+        let (refusal, hint) = self.refuses(number, &row);
+        match refusal {
             Some(error) => Err((error, row)),
-            None => match self.put_new(number, row) {
+            None => match self.put_new(number, row, hint) {
                 Ok(slot) => Ok(slot),
                 Err(row) => Err((TableError::NoMemory, row)),
             },

@@ -43,7 +43,7 @@ fn walk_alike(table: &Table, map: &Rows) -> bool {
         let Some((slot, hint)) = place else {
             return false;
         };
-        if table.row(slot) != Some(row) || table.get(key) != Some(slot) {
+        if table.row(slot) != Some(row) || table.get(key.as_slice()) != Some(slot) {
             return false;
         }
         let Some(next) = behind(table, slot, hint) else {
@@ -56,7 +56,7 @@ fn walk_alike(table: &Table, map: &Rows) -> bool {
 
 /// Whether both have a row of a key, and the same one, or neither has.
 fn get_alike(table: &Table, map: &Rows, key: &Row) -> bool {
-    let found = match table.get(key) {
+    let found = match table.get(key.as_slice()) {
         Some(slot) => table.row(slot),
         None => None,
     };

@@ -199,7 +199,7 @@ impl Real {
     /// The slot of a key in one of the tables.
     fn found(&self, at: u16, key: &Row) -> Option<Slot> {
         match self.tables.get(usize::from(at)) {
-            Some(table) => table.get(key),
+            Some(table) => table.get(key.as_slice()),
             None => None,
         }
     }

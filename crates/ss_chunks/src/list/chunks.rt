@@ -12,7 +12,7 @@ use ss_value::NoMemory;
 
 /// How many items a chunk has at most. Larger chunks would make each insert move more, smaller ones the list of chunks
 /// longer, which a split moves.
-const CHUNK: usize = 256;
+pub(super) const CHUNK: usize = 256;
 
 /// How many items stand before an aim.
 fn rank_in<T, A: Aim<T>>(items: &[T], aim: &A) -> usize
@@ -197,8 +197,8 @@ pub(super) fn put_in<T: Drop>(
     Ok(())
 }
 
-/// Takes out the first item that doesn't stand before an aim, if there is one.
-pub(super) fn take_at<T: Drop, A: Aim<T>>(chunks: &mut Vec<Vec<T>>, aim: &A)
+/// Takes out the first item that doesn't stand before an aim, if there is one, and gives a hint where it stood.
+pub(super) fn take_at<T: Drop, A: Aim<T>>(chunks: &mut Vec<Vec<T>>, aim: &A) -> Hint
     requires parted { IsPartitionedBy (A.before aim.now) (items_in chunks.old.items) }
     requires filled { IsFilled chunks.old.items }
     requires some { 0 < length chunks.old.items }
@@ -209,14 +209,27 @@ pub(super) fn take_at<T: Drop, A: Aim<T>>(chunks: &mut Vec<Vec<T>>, aim: &A)
     let position = position_in(chunks.as_slice(), at, aim);
     if position < chunks[at].len() {
         take_out(chunks, at, position);
+        Hint {
+            chunk: at,
+            position,
+        }
     } else if at + 1 < chunks.len() {
         // All of this chunk stands before the aim, so the item is the next chunk's first.
         take_out(chunks, at + 1, 0);
+        Hint {
+            chunk: at + 1,
+            position: 0,
+        }
+    } else {
+        Hint {
+            chunk: at,
+            position,
+        }
     }
 }
 
 /// Takes an item out of a chunk, and the chunk out of the list where it had no other item.
-fn take_out<T: Drop>(chunks: &mut Vec<Vec<T>>, at: usize, position: usize)
+pub(super) fn take_out<T: Drop>(chunks: &mut Vec<Vec<T>>, at: usize, position: usize)
     requires at { at < length chunks.old.items }
     requires filled { IsFilled chunks.old.items }
     requires position { IfSome (slice_get chunks.old.items at) (λ chunk. position < length chunk.items) }

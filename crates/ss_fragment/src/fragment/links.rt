@@ -12,7 +12,30 @@ ghost use Rattle.ss_fragment.specs.Invariant.{IsFragment, IsMark, live_list};
 use crate::cell::{Cell, any_row};
 use crate::order::Order;
 use crate::search::{aim_at, hit};
+use ss_chunks::Hint;
 use ss_value::{NoMemory, Value};
+
+/// The live slot with a key, or with the key of a row, and a hint where the slots with that key stand.
+pub(super) fn live_near(
+    order: &Order,
+    cells: &[Cell],
+    key: &[u8],
+    is_key: bool,
+    values: &[Value],
+) -> (Option<usize>, Hint)
+    requires fragment { IsFragment key.now cells.now (slots_of order.now) }
+    requires marked { AllByRecursion (IsMark key.now cells.now) order.now }
+    requires values { is_key ≡ false → HasKey key.now values.now }
+    ensures { result.0 ≡ slot_with (sought_key is_key key.now values.now) (live_list cells.now key.now (slots_of order.now)) }
+{
+    // Slot 0 comes before every other slot with the key, so the search begins at the first of them.
+    let aim = aim_at(cells, key, is_key, values, 0);
+    let (stop, hint) = order.next_stop(&aim);
+    match stop {
+        None => (None, hint),
+        Some(slot) => (hit(&aim, slot), hint),
+    }
+}
 
 /// The live slot with a key, or with the key of a row.
 pub(super) fn live_with(
@@ -27,12 +50,7 @@ pub(super) fn live_with(
     requires values { is_key ≡ false → HasKey key.now values.now }
     ensures { result ≡ slot_with (sought_key is_key key.now values.now) (live_list cells.now key.now (slots_of order.now)) }
 {
-    // Slot 0 comes before every other slot with the key, so the search begins at the first of them.
-    let aim = aim_at(cells, key, is_key, values, 0);
-    match order.next_stop(&aim) {
-        None => None,
-        Some(slot) => hit(&aim, slot),
-    }
+    live_near(order, cells, key, is_key, values).0
 }
 
 /// The first live slot that doesn't stand before a row's key, or at that key before a slot.
@@ -52,13 +70,14 @@ pub(super) fn live_from(
     order.next_live(&aim)
 }
 
-/// Puts a slot into the order, by a row's key. Out of memory changes nothing.
+/// Puts a slot into the order, by a row's key, with a hint where it may go. Out of memory changes nothing.
 pub(super) fn link(
     order: &mut Order,
     cells: &[Cell],
     key: &[u8],
     row: &[Value],
     slot: usize,
+    hint: Hint,
 ) -> Result<(), NoMemory>
     requires fragment { IsFragment key.now cells.now (slots_of order.old) }
     requires marked { AllByRecursion (IsMark key.now cells.now) order.old }
@@ -67,7 +86,7 @@ pub(super) fn link(
     ensures err { OnErr result (order.new ≡ order.old) }
 {
     let aim = aim_at(cells, key, false, row, slot);
-    order.insert(&aim)
+    order.insert(&aim, hint)
 }
 
 /// Takes a slot out of the order.
@@ -77,6 +96,9 @@ pub(super) fn unlink(order: &mut Order, cells: &[Cell], key: &[u8], slot: usize)
     requires row { IsSome (row_of cells.now slot) }
     ensures { (front back : List PrefixedSlot) (mark : PrefixedSlot) → order.old ≡ front ++ mark ∷ back → mark.slot ≡ slot → order.new ≡ front ++ back }
 {
+    if order.remove_near(slot) {
+        return;
+    }
     match any_row(cells, slot) {
         None => (),
         Some(row) => {

@@ -4,7 +4,7 @@ use Rattle.ss_fragment.specs.declared.mark.PrefixedSlot.{PrefixedSlot}
 use Rattle.ss_fragment.specs.Targets.{target_of, is_before}
 use Rattle.ss_fragment.proofs.order.Order.insert.Goals as goal
 
-pub insert-requires : goal.insert-requires
-insert-requires c =
+pub insert_near-requires : goal.insert_near-requires
+insert_near-requires c =
     let P : List PrefixedSlot → Type 0 = IsPartitionedBy (is_before (target_of c.args.aim.now)) in
     subst P (sym c.self.view_is) c.requires

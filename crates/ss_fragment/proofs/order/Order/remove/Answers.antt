@@ -4,7 +4,7 @@ use Rattle.ss_fragment.specs.declared.mark.PrefixedSlot.{PrefixedSlot}
 use Rattle.ss_fragment.specs.Targets.{target_of, is_before}
 use Rattle.ss_fragment.proofs.order.Order.remove.Goals as goal
 
-pub remove-requires : goal.remove-requires
-remove-requires c =
+pub remove-self-inside-requires : goal.remove-self-inside-requires
+remove-self-inside-requires c =
     let P : List PrefixedSlot → Type 0 = IsPartitionedBy (is_before (target_of c.args.aim.now)) in
     subst P (sym c.self.view_is) c.requires
