@@ -1,9 +1,9 @@
 -- The indexes of one table.
-use Rattle.std.specs.Prelude.{◌≡◌, ℕ, List, [], ◌∷◌, map, IsSome}
-use Rattle.std.specs.List.{AllByRecursion}
+use Rattle.std.specs.Prelude.{◌≡◌, ℕ, Bool, List, [], ◌∷◌, map, IsSome}
+use Rattle.std.specs.List.{AllByRecursion, list_all}
 use Rattle.std.specs.FinMap as finite
 use Rattle.ss_value.specs.Rows.{Row}
-use Rattle.ss_index.specs.Pairs.{IndexValue, pair_of, add_pair, drop_pair, with_pairs}
+use Rattle.ss_index.specs.Pairs.{IndexValue, pair_of, agree_on, add_pair, drop_pair, with_pairs}
 use Rattle.ss_index.specs.Parts.{MayJoin, joined, shell, IsLastShell, WasParted}
 
 -- an index with the pair of a row in a slot once more
@@ -21,6 +21,10 @@ with_rows row slot hs = map (with_row row slot) hs
 -- each index with the pair of a row in a slot once less
 abbrev pub without_rows : Row → ℕ → List IndexValue → List IndexValue
 without_rows row slot hs = map (without_row row slot) hs
+
+-- whether two rows have the same pair in each index
+abbrev pub agree_in : Row → Row → List IndexValue → Bool
+agree_in a b hs = list_all (λ (h : IndexValue). agree_on h.columns a b) hs
 
 -- an index has the pair of a row in a slot
 abbrev pub HasPair : Row → ℕ → IndexValue → Type 0

@@ -3,7 +3,7 @@
 ghost use Rattle.std.specs.FinMap as finite;
 ghost use Rattle.std.specs.Prelude.{◌≡◌, ℕ, List, IsSome, IfOk, OnOk, OnErr, [], ◌∷◌, map, option_copied};
 ghost use Rattle.ss_chunks.specs.Chunks.{rest_items};
-ghost use Rattle.ss_index.specs.Pairs.{pair_of, AreCounted, add_pair, drop_pair, with_pairs, slots_in};
+ghost use Rattle.ss_index.specs.Pairs.{pair_of, agree_on, AreCounted, add_pair, drop_pair, with_pairs, slots_in};
 ghost use Rattle.ss_index.specs.Entries.{pair_in, slots_to, is_next, ahead};
 ghost use Rattle.ss_index.specs.Parts.{MayJoin, joined, shell, IsLastShell, WasParted};
 
@@ -11,7 +11,7 @@ use crate::index_entry::{IndexEntry, entry_of};
 use crate::merge::{heads_of, merged_slots};
 use crate::part::IndexPart;
 use crate::parts::{insert_dealt, part_of, pop_part, push_part, remove_dealt};
-use crate::search::{PairAim, RangeAim, is_past, is_same};
+use crate::search::{PairAim, RangeAim, agree_on, is_past, is_same};
 use ss_chunks::Rest;
 use ss_value::{NoMemory, Row, Seq, Slot};
 use std::alloc::Global;
@@ -104,6 +104,13 @@ impl Index {
         };
         let number = part_of(slot);
         remove_dealt(&mut self.first, &mut self.others, number, &aim)
+    }
+
+    /// Whether two rows have the same pair, in whatever slot. Compares a value a column, up to the first that differs.
+    pub fn agree(&self, a: &Row, b: &Row) -> bool
+        ensures { result ≡ agree_on self.now.columns a.now b.now }
+    {
+        agree_on(self.columns.as_slice(), a.as_slice(), b.as_slice())
     }
 
     /// No pair is listed with 0 occurrences. A law: it does nothing.

@@ -68,7 +68,7 @@ impl IndexPart {
     pub fn remove(&mut self, aim: &PairAim<'_>)
         ensures { self.new ≡ without_pair (aim_pair aim.now) self.old }
     {
-        self.entries.remove(aim)
+        let _ = self.entries.remove(aim);
     }
 
     /// The entries from the low end of a range on. A search.

@@ -2,7 +2,7 @@
 
 ghost use Rattle.std.specs.Prelude.{◌≡◌, List, [], ◌∷◌, ◌++◌, OnOk, OnErr, slice_get};
 ghost use Rattle.std.specs.Option.{option_copied};
-ghost use Rattle.ss_index.specs.Indexes.{with_rows, without_rows, HavePair, MayJoinAll, joined_all, shells, AreLastShells, WereParted};
+ghost use Rattle.ss_index.specs.Indexes.{with_rows, without_rows, agree_in, HavePair, MayJoinAll, joined_all, shells, AreLastShells, WereParted};
 
 use crate::index::Index;
 use ss_value::{NoMemory, Row, Slot};
@@ -60,6 +60,16 @@ fn add_pairs(indexes: &mut [Index], row: &Row, slot: Slot) -> Result<(), NoMemor
             }
             Ok(())
         }
+    }
+}
+
+/// Whether two rows have the same pair in each of these indexes.
+fn agree_in(indexes: &[Index], a: &Row, b: &Row) -> bool
+    ensures { result ≡ agree_in a.now b.now indexes.now }
+{
+    match indexes.split_first() {
+        None => true,
+        Some((first, others)) => first.agree(a, b) && agree_in(others, a, b),
     }
 }
 
@@ -142,6 +152,14 @@ impl Indexes {
         ensures { self.new ≡ without_rows row.now slot self.old }
     {
         drop_pairs(self.items.as_mut_slice(), row, slot)
+    }
+
+    /// Whether two rows have the same pair in each index, so that one may stand in place of the other without a call of any
+    /// index. Compares a value a column, up to the first that differs.
+    pub fn agree(&self, a: &Row, b: &Row) -> bool
+        ensures { result ≡ agree_in a.now b.now self.now }
+    {
+        agree_in(self.items.as_slice(), a, b)
     }
 
     /// Takes in the indexes of another part, each its fellow. Out of memory changes none.

@@ -9,7 +9,7 @@ use Rattle.ss_value.specs.Rows.{Row}
 use Rattle.ss_value.specs.Order.{row_cmp}
 use Rattle.ss_value.specs.ValueOrder.{row_cmp_total, row_cmp-IsAntisymmetric}
 use Rattle.ss_value.proofs.CallerLemmas.{same_row}
-use Rattle.ss_table.specs.TableValue.{TableValue, LiveRows, key_of, replace}
+use Rattle.ss_table.specs.TableValue.{TableValue, LiveRows, key_of, row_at, replace}
 use Rattle.ss_table.specs.Keyed.{SlotsDiffer, AreKeyed}
 use Rattle.ss_table.specs.Steps.{WasDeleted, WasReplaced}
 use Rattle.ss_table.proofs.CallerLemmas.{get_inserted}
@@ -18,7 +18,7 @@ use Rattle.ss_undo.specs.ResultsFrom.{Step, ResultsFrom}
 use Rattle.ss_undo.proofs.CallerLemmas.{came_more, windows_more}
 use Rattle.ss_shard.specs.ShardValue.{ShardValue}
 use Rattle.ss_shard.specs.Sources.{SameNumbers}
-use Rattle.ss_shard.specs.Rows.{StandsIn, RowPut, RowTaken}
+use Rattle.ss_shard.specs.Rows.{HasKeyOf, StandsIn, RowPut, RowTaken}
 use Rattle.ss_window.specs.WindowValue.{WindowValue, stage}
 use Rattle.ss_undo.specs.Windows.{WindowStep, WindowsResultFrom}
 use Rattle.ss_shard.specs.Shards.{shapes_of, frames_of, AllKeyed, AllInvariant, Changed}
@@ -106,6 +106,12 @@ at_some o x P e h = subst (λ o. IsSomeAnd o P) e h
 -- of a table that is found by a number
 pub at_table : (tables : List TableValue) (t u : ℕ) (was : TableValue) (P : TableValue → Type 0) → u ≡ t → slice_get tables u ≡ Some was → IsSomeAnd (slice_get tables t) P → P was
 at_table tables t u was P same here h = at_some (slice_get tables t) was P (ap (slice_get tables) (sym same) ∙ here) h
+
+-- a row that has the key of the one in its slot
+pub alike : (tables : List TableValue) (t u slot : ℕ) (was : TableValue) (before row : Row) → u ≡ t → slice_get tables u ≡ Some was → row_at was.live slot ≡ Some before → HasKeyOf tables t slot row → key_of was.key row ≡ key_of was.key before
+alike tables t u slot was before row same here at has =
+    at_some (row_at was.live slot) before (λ old. key_of was.key row ≡ key_of was.key old) at
+    (at_table tables t u was (λ h. IsSomeAnd (row_at h.live slot) (λ old. key_of h.key row ≡ key_of h.key old)) same here has)
 
 -- the row that was put in place of another
 pub row_is : (was now : TableValue) (slot : ℕ) (before row : Row) (w : WasReplaced was now slot before) → now ≡ replace was slot row → key_of was.key row ≡ key_of was.key before → w.row ≡ row

@@ -5,7 +5,7 @@ use Rattle.std.proofs.Math.Seq.{map-set_same}
 use Rattle.ss_model.specs.declared.catalog.Catalog.{Catalog}
 use Rattle.ss_table.specs.TableValue.{TableValue}
 use Rattle.ss_undo.specs.declared.change.Change.{Change}
-use Rattle.ss_undo.specs.declared.change.Change.TheVariants.{Inserted, Deleted, Replaced, Staged}
+use Rattle.ss_undo.specs.declared.change.Change.TheVariants.{Inserted, Deleted, Replaced, Amended, Staged}
 use Rattle.ss_undo.specs.ResultsFrom.{Step, ResultsFrom, all_committed}
 use Rattle.ss_shard.specs.ShardValue.{ShardValue}
 use Rattle.ss_shard.specs.Shards.{CanRollBack, Same}
@@ -23,6 +23,7 @@ dealt_step : (before mid : List TableValue) (c : Change) → Step before c mid �
 dealt_step before mid (Inserted t slot) s = ap (map dealing_of) s.is ∙ dealt_set before t s.old s.new s.here (ap dealing_of (s.step).is)
 dealt_step before mid (Deleted t slot) s = ap (map dealing_of) s.is ∙ dealt_set before t s.old s.new s.here (ap dealing_of (s.step).is)
 dealt_step before mid (Replaced t slot row) s = ap (map dealing_of) s.is ∙ dealt_set before t s.old s.new s.here (ap dealing_of (s.step).is)
+dealt_step before mid (Amended t slot row) s = ap (map dealing_of) s.is ∙ dealt_set before t s.old s.new s.here (ap dealing_of (s.step).is)
 dealt_step before mid (Staged w) s = ap (map dealing_of) s
 
 dealt_along : (before : List TableValue) (cs : List Change) (now : List TableValue) → ResultsFrom before cs now → map dealing_of now ≡ map dealing_of before

@@ -10,7 +10,7 @@
 //!   - `joining`: a shard takes in the part of another, and gives it back
 //! - `joins`: tables with their indexes take in those of another part, and give them back
 //! - `exchanges`: what two shards have at a home changes places
-//! - `pairs`: a row of a table and its pairs, put in together
+//! - `pairs`: a row of a table and its pairs, put in together, and whether they are there already
 //! - `sources`: the sources of pushes, with the numbers that their next pushes have to carry
 //! - `database`: shards before the first execution, and the shard of all partitions with the streams beside it
 //! - `unions`: a shard takes in the parts of several others, and gives them back

@@ -1,10 +1,11 @@
-//! A row of a table and its pairs, put in together.
+//! A row of a table and its pairs, put in together, and whether they are there already.
 
-ghost use Rattle.std.specs.Prelude.{◌≡◌, None, OnOk, OnErr, IfOk, IfErr};
+ghost use Rattle.std.specs.Prelude.{◌≡◌, ◌↔◌, None, OnOk, OnErr, IfOk, IfErr, IsTrue};
 ghost use Rattle.ss_table.specs.TableValue.{HasKey, insert};
 ghost use Rattle.ss_table.specs.Refusals.{refusal, RefusesAs};
 ghost use Rattle.ss_table.specs.Steps.{WasInserted};
-ghost use Rattle.ss_undo.specs.Indexed.{with_row_of};
+ghost use Rattle.ss_undo.specs.Indexed.{columns_of, with_row_of};
+ghost use Rattle.ss_undo.specs.Staying.{HasPairsOf};
 
 use ss_index::Indexes;
 use ss_table::{Table, TableError};
@@ -24,6 +25,29 @@ pub fn add_pairs(
     match indexes.get_mut(usize::from(table)) {
         None => Ok(()),
         Some(group) => group.add(row, slot),
+    }
+}
+
+/// Whether a row has the pairs of the one that stands in a slot of a table: the same values in the columns of each of the
+/// table's indexes. Compares a value for each of these columns, up to the first that differs.
+pub fn has_pairs_of(
+    tables: &Seq<Table>,
+    indexes: &Seq<Indexes>,
+    table: u16,
+    slot: Slot,
+    row: &Row,
+) -> bool
+    ensures { IsTrue result ↔ HasPairsOf (columns_of indexes.now) tables.now table slot row.now }
+{
+    let Some(rows) = tables.get(usize::from(table)) else {
+        return true;
+    };
+    let Some(standing) = rows.row(slot) else {
+        return true;
+    };
+    match indexes.get(usize::from(table)) {
+        None => true,
+        Some(group) => group.agree(row, standing),
     }
 }
 

@@ -9,6 +9,7 @@ ghost use Rattle.ss_model.specs.declared.catalog.Catalog.{Catalog};
 ghost use Rattle.ss_table.specs.TableValue.{TableValue};
 ghost use Rattle.ss_undo.specs.Holding.{HaveRows};
 ghost use Rattle.ss_undo.specs.Indexed.{AreIndexed, columns_in, columns_of};
+ghost use Rattle.ss_undo.specs.Staying.{HasPairsOf};
 ghost use Rattle.ss_shard.specs.Contents.{tables_of};
 ghost use Rattle.ss_shard.specs.ShardValue.{ShardValue};
 ghost use Rattle.ss_shard.specs.Rows.{IsKeyed, HasSlot, HasKeyOf, refusal_of};
@@ -20,7 +21,7 @@ ghost use Rattle.ss_shard.specs.Changes.{RowInserted, InsertStops, SlotTaken, Sl
 
 mod joining;
 
-use crate::pairs::{add_pairs, insert_indexed};
+use crate::pairs::{add_pairs, has_pairs_of, insert_indexed};
 use crate::sources::Sources;
 use ss_index::Indexes;
 use ss_model::{Reason, RunError};
@@ -48,7 +49,8 @@ pub const WINDOW_UNITS: u64 = 4_611_686_018_427_387_904;
 ///
 /// - `insert_row`: the table's `insert`, and a search and a move of one chunk for each index.
 /// - `delete_row`: nothing for indexes; each drops the row's pair at the commit.
-/// - `replace_row`: a search and a move of one chunk for each index; each drops the old row's pair at the commit.
+/// - `replace_row`: a comparison of values for each indexed column. Where one differs, also a search and a move of one chunk
+///   for each index, each of which drops the old row's pair at the commit.
 /// - `stage_unit`: the window's `stage`.
 /// - `rollback`, `commit`: a search and a move of one chunk for each index and each change whose pair has to go, a call of
 ///   the window for each unit that was staged, and no memory.
@@ -74,6 +76,7 @@ impl Model for Shard {
     ghost coded = { coded_shard };
 
     ghost use Rattle.ss_undo.specs.Indexed.{AreIndexed, columns_of};
+    ghost use Rattle.ss_undo.specs.Staying.{HaveStayed};
 
     ghost view = { λ s. record {
       number = s.number;
@@ -85,7 +88,7 @@ impl Model for Shard {
       sources = s.sources;
     } };
 
-    ghost invariant = { λ s. AreIndexed s.tables s.undo.items s.indexes };
+    ghost invariant = { λ s. AreIndexed s.tables s.undo.items s.indexes × HaveStayed (columns_of s.indexes) s.tables s.undo.items };
 }
 
 /// What an insert that a table refuses comes to: out of memory, or an abort that names the table.
@@ -257,9 +260,49 @@ impl Shard {
         Ok(())
     }
 
-    /// Puts a row with the same key into a slot of a table, in place of the one there. Costs an `add` of each of the table's
-    /// indexes, and is constant on average besides. Out of memory changes no row.
+    /// Puts a row with the same key into a slot of a table, in place of the one there.
+    ///
+    /// Compares both rows' values in the columns of the table's indexes, and is constant on average besides. Where some differ
+    /// it costs an `add` of each of these indexes as well; else no index is touched, neither now nor by the commit or the
+    /// rollback. Out of memory changes no row.
     pub fn replace_row(&mut self, table: u16, slot: Slot, row: Row) -> Result<(), NoMemory>
+        requires { HasKeyOf self.old.tables table slot row }
+        ensures ok { OnOk result (SlotPut self.old.tables self.new.tables table slot row) }
+        ensures changed { Changed self.old self.new }
+        ensures unchanged { self.new.windows ≡ self.old.windows }
+        ensures err { OnErr result (self.new.tables ≡ self.old.tables) }
+    {
+        if has_pairs_of(&self.tables, &self.indexes, table, slot, &row) {
+            self.put_alone(table, slot, row)
+        } else {
+            self.put_with_pairs(table, slot, row)
+        }
+    }
+
+    /// Puts a row with the same key and the same pairs into a slot of a table, in place of the one there. Constant on average.
+    /// Out of memory changes no row.
+    fn put_alone(&mut self, table: u16, slot: Slot, row: Row) -> Result<(), NoMemory>
+        requires key { HasKeyOf self.old.tables table slot row }
+        requires pairs { HasPairsOf self.old.columns self.old.tables table slot row }
+        ensures ok { OnOk result (SlotPut self.old.tables self.new.tables table slot row) }
+        ensures changed { Changed self.old self.new }
+        ensures unchanged { self.new.windows ≡ self.old.windows }
+        ensures err { OnErr result (self.new.tables ≡ self.old.tables) }
+    {
+        self.undo.room()?;
+        let Some(rows) = self.tables.get_mut(usize::from(table)) else {
+            unreachable!()
+        };
+        rows.rows_are_keyed();
+        let old = rows.replace(slot, row);
+        rows.rows_are_keyed();
+        self.undo.note(Change::Amended { table, slot, old });
+        Ok(())
+    }
+
+    /// Puts a row with the same key into a slot of a table, in place of the one there, and its pairs beside those of that one.
+    /// Costs an `add` of each of the table's indexes, and is constant on average besides. Out of memory changes no row.
+    fn put_with_pairs(&mut self, table: u16, slot: Slot, row: Row) -> Result<(), NoMemory>
         requires { HasKeyOf self.old.tables table slot row }
         ensures ok { OnOk result (SlotPut self.old.tables self.new.tables table slot row) }
         ensures changed { Changed self.old self.new }
@@ -347,7 +390,8 @@ impl Shard {
     }
 
     /// Takes all changes of rows and windows back, the last one first. Linear in them: each costs a call of its window, or one
-    /// of its table and at most one of each of the table's indexes. Takes no memory.
+    /// of its table and at most one of each of the table's indexes, and none of these for a row that was replaced by one of
+    /// the same indexed values. Takes no memory.
     pub fn rollback(&mut self)
         requires { (before : ShardValue) × CanRollBack before self.old }
         ensures back { (before : ShardValue) → CanRollBack before self.old → Same before self.new }
@@ -360,7 +404,7 @@ impl Shard {
     }
 
     /// Makes all changes final. Linear in them: each costs at most a call of its window, or one of its table and one of each of
-    /// the table's indexes. Takes no memory.
+    /// the table's indexes, and none of these for a row that was replaced by one of the same indexed values. Takes no memory.
     ///
     /// The live rows stay, and of each window the number of units ever and those that may still be seen. Dead rows and units
     /// that can't be seen any more are dropped.

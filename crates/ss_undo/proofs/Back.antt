@@ -10,7 +10,7 @@ use Rattle.ss_table.specs.TableValue.{TableValue, key_of, row_at, remove_fresh, 
 use Rattle.ss_table.specs.Steps.{WasInserted, WasDeleted, WasReplaced}
 use Rattle.ss_table.proofs.CallerLemmas.{get_set_same, set_twice, remove_insert, insert_remove, insert_insert, get_inserted, get_removed}
 use Rattle.ss_undo.specs.declared.change.Change.{Change}
-use Rattle.ss_undo.specs.declared.change.Change.TheVariants.{Inserted, Deleted, Replaced, Staged}
+use Rattle.ss_undo.specs.declared.change.Change.TheVariants.{Inserted, Deleted, Replaced, Amended, Staged}
 use Rattle.ss_undo.specs.ResultsFrom.{At, Step, ResultsFrom}
 use Rattle.ss_undo.specs.Completion.{with_one, rollback_change, CanRollBack}
 use Rattle.ss_undo.specs.Laws.{RollsBack, OneTableChanged}
@@ -56,6 +56,16 @@ one_back before now table P f a e = ap (with_one now table f) (now_there before 
 pub some_and : {A : Type 0} (o : Option A) (x : A) (P : A → Type 0) → o ≡ Some x → P x → IsSomeAnd o P
 some_and o x P e p = subst (λ q. IsSomeAnd q P) (sym e) p
 
+-- a row that was put in place of another
+put_back : (before now : List TableValue) (table slot : ℕ) (row : Row) → Step before (Replaced table slot row) now → CanRollBack now (Replaced table slot row) × (rollback_change now (Replaced table slot row) ≡ before)
+put_back before now table slot row a =
+    let here : a.old.key ≡ a.new.key = sym (ap (λ h. h.key) a.step.is) in
+    let Q : List ℕ → Type 0 = λ k. key_of k row ≡ key_of k a.step.row in (
+      some_and (slice_get now table) a.new (λ h. IsSomeAnd (row_at h.live slot) (λ now. key_of h.key row ≡ key_of h.key now)) (now_there before now table (λ old new. WasReplaced old new slot row) a)
+          (some_and (row_at a.new.live slot) a.step.row (λ r. key_of a.new.key row ≡ key_of a.new.key r) a.step.there (subst Q here a.step.same_key)),
+      one_back before now table (λ old new. WasReplaced old new slot row) (λ h. replace h slot row) a (replaced_back a.old a.new slot row a.step),
+    )
+
 pub step_back : (before now : List TableValue) (c : Change) → Step before c now → CanRollBack now c × (rollback_change now c ≡ before)
 step_back before now (Inserted table slot) a = (
   some_and (slice_get now table) a.new (λ h. IsSome (row_at h.live slot)) (now_there before now table (λ old new. WasInserted old new slot) a) (ap is_some a.step.there),
@@ -67,13 +77,8 @@ step_back before now (Deleted table slot) a = (
       (ap (λ h. finite.get h.live (key_of h.key a.step.row)) a.step.is ∙ get_removed row_cmp_total row_cmp-IsAntisymmetric a.old.live (key_of a.old.key a.step.row))),
   one_back before now table (λ old new. WasDeleted old new slot) (λ h. unmark h slot) a (unmarked_back a.old a.new slot a.step),
 )
-step_back before now (Replaced table slot row) a =
-    let here : a.old.key ≡ a.new.key = sym (ap (λ h. h.key) a.step.is) in
-    let Q : List ℕ → Type 0 = λ k. key_of k row ≡ key_of k a.step.row in (
-      some_and (slice_get now table) a.new (λ h. IsSomeAnd (row_at h.live slot) (λ now. key_of h.key row ≡ key_of h.key now)) (now_there before now table (λ old new. WasReplaced old new slot row) a)
-          (some_and (row_at a.new.live slot) a.step.row (λ r. key_of a.new.key row ≡ key_of a.new.key r) a.step.there (subst Q here a.step.same_key)),
-      one_back before now table (λ old new. WasReplaced old new slot row) (λ h. replace h slot row) a (replaced_back a.old a.new slot row a.step),
-    )
+step_back before now (Replaced table slot row) a = put_back before now table slot row a
+step_back before now (Amended table slot row) a = put_back before now table slot row a
 step_back before now (Staged window) is = (tt, is)
 
 -- ---- lists of changes
@@ -92,6 +97,7 @@ came_back before now cs c came =
 -- one table changed among others
 pub one_changed : OneTableChanged
 one_changed tables table slot old new was here = (
+  λ step. record { old = old; new = new; here = here; step = step; is = refl },
   λ step. record { old = old; new = new; here = here; step = step; is = refl },
   λ step. record { old = old; new = new; here = here; step = step; is = refl },
   λ step. record { old = old; new = new; here = here; step = step; is = refl },

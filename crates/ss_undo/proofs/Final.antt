@@ -8,7 +8,7 @@ use Rattle.ss_table.specs.TableValue.{TableValue, purge}
 use Rattle.ss_table.specs.Steps.{WasInserted, WasDeleted, WasReplaced}
 use Rattle.ss_table.proofs.CallerLemmas.{length_set, remove_insert}
 use Rattle.ss_undo.specs.declared.change.Change.{Change}
-use Rattle.ss_undo.specs.declared.change.Change.TheVariants.{Inserted, Deleted, Replaced, Staged}
+use Rattle.ss_undo.specs.declared.change.Change.TheVariants.{Inserted, Deleted, Replaced, Amended, Staged}
 use Rattle.ss_undo.specs.ResultsFrom.{At, Step, ResultsFrom, AreCommitted, all_committed}
 use Rattle.ss_undo.specs.Completion.{with_one, commit_change, CanCommit}
 use Rattle.ss_undo.specs.Laws.{Commits}
@@ -62,6 +62,7 @@ settle_step before mid now (Inserted table slot) a e = (tt, stays before mid now
 settle_step before mid now (Replaced table slot row) a e =
     let g = buried_get now mid table a.new e (now_there before mid table (λ old new. WasReplaced old new slot row) a) in
     (ap is_some g.1, stays before mid now table (λ old new. WasReplaced old new slot row) a (sym (ap (λ (h : TableValue). h.dead) a.step.is)))
+settle_step before mid now (Amended table slot row) a e = (tt, stays before mid now table (λ old new. WasReplaced old new slot row) a (sym (ap (λ (h : TableValue). h.dead) a.step.is)))
 settle_step before mid now (Deleted table slot) a e =
     let there = now_there before mid table (λ old new. WasDeleted old new slot) a in
     let g = buried_get now mid table a.new e there in
@@ -80,6 +81,7 @@ pub step_length : (before now : List TableValue) (c : Change) → Step before c 
 step_length before now (Inserted table slot) a = ap length a.is ∙ length_set before table a.new
 step_length before now (Deleted table slot) a = ap length a.is ∙ length_set before table a.new
 step_length before now (Replaced table slot row) a = ap length a.is ∙ length_set before table a.new
+step_length before now (Amended table slot row) a = ap length a.is ∙ length_set before table a.new
 step_length before now (Staged window) is = ap length is
 
 pub came_length : (before now : List TableValue) (cs : List Change) → ResultsFrom before cs now → length before ≡ length now

@@ -11,7 +11,7 @@ use Rattle.std.specs.FinMap.Entries as entries
 use Rattle.std.proofs.lemmas.Cmp.{nat_cmp_total, tied_itself}
 use Rattle.std.proofs.lemmas.Bool.Decides.{nat_tests}
 use Rattle.ss_lemmas.proofs.Bools.{and_left, and_right}
-use Rattle.ss_value.specs.Rows.{Row}
+use Rattle.ss_value.specs.Rows.{Row, column_values}
 use Rattle.ss_value.specs.Order.{row_cmp}
 use Rattle.ss_value.specs.ValueOrder.{row_cmp_total, row_cmp-IsAntisymmetric}
 use Rattle.ss_value.proofs.CallerLemmas.{same_row}
@@ -23,7 +23,8 @@ use Rattle.ss_index.specs.Pairs.{Pair, IndexValue, pair_of, add_pair, drop_pair}
 use Rattle.ss_index.specs.Entries.{pairs_in}
 use Rattle.ss_index.specs.Indexes.{with_rows}
 use Rattle.ss_undo.specs.Holding.{Noted, live_pair, live_pairs, dead_pair, dead_pairs, noted_pairs, all_pairs, HoldAll}
-use Rattle.ss_undo.specs.IndexLaws.{DropsTo, HoldAtFirst, InsertAdds, DeleteLeaves, ReplaceAddsAndNotes, InsertGoesBack, DeleteGoesBack, ReplaceGoesBack, PurgeDrops, NoteDrops, RowsAreThere}
+use Rattle.ss_undo.specs.Indexed.{columns_in}
+use Rattle.ss_undo.specs.IndexLaws.{DropsTo, HoldAtFirst, InsertAdds, DeleteLeaves, ReplaceAddsAndNotes, AmendLeaves, InsertGoesBack, DeleteGoesBack, ReplaceGoesBack, AmendGoesBack, PurgeDrops, NoteDrops, RowsAreThere}
 use Rattle.ss_index.proofs.CallerLemmas.{one, occurs, occurs_append, same_pairs, counted_in, some_added, stands_where, taken_back, itself}
 
 -- ---- the pairs of a map's entries
@@ -153,12 +154,34 @@ module _ (columns : List ℕ) (q : Pair) where
       let b = parts h noted in
       omega (arith, note, a, b)
 
+  -- a row in place of one that has the same pair
+  amend_counts : (old new : Table) (slot : ℕ) (before : Row) (noted : Noted) → (was : WasReplaced old new slot before) → column_values columns before ≡ column_values columns was.row → in_all new noted ≡ in_all old noted
+  amend_counts old new slot before noted was same =
+      let replaced = replace_counts old new slot before noted was in
+      let note = note_counts new slot before noted in
+      let pair : one q (pair_of columns before slot) ≡ one q (pair_of columns was.row slot) = ap (λ values. one q (values, slot)) same in
+      omega (arith, replaced, note, pair)
+
+  amend_back_counts : (h : Table) (slot : ℕ) (row before : Row) (noted : Noted) → finite.get h.live (key_of h.key row) ≡ Some (slot, row) → key_of h.key before ≡ key_of h.key row → column_values columns before ≡ column_values columns row
+      → in_all (replace h slot before) noted ≡ in_all h noted
+  amend_back_counts h slot row before noted there alike same =
+      let back = put_back_counts h slot row before noted there alike in
+      let note = note_counts h slot before noted in
+      let pair : one q (pair_of columns before slot) ≡ one q (pair_of columns row slot) = ap (λ values. one q (values, slot)) same in
+      omega (arith, back, note, pair)
+
 -- ---- all indexes of a table, by what occurs
 
 module _ (old new : Table) (before after : Noted) (same : old.parts ≡ new.parts) where
   kept_all : ((columns : List ℕ) (q : Pair) → in_all columns q new after ≡ in_all columns q old before) → (indexes : List IndexValue) → HoldAll old before indexes → HoldAll new after indexes
   kept_all counts [] held = tt
   kept_all counts (i ∷ is) held = (record { pairs = (held.0).pairs ∙ same_pairs _ _ (λ q. sym (counts i.columns q)); parts = (held.0).parts ∙ same }, kept_all counts is held.1)
+
+  -- in those of columns that have a property
+  kept_such : (P : List ℕ → Type 0) → ((columns : List ℕ) → P columns → (q : Pair) → in_all columns q new after ≡ in_all columns q old before)
+      → (indexes : List IndexValue) → AllByRecursion P (columns_in indexes) → HoldAll old before indexes → HoldAll new after indexes
+  kept_such P counts [] such held = tt
+  kept_such P counts (i ∷ is) such held = (record { pairs = (held.0).pairs ∙ same_pairs _ _ (λ q. sym (counts i.columns such.0 q)); parts = (held.0).parts ∙ same }, kept_such P counts is such.1 held.1)
 
   module _ (row : Row) (slot : ℕ) where
     added_all : ((columns : List ℕ) (q : Pair) → in_all columns q new after ≡ one q (pair_of columns row slot) + in_all columns q old before)
@@ -242,6 +265,11 @@ pub replace_adds_and_notes : ReplaceAddsAndNotes
 replace_adds_and_notes old new slot before noted indexes was =
     added_all old new noted (noted ++ (before, slot) ∷ []) (sym (ap (λ (x : Table). x.parts) was.is)) was.row slot (λ columns q. replace_counts columns q old new slot before noted was) indexes
 
+pub amend_leaves : AmendLeaves
+amend_leaves old new slot before noted indexes was alike =
+    kept_such old new noted noted (sym (ap (λ (x : Table). x.parts) was.is)) (λ columns. column_values columns before ≡ column_values columns was.row)
+    (λ columns same q. amend_counts columns q old new slot before noted was same) indexes alike
+
 pub insert_goes_back : InsertGoesBack
 insert_goes_back h slot row noted indexes keyed here =
     dropped_all h (remove_fresh h slot) noted noted (freed_parts h (row_at h.live slot)) row slot (λ columns q. remove_counts columns q h slot row noted here (stands_at_key h slot row keyed here)) indexes
@@ -253,6 +281,11 @@ pub replace_goes_back : ReplaceGoesBack
 replace_goes_back h slot row before noted indexes keyed here alike =
     dropped_all h (replace h slot before) (noted ++ (before, slot) ∷ []) noted refl row slot
     (λ columns q. put_back_counts columns q h slot row before noted (stands_at_key h slot row keyed here) alike) indexes
+
+pub amend_goes_back : AmendGoesBack
+amend_goes_back h slot row before noted indexes keyed here same_key alike =
+    kept_such h (replace h slot before) noted noted refl (λ columns. column_values columns before ≡ column_values columns row)
+    (λ columns same q. amend_back_counts columns q h slot row before noted (stands_at_key h slot row keyed here) same_key same) indexes alike
 
 pub purge_drops : PurgeDrops
 purge_drops h slot row noted indexes here = dropped_all h (purge h slot) noted noted refl row slot (λ columns q. purge_counts columns q h slot row noted here) indexes

@@ -3,5 +3,7 @@ pub mod CallerLemmas
 pub mod Final
 pub mod Holding
 pub mod Indexed
+pub mod Staying
 pub mod Windows
 pub mod Crossing
+pub mod worked

@@ -5,7 +5,7 @@ use Rattle.ss_table.proofs.CallerLemmas.{get_set_same, set_twice}
 use Rattle.ss_value.specs.Rows.{Rows}
 use Rattle.ss_window.specs.WindowValue.{WindowValue, stage, commit}
 use Rattle.ss_undo.specs.declared.change.Change.{Change}
-use Rattle.ss_undo.specs.declared.change.Change.TheVariants.{Inserted, Deleted, Replaced, Staged}
+use Rattle.ss_undo.specs.declared.change.Change.TheVariants.{Inserted, Deleted, Replaced, Amended, Staged}
 use Rattle.ss_undo.specs.Windows.{UnitStaged, WindowStep, WindowsResultFrom, IsCommittedWindow, AreCommittedWindows, with_window, without_last, rollback_staging, CanRollBackStaging, commit_staging, IsCommittedIfThere, IsCommittedStaging}
 use Rattle.ss_undo.specs.Laws.{OneWindowStaged, WindowsRollBack}
 use Rattle.ss_undo.proofs.Back.{set_same, some_and}
@@ -33,6 +33,7 @@ pub window_back : (before now : List WindowValue) (c : Change) → WindowStep be
 window_back before now (Inserted table slot) is = (tt, is)
 window_back before now (Deleted table slot) is = (tt, is)
 window_back before now (Replaced table slot row) is = (tt, is)
+window_back before now (Amended table slot row) is = (tt, is)
 window_back before now (Staged w) s = (
   some_and (slice_get now w) (stage s.old s.unit) (λ h. 1 ≤ h.fresh) (staged_there before now w s) (omega arith),
   ap (with_window now w without_last) (staged_there before now w s)
@@ -114,6 +115,7 @@ step_on : (before mid ws : List WindowValue) (c : Change) → WindowStep before 
 step_on before mid ws (Inserted table slot) is each f = (subst (FinalOrSame ws) is each, refl)
 step_on before mid ws (Deleted table slot) is each f = (subst (FinalOrSame ws) is each, refl)
 step_on before mid ws (Replaced table slot row) is each f = (subst (FinalOrSame ws) is each, refl)
+step_on before mid ws (Amended table slot row) is each f = (subst (FinalOrSame ws) is each, refl)
 step_on before mid ws (Staged w) s each f =
     let now = with_window ws w commit (slice_get ws w) in
     let back : slice_set mid w s.old ≡ before = ap (λ ws. slice_set ws w s.old) s.is ∙ set_twice before w (stage s.old s.unit) s.old ∙ set_same before w s.old s.here in

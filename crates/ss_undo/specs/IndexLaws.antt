@@ -9,6 +9,8 @@ use Rattle.ss_table.specs.Steps.{WasInserted, WasDeleted, WasReplaced}
 use Rattle.ss_index.specs.Pairs.{IndexValue}
 use Rattle.ss_index.specs.Indexes.{with_rows, without_rows, HavePair}
 use Rattle.ss_undo.specs.Holding.{Noted, HasNone, HoldAll, HaveRows}
+use Rattle.ss_undo.specs.Indexed.{columns_in}
+use Rattle.ss_undo.specs.Staying.{HaveSamePairs}
 
 -- the indexes have the pairs of a row, and once these are dropped they hold the pairs of this table and these notes
 abbrev pub DropsTo : Row → ℕ → Table → Noted → List IndexValue → Type 0
@@ -32,6 +34,11 @@ abbrev pub ReplaceAddsAndNotes : Type 0
 ReplaceAddsAndNotes = (old new : Table) (slot : ℕ) (before : Row) (noted : Noted) (indexes : List IndexValue) → (was : WasReplaced old new slot before)
     → HoldAll old noted indexes → HoldAll new (noted ++ (before, slot) ∷ []) (with_rows was.row slot indexes)
 
+-- where a row is put in place of one that has the same pairs, they stay
+abbrev pub AmendLeaves : Type 0
+AmendLeaves = (old new : Table) (slot : ℕ) (before : Row) (noted : Noted) (indexes : List IndexValue) → (was : WasReplaced old new slot before)
+    → HaveSamePairs before was.row (columns_in indexes) → HoldAll old noted indexes → HoldAll new noted indexes
+
 -- where a live row is freed, its pairs are dropped
 abbrev pub InsertGoesBack : Type 0
 InsertGoesBack = (h : Table) (slot : ℕ) (row : Row) (noted : Noted) (indexes : List IndexValue) → AreKeyed h → row_at h.live slot ≡ Some row
@@ -46,6 +53,11 @@ DeleteGoesBack = (h : Table) (slot : ℕ) (row : Row) (noted : Noted) (indexes :
 abbrev pub ReplaceGoesBack : Type 0
 ReplaceGoesBack = (h : Table) (slot : ℕ) (row before : Row) (noted : Noted) (indexes : List IndexValue) → AreKeyed h → row_at h.live slot ≡ Some row
     → key_of h.key before ≡ key_of h.key row → HoldAll h (noted ++ (before, slot) ∷ []) indexes → DropsTo row slot (replace h slot before) noted indexes
+
+-- where a row is put back in place of one that has the same pairs, they stay
+abbrev pub AmendGoesBack : Type 0
+AmendGoesBack = (h : Table) (slot : ℕ) (row before : Row) (noted : Noted) (indexes : List IndexValue) → AreKeyed h → row_at h.live slot ≡ Some row
+    → key_of h.key before ≡ key_of h.key row → HaveSamePairs before row (columns_in indexes) → HoldAll h noted indexes → HoldAll (replace h slot before) noted indexes
 
 -- where a dead row is freed, its pairs are dropped
 abbrev pub PurgeDrops : Type 0

@@ -6,21 +6,23 @@ use Rattle.ss_index.specs.Pairs.{IndexValue}
 use Rattle.ss_index.specs.Indexes.{with_rows, without_rows}
 use Rattle.ss_undo.specs.Holding.{Noted, HoldAll}
 use Rattle.ss_undo.specs.declared.change.Change.{Change}
-use Rattle.ss_undo.specs.declared.change.Change.TheVariants.{Inserted, Deleted, Replaced, Staged}
+use Rattle.ss_undo.specs.declared.change.Change.TheVariants.{Inserted, Deleted, Replaced, Amended, Staged}
 use Rattle.ss_undo.specs.Completion.{with_one}
 
 -- the indexes of one table
 abbrev pub Group : Type 0
 Group = List IndexValue
 
--- the old row of a table that the note of a change has, with its slot, if it has one
+-- the old row of a table that the note of a change has, with its slot, if it has one whose pairs are beside those of the row that was put
+-- in place of it: an amended row's are the same ones
 abbrev pub noted_row : ℕ → Change → Noted
 noted_row t (Inserted table slot) = []
 noted_row t (Deleted table slot) = []
 noted_row t (Replaced table slot row) = cond (table == t) ((row, slot) ∷ []) []
+noted_row t (Amended table slot row) = []
 noted_row t (Staged window) = []
 
--- the old rows of a table that the notes have
+-- the old rows of a table that the notes have, other than amended ones
 abbrev pub noted_rows : ℕ → List Change → Noted
 noted_rows t [] = []
 noted_rows t (c ∷ cs) = noted_row t c ++ noted_rows t cs

@@ -5,3 +5,4 @@ pub mod Indexed
 pub mod Windows
 pub mod Holding
 pub mod IndexLaws
+pub mod Staying

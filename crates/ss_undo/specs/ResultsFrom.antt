@@ -5,7 +5,7 @@ use Rattle.std.specs.FinMap as finite
 use Rattle.ss_table.specs.TableValue.{TableValue}
 use Rattle.ss_table.specs.Steps.{WasInserted, WasDeleted, WasReplaced}
 use Rattle.ss_undo.specs.declared.change.Change.{Change}
-use Rattle.ss_undo.specs.declared.change.Change.TheVariants.{Inserted, Deleted, Replaced, Staged}
+use Rattle.ss_undo.specs.declared.change.Change.TheVariants.{Inserted, Deleted, Replaced, Amended, Staged}
 
 -- one of the tables changed, in this way
 pub record At (before now : List TableValue) (table : ℕ) (P : TableValue → TableValue → Type 0) : Type 0 where
@@ -20,6 +20,7 @@ abbrev pub Step : List TableValue → Change → List TableValue → Type 0
 Step before (Inserted table slot) now = At before now table (λ old new. WasInserted old new slot)
 Step before (Deleted table slot) now = At before now table (λ old new. WasDeleted old new slot)
 Step before (Replaced table slot row) now = At before now table (λ old new. WasReplaced old new slot row)
+Step before (Amended table slot row) now = At before now table (λ old new. WasReplaced old new slot row)
 Step before (Staged window) now = now ≡ before
 
 -- the tables now result from those before by these changes, in this order

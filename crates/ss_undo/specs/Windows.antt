@@ -5,7 +5,7 @@ use Rattle.std.specs.List.{AllByRecursion}
 use Rattle.ss_value.specs.Rows.{Rows}
 use Rattle.ss_window.specs.WindowValue.{WindowValue, stage, commit}
 use Rattle.ss_undo.specs.declared.change.Change.{Change}
-use Rattle.ss_undo.specs.declared.change.Change.TheVariants.{Inserted, Deleted, Replaced, Staged}
+use Rattle.ss_undo.specs.declared.change.Change.TheVariants.{Inserted, Deleted, Replaced, Amended, Staged}
 
 -- one of the windows has a staged unit more
 pub record UnitStaged (before now : List WindowValue) (window : ℕ) : Type 0 where
@@ -19,6 +19,7 @@ abbrev pub WindowStep : List WindowValue → Change → List WindowValue → Typ
 WindowStep before (Inserted table slot) now = now ≡ before
 WindowStep before (Deleted table slot) now = now ≡ before
 WindowStep before (Replaced table slot row) now = now ≡ before
+WindowStep before (Amended table slot row) now = now ≡ before
 WindowStep before (Staged window) now = UnitStaged before now window
 
 -- the windows now result from those before by these changes, in this order
@@ -48,6 +49,7 @@ abbrev pub rollback_staging : List WindowValue → Change → List WindowValue
 rollback_staging windows (Inserted table slot) = windows
 rollback_staging windows (Deleted table slot) = windows
 rollback_staging windows (Replaced table slot row) = windows
+rollback_staging windows (Amended table slot row) = windows
 rollback_staging windows (Staged window) = with_window windows window without_last (slice_get windows window)
 
 -- a change can be rolled back: a staged unit's window has one that was staged since it was last committed
@@ -55,6 +57,7 @@ abbrev pub CanRollBackStaging : List WindowValue → Change → Type 0
 CanRollBackStaging windows (Inserted table slot) = Unit {0}
 CanRollBackStaging windows (Deleted table slot) = Unit {0}
 CanRollBackStaging windows (Replaced table slot row) = Unit {0}
+CanRollBackStaging windows (Amended table slot row) = Unit {0}
 CanRollBackStaging windows (Staged window) = IsSomeAnd (slice_get windows window) (λ h. 1 ≤ h.fresh)
 
 -- windows with a change made final
@@ -62,6 +65,7 @@ abbrev pub commit_staging : List WindowValue → Change → List WindowValue
 commit_staging windows (Inserted table slot) = windows
 commit_staging windows (Deleted table slot) = windows
 commit_staging windows (Replaced table slot row) = windows
+commit_staging windows (Amended table slot row) = windows
 commit_staging windows (Staged window) = with_window windows window commit (slice_get windows window)
 
 -- a window is committed, if there is one
@@ -74,4 +78,5 @@ abbrev pub IsCommittedStaging : List WindowValue → Change → Type 0
 IsCommittedStaging windows (Inserted table slot) = Unit {0}
 IsCommittedStaging windows (Deleted table slot) = Unit {0}
 IsCommittedStaging windows (Replaced table slot row) = Unit {0}
+IsCommittedStaging windows (Amended table slot row) = Unit {0}
 IsCommittedStaging windows (Staged window) = IsCommittedIfThere (slice_get windows window)

@@ -11,6 +11,9 @@ pub enum Change {
     Deleted { table: u16, slot: Slot },
     /// A live slot's row was replaced by another of its key. The old row is moved here.
     Replaced { table: u16, slot: Slot, old: Row },
+    /// A live slot's row was replaced by another of its key that has the same pair in each index of the table, so no index
+    /// was touched. The old row is moved here.
+    Amended { table: u16, slot: Slot, old: Row },
     /// A unit was staged in a window.
     Staged { window: u16 },
 }

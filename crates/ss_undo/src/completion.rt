@@ -5,6 +5,7 @@ ghost use Rattle.ss_index.specs.Indexes.{HavePair};
 ghost use Rattle.ss_undo.specs.declared.change.Change.{Change};
 ghost use Rattle.ss_undo.specs.Completion.{CanRollBack, CanCommit, rollback_change, commit_change};
 ghost use Rattle.ss_undo.specs.Indexed.{AreIndexed, columns_of, without_row_of};
+ghost use Rattle.ss_undo.specs.Staying.{HasStayed};
 ghost use Rattle.ss_undo.specs.Windows.{CanRollBackStaging, rollback_staging, without_last, commit_staging, with_window, IsCommittedIfThere, IsCommittedStaging};
 ghost use Rattle.ss_window.specs.WindowValue.{commit as settled_units};
 
@@ -37,8 +38,8 @@ fn unstage_last(window: u16, windows: &mut Seq<Window>)
     }
 }
 
-/// Rolls a change back, where it was the last one. The pairs of a row that comes out are dropped; a deleted row has kept its
-/// own.
+/// Rolls a change back, where it was the last one. The pairs of a row that comes out are dropped, unless they are those of
+/// the row that is put back; a deleted row has kept its own.
 ///
 /// Costs as much as one call of the table and one of each of its indexes, or as one call of the window; takes no memory.
 pub fn rollback_change(
@@ -50,6 +51,7 @@ pub fn rollback_change(
     requires undo { CanRollBack tables.old change }
     requires window { CanRollBackStaging windows.old change }
     requires indexed { (before : List Change) × AreIndexed tables.old (before ++ change ∷ []) indexes.old }
+    requires stayed { HasStayed (columns_of indexes.old) tables.old change }
     ensures tables { tables.new ≡ rollback_change tables.old change }
     ensures indexed { (before : List Change) → AreIndexed tables.old (before ++ change ∷ []) indexes.old → AreIndexed tables.new before indexes.new }
     ensures columns { columns_of indexes.new ≡ columns_of indexes.old }
@@ -77,6 +79,14 @@ pub fn rollback_change(
                 drop_pairs(indexes, table, &newer, slot);
             }
         },
+        Change::Amended { table, slot, old } => match tables.get_mut(usize::from(table)) {
+            None => unreachable!(),
+            Some(rows) => {
+                rows.rows_are_keyed();
+                // What comes out has the pairs of what is put back, so they stay.
+                let _ = rows.replace(slot, old);
+            }
+        },
         Change::Staged { window } => unstage_last(window, windows),
     }
 }
@@ -96,8 +106,8 @@ fn commit_window(window: u16, windows: &mut Seq<Window>)
     }
 }
 
-/// Makes a change final: frees the slot of a deleted row, drops the pairs of a row that is freed, and frees the
-/// units of a window that no slide can show again.
+/// Makes a change final: frees the slot of a deleted row, drops the pairs of a row that is freed, unless another has them,
+/// and frees the units of a window that no slide can show again.
 ///
 /// Costs as much as one call of the table and one of each of its indexes, or as one call of the window; takes no memory.
 pub fn commit_change(
@@ -124,6 +134,8 @@ pub fn commit_change(
             }
         },
         Change::Replaced { table, slot, old } => drop_pairs(indexes, table, &old, slot),
+        // The row that stands has the old one's pairs.
+        Change::Amended { .. } => (),
         Change::Staged { window } => commit_window(window, windows),
     }
 }

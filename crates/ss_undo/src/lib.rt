@@ -5,7 +5,8 @@
 //! need is freed: the slots of deleted rows, and the units that no slide can show again. Neither needs memory: a deleted
 //! row stays in its slot until then, a replaced one in the note of its change, what was staged in a window is taken off
 //! its end again, and the room for a note is made before the change. The indexes of the tables follow: the pairs of a
-//! row are held as long as the row is, live or dead or in a note.
+//! row are held as long as the row is, live or dead or in a note. A row that is put in place of one with the same pairs is
+//! *amended*: these stay, and no index is touched, by the change, by its commit or by its rollback.
 //!
 //! - `undo`: `Undo`, the list of notes, with `commit` and `rollback`
 //! - `change`: `Change`, the note of one change of a table or a window

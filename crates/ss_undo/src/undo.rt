@@ -4,6 +4,7 @@ ghost use Rattle.std.specs.Prelude.{◌≡◌, ◌≤◌, ◌+◌, List, [], ◌
 ghost use Rattle.ss_table.specs.TableValue.{TableValue};
 ghost use Rattle.ss_undo.specs.ResultsFrom.{ResultsFrom, AreCommitted, all_committed};
 ghost use Rattle.ss_undo.specs.Indexed.{AreIndexed, columns_of};
+ghost use Rattle.ss_undo.specs.Staying.{HaveStayed};
 ghost use Rattle.ss_undo.specs.Windows.{WindowsResultFrom, AreCommittedWindows};
 ghost use Rattle.ss_window.specs.WindowValue.{WindowValue, commit};
 
@@ -18,12 +19,13 @@ use std::marker::Model;
 
 /// The notes of all changes since the last `commit` or `rollback`, in the order of the changes.
 ///
-/// Callers owe three things, which `commit` and `rollback` require: each change is noted as what it is, once it is made
-/// and before the next one; the indexes of each table hold its rows and the old rows of the notes; and, which only
+/// Callers owe four things, which `commit` and `rollback` require: each change is noted as what it is, once it is made
+/// and before the next one; the indexes of each table hold its rows and the old rows of the notes, other than amended ones;
+/// which only `rollback` requires, an amended row had the pairs of the one that was put in its place; and, which only
 /// `commit` requires, no slot was dead when the undo was last empty.
 ///
 /// Contracts see the list of the notes with its spare room: how many notes can't fail. A note takes about 50 bytes, and
-/// that of a replaced row the row's own memory besides.
+/// that of a replaced or amended row the row's own memory besides.
 #[derive(Drop)]
 pub struct Undo {
     changes: Reserved<Change>,
@@ -70,8 +72,9 @@ impl Undo {
     /// Makes all noted changes final: the live rows stay, no slot is dead, the indexes hold only the live rows, and each
     /// window only the units that a slide can still show.
     ///
-    /// Costs one call of a table for each delete, one of each of its indexes for a delete and for a replacement, and one
-    /// of a window for each staged unit. Takes no memory; rows that were replaced are freed, and the room for notes stays.
+    /// Costs one call of a table for each delete, one of each of its indexes for a delete and for a replacement that changed
+    /// the pairs, and one of a window for each staged unit. Takes no memory; rows that were replaced are freed, and the room
+    /// for notes stays.
     /// A table without an entry in `indexes` has no index.
     pub fn commit(
         &mut self,
@@ -97,7 +100,7 @@ impl Undo {
     /// Rolls all noted changes back, the last one first: tables and windows are as before the first.
     ///
     /// Costs one call of a table or a window for each change, and one of each of the table's indexes for an insert and for
-    /// a replacement. Takes no memory.
+    /// a replacement that changed the pairs. Takes no memory.
     pub fn rollback(
         &mut self,
         tables: &mut Seq<Table>,
@@ -106,6 +109,7 @@ impl Undo {
     )
         requires came { (before : List TableValue) × ResultsFrom before self.old.items tables.old }
         requires indexed { AreIndexed tables.old self.old.items indexes.old }
+        requires stayed { HaveStayed (columns_of indexes.old) tables.old self.old.items }
         requires windows { (before : List WindowValue) × WindowsResultFrom before self.old.items windows.old }
         ensures back { (before : List TableValue) → ResultsFrom before self.old.items tables.old → tables.new ≡ before }
         ensures windows_back { (before : List WindowValue) → WindowsResultFrom before self.old.items windows.old → windows.new ≡ before }

@@ -4,7 +4,9 @@ use Rattle.std.specs.FinMap as finite
 use Rattle.ss_table.specs.TableValue.{key_of, row_at, remove_fresh, unmark, replace}
 use Rattle.ss_undo.specs.Completion.{CanRollBack}
 use Rattle.ss_undo.specs.Indexed.{AreIndexed, columns_of}
-use Rattle.ss_undo.proofs.Indexed.{removed_indexed, unmarked_indexed, put_back_indexed, columns_dropped, unit_indexed, found_as, reported_as, is_within, some_of}
+use Rattle.ss_undo.proofs.Indexed.{removed_indexed, unmarked_indexed, put_back_indexed, amended_back_indexed, columns_dropped, unit_indexed, found_as, reported_as, is_within, some_of}
+use Rattle.ss_undo.specs.Staying.{HasStayed}
+use Rattle.ss_undo.proofs.Staying.{pairs_of}
 use Rattle.ss_undo.proofs.completion.rollback_change.Goals as goal
 
 pub drop_pairs-requires : goal.drop_pairs-requires
@@ -86,6 +88,29 @@ returns-in-Some-get_mut-2-clause-indexed c = λ before indexed.
 
 pub returns-in-Some-get_mut-2-clause-columns : goal.returns-in-Some-get_mut-2-clause-columns
 returns-in-Some-get_mut-2-clause-columns c = ap columns_of c.drop_pairs-in-Some-get_mut-2.ensures ∙ columns_dropped c.args.indexes.now c.in-Replaced.table c.in-Replaced.slot c.replace-newer.result
+
+pub unreachable-requires-in-None-get_mut-3 : goal.unreachable-requires-in-None-get_mut-3
+unreachable-requires-in-None-get_mut-3 c =
+    let tables = c.args.tables.now in
+    let can = subst (CanRollBack tables) c.in-Amended.is c.requires.undo in
+    let within = is_within tables c.in-Amended.table c.from-in-Amended.result (λ h. IsSomeAnd (row_at h.live c.in-Amended.slot) (λ now. key_of h.key c.in-Amended.old ≡ key_of h.key now)) c.from-in-Amended.ensures can in
+    let no = c.in-None-get_mut-3.ensures.within.1 within in cc
+
+pub returns-in-Some-get_mut-3-clause-indexed : goal.returns-in-Some-get_mut-3-clause-indexed
+returns-in-Some-get_mut-3-clause-indexed c = λ before indexed.
+    let tables = c.args.tables.now in
+    let indexes = c.args.indexes.now in
+    let rows = c.in-Some-get_mut-3.rows.now in
+    let t = c.in-Amended.table in
+    let slot = c.in-Amended.slot in
+    let old = c.in-Amended.old in
+    let here = found_as tables t c.from-in-Amended.result rows c.from-in-Amended.ensures c.in-Some-get_mut-3.ensures.item in
+    let all = subst (λ change. AreIndexed tables (before ++ change ∷ []) indexes) c.in-Amended.is indexed in
+    let can = subst (λ o. IsSomeAnd o (λ h. IsSomeAnd (row_at h.live slot) (λ now. key_of h.key old ≡ key_of h.key now))) here (subst (CanRollBack tables) c.in-Amended.is c.requires.undo) in
+    let alike = subst (λ o. IsSomeAnd o (λ now. key_of rows.key old ≡ key_of rows.key now)) c.replace.ensures.old can in
+    let same = pairs_of (columns_of indexes) tables t slot rows here c.replace.result old c.replace.ensures.old (subst (HasStayed (columns_of indexes) tables) c.in-Amended.is c.requires.stayed) in
+    reported_as tables t c.from-in-Amended.result (replace rows slot old) c.replace.new.self before indexes indexes c.from-in-Amended.ensures c.replace.ensures.new refl
+    (amended_back_indexed tables indexes t slot rows here before c.replace.result old c.rows_are_keyed-in-Some-get_mut-3.ensures c.replace.ensures.old alike same all)
 
 pub returns-in-Staged-clause-indexed : goal.returns-in-Staged-clause-indexed
 returns-in-Staged-clause-indexed c = λ before indexed.

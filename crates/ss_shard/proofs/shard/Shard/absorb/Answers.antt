@@ -28,8 +28,8 @@ absorb_lists-requires-clause-indexed c =
     let may = c.requires.may.1 in
     let none : c.self.inside.undo.items ≡ [] = ap (λ (s : ShardValue). s.changes) c.self.view_is ∙ may.own.committed.empty in
     let other_none : c.other.inside.undo.items ≡ [] = ap (λ (s : ShardValue). s.changes) c.other.view_is ∙ may.others.committed.empty in (
-      subst (λ (cs : List Change). AreIndexed c.self.inside.tables cs c.self.inside.indexes) none c.self.invariant,
-      subst (λ (cs : List Change). AreIndexed c.other.inside.tables cs c.other.inside.indexes) other_none c.other.invariant,
+      subst (λ (cs : List Change). AreIndexed c.self.inside.tables cs c.self.inside.indexes) none c.self.invariant.0,
+      subst (λ (cs : List Change). AreIndexed c.other.inside.tables cs c.other.inside.indexes) other_none c.other.invariant.0,
     )
 
 pub exchange_homes-requires-clause-few : goal.exchange_homes-requires-clause-few

@@ -3,7 +3,7 @@ use Rattle.ss_value.specs.Rows.{Row}
 use Rattle.ss_undo.specs.declared.change.Change.TheVariants.{Deleted}
 use Rattle.ss_undo.specs.ResultsFrom.{Step}
 use Rattle.ss_undo.specs.Indexed.{AreIndexed, columns_of}
-use Rattle.ss_undo.proofs.CallerLemmas.{one_changed, deleted_indexed, found_as, reported_as}
+use Rattle.ss_undo.proofs.CallerLemmas.{one_changed, deleted_indexed, found_as, noted_stayed, reported_as}
 use Rattle.ss_shard.specs.ShardValue.{ShardValue}
 use Rattle.ss_shard.specs.Shards.{Changed}
 use Rattle.ss_shard.specs.Rows.{StandsIn, RowTaken}
@@ -17,10 +17,13 @@ invariant_of-self-2 c =
     let inside = c.self.inside in
     let t = c.args.table in
     let now = c.mark_dead.new.self in
-    let items = c.note.ensures.items ∙ ap (λ cs. cs ++ Deleted t c.args.slot ∷ []) c.room.ensures.unchanged in
-    subst (λ cs. AreIndexed (slice_set inside.tables c.from.result now) cs inside.indexes) (sym items)
-    (reported_as inside.tables t c.from.result now now (inside.undo.items ++ Deleted t c.args.slot ∷ []) inside.indexes inside.indexes c.from.ensures refl refl
-    (deleted_indexed inside.tables inside.indexes t c.args.slot c.in-Some.rows.now now (found_as inside.tables t c.from.result c.in-Some.rows.now c.from.ensures c.in-Some.ensures.item) inside.undo.items c.self.invariant c.mark_dead.ensures.step))
+    let items = c.note.ensures.items ∙ ap (λ cs. cs ++ Deleted t c.args.slot ∷ []) c.room.ensures.unchanged in (
+      subst (λ cs. AreIndexed (slice_set inside.tables c.from.result now) cs inside.indexes) (sym items)
+          (reported_as inside.tables t c.from.result now now (inside.undo.items ++ Deleted t c.args.slot ∷ []) inside.indexes inside.indexes c.from.ensures refl refl
+          (deleted_indexed inside.tables inside.indexes t c.args.slot c.in-Some.rows.now now (found_as inside.tables t c.from.result c.in-Some.rows.now c.from.ensures c.in-Some.ensures.item) inside.undo.items c.self.invariant.0 c.mark_dead.ensures.step)),
+      noted_stayed (columns_of inside.indexes) (columns_of inside.indexes) inside.tables (slice_set inside.tables c.from.result now) inside.undo.items c.note.new.self.items (Deleted t c.args.slot) refl items c.self.invariant.1
+          (subst (λ u. Step inside.tables (Deleted u c.args.slot) (slice_set inside.tables c.from.result now)) c.from.ensures ((one_changed inside.tables c.from.result c.args.slot c.in-Some.rows.now now [] c.in-Some.ensures.item).1 c.mark_dead.ensures.step)) tt,
+    )
 
 pub returns-clause-ok : goal.returns-clause-ok
 returns-clause-ok c =

@@ -15,7 +15,7 @@ returns-clause-rows c =
     let inside = c.self.inside in
     subst (λ (s : ShardValue). IfSome c.get.result (λ group. (h : TableValue) → slice_get s.tables t ≡ Some h → HaveRows h.live group.now)) c.self.view_is
     (some_so c.get.result _ _
-    (λ group item h here. rows_are_there h (noted_rows t inside.undo.items) group.now (c.self.invariant t h group.now here (ap (slice_get inside.indexes) (sym c.from.ensures) ∙ item)))
+    (λ group item h here. rows_are_there h (noted_rows t inside.undo.items) group.now (c.self.invariant.0 t h group.now here (ap (slice_get inside.indexes) (sym c.from.ensures) ∙ item)))
     c.get.ensures.item)
 
 pub returns-clause-columns : goal.returns-clause-columns

@@ -3,10 +3,12 @@ use Rattle.ss_model.specs.Statements.{insert_row}
 use Rattle.ss_model.specs.declared.run_error.RunError.{RunError}
 use Rattle.ss_model.specs.Stops.{StopsAs}
 use Rattle.ss_table.specs.TableValue.{TableValue, HasKey}
+use Rattle.ss_undo.specs.declared.change.Change.{Change}
 use Rattle.ss_undo.specs.declared.change.Change.TheVariants.{Inserted}
+use Rattle.ss_undo.specs.Staying.{HaveStayed}
 use Rattle.ss_undo.specs.ResultsFrom.{Step}
 use Rattle.ss_undo.specs.Indexed.{AreIndexed, Group, columns_of}
-use Rattle.ss_undo.proofs.CallerLemmas.{one_changed, set_same, inserted_indexed, columns_added, found_as, reported_as}
+use Rattle.ss_undo.proofs.CallerLemmas.{one_changed, set_same, inserted_indexed, columns_added, found_as, noted_stayed, reported_as}
 use Rattle.ss_shard.specs.Contents.{contents_with}
 use Rattle.ss_shard.specs.ShardValue.{ShardValue}
 use Rattle.ss_shard.specs.Rows.{IsKeyed, refusal_of}
@@ -26,20 +28,27 @@ pub invariant_of-self-in-Err : goal.invariant_of-self-in-Err
 invariant_of-self-in-Err c =
     let inside = c.self.inside in
     let same = ap (slice_set inside.tables c.from.result) c.in-Err.ensures.err ∙ set_same inside.tables c.from.result c.in-Some.rows.now c.in-Some.ensures.item in
-    subst (λ (tables : List TableValue). AreIndexed tables c.room.new.self.items c.insert_indexed.new.indexes) (sym same)
-    (subst (λ (indexes : List Group). AreIndexed inside.tables c.room.new.self.items indexes) (sym c.in-Err.ensures.unpaired) (subst (λ cs. AreIndexed inside.tables cs inside.indexes) (sym c.room.ensures.unchanged) c.self.invariant))
+    let Kept : List TableValue → List Change → List Group → Type 0 = λ tables items indexes. AreIndexed tables items indexes × HaveStayed (columns_of indexes) tables items in
+    subst (λ (tables : List TableValue). Kept tables c.room.new.self.items c.insert_indexed.new.indexes) (sym same)
+    (subst (λ (indexes : List Group). Kept inside.tables c.room.new.self.items indexes) (sym c.in-Err.ensures.unpaired) (subst (λ cs. Kept inside.tables cs inside.indexes) (sym c.room.ensures.unchanged) c.self.invariant))
 
 pub invariant_of-self-2 : goal.invariant_of-self-2
 invariant_of-self-2 c =
     let inside = c.self.inside in
     let t = c.args.table in
+    let was = c.in-Some.rows.now in
     let now = c.insert_indexed.new.rows in
     let slot = c.in-Ok.slot in
     let step = c.in-Ok.ensures.step in
-    let items = c.note.ensures.items ∙ ap (λ cs. cs ++ Inserted t slot ∷ []) c.room.ensures.unchanged in
-    subst (λ cs. AreIndexed (slice_set inside.tables c.from.result now) cs c.insert_indexed.new.indexes) (sym items)
-    (reported_as inside.tables t c.from.result now now (inside.undo.items ++ Inserted t slot ∷ []) _ c.insert_indexed.new.indexes c.from.ensures refl (c.in-Ok.ensures.pairs step)
-    (inserted_indexed inside.tables inside.indexes t slot c.in-Some.rows.now now (found_as inside.tables t c.from.result c.in-Some.rows.now c.from.ensures c.in-Some.ensures.item) inside.undo.items c.self.invariant step))
+    let tables = slice_set inside.tables c.from.result now in
+    let items = c.note.ensures.items ∙ ap (λ cs. cs ++ Inserted t slot ∷ []) c.room.ensures.unchanged in (
+      subst (λ cs. AreIndexed tables cs c.insert_indexed.new.indexes) (sym items)
+          (reported_as inside.tables t c.from.result now now (inside.undo.items ++ Inserted t slot ∷ []) _ c.insert_indexed.new.indexes c.from.ensures refl (c.in-Ok.ensures.pairs step)
+          (inserted_indexed inside.tables inside.indexes t slot was now (found_as inside.tables t c.from.result was c.from.ensures c.in-Some.ensures.item) inside.undo.items c.self.invariant.0 step)),
+      noted_stayed (columns_of inside.indexes) (columns_of c.insert_indexed.new.indexes) inside.tables tables inside.undo.items c.note.new.self.items (Inserted t slot)
+          (ap columns_of (c.in-Ok.ensures.pairs step) ∙ columns_added inside.indexes t slot step.row) items c.self.invariant.1
+          (subst (λ u. Step inside.tables (Inserted u slot) tables) c.from.ensures ((one_changed inside.tables c.from.result slot was now [] c.in-Some.ensures.item).0 step)) tt,
+    )
 
 pub returns-in-Err-clause-stops : goal.returns-in-Err-clause-stops
 returns-in-Err-clause-stops c =

@@ -28,8 +28,8 @@ release_lists-requires-clause-indexed c =
     let may = c.requires.may.1 in
     let none : c.self.inside.undo.items ≡ [] = ap (λ (s : ShardValue). s.changes) c.self.view_is ∙ may.parts.committed.empty in
     let back_none : c.back.inside.undo.items ≡ [] = ap (λ (s : ShardValue). s.changes) c.back.view_is ∙ may.lent.changes in (
-      subst (λ (cs : List Change). AreIndexed c.self.inside.tables cs c.self.inside.indexes) none c.self.invariant,
-      subst (λ (cs : List Change). AreIndexed c.back.inside.tables cs c.back.inside.indexes) back_none c.back.invariant,
+      subst (λ (cs : List Change). AreIndexed c.self.inside.tables cs c.self.inside.indexes) none c.self.invariant.0,
+      subst (λ (cs : List Change). AreIndexed c.back.inside.tables cs c.back.inside.indexes) back_none c.back.invariant.0,
     )
 
 pub exchange_homes-requires-clause-few : goal.exchange_homes-requires-clause-few

@@ -5,7 +5,7 @@ use Rattle.ss_window.specs.WindowValue.{unit_count}
 use Rattle.ss_undo.specs.declared.change.Change.TheVariants.{Staged}
 use Rattle.ss_undo.specs.Indexed.{AreIndexed, columns_of}
 use Rattle.ss_undo.specs.Windows.{WindowStep}
-use Rattle.ss_undo.proofs.CallerLemmas.{set_same, unit_noted}
+use Rattle.ss_undo.proofs.CallerLemmas.{noted_stayed, set_same, unit_noted}
 use Rattle.ss_shard.specs.Contents.{contents_with}
 use Rattle.ss_shard.specs.ShardValue.{ShardValue}
 use Rattle.ss_shard.specs.Shards.{frame_of, Changed}
@@ -19,8 +19,10 @@ use Rattle.ss_shard.proofs.shard.Shard.stage_unit.Goals as goal
 pub invariant_of-self-2 : goal.invariant_of-self-2
 invariant_of-self-2 c =
     let inside = c.self.inside in
-    subst (λ cs. AreIndexed inside.tables cs inside.indexes) (sym (c.note.ensures.items ∙ ap (λ cs. cs ++ Staged c.args.window ∷ []) c.room.ensures.unchanged))
-    (unit_noted inside.tables inside.indexes c.args.window inside.undo.items c.self.invariant)
+    let items = c.note.ensures.items ∙ ap (λ cs. cs ++ Staged c.args.window ∷ []) c.room.ensures.unchanged in (
+      subst (λ cs. AreIndexed inside.tables cs inside.indexes) (sym items) (unit_noted inside.tables inside.indexes c.args.window inside.undo.items c.self.invariant.0),
+      noted_stayed (columns_of inside.indexes) (columns_of inside.indexes) inside.tables inside.tables inside.undo.items c.note.new.self.items (Staged c.args.window) refl items c.self.invariant.1 refl tt,
+    )
 
 pub returns-then-units-ge-WINDOW_UNITS-clause-stops : goal.returns-then-units-ge-WINDOW_UNITS-clause-stops
 returns-then-units-ge-WINDOW_UNITS-clause-stops c =

@@ -2,9 +2,11 @@ use Rattle.std.proofs.Common.{refl, sym, subst, ◌∙◌}
 use Rattle.ss_value.specs.Reserved.{ReservedList}
 use Rattle.ss_undo.specs.declared.change.Change.{Change}
 use Rattle.ss_undo.specs.ResultsFrom.{ResultsFrom}
-use Rattle.ss_undo.specs.Indexed.{AreIndexed}
+use Rattle.ss_undo.specs.Indexed.{AreIndexed, columns_of}
+use Rattle.ss_undo.specs.Staying.{HasStayed, HaveStayed}
 use Rattle.ss_undo.specs.Windows.{WindowsResultFrom}
 use Rattle.ss_undo.proofs.Back.{came_back}
+use Rattle.ss_undo.proofs.Staying.{last_stayed}
 use Rattle.ss_undo.proofs.Windows.{windows_back}
 use Rattle.ss_undo.proofs.undo.Undo.rollback.Goals as goal
 
@@ -12,6 +14,7 @@ pub loop-change-init : goal.loop-change-init
 loop-change-init c = record {
   tables = λ before start. start;
   indexed = subst (λ (u : ReservedList Change). AreIndexed c.args.tables.now u.items c.args.indexes.now) (sym c.self.view_is) c.requires.indexed;
+  stayed = subst (λ (u : ReservedList Change). HaveStayed (columns_of c.args.indexes.now) c.args.tables.now u.items) (sym c.self.view_is) c.requires.stayed;
   columns = refl;
   windows = λ before start. start;
 }
@@ -28,6 +31,9 @@ rollback_change-requires c =
       undo = (came_back before c.loop-change.tables c.pop.new.self.items c.in-Some.change came).0;
       window = (windows_back old c.loop-change.windows c.pop.new.self.items c.in-Some.change led).0;
       indexed = (c.pop.new.self.items, subst (λ cs. AreIndexed c.loop-change.tables cs c.loop-change.indexes) c.in-Some.ensures.some.0 c.loop-change.invariant.indexed);
+      stayed = subst (λ columns. HasStayed columns c.loop-change.tables c.in-Some.change) (sym c.loop-change.invariant.columns)
+          (last_stayed (columns_of c.args.indexes.now) c.loop-change.tables c.pop.new.self.items c.in-Some.change
+          (subst (λ cs. HaveStayed (columns_of c.args.indexes.now) c.loop-change.tables cs) c.in-Some.ensures.some.0 c.loop-change.invariant.stayed)).0;
     }
 
 pub loop-change-preserved : goal.loop-change-preserved
@@ -36,6 +42,9 @@ loop-change-preserved c = record {
       let came = subst (λ cs. ResultsFrom before cs c.loop-change.tables) c.in-Some.ensures.some.0 (c.loop-change.invariant.tables before start) in
       subst (ResultsFrom before c.pop.new.self.items) (sym c.rollback_change.ensures.tables) (came_back before c.loop-change.tables c.pop.new.self.items c.in-Some.change came).1;
   indexed = c.rollback_change.ensures.indexed c.pop.new.self.items (subst (λ cs. AreIndexed c.loop-change.tables cs c.loop-change.indexes) c.in-Some.ensures.some.0 c.loop-change.invariant.indexed);
+  stayed = subst (λ ts. HaveStayed (columns_of c.args.indexes.now) ts c.pop.new.self.items) (sym c.rollback_change.ensures.tables)
+      (last_stayed (columns_of c.args.indexes.now) c.loop-change.tables c.pop.new.self.items c.in-Some.change
+      (subst (λ cs. HaveStayed (columns_of c.args.indexes.now) c.loop-change.tables cs) c.in-Some.ensures.some.0 c.loop-change.invariant.stayed)).1;
   columns = c.rollback_change.ensures.columns ∙ c.loop-change.invariant.columns;
   windows = λ before start.
       let came = subst (λ cs. WindowsResultFrom before cs c.loop-change.windows) c.in-Some.ensures.some.0 (c.loop-change.invariant.windows before start) in

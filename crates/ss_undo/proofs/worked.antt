@@ -1,0 +1,2 @@
+-- Facts of this crate at a concrete table.
+pub mod Amending
