@@ -1,13 +1,14 @@
 //! Which expressions never abort: enough of them to end a query early, and no more than can be told from the tree.
 
 ghost use Rattle.std.specs.Prelude.{◌≡◌, true};
-ghost use Rattle.ss_rows.specs.Certainty.{AlwaysHasValue, AlwaysHasTest};
+ghost use Rattle.ss_rows.specs.Certainty.{AlwaysHasTest};
+ghost use Rattle.ss_rows.specs.Lent.{IsLent};
 
 use ss_sql_trees::{BinaryOp, Expr};
 
-/// Whether an expression is a literal, a parameter or a column, which have a value on every row.
-pub fn always_has_value(tree: &Expr) -> bool
-    ensures { result ≡ true → AlwaysHasValue tree.now }
+/// Whether an expression is a literal, a parameter or a column, which have a value on every row. Constant.
+pub fn is_lent(tree: &Expr) -> bool
+    ensures { result ≡ true → IsLent tree.now }
 {
     match tree {
         Expr::Lit(_) => true,
@@ -32,9 +33,7 @@ pub fn always_has_test(tree: &Expr) -> bool
             BinaryOp::And | BinaryOp::Or => {
                 always_has_test(left.get()) && always_has_test(right.get())
             }
-            BinaryOp::Compare(_) => {
-                always_has_value(left.get()) && always_has_value(right.get())
-            }
+            BinaryOp::Compare(_) => { is_lent(left.get()) && is_lent(right.get()) }
             BinaryOp::Add
             | BinaryOp::Sub
             | BinaryOp::Concat

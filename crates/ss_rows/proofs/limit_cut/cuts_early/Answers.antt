@@ -1,5 +1,6 @@
 use Rattle.std.proofs.Common.{◌≡◌, List, [], ◌∷◌, length, arith, refl, sym, ◌∙◌, subst}
-use Rattle.ss_rows.specs.Early.{AlwaysHasRow}
+use Rattle.ss_rows.specs.Lent.{AreLent}
+use Rattle.ss_rows.proofs.Lent.{lent_has_row}
 use Rattle.ss_rows.proofs.limit_cut.cuts_early.Goals as goal
 
 no_items : {X : Type 0} (xs : List X) → length xs ≡ 0 → xs ≡ []
@@ -11,5 +12,5 @@ returns c = λ yes. record {
   plain = sym c.is_aggregated.ensures ∙ c.if-is_aggregated.false;
   unsorted = no_items c.args.query.now.order (omega (arith, c.len.ensures, c.if-len-ne0.false));
   test = c.always_has_answer.ensures c.if-not-always_has_answer.false;
-  items = subst AlwaysHasRow c.as_slice.ensures (c.always_has_row.ensures yes);
+  items = lent_has_row c.args.query.now.items (subst AreLent c.as_slice.ensures (c.are_lent.ensures yes));
 }

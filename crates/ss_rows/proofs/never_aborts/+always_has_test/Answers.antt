@@ -2,6 +2,7 @@ use Rattle.std.proofs.Common.{sym, subst, ◌∙◌, ap}
 use Rattle.ss_sql_trees.specs.declared.typed.Expr.TheVariants.{Binary}
 use Rattle.ss_rows.specs.Certainty.{AlwaysHasValue, AlwaysHasTest}
 use Rattle.ss_rows.proofs.AlwaysHas.{unary_has, compare_has, both_have}
+use Rattle.ss_rows.proofs.Lent.{lent_has}
 use Rattle.ss_rows.proofs.never_aborts.+always_has_test.Goals as goal
 
 pub returns-in-Unary : goal.returns-in-Unary
@@ -9,11 +10,11 @@ returns-in-Unary t c = λ has.
     let side = subst AlwaysHasTest c.get.ensures (c.always_has_test.ensures has) in
     subst AlwaysHasTest (sym c.in-Unary.is) (unary_has c.in-Unary.op c.in-Unary.side side)
 
-pub returns-then-always_has_value : goal.returns-then-always_has_value
-returns-then-always_has_value t c = λ has.
+pub returns-then-is_lent : goal.returns-then-is_lent
+returns-then-is_lent t c = λ has.
     let b = c.in-Binary in
-    let left = subst AlwaysHasValue c.get-in-Compare.ensures (c.always_has_value.ensures c.if-always_has_value.true) in
-    let right = subst AlwaysHasValue c.get-then-always_has_value.ensures (c.always_has_value-then-always_has_value.ensures has) in
+    let left = subst AlwaysHasValue c.get-in-Compare.ensures (lent_has _ (c.is_lent.ensures c.if-is_lent.true)) in
+    let right = subst AlwaysHasValue c.get-then-is_lent.ensures (lent_has _ (c.is_lent-then-is_lent.ensures has)) in
     let is = b.is ∙ ap (λ op. Binary op b.left b.right) c.in-Compare.is in
     subst AlwaysHasTest (sym is) (compare_has b.left b.right c.in-Compare.field-0 left right)
 
