@@ -2,7 +2,6 @@
 use Rattle.std.proofs.Common.{◌≡◌, ℕ, Bool, true, false, cond, List, [], ◌∷◌, map, refl, sym, ap, subst, ◌∙◌, Option, Some, None, Ok, Err, Result, IfOk, IfErr}
 use Rattle.std.specs.Prelude.{IfSome}
 use Rattle.std.specs.List.{AllByRecursion, filter}
-use Rattle.std.specs.Global.{Vec}
 use Rattle.ss_value.specs.Rows.{Row, Rows}
 use Rattle.ss_sql_trees.specs.declared.typed.Expr.{Expr}
 use Rattle.ss_sql_trees.specs.declared.typed.SourceId.{SourceId}
@@ -15,9 +14,10 @@ use Rattle.ss_model.specs.Stops.{StopsAs}
 use Rattle.ss_rows.specs.Sources.{Positioned, rows_in}
 use Rattle.ss_plan.specs.Fronts.{meets_run}
 use Rattle.ss_plan.specs.Keys.{Finds}
-use Rattle.ss_plan.specs.Scans.{FindsPositions}
+use Rattle.ss_plan.specs.Scans.{slots_passing, FindsPositions}
 use Rattle.ss_plan.specs.Found.{rows_found, at_positions}
 use Rattle.ss_plan.specs.declared.found.FoundRows.{FoundRows}
+use Rattle.ss_plan.specs.declared.passing.PassingSlots.{PassingSlots}
 use Rattle.ss_plan.proofs.AtPositions.{rows_there}
 use Rattle.ss_plan.proofs.Fronts.{run_decides}
 
@@ -119,7 +119,7 @@ module _ {A : Type 0} (some all : OrAbort A) (same : some ≡ all) where
   stops_of_all r h = subst (λ (m : OrAbort A). IfErr r (StopsAs m)) same h
 
 -- and so do the positions of those that pass
-pub positions_of_all : (params : Row) (test : Option Expr) (all some : Positioned) → Finds params test all some → (r : Result (Vec ℕ) RunError) →
-    IfOk r (λ positions. FindsPositions params test some positions.items) → IfOk r (λ positions. FindsPositions params test all positions.items)
+pub positions_of_all : (params : Row) (test : Option Expr) (all some : Positioned) → Finds params test all some → (r : Result PassingSlots RunError) →
+    IfOk r (λ slots. FindsPositions params test some (slots_passing slots)) → IfOk r (λ slots. FindsPositions params test all (slots_passing slots))
 positions_of_all params test all some f r h =
-    subst (λ (m : OrAbort Positioned). IfOk r (λ positions. (found : Positioned) × (m ≡ Ok found) × (positions.items ≡ map (λ p. p.0) found))) (same_passes params test all some f) h
+    subst (λ (m : OrAbort Positioned). IfOk r (λ slots. (found : Positioned) × (m ≡ Ok found) × (slots_passing slots ≡ map (λ p. p.0) found))) (same_passes params test all some f) h

@@ -1,5 +1,5 @@
 -- Rows that a search found, and how they are put in order.
-use Rattle.std.specs.Prelude.{◌≡◌, ℕ, Bool, true, cond, List, map, Option, Some, None, Contains}
+use Rattle.std.specs.Prelude.{◌≡◌, ℕ, Bool, true, cond, List, [], ◌∷◌, map, Option, Some, None, Contains}
 use Rattle.std.specs.Borrow.{Bor}
 use Rattle.std.specs.List.{filter_map, enumerate_from}
 use Rattle.std.specs.Option.{option_and_then}
@@ -11,14 +11,21 @@ use Rattle.ss_rows.specs.Sources.{Positioned, rows_in}
 use Rattle.ss_plan.specs.Chosen.{Chosen}
 use Rattle.ss_plan.specs.Keys.{is_there, lent_row}
 use Rattle.ss_plan.specs.declared.found.FoundRows.{FoundRows}
+use Rattle.ss_plan.specs.declared.found.FoundRows.TheVariants.{Nothing, One, Many}
 
 -- rows that are lent, with their slots
 abbrev pub lent_rows : List (ℕ × Bor Row) → Positioned
 lent_rows rows = map lent_row rows
 
+-- the rows that were found, as they are lent
+abbrev pub pairs_found : FoundRows → List (ℕ × Bor Row)
+pairs_found Nothing = []
+pairs_found (One pair) = pair ∷ []
+pairs_found (Many pairs) = pairs
+
 -- the rows that were found
 abbrev pub rows_found : FoundRows → Positioned
-rows_found found = lent_rows found.rows
+rows_found found = lent_rows (pairs_found found)
 
 -- the same rows, each with its number in the list in place of its slot
 abbrev pub at_positions : FoundRows → Positioned

@@ -11,6 +11,8 @@ use Rattle.ss_table.specs.TableValue.{LiveRows}
 use Rattle.ss_rows.specs.Sources.{Positioned, first_position, StandsAt}
 use Rattle.ss_plan.specs.Seen.{live_positions, seen_of, positioned_by, value_behind}
 use Rattle.ss_plan.specs.Plans.{seen_in}
+use Rattle.ss_plan.specs.declared.passing.PassingSlots.{PassingSlots}
+use Rattle.ss_plan.specs.declared.passing.PassingSlots.TheVariants.{Nothing, One, Many}
 use Rattle.ss_plan.specs.declared.visible_rows.RowsAt.{RowsAt}
 use Rattle.ss_plan.specs.declared.visible_rows.ShardRows.{ShardRows}
 
@@ -21,6 +23,12 @@ positioned_matching params test positioned = try_filter (λ p. where_passes para
 -- these are the positions of the rows that pass WHERE
 abbrev pub FindsPositions : Row → Option Expr → Positioned → List ℕ → Type 0
 FindsPositions params test positioned positions = (found : Positioned) × (positioned_matching params test positioned ≡ Ok found) × (positions ≡ map (λ p. p.0) found)
+
+-- the slots of rows that pass
+abbrev pub slots_passing : PassingSlots → List ℕ
+slots_passing Nothing = []
+slots_passing (One slot) = slot ∷ []
+slots_passing (Many slots) = slots.items
 
 -- the position of a row was put behind others, if the row passes WHERE
 abbrev pub NotesPosition : Row → Option Expr → Row → ℕ → List ℕ → List ℕ → Type 0

@@ -7,21 +7,26 @@ use ss_value::{NoMemory, Rows};
 use std::alloc::Global;
 use std::marker::Model;
 
-/// Batches, one behind another: none is copied, and each takes the memory of a reference.
+/// Batches, one behind another. None is copied.
+///
+/// Those that stand in a list already are lent with it, and take no memory. Each further one takes that of a reference.
 ///
 /// Contracts see the list of the batches.
 #[derive(Drop)]
 pub struct Batches<'a> {
-    lent: Vec<&'a Rows>,
+    /// The first ones, which stand in a list.
+    first: &'a [Rows],
+    /// Those behind them.
+    others: Vec<&'a Rows>,
 }
 
 impl<'a> Model for Batches<'a> {
-    ghost use Rattle.std.specs.Prelude.{List, map};
+    ghost use Rattle.std.specs.Prelude.{List, ◌++◌, map};
     ghost use Rattle.ss_value.specs.Rows.{Rows};
 
     ghost Value = { List Rows };
 
-    ghost view = { λ b. map (λ rows. rows.now) b.lent.items };
+    ghost view = { λ b. b.first.now ++ map (λ rows. rows.now) b.others.items };
 }
 
 impl<'a> Batches<'a> {
@@ -29,8 +34,16 @@ impl<'a> Batches<'a> {
     pub fn new(alloc: Global) -> Batches<'a>
         ensures { result ≡ [] }
     {
+        Batches::all(alloc, &[])
+    }
+
+    /// The batches of a list. Constant, and takes no memory.
+    pub fn all(alloc: Global, batches: &'a [Rows]) -> Batches<'a>
+        ensures { result ≡ batches.now }
+    {
         Batches {
-            lent: Vec::new(alloc),
+            first: batches,
+            others: Vec::new(alloc),
         }
     }
 
@@ -39,7 +52,7 @@ impl<'a> Batches<'a> {
         ensures ok { OnOk result (self.new ≡ self.old ++ rows.now ∷ []) }
         ensures err { OnErr result (self.new ≡ self.old) }
     {
-        match self.lent.push(rows) {
+        match self.others.push(rows) {
             Ok(()) => Ok(()),
             Err(_) => Err(NoMemory),
         }
@@ -49,6 +62,11 @@ impl<'a> Batches<'a> {
     pub fn get(&self, at: usize) -> Option<&Rows>
         ensures { option_copied result ≡ slice_get self.now at }
     {
-        self.lent.get(at).copied()
+        let count = self.first.len();
+        if at < count {
+            self.first.get(at)
+        } else {
+            self.others.get(at - count).copied()
+        }
     }
 }

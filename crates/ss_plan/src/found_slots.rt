@@ -65,7 +65,7 @@ fn slots_by_plan<'a, 'b>(
 {
     match rows_by_plan(alloc, from, table, plan, test, params)? {
         None => all_positions(alloc, &from, &SourceId::Table(table)),
-        Some(found) => slots_in(alloc, found.rows.as_slice()),
+        Some(found) => slots_in(alloc, found.as_slice()),
     }
 }
 

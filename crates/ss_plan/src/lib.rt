@@ -10,7 +10,7 @@
 //! the whole WHERE, as in a walk. A JOIN walks.
 //!
 //! - `statement`: the statements; `insert`, `update`, `delete`: their changes of rows; `insert_values`: the row of VALUES
-//! - `chosen_rows`: the rows that UPDATE and DELETE choose
+//! - `chosen_rows`: the rows that UPDATE and DELETE choose; `passing`: their slots
 //! - `query`: queries over the rows that an execution sees
 //! - `inputs`: the rows at hand, of batches and emits; `batches`: batches lent from where they stand
 //! - `visible`: which rows of a table an execution sees, in the order of their keys; `listed`: rows by their number;
@@ -48,6 +48,7 @@ mod key;
 mod laws;
 mod listed;
 mod ordered;
+mod passing;
 mod plan;
 mod query;
 mod range;

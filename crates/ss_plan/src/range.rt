@@ -151,7 +151,5 @@ pub fn rows_in_range<'a, 'b>(
     // side. So the order of the index is not seen. Costs a sort beside the search, and nothing in the size of the
     // table.
     let ordered = in_key_order(def.key.as_slice(), found)?;
-    Ok(FoundRows {
-        rows: Seq::from_vec(ordered),
-    })
+    Ok(FoundRows::Many(Seq::from_vec(ordered)))
 }

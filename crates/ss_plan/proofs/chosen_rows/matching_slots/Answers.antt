@@ -9,6 +9,7 @@ use Rattle.ss_sql_trees.specs.declared.typed.SourceId.TheVariants.{Table as From
 use Rattle.ss_rows.specs.Sources.{Positioned}
 use Rattle.ss_shard.specs.Contents.{contents_of}
 use Rattle.ss_plan.specs.Seen.{positioned_in, value_behind}
+use Rattle.ss_plan.specs.Scans.{slots_passing}
 use Rattle.ss_plan.specs.Statements.{Matches}
 use Rattle.ss_plan.proofs.Answering.{held_at, err_so}
 use Rattle.ss_plan.proofs.Matching.{matched, unmatched}
@@ -23,9 +24,9 @@ returns-clause-ok c =
     let split = value_behind c.args.from.split in
     let h = held_at catalog shard.tables c.requires.tables c.args.table c.requires.there in
     if_ok
-    (λ positions. (found : Positioned) × (try_filter (λ p. where_passes c.args.params.now c.args.test.now (p.1 ∷ [])) (positioned_in catalog split batches inserted shard (FromTable c.args.table)) ≡ Ok found) × (positions.items ≡ map (λ p. p.0) found))
-    (λ slots. Matches catalog split shard c.args.table c.args.params.now c.args.test.now slots.items)
-    (λ positions f. matched catalog batches inserted shard c.requires.tables c.requires.keyed split c.args.table h.0 h.1 c.args.params.now c.args.test.now f.0 positions.items f.1 f.2)
+    (λ slots. (found : Positioned) × (try_filter (λ p. where_passes c.args.params.now c.args.test.now (p.1 ∷ [])) (positioned_in catalog split batches inserted shard (FromTable c.args.table)) ≡ Ok found) × (slots_passing slots ≡ map (λ p. p.0) found))
+    (λ slots. Matches catalog split shard c.args.table c.args.params.now c.args.test.now (slots_passing slots))
+    (λ slots f. matched catalog batches inserted shard c.requires.tables c.requires.keyed split c.args.table h.0 h.1 c.args.params.now c.args.test.now f.0 (slots_passing slots) f.1 f.2)
     c.planned_positions.result c.planned_positions.ensures.ok
 
 pub returns-clause-stops : goal.returns-clause-stops
