@@ -3,6 +3,7 @@ pub mod Doing
 pub mod Firing
 pub mod Apart
 pub mod Emitting
+mod RowLists
 pub mod Owned
 pub mod RolledBack
 pub mod Batches

@@ -4,3 +4,4 @@ pub mod Entries
 pub mod Parts
 pub mod Lending
 pub mod Waiting
+pub mod RowLists

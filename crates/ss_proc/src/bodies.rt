@@ -12,12 +12,13 @@ ghost use Rattle.ss_shard.specs.Shards.{IsOf, Changed, CanRollBack, Same, IsComm
 ghost use Rattle.ss_proc.specs.Executions.{context_of, MayRun, MayRunOn, StepRuns};
 ghost use Rattle.ss_proc.specs.Meanings.{BodyDone, BodyLeaves};
 
+use crate::row_lists::RowLists;
 use crate::steps::run_steps;
 use crate::windows::close_owned;
-use crate::work::{Given, Work, empty_lists, empty_work};
+use crate::work::{Given, Work, empty_work};
 use ss_model::{Outcome, RunError, Step, Touch};
 use ss_shard::Shard;
-use ss_value::{NoMemory, Rows, Seq};
+use ss_value::NoMemory;
 use std::alloc::Global;
 
 /// What a body leaves beside its shard: its outcome, and its batch for each stream.
@@ -26,7 +27,7 @@ pub struct BodyResult {
     /// The outcome.
     pub outcome: Outcome,
     /// The batches, by stream.
-    pub emitted: Seq<Rows>,
+    pub emitted: RowLists,
 }
 
 /// The argument whose value limits what an execution sees of split tables, in a procedure that touches the partition
@@ -56,7 +57,7 @@ fn run_and_close(
     ensures stops { IfErr result (StopsAs (run_body (context_of given.now) body.now (contents_of shard.old))) }
     ensures changed { Changed shard.old shard.new }
 {
-    let mut work = empty_work(alloc, given.catalog)?;
+    let mut work = empty_work(alloc, given.catalog);
     run_steps(alloc, given, body, shard, &mut work)?;
     close_owned(alloc, given, shard, &mut work)?;
     Ok(work)
@@ -96,10 +97,9 @@ pub fn run_body(
         Err(RunError::Abort(reason)) => {
             shard.rollback();
             // After an abort too each stream gets a batch, an empty one, so that streams stay in step with counts.
-            let emitted = empty_lists(alloc, given.catalog.streams.len())?;
             Ok(BodyResult {
                 outcome: Outcome::Aborted(reason),
-                emitted,
+                emitted: RowLists::new(alloc, given.catalog.streams.len()),
             })
         }
         Err(RunError::NoMemory) => {

@@ -17,7 +17,7 @@ ghost use Rattle.ss_model.specs.Depths.{close_and_fire, run_and_fire, fire_strea
 
 use crate::firings::{TriggerEvent, firings};
 use crate::statements::statement_effect;
-use crate::work::{Given, Work, join_unit};
+use crate::work::{Given, Work};
 use ss_model::{Catalog, RunError};
 use ss_plan::Wrote;
 use ss_shard::Shard;
@@ -116,7 +116,7 @@ fn stage_row(
             close_to_depth(alloc, depth, given, window, unit, shard, work)
         }
         Unit::Batches => {
-            join_unit(window, row, &mut work.open_units)?;
+            work.open_units.join(window, row)?;
             Ok(())
         }
     }

@@ -1,6 +1,6 @@
 //! Rows that a body emits, and rows that it adds to its reply.
 
-ghost use Rattle.std.specs.Prelude.{◌≡◌, [], ◌++◌, get_or, set, OnOk, IfErr, Ok};
+ghost use Rattle.std.specs.Prelude.{◌≡◌, [], get_or, OnOk, IfErr, Ok};
 ghost use Rattle.ss_model.specs.Bodies.{emit_rows, exceeds_row_limit};
 ghost use Rattle.ss_model.specs.Stops.{StopsAs};
 ghost use Rattle.ss_proc.specs.Executions.{context_of, longer_reply, MayRunOn};
@@ -8,31 +8,18 @@ ghost use Rattle.ss_proc.specs.Meanings.{Does};
 
 use crate::cascade::run_stream_triggers;
 use crate::limits::exceeds_row_limit;
-use crate::work::{Given, Work, move_rows};
+use crate::row_lists::{RowLists, move_rows};
+use crate::work::{Given, Work};
 use ss_model::{Reason, RunError};
 use ss_shard::Shard;
-use ss_value::{NoMemory, Row, Rows, Seq};
+use ss_value::{Row, Rows};
 use std::alloc::Global;
 
 /// Whether the batch of a stream with these rows behind it is over the limit.
-fn batch_is_full(stream: u16, emitted: &Seq<Rows>, rows: &[Row]) -> bool
+fn batch_is_full(stream: u16, emitted: &RowLists, rows: &[Row]) -> bool
     ensures { result ≡ exceeds_row_limit (get_or emitted.now stream []) rows.now }
 {
-    match emitted.get(usize::from(stream)) {
-        Some(batch) => exceeds_row_limit(batch.as_slice(), rows),
-        // No batch counts as one without a row.
-        None => exceeds_row_limit(&rows[..0], rows),
-    }
-}
-
-/// Moves rows behind the batch of a stream, where there is one. No row is copied.
-fn add_batch(stream: u16, rows: Rows, emitted: &mut Seq<Rows>) -> Result<(), NoMemory>
-    ensures { OnOk result (emitted.new ≡ set emitted.old stream (get_or emitted.old stream [] ++ rows)) }
-{
-    match emitted.get_mut(usize::from(stream)) {
-        Some(batch) => move_rows(rows, batch),
-        None => Ok(()),
-    }
+    exceeds_row_limit(emitted.rows(stream), rows)
 }
 
 /// Adds rows to the batch of a stream, which has at most 1,024, and runs the stream's triggers on them.
@@ -54,7 +41,7 @@ pub fn emit_rows(
     }
     // The rows are lent to the triggers and then moved: triggers neither see batches nor change them, so no copy is needed.
     run_stream_triggers(alloc, given, stream, rows.as_slice(), shard, work)?;
-    add_batch(stream, rows, &mut work.emitted)?;
+    work.emitted.append(stream, rows)?;
     Ok(())
 }
 

@@ -5,9 +5,9 @@ ghost use Rattle.std.specs.List.{list_any};
 ghost use Rattle.ss_model.specs.Database.{emits_to, output_streams};
 ghost use Rattle.ss_proc.specs.Entries.{batches_for};
 
-use crate::windows::take_unit;
+use crate::row_lists::RowLists;
 use ss_model::{Catalog, Emitted, Procedure, Step};
-use ss_value::{NoMemory, Rows, Seq};
+use ss_value::{NoMemory, Seq};
 use std::alloc::Global;
 
 /// Whether a step of a body emits to a stream.
@@ -33,16 +33,11 @@ fn emits(stream: u16, body: &[Step]) -> bool
 }
 
 /// Takes the batch of a stream out of `left`, and puts it behind the others in `batches`.
-fn add_output(
-    alloc: Global,
-    stream: u16,
-    left: &mut Seq<Rows>,
-    batches: &mut Seq<Emitted>,
-) -> Result<(), NoMemory>
+fn add_output(stream: u16, left: &mut RowLists, batches: &mut Seq<Emitted>) -> Result<(), NoMemory>
     ensures ok { OnOk result (batches.new ≡ batches.old ++ record { stream = stream; rows = get_or left.old stream [] } ∷ []) }
     ensures left { OnOk result (left.new ≡ set left.old stream []) }
 {
-    let rows = take_unit(alloc, stream, left);
+    let rows = left.take(stream);
     batches.push(Emitted { stream, rows })?;
     Ok(())
 }
@@ -53,7 +48,7 @@ pub fn emitted_batches(
     alloc: Global,
     catalog: &Catalog,
     procedure: &Procedure,
-    emitted: Seq<Rows>,
+    emitted: RowLists,
 ) -> Result<Seq<Emitted>, NoMemory>
     requires { length catalog.now.streams ≤ 32 }
     ensures { IfOk result (λ batches. batches ≡ batches_for (output_streams catalog.now procedure.now) emitted) }
@@ -62,7 +57,7 @@ pub fn emitted_batches(
     let mut batches = Seq::new(alloc);
     for n in 0..catalog.streams.len() {
         if emits(n as u16, procedure.body.as_slice()) {
-            add_output(alloc, n as u16, &mut left, &mut batches)?;
+            add_output(n as u16, &mut left, &mut batches)?;
         }
     }
     Ok(batches)

@@ -1,6 +1,6 @@
 //! The windows of batches that a procedure owns, each of which gets its unit behind the last step of the body.
 
-ghost use Rattle.std.specs.Prelude.{◌≡◌, ◌<◌, ◌≤◌, [], get_or, set, length, Some};
+ghost use Rattle.std.specs.Prelude.{◌≡◌, ◌<◌, ◌≤◌, length, Some};
 ghost use Rattle.ss_model.specs.Bodies.{is_closed_by, close_window};
 ghost use Rattle.ss_proc.specs.Executions.{context_of, MayRunOn};
 ghost use Rattle.ss_model.specs.Depths.{close_owned};
@@ -10,7 +10,7 @@ use crate::cascade::close_unit;
 use crate::work::{Given, Work};
 use ss_model::{RunError, WindowDef};
 use ss_shard::Shard;
-use ss_value::{Rows, Seq, Unit};
+use ss_value::Unit;
 use std::alloc::Global;
 
 /// Whether a window is a window of batches that this procedure owns.
@@ -22,17 +22,6 @@ fn is_closed_by(procedure: u16, window: &WindowDef) -> bool
             Unit::Rows => false,
             Unit::Batches => true,
         }
-}
-
-/// Takes the list of a number out, and leaves an empty one in its position. Takes no memory.
-pub fn take_unit(alloc: Global, window: u16, open_units: &mut Seq<Rows>) -> Rows
-    ensures unit { result ≡ get_or open_units.old window [] }
-    ensures none { open_units.new ≡ set open_units.old window [] }
-{
-    match open_units.get_mut(usize::from(window)) {
-        Some(unit) => std::mem::replace(unit, Seq::new(alloc)),
-        None => Seq::new(alloc),
-    }
 }
 
 /// Closes the unit that the execution has open in a window, with the window's triggers if this moves the end of what it shows.
@@ -50,7 +39,7 @@ fn close_window(
     requires there { window < length given.now.catalog.now.windows }
     ensures { Does (close_window (context_of given.now) window) result shard.old work.old shard.new work.new }
 {
-    let unit = take_unit(alloc, window, &mut work.open_units);
+    let unit = work.open_units.take(window);
     close_unit(alloc, given, window, unit, shard, work)
 }
 

@@ -1,11 +1,12 @@
 //! What an execution is given, and how far it is.
 
-ghost use Rattle.std.specs.Prelude.{◌≡◌, ◌∷◌, [], ◌++◌, set, get_or, replicate, IfOk, OnOk};
+ghost use Rattle.std.specs.Prelude.{◌≡◌};
 ghost use Rattle.ss_proc.specs.Executions.{empty_work};
 
+use crate::row_lists::RowLists;
 use ss_model::Catalog;
 use ss_plan::Batches;
-use ss_value::{NoMemory, Row, Rows, Seq};
+use ss_value::{Row, Rows, Seq};
 use std::alloc::Global;
 
 /// What an execution is given: its procedure, arguments and batches. A call has no batch, and a step no argument.
@@ -31,56 +32,20 @@ pub struct Given<'a, 'b: 'a> {
 #[derive(Drop)]
 pub struct Work {
     /// The open units, by window.
-    pub open_units: Seq<Rows>,
+    pub open_units: RowLists,
     /// The batches, by stream.
-    pub emitted: Seq<Rows>,
+    pub emitted: RowLists,
     /// The reply.
     pub reply: Rows,
 }
 
-/// As many empty lists of rows as asked for.
-pub fn empty_lists(alloc: Global, count: usize) -> Result<Seq<Rows>, NoMemory>
-    ensures { IfOk result (λ lists. lists ≡ replicate count []) }
+/// No row yet in a unit, a batch or the reply. Takes no memory.
+pub fn empty_work(alloc: Global, catalog: &Catalog) -> Work
+    ensures { result ≡ empty_work catalog.now }
 {
-    let mut lists = Seq::new(alloc);
-    for _ in 0..count {
-        lists.push(Seq::new(alloc))?;
-    }
-    Ok(lists)
-}
-
-/// No row yet in a unit, a batch or the reply. Takes memory for a list for each window and each stream.
-pub fn empty_work(alloc: Global, catalog: &Catalog) -> Result<Work, NoMemory>
-    ensures { IfOk result (λ work. work ≡ empty_work catalog.now) }
-{
-    let open_units = empty_lists(alloc, catalog.windows.len())?;
-    let emitted = empty_lists(alloc, catalog.streams.len())?;
-    Ok(Work {
-        open_units,
-        emitted,
+    Work {
+        open_units: RowLists::new(alloc, catalog.windows.len()),
+        emitted: RowLists::new(alloc, catalog.streams.len()),
         reply: Seq::new(alloc),
-    })
-}
-
-/// Adds a row to the unit that is open in a window. Constant on average.
-pub fn join_unit(window: u16, row: Row, open_units: &mut Seq<Rows>) -> Result<(), NoMemory>
-    ensures { OnOk result (open_units.new ≡ set open_units.old window (get_or open_units.old window [] ++ row ∷ [])) }
-{
-    match open_units.get_mut(usize::from(window)) {
-        Some(unit) => {
-            unit.push(row)?;
-        }
-        None => {}
     }
-    Ok(())
-}
-
-/// Moves rows behind others. No row is copied.
-pub fn move_rows(rows: Rows, list: &mut Rows) -> Result<(), NoMemory>
-    ensures { OnOk result (list.new ≡ list.old ++ rows) }
-{
-    for row in rows.into_vec() {
-        list.push(row)?;
-    }
-    Ok(())
 }

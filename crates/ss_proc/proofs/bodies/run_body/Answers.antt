@@ -1,5 +1,4 @@
 use Rattle.std.proofs.Common.{◌≡◌, [], replicate, Err, sym, ap, subst, ◌∙◌}
-use Rattle.std.proofs.lemmas.Result.{err_from_is_err_and}
 use Rattle.ss_model.specs.declared.entry.Outcome.TheVariants.{Aborted}
 use Rattle.ss_model.specs.Bodies.{run_body}
 use Rattle.ss_model.specs.Database.{body_result}
@@ -10,14 +9,8 @@ use Rattle.ss_proc.specs.Executions.{context_of}
 use Rattle.ss_proc.proofs.RolledBack.{is_back}
 use Rattle.ss_proc.proofs.bodies.run_body.Goals as goal
 
-pub returns-in_err-emitted-in-Err-Abort-clause-of_catalog : goal.returns-in_err-emitted-in-Err-Abort-clause-of_catalog
-returns-in_err-emitted-in-Err-Abort-clause-of_catalog c =
-    let catalog = c.args.given.now.catalog.now in
-    let is = is_back catalog c.args.shard.now c.run_and_close.new.shard c.rollback.new.self c.requires.committed c.run_and_close.ensures.changed c.rollback.ensures.back c.rollback.ensures.committed in
-    is.committed.of_catalog
-
-pub returns-in_ok-emitted-in-Err-Abort-clause-of_catalog : goal.returns-in_ok-emitted-in-Err-Abort-clause-of_catalog
-returns-in_ok-emitted-in-Err-Abort-clause-of_catalog c =
+pub returns-in-Err-Abort-clause-of_catalog : goal.returns-in-Err-Abort-clause-of_catalog
+returns-in-Err-Abort-clause-of_catalog c =
     let catalog = c.args.given.now.catalog.now in
     let is = is_back catalog c.args.shard.now c.run_and_close.new.shard c.rollback.new.self c.requires.committed c.run_and_close.ensures.changed c.rollback.ensures.back c.rollback.ensures.committed in
     is.committed.of_catalog
@@ -27,20 +20,6 @@ returns-in-Err-NoMemory-clause-of_catalog c =
     let catalog = c.args.given.now.catalog.now in
     let is = is_back catalog c.args.shard.now c.run_and_close.new.shard c.rollback-in-Err-NoMemory.new.self c.requires.committed c.run_and_close.ensures.changed c.rollback-in-Err-NoMemory.ensures.back c.rollback-in-Err-NoMemory.ensures.committed in
     is.committed.of_catalog
-
-pub returns-in_err-emitted-in-Err-Abort-clause-err : goal.returns-in_err-emitted-in-Err-Abort-clause-err
-returns-in_err-emitted-in-Err-Abort-clause-err c =
-    let p = err_from_is_err_and c.from_residual.result c.from_residual.ensures.1 in
-    let catalog = c.args.given.now.catalog.now in
-    let is = is_back catalog c.args.shard.now c.run_and_close.new.shard c.rollback.new.self c.requires.committed c.run_and_close.ensures.changed c.rollback.ensures.back c.rollback.ensures.committed in
-    rw p.1 is.same
-
-pub returns-in_err-emitted-in-Err-Abort-clause-committed : goal.returns-in_err-emitted-in-Err-Abort-clause-committed
-returns-in_err-emitted-in-Err-Abort-clause-committed c =
-    let p = err_from_is_err_and c.from_residual.result c.from_residual.ensures.1 in
-    let catalog = c.args.given.now.catalog.now in
-    let is = is_back catalog c.args.shard.now c.run_and_close.new.shard c.rollback.new.self c.requires.committed c.run_and_close.ensures.changed c.rollback.ensures.back c.rollback.ensures.committed in
-    rw p.1 is.committed
 
 pub returns-in-Err-NoMemory-clause-err : goal.returns-in-Err-NoMemory-clause-err
 returns-in-Err-NoMemory-clause-err c =
@@ -54,18 +33,18 @@ returns-in-Err-NoMemory-clause-committed c =
     let is = is_back catalog c.args.shard.now c.run_and_close.new.shard c.rollback-in-Err-NoMemory.new.self c.requires.committed c.run_and_close.ensures.changed c.rollback-in-Err-NoMemory.ensures.back c.rollback-in-Err-NoMemory.ensures.committed in
     is.committed
 
-pub returns-in_ok-emitted-in-Err-Abort-clause-back : goal.returns-in_ok-emitted-in-Err-Abort-clause-back
-returns-in_ok-emitted-in-Err-Abort-clause-back c =
+pub returns-in-Err-Abort-clause-back : goal.returns-in-Err-Abort-clause-back
+returns-in-Err-Abort-clause-back c =
     let catalog = c.args.given.now.catalog.now in
     let is = is_back catalog c.args.shard.now c.run_and_close.new.shard c.rollback.new.self c.requires.committed c.run_and_close.ensures.changed c.rollback.ensures.back c.rollback.ensures.committed in
     is.back
 
-pub returns-in_ok-emitted-in-Err-Abort-clause-ok : goal.returns-in_ok-emitted-in-Err-Abort-clause-ok
-returns-in_ok-emitted-in-Err-Abort-clause-ok c =
+pub returns-in-Err-Abort-clause-ok : goal.returns-in-Err-Abort-clause-ok
+returns-in-Err-Abort-clause-ok c =
     let catalog = c.args.given.now.catalog.now in
     let is = is_back catalog c.args.shard.now c.run_and_close.new.shard c.rollback.new.self c.requires.committed c.run_and_close.ensures.changed c.rollback.ensures.back c.rollback.ensures.committed in
     let s = contents_of c.args.shard.now in
     let stops : run_body (context_of c.args.given.now) c.args.body.now s ≡ Err c.in-Err-Abort.reason = subst (λ (stop : RunError). StopsAs (run_body (context_of c.args.given.now) c.args.body.now s) stop) c.in-Err-Abort.field-0-is c.in-Err-Abort.ensures.stops in
-    let none = c.in_ok-emitted-in-Err-Abort.ensures ∙ ap (λ n. replicate n []) c.len.ensures in
+    let none = c.new.ensures ∙ ap (λ n. replicate n []) c.len.ensures in
     ap (body_result catalog s) stops
     ∙ (λ i. record { contents = contents_with (sym is.same.tables i) (sym is.same.windows i); outcome = Aborted (sym c.in-Err-Abort.reason-is i); emitted = sym none i })

@@ -21,7 +21,7 @@ pub returns : goal.returns
 returns c =
     let fits : exceeds_row_limit (get_or c.args.work.now.emitted c.args.stream []) c.args.rows ≡ false = search rules in
     let done = rw c.as_slice-2.ensures at c.in_ok-run_stream_triggers.ensures.ok in record {
-      ok = emit_done (context_of c.args.given.now) c.args.stream c.args.rows (execution_of c.args.shard.now c.args.work.now) fits (execution_of c.run_stream_triggers.new.shard c.run_stream_triggers.new.work) c.add_batch.new.emitted done c.in_ok-add_batch.ensures;
+      ok = emit_done (context_of c.args.given.now) c.args.stream c.args.rows (execution_of c.args.shard.now c.args.work.now) fits (execution_of c.run_stream_triggers.new.shard c.run_stream_triggers.new.work) c.append.new.self done c.in_ok-append.ensures;
       stops = tt;
       changed = c.run_stream_triggers.ensures.changed;
     }
