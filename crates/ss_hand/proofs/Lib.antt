@@ -1,3 +1,4 @@
+mod Alone
 pub mod CallerLemmas
 pub mod Carrying
 pub mod GoingOn

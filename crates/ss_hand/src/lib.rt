@@ -10,7 +10,7 @@
 //! transactions hold all partitions that they touch (Meehan et al., PVLDB 8, 2015, section 3). That marks of a commit log
 //! say of which list a part is, is this project's own rule.
 //!
-//! - `partition`: what a bay has; `hand`: what is in hand
+//! - `partition`: what a bay has; `hand`: what is in hand; `turns`: the turns of the bays that this was taken from
 //! - `taking`, `putting`: the two calls; `closing`: all partitions, once there are no bays any more
 //! - `meeting`: a note that comes to know what ran on the parts in hand
 //! - `apart`, `joining`: partitions that come together, and shards in hand that become one
@@ -35,6 +35,7 @@ mod meeting;
 mod partition;
 mod putting;
 mod taking;
+mod turns;
 
 pub use closing::in_one_hand;
 pub use hand::Hand;
@@ -42,3 +43,4 @@ pub use meeting::show_note;
 pub use partition::Partition;
 pub use putting::put_parts;
 pub use taking::take_parts;
+pub use turns::Turns;

@@ -8,25 +8,26 @@ ghost use Rattle.ss_hand.specs.Hands.{IsInHand};
 
 use crate::hand::Hand;
 use crate::partition::Partition;
+use crate::turns::Turns;
 use ss_model::{Catalog, Life};
-use ss_party::{Bays, Turn};
+use ss_party::Bays;
 use ss_shard::part;
 use std::alloc::Global;
 
 /// Puts each partition in hand into its bay, the last one first. Takes no memory and waits for nobody.
-pub(crate) fn put_back<I: Life>(
-    bays: &Bays<Partition<I>>,
-    hand: Hand<I>,
-    mut turns: Vec<Turn<Partition<I>>>,
-)
+pub(crate) fn put_back<I: Life>(bays: &Bays<Partition<I>>, hand: Hand<I>, turns: Turns<I>)
     requires are { AreSetApart I.catalog I.parts I.opening hand }
-    requires turns { turns.items ≡ map (turn_of bays.now) (numbers_in hand) }
+    requires turns { turns ≡ map (turn_of bays.now) (numbers_in hand) }
 {
     let Hand {
         shard: first,
         shells: mut others,
         mut marks,
     } = hand;
+    let Turns {
+        first: turn,
+        others: mut turns,
+    } = turns;
     while let Some(shard) = others.pop() {
         let Some(mark) = marks.pop() else {
             unreachable!()
@@ -39,11 +40,8 @@ pub(crate) fn put_back<I: Life>(
     let Some(mark) = marks.pop() else {
         unreachable!()
     };
-    let Some(turn) = turns.pop() else {
-        unreachable!()
-    };
-    bays.put(turn, Partition::new(first, mark));
     turns.destroy_empty();
+    bays.put(turn, Partition::new(first, mark));
 }
 
 /// Gives each partition its part back, and puts it into its bay, the last one first. `parts` is how many partitions run, and the
@@ -56,12 +54,12 @@ pub fn put_parts<I: Life>(
     parts: u8,
     bays: &Bays<Partition<I>>,
     mut hand: Hand<I>,
-    turns: Vec<Turn<Partition<I>>>,
+    turns: Turns<I>,
 )
     requires catalog { catalog.now ≡ I.catalog }
     requires accepted { Accepted I.catalog }
     requires parts { (parts ≡ I.parts) × (1 ≤ parts) }
-    requires in_hand { (held : List ℕ) × IsInHand I.catalog I.parts I.opening held hand × (turns.items ≡ map (turn_of bays.now) held) }
+    requires in_hand { (held : List ℕ) × IsInHand I.catalog I.parts I.opening held hand × (turns ≡ map (turn_of bays.now) held) }
 {
     let shells = hand.shells.as_mut_slice();
     part(alloc, catalog, parts, &mut hand.shard, shells);

@@ -4,7 +4,7 @@ ghost use Rattle.std.specs.Prelude.{◌≡◌, ◌≤◌, ◌<◌, ℕ, IfOk, On
 ghost use Rattle.std.specs.Int.{IsBitSet};
 ghost use Rattle.ss_model.specs.Accepted.{Accepted};
 ghost use Rattle.ss_commitlog.specs.Tokens.{Follows};
-ghost use Rattle.ss_party.specs.Turns.{bay_count};
+ghost use Rattle.ss_party.specs.Turns.{bay_count, IsAlone};
 ghost use Rattle.ss_hand.specs.Apart.{WereTakenOut};
 ghost use Rattle.ss_hand.specs.Hands.{WereTaken};
 ghost use Rattle.ss_hand.specs.Meetings.{MayFollow};
@@ -14,12 +14,80 @@ use crate::hand::Hand;
 use crate::joining::join_all;
 use crate::partition::Partition;
 use crate::putting::put_back;
+use crate::turns::Turns;
 use ss_commitlog::{CommitLog, Note};
 use ss_model::{Catalog, Life};
-use ss_party::{Bays, Turn};
-use ss_value::{NoMemory, PartSet};
+use ss_party::Bays;
+use ss_value::{NoMemory, PartSet, Seq};
 use std::alloc::Global;
 use std::sync::Wait;
+
+/// Takes one partition out of its bay, and waits while the bay is empty. With it comes the turn of the bay. Out of memory has
+/// taken nothing. Takes memory for the mark alone.
+fn take_one<I: Life, R: Wait>(
+    rt: &R,
+    alloc: Global,
+    bays: &Bays<Partition<I>>,
+    p: u8,
+) -> Result<(Hand<I>, Turns<I>), NoMemory>
+    requires { p < bay_count bays.now }
+    ensures { IfOk result (λ taken. (set : ℕ) → IsAlone set p → WereTakenOut I.catalog I.parts I.opening bays.now set taken.0 taken.1) }
+{
+    // All room is made before the bay is taken.
+    let mut marks = Vec::with_capacity(alloc, 1)?;
+    let (partition, turn) = bays.take(rt, p);
+    let (shard, mark) = partition.into_parts();
+    marks.push_reserved(mark);
+    let hand = Hand {
+        shard,
+        shells: Vec::new(alloc),
+        marks: Seq::from_vec(marks),
+    };
+    let turns = Turns {
+        first: turn,
+        others: Vec::new(alloc),
+    };
+    Ok((hand, turns))
+}
+
+/// Takes several partitions out of their bays, in rising order, and waits at each whose bay is empty. With them come the turns of
+/// the bays. Out of memory has taken nothing.
+fn take_several<I: Life, R: Wait>(
+    rt: &R,
+    alloc: Global,
+    parts: u8,
+    bays: &Bays<Partition<I>>,
+    set: PartSet,
+) -> Result<(Hand<I>, Turns<I>), NoMemory>
+    requires bays { bay_count bays.now ≡ parts }
+    requires some { (p : ℕ) × IsBitSet set p }
+    requires below { (p : ℕ) → IsBitSet set p → p < parts }
+    ensures { IfOk result (λ taken. WereTakenOut I.catalog I.parts I.opening bays.now set taken.0 taken.1) }
+{
+    // All room is made before the first bay is taken.
+    let room = make_room(alloc, usize::from(parts))?;
+    let mut others = Vec::with_capacity(alloc, usize::from(parts))?;
+    let Ok(gathered) = bays.gather(rt, alloc, set) else {
+        others.destroy_empty();
+        return Err(NoMemory);
+    };
+    let mut list = gathered.into_vec();
+    list.as_mut_slice().reverse();
+    let Some((first, turn)) = list.pop() else {
+        unreachable!()
+    };
+    let mut apart = Apart::of_one(room, first);
+    while let Some((partition, turn)) = list.pop() {
+        apart.add(partition);
+        others.push_reserved(turn);
+    }
+    list.destroy_empty();
+    let turns = Turns {
+        first: turn,
+        others,
+    };
+    Ok((apart.into_hand(), turns))
+}
 
 /// Takes the partitions of a set out of their bays, in rising order, and waits at each whose bay is empty. With them come the
 /// turns of the bays. Out of memory has taken nothing.
@@ -29,32 +97,17 @@ fn take_out<I: Life, R: Wait>(
     parts: u8,
     bays: &Bays<Partition<I>>,
     set: PartSet,
-) -> Result<(Hand<I>, Vec<Turn<Partition<I>>>), NoMemory>
+) -> Result<(Hand<I>, Turns<I>), NoMemory>
     requires bays { bay_count bays.now ≡ parts }
     requires some { (p : ℕ) × IsBitSet set p }
     requires below { (p : ℕ) → IsBitSet set p → p < parts }
-    ensures { IfOk result (λ taken. WereTakenOut I.catalog I.parts I.opening bays.now set taken.0 taken.1.items) }
+    ensures { IfOk result (λ taken. WereTakenOut I.catalog I.parts I.opening bays.now set taken.0 taken.1) }
 {
-    // All room is made before the first bay is taken.
-    let room = make_room(alloc, usize::from(parts))?;
-    let mut turns = Vec::with_capacity(alloc, usize::from(parts))?;
-    let Ok(gathered) = bays.gather(rt, alloc, set) else {
-        turns.destroy_empty();
-        return Err(NoMemory);
-    };
-    let mut list = gathered.into_vec();
-    list.as_mut_slice().reverse();
-    let Some((first, turn)) = list.pop() else {
-        unreachable!()
-    };
-    turns.push_reserved(turn);
-    let mut apart = Apart::of_one(room, first);
-    while let Some((partition, turn)) = list.pop() {
-        apart.add(partition);
-        turns.push_reserved(turn);
+    // Most entries touch one partition, for which no list of several has to be made.
+    match bays.only(set) {
+        Some(p) => take_one(rt, alloc, bays, p),
+        None => take_several(rt, alloc, parts, bays, set),
     }
-    list.destroy_empty();
-    Ok((apart.into_hand(), turns))
 }
 
 /// Takes the partitions of a set out of their bays, in rising order, and waits at each whose bay is empty. Then their marks and
@@ -62,7 +115,8 @@ fn take_out<I: Life, R: Wait>(
 /// `parts` is how many partitions run.
 ///
 /// A turn can't be let go of, so whoever has taken parts puts them back. Out of memory has put back what it took. Takes the
-/// log's lock once, a step for each bay, and for each partition but the first what `absorb` takes, whatever the rows.
+/// log's lock once, a step for each bay, and for each partition but the first what `absorb` takes, whatever the rows. Of one
+/// partition it takes memory for a mark, of several for as many marks, shards and turns as run.
 pub fn take_parts<I: Life, R: Wait>(
     rt: &R,
     alloc: Global,
@@ -72,7 +126,7 @@ pub fn take_parts<I: Life, R: Wait>(
     bays: &Bays<Partition<I>>,
     set: PartSet,
     note: &mut Note<I>,
-) -> Result<(Hand<I>, Vec<Turn<Partition<I>>>), NoMemory>
+) -> Result<(Hand<I>, Turns<I>), NoMemory>
     requires catalog { catalog.now ≡ I.catalog }
     requires accepted { Accepted I.catalog }
     requires parts { (parts ≡ I.parts) × (1 ≤ parts) }
@@ -81,7 +135,7 @@ pub fn take_parts<I: Life, R: Wait>(
     requires below { (p : ℕ) → IsBitSet set p → p < I.parts }
     ensures note { MayFollow I.catalog I.parts I.limit note.old note.new }
     ensures follows { OnOk result (Follows I.catalog I.parts I.limit note.old note.new) }
-    ensures ok { IfOk result (λ taken. WereTaken I.catalog I.parts I.opening bays.now set note.new taken.0 taken.1.items) }
+    ensures ok { IfOk result (λ taken. WereTaken I.catalog I.parts I.opening bays.now set note.new taken.0 taken.1) }
 {
     let (mut hand, turns) = take_out(rt, alloc, parts, bays, set)?;
     match join_all(rt, alloc, log, catalog, parts, &mut hand, note) {

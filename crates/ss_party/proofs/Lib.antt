@@ -1,3 +1,4 @@
+pub mod Alone
 pub mod CallerLemmas
 pub mod Gathering
 mod Lists

@@ -16,6 +16,10 @@ pub record TurnValue : Type 0 where
 abbrev pub turn_of : TableId → ℕ → TurnValue
 turn_of bays bay = record { bays = bays; bay = bay }
 
+-- A set has this one member.
+abbrev pub IsAlone : ℕ → ℕ → Type 0
+IsAlone set p = (q : ℕ) → IsBitSet set q ↔ (q ≡ p)
+
 -- A value that belongs to this bay, with the turn of this bay.
 pub record IsTaken {T : Type 0} (tag : T → ℕ) (bays : TableId) (bay : ℕ) (taken : T × TurnValue) : Type 0 where
   pub own : tag taken.0 ≡ bay

@@ -1,15 +1,15 @@
 //! The calls.
 
-ghost use Rattle.std.specs.Prelude.{◌≡◌, ◌<◌, ◌≤◌, ℕ, [], length, vec_capacity, IfSome, IfOk, IfErr};
+ghost use Rattle.std.specs.Prelude.{◌≡◌, ◌<◌, ◌≤◌, ℕ, [], length, vec_capacity, IfSome, IfNone, IfOk, IfErr};
 ghost use Rattle.std.specs.Int.{IsBitSet};
 ghost use Rattle.ss_party.specs.Tags.{TagsFrom};
-ghost use Rattle.ss_party.specs.Turns.{bay_count, turn_of, IsTaken, IsGathered};
+ghost use Rattle.ss_party.specs.Turns.{bay_count, turn_of, IsAlone, IsTaken, IsGathered};
 
 use crate::moving::{empty_slots, fill_slots};
 use crate::rule::{BayTable, Gives};
 use crate::sleepers::Sleepers;
 use crate::tagged::Tagged;
-use crate::taking::{take_all, take_if_full, take_members, take_when_full};
+use crate::taking::{only_member, take_all, take_if_full, take_members, take_when_full};
 use crate::turn::Turn;
 use ss_value::{NoMemory, PartSet, Seq};
 use std::alloc::Global;
@@ -110,6 +110,15 @@ impl<T: Tagged> Bays<T> {
         ensures { IsTaken T.tag self.now p result }
     {
         take_when_full(rt, &self.table, &self.sleepers, p as usize)
+    }
+
+    /// The bay of a set that names one bay alone, and None where the set names several or none. Constant.
+    pub fn only(&self, set: PartSet) -> Option<u8>
+        requires { (p : ℕ) → IsBitSet set p → p < bay_count self.now }
+        ensures some { IfSome result (λ p. (p < bay_count self.now) × IsAlone set p) }
+        ensures none { IfNone result ((p : ℕ) → IsAlone set p → ⊥) }
+    {
+        only_member(set, self.table.slot_count())
     }
 
     /// Takes the values of all bays of a set, and of no others, each with the turn of its bay. It takes them in rising

@@ -21,6 +21,7 @@
 //!
 //! - `try_take` (`some`) and `take`: a value that belongs to this very bay, with the turn of this bay (`IsTaken`).
 //! - `gather` (`ok`): just the values of a set's bays, in rising order, each with its turn (`IsGathered`).
+//! - `only` (`some`, `none`): the bay of a set that names one alone (`IsAlone`); who takes one bay by `take` needs no list.
 //! - `close`: one value for each bay, in order (`TagsFrom`).
 //! - `new` (`err`): out of memory gives the items back.
 //!

@@ -2,11 +2,11 @@
 //!
 //! Nothing here takes memory, and nothing can fail: lists come with their room.
 
-ghost use Rattle.std.specs.Prelude.{◌≡◌, ◌<◌, ◌≤◌, ℕ, [], length, vec_capacity, IfSome};
+ghost use Rattle.std.specs.Prelude.{◌≡◌, ◌<◌, ◌≤◌, ℕ, [], length, vec_capacity, IfSome, IfNone};
 ghost use Rattle.std.specs.Int.{IsBitSet};
 ghost use Rattle.ss_party.specs.Rule.{AreBays};
 ghost use Rattle.ss_party.specs.Tags.{TagsFrom};
-ghost use Rattle.ss_party.specs.Turns.{IsTaken, IsGathered};
+ghost use Rattle.ss_party.specs.Turns.{IsAlone, IsTaken, IsGathered};
 
 use crate::rule::{BayTable, Takes};
 use crate::sleepers::Sleepers;
@@ -48,6 +48,25 @@ pub(crate) fn take_when_full<T: Tagged, R: Wait>(
         sleepers.sleep(rt, table, p);
     }
     unreachable!()
+}
+
+/// The one member of a set of numbers below a count, and None where it has several or none.
+pub(crate) fn only_member(set: PartSet, count: usize) -> Option<u8>
+    requires few { count ≤ 8 }
+    requires members { (p : ℕ) → IsBitSet set p → p < count }
+    ensures some { IfSome result (λ p. (p < count) × IsAlone set p) }
+    ensures none { IfNone result ((p : ℕ) → IsAlone set p → ⊥) }
+{
+    let mut found = None;
+    for p in 0..count {
+        if set.has(p as u8) {
+            if found.is_some() {
+                return None;
+            }
+            found = Some(p as u8);
+        }
+    }
+    found
 }
 
 /// The values of a set's bays with their turns, in rising order, into a list that has the room.

@@ -7,7 +7,7 @@ use Rattle.ss_hand.proofs.putting.put_back.Given as goal
 abbrev pub invariant-loop-shard : goal.invariant-loop-shard
 invariant-loop-shard g l = record {
   are : ArePartitions g.I.Life.catalog g.I.Life.parts g.I.Life.opening (l.first ∷ l.others.items) l.marks;
-  turns_are : l.turns.items ≡ map (turn_of l.bays) (numbers_of (l.first ∷ l.others.items));
+  turns_are : l.turn ∷ l.turns.items ≡ map (turn_of l.bays) (numbers_of (l.first ∷ l.others.items));
 }
 
 abbrev pub decreases-loop-shard : goal.decreases-loop-shard

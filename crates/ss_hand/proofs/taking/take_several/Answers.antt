@@ -11,7 +11,7 @@ use Rattle.ss_hand.specs.Apart.{shards_of, numbers_in, HasRoom}
 use Rattle.ss_hand.specs.Partitions.{PartitionView, number_of}
 use Rattle.ss_hand.proofs.Partitions.{turns_more}
 use Rattle.ss_hand.proofs.Turned.{turned, turned_more, empty, first_has, numbers_on, turn_is, less_room}
-use Rattle.ss_hand.proofs.taking.take_out.Goals as goal
+use Rattle.ss_hand.proofs.taking.take_several.Goals as goal
 
 pub of_one-apart-requires : goal.of_one-apart-requires
 of_one-apart-requires g c =
@@ -38,10 +38,8 @@ loop-partition-init g c =
     let d = c.in-Some.ensures.len in
     let e = c.from.ensures in
     let f = c.from-2.ensures in
-    let h = c.in_ok-turns.ensures.exact in
-    let i = c.in_ok-turns.ensures.len in
-    let j = c.push_reserved.ensures.len in
-    let k = c.push_reserved.ensures.capacity in
+    let h = c.in_ok-others.ensures.exact in
+    let i = c.in_ok-others.ensures.len in
     let same : length c.reverse.new.self ≡ c.into_vec-list.result.len = c.reverse.ensures.len ∙ c.as_mut_slice.ensures.len in
     let back : c.reverse.new.self ≡ reverse gathered = c.reverse.ensures.after ∙ ap reverse (c.as_mut_slice.ensures.value ∙ c.into_vec-list.ensures) in
     let is : gathered ≡ (first, turn) ∷ reverse rest = turned gathered c.reverse.new.self rest (first, turn) back (sym (with_items_is c.into_vec-list.result c.reverse.new.self same) ∙ c.in-Some.ensures.items) in
@@ -49,7 +47,7 @@ loop-partition-init g c =
     let one : turn ≡ turn_of bays (number_of first) = turn_is bays first turn (first_has own (first, turn) (reverse rest) gathered is c.in-Ok.ensures.ok.own) in
     record {
       are = c.of_one-apart.ensures.are;
-      turns_are = c.push_reserved.ensures.items ∙ ap (λ (l : List TurnValue). l ++ turn ∷ []) c.in_ok-turns.ensures.items ∙ ap (λ (t : TurnValue). t ∷ []) one
+      turns_are = (λ k. one k ∷ c.in_ok-others.ensures.items k)
           ∙ ap (λ (l : List ShardValue). map (turn_of bays) (numbers_of l)) (sym c.of_one-apart.ensures.shards);
       all = refl;
       own = All-rest own (first, turn) (reverse rest) gathered is c.in-Ok.ensures.ok.own;
@@ -73,11 +71,11 @@ loop-partition-preserved g c =
     let more = length-append rest ((partition, turn) ∷ []) in
     let long : length old ≡ suc (length rest) = ap length c.in-Some-pop.ensures.items ∙ (omega arith) in
     let a = i.turn_room in
-    let b = c.push_reserved-in-Some-pop.ensures.len in
-    let d = c.push_reserved-in-Some-pop.ensures.capacity in
+    let b = c.push_reserved.ensures.len in
+    let d = c.push_reserved.ensures.capacity in
     record {
       are = c.add.ensures.are;
-      turns_are = c.push_reserved-in-Some-pop.ensures.items ∙ ap (λ (l : List TurnValue). l ++ turn ∷ []) i.turns_are
+      turns_are = ap (λ (l : List TurnValue). c.in-Some.turn ∷ l) c.push_reserved.ensures.items ∙ ap (λ (l : List TurnValue). l ++ turn ∷ []) i.turns_are
           ∙ ap (λ (t : TurnValue). map (turn_of bays) (numbers_of before) ++ t ∷ []) one
           ∙ sym (turns_more bays before partition.shard)
           ∙ ap (λ (l : List ShardValue). map (turn_of bays) (numbers_of l)) (sym c.add.ensures.shards);
