@@ -15,8 +15,8 @@ use std::sync::Wait;
 /// A database in partitions, whose executions are one list whatever threads run them.
 ///
 /// Clients hand requests to the inboxes of partitions by their lanes (`submit`); whoever pumps an inbox runs what waits there
-/// (`pump`). While an execution runs, no lock is held; its partitions are in hand, and the log's lock is held for the commit
-/// alone.
+/// (`pump`). While a body runs, no lock is held; its partitions are in hand. The log's lock is taken for moments: where
+/// partitions are taken, for looks at what is ready and for batches, for the commit, and where a note meets a mark.
 ///
 /// It is one type, and `pump` one of its calls, instead of a trait of whoever runs the work of an inbox, because the
 /// checker doesn't cover a call through such a trait where partitions are the values of bays.
@@ -45,7 +45,8 @@ impl<I: Life, N: Runner + Drop, G: Gate + Drop> Model for Engine<I, N, G> {
 }
 
 impl<I: Life, N: Runner + Drop, G: Gate + Drop> Engine<I, N, G> {
-    /// What each execution of this engine is given.
+    /// What each execution of this engine is given. Lends it; takes no lock and no memory. `pump` calls it: the close, which has
+    /// taken the engine apart, makes its own.
     pub(crate) fn works<'a, R: Wait>(&'a self, rt: &'a R, alloc: Global) -> Works<'a, I, N, R> {
         Works {
             rt,

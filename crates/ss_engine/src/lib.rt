@@ -10,18 +10,24 @@
 //!
 //! # Rooms
 //!
-//! `engine` is what threads share: the hub, the bays, the catalogue, the runner and the gate. Who acts on it has a folder:
+//! `engine` is what threads share: the hub, the bays, the catalogue, the home of each procedure, how many partitions run, the
+//! runner, and the gate (that of `ss_settle`, which is told of each execution, so that a test may hold one). Who acts on it has a
+//! folder:
 //!
-//! - `client`, a client's side. It touches its lane, the hub and the lock of `ss_receipts`, and takes no partition: what it asks
-//!   for it sends. `submit` takes one request and `send` waits for its answer; `receipt` asks that answers be durable; `requests`
-//!   makes those of one client in order. Threads of clients call it; while it waits it pumps an inbox that has no executor.
-//! - `partition`, a partition's side. It alone takes partitions out of their bays and puts them back (`hands`), until the close.
-//!   `pump` takes what waits in an inbox, and sleeps there: `serve` serves a job, `follow` a hint, and `wake` puts hints;
-//!   `touched` reads which partitions an entry touches, `least` finds the first of a small set, and `pumped` is what a pump came
-//!   to. Executors call it, and clients that wait.
+//! - `client`, a client's side. It touches its lane, the hub, the commit log's lock, where marks and notes meet, and the lock of
+//!   `ss_receipts`, under which it may flush the disk. It takes no partition itself: what it asks for it sends, to the inbox that
+//!   `touched` tells. `submit` takes one request and `send` waits for its answer; `receipt` asks that answers be durable;
+//!   `requests` makes those of one client in order, and calls the others. Threads of clients call `requests`. While `send` waits
+//!   at an inbox that has no executor it pumps it, so its thread then does all that an executor does.
+//! - `partition`, a partition's side. It alone takes partitions out of their bays and puts them back (`hands`), until the close;
+//!   besides it touches the inboxes, the slots of clients and the commit log's lock, and never the disk or `ss_receipts`. `pump`
+//!   takes what waits in an inbox, and sleeps there: `serve` serves a job and answers into the client's slot, `follow` a hint or,
+//!   where nothing waits, the first procedure that is ready, and `wake` puts hints into the inboxes of other homes; `touched`
+//!   reads which partitions an entry touches, `least` finds the first of a small set, and `pumped` is what a pump came to.
+//!   Executors call `pump` and `rest`, clients that wait `pump`, and the thread of the session `stop` and `no_executor`.
 //! - `session`, a run from end to end. `open` makes an engine with a lane for each client, `threads` lets clients and executors at
-//!   it, `close` takes it apart with all partitions in one hand, and `run` is all three, with the last flush. What stands above this
-//!   crate calls it.
+//!   it, by the hub too, `close` takes it apart with all partitions in one hand, and `run` is all three, with the lock of
+//!   `ss_receipts` and the last flush. What stands above this crate calls `run_session`.
 //!
 //! Of the locks none is held while another one is waited for, but that of `ss_receipts`, under which the commit log's is taken.
 //!

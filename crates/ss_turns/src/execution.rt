@@ -24,7 +24,8 @@ use std::sync::Wait;
 
 /// Runs what a client asks for on the parts in hand, and commits it under their marks and the client's.
 ///
-/// What has no place in the list is rolled back. Costs the execution and its commit, and a copy of the entry.
+/// What has no place in the list is rolled back. Costs the execution and its commit, and a copy of the entry; takes the log's lock
+/// once, for the commit.
 pub fn execute_asked<I: Life, N: Runner, R: Wait>(
     works: &Works<I, N, R>,
     hand: &mut Hand<I>,
@@ -54,7 +55,7 @@ pub fn execute_asked<I: Life, N: Runner, R: Wait>(
 /// procedure has no batch for it.
 ///
 /// What has no place in the list is rolled back. Costs copies of its batches, the execution and its commit, and a copy of the
-/// entry; takes the log's lock once for each input and once for the commit.
+/// entry; takes the log's lock once for each input, up to the first that has no batch, and once for the commit.
 pub fn execute_step<I: Life, N: Runner, R: Wait>(
     works: &Works<I, N, R>,
     hand: &mut Hand<I>,

@@ -2,7 +2,8 @@
 //!
 //! Who has a hand runs one entry on its shard, commits the entry in the log under the marks in hand, and then makes the shard's
 //! changes final; where it has no place in the list, they are taken back. Who takes the hand out of bays and puts it back is
-//! not seen here, nor who asked: that is `ss_engine`, and `ss_settle` at its close.
+//! not seen here, nor who asked: that is `ss_engine`, which has a job served by `execute_asked` and a hint followed by
+//! `execute_step`; at the close, with all partitions in hand, `ss_settle` calls the second.
 //!
 //! - `execution`: an entry that a client asks for, or the next step of a procedure, on the parts in hand
 //! - `running`: its run, its commit and its end; `asking`: the commit of what a client asked for

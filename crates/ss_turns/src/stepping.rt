@@ -20,7 +20,6 @@ use ss_plan::Batches;
 use ss_proc::{Executed, Runner};
 use ss_shard::Shard;
 use ss_value::{NoMemory, Rows, Seq};
-use std::alloc::Global;
 use std::sync::Wait;
 
 /// The most batches that a procedure takes: past them there is no step. No memory holds as many.
@@ -88,18 +87,6 @@ pub(crate) fn look_for<I: Life, N: Runner, R: Wait>(
     look_each(works, mark, streams, procedure, r)
 }
 
-/// All these batches, lent and not copied.
-fn lend_all<'a>(alloc: Global, rows: &'a Seq<Rows>) -> Result<Batches<'a>, NoMemory>
-    ensures { IfOk result (λ batches. batches ≡ rows.now) }
-{
-    let mut batches = Batches::new(alloc);
-    let list = rows.as_slice();
-    for batch in list {
-        batches.push(batch)?;
-    }
-    Ok(batches)
-}
-
 /// Runs a step on its batches. The caller then ends the run. After an error the shard has what it had.
 pub(crate) fn run_step<I: Life, N: Runner, R: Wait>(
     works: &Works<I, N, R>,
@@ -115,6 +102,6 @@ pub(crate) fn run_step<I: Life, N: Runner, R: Wait>(
         → HasRun I.catalog n shard.old shard.new (record { entry = entry.now; outcome = x.outcome }) rows.now x.emitted) }
     ensures err { OnErr result ((n : ℕ) → HasStayed I.catalog n shard.old shard.new) }
 {
-    let batches = lend_all(works.alloc, rows)?;
+    let batches = Batches::all(works.alloc, rows.as_slice());
     run(works, shard, &batches, entry)
 }

@@ -23,8 +23,9 @@ impl<I: Life, N: Runner + Drop, G: Gate + Drop> Engine<I, N, G> {
     /// Sends the entry that a client asks for to the inbox of a partition, and waits for its answer.
     ///
     /// A lane whose request was listed knows a list with its entry; whatever the answer is, of its client's entries that list
-    /// has just those of its listed answers. NoMemory and ListFull have changed nothing. Takes the inbox's lock once and the
-    /// log's once, and the slot's each time that it looks or rests there, beside those of a pump.
+    /// has just those of its listed answers. NoMemory and ListFull have changed nothing. Takes the inbox's lock once, the log's
+    /// once where the inbox had room, and the slot's at most each time that it looks or rests there, beside those of a pump. Takes
+    /// no memory itself.
     pub(crate) fn send<R: Wait>(
         &self,
         rt: &R,

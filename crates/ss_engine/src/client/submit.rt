@@ -18,7 +18,8 @@ impl<I: Life, N: Runner + Drop, G: Gate + Drop> Engine<I, N, G> {
     /// Sends a request to the inbox of the least partition that its entry touches, and waits for its answer. Where that inbox
     /// has no executor, it pumps it meanwhile.
     ///
-    /// It copies what is asked for. A lane whose request was listed knows a list with its entry; whatever the answer is, of
+    /// It copies what is asked for, which is all the memory that it takes itself, and its locks are those of `send`. `requests`
+    /// calls it. A lane whose request was listed knows a list with its entry; whatever the answer is, of
     /// its client's entries that list has just those of its listed answers. NoMemory and ListFull have changed nothing.
     ///
     /// A lane that was told that the disk has failed is answered so at once, and nothing is sent. Fewer than 16 of its listed

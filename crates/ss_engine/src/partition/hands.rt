@@ -8,9 +8,8 @@ ghost use Rattle.ss_hand.specs.Hands.{IsInHand, WereTaken};
 
 use crate::engine::Engine;
 use ss_commitlog::Note;
-use ss_hand::{Hand, Partition, put_parts, take_parts};
+use ss_hand::{Hand, Turns, put_parts, take_parts};
 use ss_model::Life;
-use ss_party::Turn;
 use ss_proc::Runner;
 use ss_settle::Gate;
 use ss_turns::Works;
@@ -19,17 +18,19 @@ use std::alloc::Global;
 use std::sync::Wait;
 
 impl<I: Life, N: Runner + Drop, G: Gate + Drop> Engine<I, N, G> {
-    /// Takes the partitions of a set out of their bays, as `take_parts` does. Out of memory has taken none.
+    /// Takes the partitions of a set out of their bays, in rising order, and waits at each that is empty, as `take_parts` does. Takes
+    /// the log's lock once. Out of memory has put back what it took; the note may know more of the list. `serve` and `follow` call
+    /// it.
     pub(crate) fn take_set<R: Wait>(
         &self,
         works: &Works<I, N, R>,
         note: &mut Note<I>,
         set: PartSet,
-    ) -> Result<(Hand<I>, Vec<Turn<Partition<I>>>), NoMemory>
+    ) -> Result<(Hand<I>, Turns<I>), NoMemory>
         requires some { (p : ℕ) × IsBitSet set p }
         requires below { (p : ℕ) → IsBitSet set p → p < I.parts }
         ensures note { GoesOn I.catalog I.parts note.old note.new }
-        ensures ok { IfOk result (λ taken. WereTaken I.catalog I.parts I.opening self.now set note.new taken.0 taken.1.items) }
+        ensures ok { IfOk result (λ taken. WereTaken I.catalog I.parts I.opening self.now set note.new taken.0 taken.1) }
     {
         take_parts(
             works.rt,
@@ -43,9 +44,9 @@ impl<I: Life, N: Runner + Drop, G: Gate + Drop> Engine<I, N, G> {
         )
     }
 
-    /// Puts them back, as `put_parts` does.
-    pub(crate) fn put_back(&self, alloc: Global, hand: Hand<I>, turns: Vec<Turn<Partition<I>>>)
-        requires { (held : List ℕ) × IsInHand I.catalog I.parts I.opening held hand × (turns.items ≡ map (turn_of self.now) held) }
+    /// Puts them back, as `put_parts` does. Takes no memory and no lock, and waits for nobody.
+    pub(crate) fn put_back(&self, alloc: Global, hand: Hand<I>, turns: Turns<I>)
+        requires { (held : List ℕ) × IsInHand I.catalog I.parts I.opening held hand × (turns ≡ map (turn_of self.now) held) }
     {
         put_parts(alloc, &self.catalog, self.parts, &self.bays, hand, turns);
     }

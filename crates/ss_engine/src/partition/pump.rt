@@ -22,7 +22,9 @@ impl<I: Life, N: Runner + Drop, G: Gate + Drop> Engine<I, N, G> {
     /// It answers for the list that the lent note then knows (`IsPumped`), instead of for what was in the inbox,
     /// because that stands behind a lock.
     ///
-    /// Whoever waits for an answer may lend it a note.
+    /// Executors call it, and clients that wait for an answer from an inbox without an executor; each lends it a note. Takes the
+    /// inbox's lock for each item that is signalled, the log's and the bays of the entry to run it, the client's slot to answer a
+    /// job, and the inboxes of other homes to wake them. Touches no disk.
     pub fn pump<R: Wait>(&self, rt: &R, alloc: Global, note: &mut Note<I>, p: u8) -> Pumped
         requires { p < I.parts }
         ensures { IsPumped I.catalog I.parts I.opening I.first I.limit p note.old note.new result }
@@ -53,14 +55,14 @@ impl<I: Life, N: Runner + Drop, G: Gate + Drop> Engine<I, N, G> {
         }
     }
 
-    /// Waits while the inbox of a partition is empty and `stop` wasn't called. Takes no memory.
+    /// Waits while the inbox of a partition is empty and `stop` wasn't called. Takes no memory. Its executor calls it.
     pub fn rest<R: Wait>(&self, rt: &R, p: u8)
         requires { p < I.parts }
     {
         self.hub.rest(rt, p);
     }
 
-    /// Ends every rest at an inbox, those to come too. Takes no memory.
+    /// Ends every rest at an inbox, those to come too. Takes no memory. The thread of the session calls it.
     pub fn stop<R: Wait>(&self, rt: &R) {
         self.hub.stop(rt);
     }

@@ -9,10 +9,9 @@ ghost use Rattle.ss_engine.specs.Serving.{ServesHere};
 use crate::engine::Engine;
 use crate::partition::pumped::Pumped;
 use ss_commitlog::{Note, Placed, Unlisted};
-use ss_hand::{Hand, Partition};
+use ss_hand::{Hand, Turns};
 use ss_lanes::Job;
 use ss_model::Life;
-use ss_party::Turn;
 use ss_proc::Runner;
 use ss_settle::Gate;
 use ss_turns::{Works, execute_asked};
@@ -54,9 +53,9 @@ impl<I: Life, N: Runner + Drop, G: Gate + Drop> Engine<I, N, G> {
         p: u8,
         job: Job<I>,
         mut hand: Hand<I>,
-        turns: Vec<Turn<Partition<I>>>,
+        turns: Turns<I>,
     ) -> Pumped
-        requires { (held : List ℕ) × ServesHere I.catalog I.parts I.opening p held note.old hand job.entry × (turns.items ≡ map (turn_of self.now) held) }
+        requires { (held : List ℕ) × ServesHere I.catalog I.parts I.opening p held note.old hand job.entry × (turns ≡ map (turn_of self.now) held) }
         ensures { IsPumped I.catalog I.parts I.opening I.first I.limit p note.old note.new result }
     {
         let Job {

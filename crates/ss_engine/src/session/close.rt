@@ -80,7 +80,9 @@ impl<I: Life, N: Runner + Drop, G: Gate + Drop> Engine<I, N, G> {
     /// Takes all partitions in one hand, runs steps in the order of settling until none is ready, and hands over the list with all
     /// that it leaves.
     ///
-    /// Waits for each partition that is out. Where there is no memory to take all partitions in one hand, no step is run, and the
+    /// `run` calls it, once no thread shares the engine. Waits for each partition that is out. Takes memory and the log's lock for
+    /// the hand and as `settle` does for each step, of which the gate is told; touches no disk. What still waits in the hub is let
+    /// go. Where there is no memory to take all partitions in one hand, no step is run, and the
     /// list is handed over without the database; how settling ended says so too. No row is moved.
     pub fn close<R: Wait>(
         self,

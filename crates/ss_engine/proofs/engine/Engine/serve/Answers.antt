@@ -14,8 +14,8 @@ take_set-requires-clause-below g c = members_run g.I.Life.catalog g.I.Life.parts
 
 pub serve_in_hand-requires : goal.serve_in_hand-requires
 serve_in_hand-requires g c =
-    let w : WereTaken {I = g.row.I.Denot} g.I.Life.catalog g.I.Life.parts g.I.Life.opening c.args.self.now c.touched-least.result.1 c.take_set.new.note c.in-Ok.hand c.in-Ok.turns.items
-    = of_ok c.take_set.result (c.in-Ok.hand, c.in-Ok.turns) (λ t. WereTaken {I = g.row.I.Denot} g.I.Life.catalog g.I.Life.parts g.I.Life.opening c.args.self.now c.touched-least.result.1 c.take_set.new.note t.0 t.1.items)
+    let w : WereTaken {I = g.row.I.Denot} g.I.Life.catalog g.I.Life.parts g.I.Life.opening c.args.self.now c.touched-least.result.1 c.take_set.new.note c.in-Ok.hand c.in-Ok.turns
+    = of_ok c.take_set.result (c.in-Ok.hand, c.in-Ok.turns) (λ t. WereTaken {I = g.row.I.Denot} g.I.Life.catalog g.I.Life.parts g.I.Life.opening c.args.self.now c.touched-least.result.1 c.take_set.new.note t.0 t.1)
     c.in-Ok.is c.take_set.ensures.ok in
     let same : c.touched-least.result.0 ≡ c.args.p = search (rules, c.if-least-p.false) in (
       w.held,

@@ -24,15 +24,15 @@ pub execute_step-stepped-requires-clause-holds : goal.execute_step-stepped-requi
 execute_step-stepped-requires-clause-holds g c =
     let just = just_here g.I.Life.catalog c.self.inside.catalog g.I.Life.parts c.self.inside.parts (StepEntry c.args.procedure 0) c.procedure_touch_set-set.result c.self.invariant.catalog_is c.self.invariant.parts_are
     (c.procedure_touch_set-set.ensures 0) in
-    let w : WereTaken {I = g.row.I.Denot} g.I.Life.catalog g.I.Life.parts g.I.Life.opening c.args.self.now c.procedure_touch_set-set.result c.take_set.new.note c.in-Ok.hand c.in-Ok.turns.items
-    = of_ok c.take_set.result (c.in-Ok.hand, c.in-Ok.turns) (λ t. WereTaken {I = g.row.I.Denot} g.I.Life.catalog g.I.Life.parts g.I.Life.opening c.args.self.now c.procedure_touch_set-set.result c.take_set.new.note t.0 t.1.items)
+    let w : WereTaken {I = g.row.I.Denot} g.I.Life.catalog g.I.Life.parts g.I.Life.opening c.args.self.now c.procedure_touch_set-set.result c.take_set.new.note c.in-Ok.hand c.in-Ok.turns
+    = of_ok c.take_set.result (c.in-Ok.hand, c.in-Ok.turns) (λ t. WereTaken {I = g.row.I.Denot} g.I.Life.catalog g.I.Life.parts g.I.Life.opening c.args.self.now c.procedure_touch_set-set.result c.take_set.new.note t.0 t.1)
     c.in-Ok.is c.take_set.ensures.ok in
     record { held = w.held; in_hand = w.in_hand; touched = holds_touched g.I.Life.catalog g.I.Life.parts (StepEntry c.args.procedure 0) c.procedure_touch_set-set.result w.held just w.members }
 
 pub put_back-requires : goal.put_back-requires
 put_back-requires g c =
-    let w : WereTaken {I = g.row.I.Denot} g.I.Life.catalog g.I.Life.parts g.I.Life.opening c.args.self.now c.procedure_touch_set-set.result c.take_set.new.note c.in-Ok.hand c.in-Ok.turns.items
-    = of_ok c.take_set.result (c.in-Ok.hand, c.in-Ok.turns) (λ t. WereTaken {I = g.row.I.Denot} g.I.Life.catalog g.I.Life.parts g.I.Life.opening c.args.self.now c.procedure_touch_set-set.result c.take_set.new.note t.0 t.1.items)
+    let w : WereTaken {I = g.row.I.Denot} g.I.Life.catalog g.I.Life.parts g.I.Life.opening c.args.self.now c.procedure_touch_set-set.result c.take_set.new.note c.in-Ok.hand c.in-Ok.turns
+    = of_ok c.take_set.result (c.in-Ok.hand, c.in-Ok.turns) (λ t. WereTaken {I = g.row.I.Denot} g.I.Life.catalog g.I.Life.parts g.I.Life.opening c.args.self.now c.procedure_touch_set-set.result c.take_set.new.note t.0 t.1)
     c.in-Ok.is c.take_set.ensures.ok in
     (w.held, c.show_note.ensures.in_hand w.held (c.execute_step-stepped.ensures.in_hand w.held w.in_hand), w.turns_are)
 
@@ -44,16 +44,16 @@ show_note-requires-clause-parts g c = c.self.invariant.some
 
 pub show_note-requires-clause-marks : goal.show_note-requires-clause-marks
 show_note-requires-clause-marks g c = λ none.
-    let w : WereTaken {I = g.row.I.Denot} g.I.Life.catalog g.I.Life.parts g.I.Life.opening c.args.self.now c.procedure_touch_set-set.result c.take_set.new.note c.in-Ok.hand c.in-Ok.turns.items
-    = of_ok c.take_set.result (c.in-Ok.hand, c.in-Ok.turns) (λ t. WereTaken {I = g.row.I.Denot} g.I.Life.catalog g.I.Life.parts g.I.Life.opening c.args.self.now c.procedure_touch_set-set.result c.take_set.new.note t.0 t.1.items)
+    let w : WereTaken {I = g.row.I.Denot} g.I.Life.catalog g.I.Life.parts g.I.Life.opening c.args.self.now c.procedure_touch_set-set.result c.take_set.new.note c.in-Ok.hand c.in-Ok.turns
+    = of_ok c.take_set.result (c.in-Ok.hand, c.in-Ok.turns) (λ t. WereTaken {I = g.row.I.Denot} g.I.Life.catalog g.I.Life.parts g.I.Life.opening c.args.self.now c.procedure_touch_set-set.result c.take_set.new.note t.0 t.1)
     c.in-Ok.is c.take_set.ensures.ok in
     let (m, m_in) = some_mark g.I.Life.catalog g.I.Life.parts g.I.Life.opening w.held c.execute_step-stepped.new.hand (c.execute_step-stepped.ensures.in_hand w.held w.in_hand) in
     subst (λ (ks : List Known). In m ks) none m_in
 
 pub returns : goal.returns
 returns g c =
-    let w : WereTaken {I = g.row.I.Denot} g.I.Life.catalog g.I.Life.parts g.I.Life.opening c.args.self.now c.procedure_touch_set-set.result c.take_set.new.note c.in-Ok.hand c.in-Ok.turns.items
-    = of_ok c.take_set.result (c.in-Ok.hand, c.in-Ok.turns) (λ t. WereTaken {I = g.row.I.Denot} g.I.Life.catalog g.I.Life.parts g.I.Life.opening c.args.self.now c.procedure_touch_set-set.result c.take_set.new.note t.0 t.1.items)
+    let w : WereTaken {I = g.row.I.Denot} g.I.Life.catalog g.I.Life.parts g.I.Life.opening c.args.self.now c.procedure_touch_set-set.result c.take_set.new.note c.in-Ok.hand c.in-Ok.turns
+    = of_ok c.take_set.result (c.in-Ok.hand, c.in-Ok.turns) (λ t. WereTaken {I = g.row.I.Denot} g.I.Life.catalog g.I.Life.parts g.I.Life.opening c.args.self.now c.procedure_touch_set-set.result c.take_set.new.note t.0 t.1)
     c.in-Ok.is c.take_set.ensures.ok in
     let shown = c.take_set.new.note in
     let end = c.show_note.new.note in
