@@ -3,6 +3,7 @@
 
     python3 bench/soak.py [--requests 20000] [--clients 8] [--partitions 8] [--runs 1] [--seed 1]
     python3 bench/soak.py --runs 10 --partitions 1,2,4,8   ten times over on each of these numbers of partitions
+    python3 bench/soak.py --one-door      all clients push into one partition, whose steps set off others on others
     python3 bench/soak.py --write FILE          only writes the input, for a run elsewhere
     python3 bench/soak.py --check INPUT REPORT  only checks a report
 
@@ -99,13 +100,14 @@ CATALOGUE = {
 }
 
 
-def requests_of(count, clients, seed):
-    """Requests of these clients in turn; each pushes from a source of its own, with numbers that are now and then wrong."""
+def requests_of(count, clients, seed, one_door=False):
+    """Requests of these clients in turn; each pushes from a source of its own, with numbers that are now and then wrong. By
+    one door they are pushes alone, so all of them run on the partition of the border procedure."""
     random.seed(seed)
     numbers = [0] * clients
     for made in range(count):
         client = random.randrange(clients)
-        kind = random.random()
+        kind = 0 if one_door else random.random()
         if kind < 0.45:
             seq = numbers[client] + random.choice([0] * 20 + [1, -1])
             rows = [[random.randrange(10**9)] for _ in range(random.randrange(4))]
@@ -260,6 +262,7 @@ def main():
     for name, value in [("requests", 20_000), ("clients", 8), ("runs", 1), ("seed", 1)]:
         parser.add_argument(f"--{name}", type=int, default=value)
     parser.add_argument("--partitions", type=lambda word: [int(part) for part in word.split(",")], default=[8])
+    parser.add_argument("--one-door", action="store_true")
     parser.add_argument("--write", metavar="FILE")
     parser.add_argument("--check", nargs=2, metavar=("INPUT", "REPORT"))
     given = parser.parse_args()
@@ -268,12 +271,12 @@ def main():
         print("%d entries, %d of them steps: all as SQLite has them" % check(asked, open(given.check[1]).read()))
         return
     if given.write:
-        open(given.write, "w").write(input_of(requests_of(given.requests, given.clients, given.seed)))
+        open(given.write, "w").write(input_of(requests_of(given.requests, given.clients, given.seed, given.one_door)))
         return
     if not os.access(PROGRAM, os.X_OK):
         sys.exit("the program isn't built: run ./sstore - run < examples/stored_run.jsonl first")
     for seed in range(given.seed, given.seed + given.runs):
-        asked = list(requests_of(given.requests, given.clients, seed))
+        asked = list(requests_of(given.requests, given.clients, seed, given.one_door))
         for partitions in given.partitions:
             soak(asked, seed, partitions)
 
