@@ -2,6 +2,7 @@ pub mod formers
 pub mod Lending
 pub mod Reserved
 pub mod Words
+pub mod Held
 pub mod Rows
 pub mod Order
 pub mod Fit

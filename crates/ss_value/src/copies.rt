@@ -61,7 +61,7 @@ impl Copies for Column {
 
 impl<T: Copies + Drop> Copies for Seq<T> {
     fn duplicate(&self, alloc: Global) -> Result<Seq<T>, NoMemory> {
-        let mut copy = Seq::new(alloc);
+        let mut copy = Seq::with_capacity(alloc, self.len())?;
         for item in self.as_slice() {
             let item = item.duplicate(alloc)?;
             copy.push(item)?;

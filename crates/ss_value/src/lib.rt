@@ -6,7 +6,7 @@
 //!
 //! - `seq`, `reserved`: lists, and lists whose spare room a contract can speak of
 //! - `boxed`: a box, for types that hold themselves
-//! - `text`, `value`, `schema`: texts and names, values and rows, columns
+//! - `text`, `value`, `schema`: texts and names, values and rows, columns; `chars`: where the bytes of a text stand
 //! - `order`: the order of values and rows; `laws`: what holds of it
 //! - `partition`: the partition of a value
 //! - `copies`: exact copies at any depth
@@ -17,6 +17,7 @@
 #![tactic(auto)]
 
 mod boxed;
+mod chars;
 mod copies;
 mod laws;
 mod order;

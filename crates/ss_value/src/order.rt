@@ -23,7 +23,7 @@ pub fn compare(a: &Value, b: &Value) -> Ordering
         (Value::Int(m), Value::Int(n)) => m.cmp(n),
         (Value::Int(_), Value::Text(_)) => Ordering::Less,
         (Value::Text(_), Value::Int(_)) => Ordering::Greater,
-        (Value::Text(s), Value::Text(t)) => s.as_str().cmp(t.as_str()),
+        (Value::Text(s), Value::Text(t)) => s.as_bytes().cmp(t.as_bytes()),
     }
 }
 

@@ -8,13 +8,15 @@ ghost use Rattle.ss_value.specs.Words.{is_letter, is_word_byte, is_name};
 ghost use Rattle.ss_value.specs.Refusals.{IsTextRefusal, IsNameRefusal};
 
 use crate::NoMemory;
+use crate::chars::Chars;
 use std::alloc::Global;
 use std::marker::Model;
 
-/// A text: UTF-8 of at most 255 bytes, which its type's invariant says. Takes its bytes and three words.
+/// A text: UTF-8 of at most 255 bytes, which its type's invariant says. Up to 14 bytes stand in the two words that it takes,
+/// more in a `String` in a box.
 #[derive(Drop)]
 pub struct Text {
-    text: String,
+    chars: Chars,
 }
 
 impl Model for Text {
@@ -23,11 +25,11 @@ impl Model for Text {
     ghost Value = { List ℕ };
 
     ghost use Rattle.ss_value.specs.Words.{IsText};
-    ghost use Rattle.std.specs.Prelude.{string_bytes};
+    ghost use Rattle.ss_value.specs.Held.{held_bytes, IsHeld};
 
-    ghost view = { λ t. string_bytes t.text };
+    ghost view = { λ t. held_bytes t.chars };
 
-    ghost invariant = { λ t. IsText (string_bytes t.text) };
+    ghost invariant = { λ t. IsText (held_bytes t.chars) × IsHeld t.chars };
 }
 
 /// Why bytes are refused as a text, a name or a row.
@@ -48,18 +50,18 @@ pub enum ValueError {
 }
 
 impl Text {
-    /// The text as a `str`, at no cost.
+    /// The text as a `str`. Looks through up to 14 bytes, and is at no cost where there are more.
     pub fn as_str(&self) -> &str
         ensures { result.now ≡ self.now }
     {
-        self.text.as_str()
+        self.chars.as_str()
     }
 
     /// Its bytes, at no cost.
     pub fn as_bytes(&self) -> &[u8]
         ensures { result.now ≡ self.now }
     {
-        self.text.as_bytes()
+        self.chars.as_bytes()
     }
 
     /// The number of its bytes.
@@ -67,7 +69,7 @@ impl Text {
         ensures bytes { result ≡ length self.now }
         ensures short { result ≤ 255 }
     {
-        self.text.len()
+        self.chars.len()
     }
 
     /// This text and another as one, and None exactly where that has over 255 bytes. Linear in the bytes of both.
@@ -78,23 +80,20 @@ impl Text {
         if self.len() + other.len() > 255 {
             return Ok(None);
         }
-        let mut text = String::from_str(alloc, self.as_str())?;
-        text.push_str(other.as_str())?;
-        Ok(Some(Text { text }))
+        let chars = Chars::joined(alloc, self.as_str(), other.as_str())?;
+        Ok(Some(Text { chars }))
     }
 
-    /// An equal text. Linear in its bytes.
+    /// An equal text. Linear in its bytes. Takes no memory for up to 14.
     pub fn copy(&self, alloc: Global) -> Result<Text, NoMemory>
         ensures { IfOk result (λ copy. copy ≡ self.now) }
     {
-        match String::from_str(alloc, self.text.as_str()) {
-            Ok(text) => Ok(Text { text }),
-            Err(_) => Err(NoMemory),
-        }
+        let chars = self.chars.copy(alloc)?;
+        Ok(Text { chars })
     }
 }
 
-/// The text with these bytes. Linear in them.
+/// The text with these bytes. Linear in them. Takes no memory for up to 14.
 ///
 /// Refuses with `TextTooLong` exactly where there are over 255 bytes, and else with `NotUtf8` only where they are not
 /// UTF-8.
@@ -110,8 +109,8 @@ pub fn text_of(alloc: Global, bytes: &[u8]) -> Result<Text, ValueError>
     let Ok(text) = std::str::from_utf8(bytes) else {
         return Err(ValueError::NotUtf8);
     };
-    match String::from_str(alloc, text) {
-        Ok(text) => Ok(Text { text }),
+    match Chars::of_str(alloc, text) {
+        Ok(chars) => Ok(Text { chars }),
         Err(_) => Err(ValueError::NoMemory),
     }
 }
