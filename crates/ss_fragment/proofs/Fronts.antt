@@ -17,7 +17,7 @@ use Rattle.ss_fragment.specs.Prefixes.{number_prefix, next_prefix, share, text_p
 use Rattle.ss_fragment.specs.FragmentValue.{key_of, HasKey, sought_key}
 use Rattle.ss_fragment.proofs.Shares.{share_some, share_rises, both, all_fit, up_to}
 
-number_top : (n : ℤ) → number_prefix n < 2 ^ 63 - 1
+pub number_top : (n : ℤ) → number_prefix n < 2 ^ 63 - 1
 number_top (pos n) = omega arith
 number_top (negsuc n) = omega arith
 
@@ -45,7 +45,7 @@ next_less room [] (w ∷ ws) h = refl
 next_less room (v ∷ vs) [] h = absurd (omega (arith, h))
 next_less room (v ∷ vs) (w ∷ ws) h = ap (λ r. ordering_then r (row_cmp vs ws)) (next_value room v w h)
 
-next_top : (room : ℕ) (next : Option Value) → next_prefix room next ≤ room
+pub next_top : (room : ℕ) (next : Option Value) → next_prefix room next ≤ room
 next_top room None = omega arith
 next_top room (Some (Int (pos n))) = omega arith
 next_top room (Some (Int (negsuc n))) = omega arith
@@ -54,7 +54,7 @@ next_top room (Some (Text t)) = omega arith
 -- ---- Texts
 
 -- what is in a room is at most its size
-text_top : (s : List ℕ) (room : ℕ) (next : Option Value) → text_prefix room s next ≤ room
+pub text_top : (s : List ℕ) (room : ℕ) (next : Option Value) → text_prefix room s next ≤ room
 text_top [] room next = let top = next_top (32 * (room / 512)) next in let fit = all_fit room in omega (arith, top, fit)
 text_top (b ∷ bs) room next = let top = text_top bs ((share (suc b) - share b) * (room / 512)) next in within _ _ _ _ top (up_to room b)
   where

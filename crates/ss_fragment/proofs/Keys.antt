@@ -46,7 +46,7 @@ is_before-position cells key is_key sought from slot row e p q = rw e (ap (λ r.
 
 -- ---- a row with as many key values as a key has columns has each of them
 
-key_long : (key : List ℕ) (row : Row) → HasKey key row → length (key_of key row) ≡ length key
+pub key_long : (key : List ℕ) (row : Row) → HasKey key row → length (key_of key row) ≡ length key
 key_long [] row h = refl
 key_long (c ∷ cs) row h =
     let x = some_at row c h.0 in

@@ -5,6 +5,7 @@ pub mod Cases
 pub mod Cells
 pub mod Cut
 pub mod Fronts
+pub mod Deciding
 pub mod Shares
 pub mod Keyed
 pub mod Keys

@@ -48,7 +48,7 @@ room_after number room byte begin parts b p few =
 
 -- ---- a room without a part
 
-next_none : (next : Option Value) → next_prefix 0 next ≡ 0
+pub next_none : (next : Option Value) → next_prefix 0 next ≡ 0
 next_none None = refl
 next_none (Some (Int (pos n))) = omega arith
 next_none (Some (Int (negsuc n))) = refl

@@ -1,5 +1,6 @@
 pub mod Cells
 pub mod Prefixes
+pub mod Deciding
 pub mod Targets
 pub mod Chunks
 pub mod FragmentValue

@@ -1,5 +1,5 @@
 -- What a search looks for, and which marks stand before it.
-use Rattle.std.specs.Prelude.{ℕ, List, Bool, false, not, ◌||◌, ◌==◌, Option, Some, None}
+use Rattle.std.specs.Prelude.{ℕ, List, Bool, false, cond, not, ◌&&◌, ◌||◌, ◌==◌, Option, Some, None}
 use Rattle.std.specs.List.{prefix_len, insert}
 use Rattle.std.specs.Ordering.{nat_cmp, is_lt, is_eq, ordering_then}
 use Rattle.std.specs.declared.cmp.Ordering.{Ordering}
@@ -11,6 +11,7 @@ use Rattle.ss_fragment.specs.declared.search.Aim.{Aim as HeldAim}
 use Rattle.ss_fragment.specs.Chunks.{slots_of}
 use Rattle.ss_fragment.specs.Cells.{row_of, by_sought, is_live}
 use Rattle.ss_fragment.specs.Prefixes.{sought_prefix}
+use Rattle.ss_fragment.specs.Deciding.{sought_decides}
 
 -- what a search looks for among these cells: the position of a key, or of a row's key, and at that key of a slot
 pub record Target : Type 0 where
@@ -19,6 +20,7 @@ pub record Target : Type 0 where
   pub is_key : Bool
   pub values : Row
   pub prefix : ℕ
+  pub decides : Bool
   pub slot : ℕ
 
 -- what the program's aim is to contracts
@@ -29,10 +31,11 @@ target_of a = record {
   is_key = a.is_key;
   values = a.values.now;
   prefix = a.prefix;
+  decides = a.decides;
   slot = a.slot;
 }
 
--- an aim with the prefix of the key that is sought
+-- an aim with the prefix of the key that is sought, and whether that decides the key
 abbrev pub target_at : List Cell → List ℕ → Bool → Row → ℕ → Target
 target_at cells key is_key values slot = record {
   cells = cells;
@@ -40,6 +43,7 @@ target_at cells key is_key values slot = record {
   is_key = is_key;
   values = values;
   prefix = sought_prefix is_key key values;
+  decides = sought_decides is_key key values;
   slot = slot;
 }
 
@@ -68,9 +72,13 @@ slot_rank cells key is_key sought from slots = prefix_len (is_before_slot cells 
 abbrev pub linked_order : List Cell → List ℕ → Row → ℕ → List PrefixedSlot → List PrefixedSlot
 linked_order cells key row slot order = insert order (slot_rank cells key false row slot (slots_of order)) (target_mark (target_at cells key false row slot))
 
+-- how a slot whose prefix is the aim's compares to it: where that decides the key by its number, else by its row
+abbrev pub tied_cmp : Target → ℕ → Ordering
+tied_cmp a slot = cond a.decides (nat_cmp slot a.slot) (slot_cmp a.cells a.key a.is_key a.values a.slot slot)
+
 -- whether a mark stands before an aim: by its prefix, and where the prefixes tie by its slot
 abbrev pub is_before : Target → PrefixedSlot → Bool
-is_before a m = is_lt (ordering_then (nat_cmp m.prefix a.prefix) (slot_cmp a.cells a.key a.is_key a.values a.slot m.slot))
+is_before a m = is_lt (ordering_then (nat_cmp m.prefix a.prefix) (tied_cmp a m.slot))
 
 -- how many marks of an order stand before an aim
 abbrev pub rank : Target → List PrefixedSlot → ℕ
@@ -85,9 +93,9 @@ is_past_row key is_key sought (Some row) = not (is_eq (by_sought is_key key row 
 abbrev pub is_past_slot : List Cell → List ℕ → Bool → Row → ℕ → Bool
 is_past_slot cells key is_key sought slot = is_past_row key is_key sought (row_of cells slot)
 
--- whether a mark's row has another key than the one that is sought: by its prefix, and where the prefixes tie by its slot
+-- whether a mark's row has another key than the one that is sought: by its prefix, and where the prefixes tie and don't decide by its slot
 abbrev pub is_past : Target → PrefixedSlot → Bool
-is_past a m = not (m.prefix == a.prefix) || is_past_slot a.cells a.key a.is_key a.values m.slot
+is_past a m = not (m.prefix == a.prefix) || (not a.decides && is_past_slot a.cells a.key a.is_key a.values m.slot)
 
 -- whether a search for a live row with a key ends at a slot: its row is live, or has another key
 abbrev pub slot_stops : List Cell → List ℕ → Bool → Row → ℕ → Bool
@@ -95,4 +103,8 @@ slot_stops cells key is_key sought slot = is_live cells slot || is_past_slot cel
 
 -- whether it ends at a mark
 abbrev pub stops : Target → PrefixedSlot → Bool
-stops a m = is_live a.cells m.slot || is_past a m
+stops a m = is_past a m || is_live a.cells m.slot
+
+-- what it finds there: the slot, where its row is live and has the key
+abbrev pub hit : Target → PrefixedSlot → Option ℕ
+hit a m = cond (is_past a m) None (cond (is_live a.cells m.slot) (Some m.slot) None)

@@ -39,13 +39,16 @@ use links::{link, live_from, live_near, live_with, unlink};
 ///   where that is an Int from -2 ^ 62 to 2 ^ 62 - 2. Where it is a Text, it is its first seven bytes, or up to ten where
 ///   they are small letters; and behind a Text of at most six bytes, or of nine small letters, the second key value, where
 ///   that is an Int from 0 on: up to 31 behind the longest such Text, and up to 2047 behind eight small letters. So a
-///   search reads the rows whose keys begin alike, and few others.
+///   search reads the rows whose keys begin alike, and few others. It reads none where the number decides the key: where the
+///   key is one Int strictly between these bounds, or a Text and an Int behind it that is strictly between its own.
+/// - `get` and `holds_key_of` of a key that no row has: they read no row and no cell, but where numbers tie that don't decide.
 /// - `put_new` with the hint that `holds_key_of` gave for the row: two or three comparisons in place of a search, so an insert
 ///   searches once. Where two dead rows or more have the very key, and where a chunk is full, it searches.
 /// - `remove_fresh` and `purge` of a row that stands less than eight rows from the one that was freed last: a look at sixteen
 ///   numbers in place of a search. So the rows of one DELETE are freed with few searches where they stand near to each other.
-/// - `get` and `holds_key_of` besides: one step for each dead row with the very key. So where a key is deleted and inserted
-///   again k times in one execution, the last time costs k steps.
+/// - `get` and `holds_key_of` besides: one step for each dead row with the very key, which reads its cell alone where the
+///   number decides the key, and else its row. So where a key is deleted and inserted again k times in one execution, the last
+///   time costs k steps.
 /// - `first`, `first_near`, and `after_near` with the hint that came with the slot: constant. Where rows were inserted
 ///   or freed since, the hint may miss, and then `after_near` searches as `after` does.
 /// - `first`, `after`, `behind` and these two besides: one step for each dead row before the one that they give. So a walk

@@ -1,17 +1,17 @@
 //! Slots in the order of their rows' keys.
 
-ghost use Rattle.std.specs.Prelude.{◌≡◌, ◌==◌, List, [], true, false, IfSome, OnOk, OnErr, option_map, drop};
+ghost use Rattle.std.specs.Prelude.{◌≡◌, ◌==◌, List, [], true, false, IfSome, OnOk, OnErr, option_and_then, drop};
 ghost use Rattle.std.specs.List.{insert, remove, find};
 ghost use Rattle.std.specs.List.Sorted.{IsPartitionedBy};
 ghost use Rattle.ss_chunks.specs.Chunks.{rest_items};
-ghost use Rattle.ss_fragment.specs.Targets.{target_of, is_before, rank, stops, target_mark};
+ghost use Rattle.ss_fragment.specs.Targets.{target_of, is_before, rank, stops, hit, target_mark};
 ghost use Rattle.ss_fragment.specs.Cells.{is_live};
 ghost use Rattle.ss_fragment.specs.Chunks.{slots_of};
 ghost use Rattle.ss_fragment.specs.Near.{without_hint, IsBehind, IsBehindFirst, LostMark};
 
 use crate::cell::{Cell, is_live};
 use crate::mark::PrefixedSlot;
-use crate::search::{Aim, stops};
+use crate::search::{Aim, is_past};
 use ss_chunks::{Chunked, Hint, Rest, Wanted};
 use ss_value::NoMemory;
 use std::alloc::Global;
@@ -99,13 +99,18 @@ fn live_behind(
     }
 }
 
-/// The first slot of some marks at which a search for a live row with a key ends.
-fn stop_in(rest: Rest<'_, PrefixedSlot>, aim: &Aim) -> Option<usize>
-    ensures { let a = target_of aim.now in result ≡ option_map (λ m. m.slot) (find (stops a) (rest_items rest.entry)) }
+/// The live slot with the key that an aim seeks, at the front of some marks. Where the aim's prefix decides
+/// the key, it reads the cells of that key and no row.
+fn hit_in(rest: Rest<'_, PrefixedSlot>, aim: &Aim) -> Option<usize>
+    ensures { let a = target_of aim.now in result ≡ option_and_then (hit a) (find (stops a) (rest_items rest.entry)) }
 {
     let mut behind = rest;
     while let Some(mark) = behind.next() {
-        if stops(aim, mark) {
+        // Most marks are past by their prefix alone, so this is asked before the cell is read.
+        if is_past(aim, mark) {
+            return None;
+        }
+        if is_live(aim.cells, mark.slot) {
             return Some(mark.slot);
         }
     }
@@ -159,15 +164,15 @@ impl Order {
         live_in(self.marks.rest(aim), aim.cells)
     }
 
-    /// The first slot that doesn't stand before an aim and is live or has another key, with a hint where the aim stands. A
-    /// search, and one step for each dead slot with the key.
-    pub fn next_stop(&self, aim: &Aim) -> (Option<usize>, Hint)
+    /// The live slot with the key that an aim seeks, from the aim on, with a hint where the aim stands. A search, and one step
+    /// for each dead slot with the key.
+    pub fn next_hit(&self, aim: &Aim) -> (Option<usize>, Hint)
         requires { IsPartitionedBy (is_before (target_of aim.now)) self.now }
-        ensures { let a = target_of aim.now in result.0 ≡ option_map (λ m. m.slot) (find (stops a) (drop (rank a self.now) self.now)) }
+        ensures { let a = target_of aim.now in result.0 ≡ option_and_then (hit a) (find (stops a) (drop (rank a self.now) self.now)) }
     {
         let from = self.marks.rest(aim);
         let hint = from.hint;
-        (stop_in(from, aim), hint)
+        (hit_in(from, aim), hint)
     }
 
     /// Puts the aim's slot in front of the first that doesn't stand before it. A search, but where that is at the hint or next

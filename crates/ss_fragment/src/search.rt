@@ -1,11 +1,11 @@
 //! What a search looks for, and how slots compare to it.
 
-ghost use Rattle.std.specs.Prelude.{◌≡◌, [], ◌∷◌, slice_get};
+ghost use Rattle.std.specs.Prelude.{◌≡◌, [], ◌∷◌};
 ghost use Rattle.std.specs.Option.{option_copied};
-ghost use Rattle.ss_fragment.specs.Cells.{at_cmp, rows_by, row_by_key, by_sought, hit_at};
-ghost use Rattle.ss_fragment.specs.Targets.{target_of, target_at, is_before, is_past, stops, slot_cmp, is_past_slot};
+ghost use Rattle.ss_fragment.specs.Cells.{at_cmp, rows_by, row_by_key, by_sought};
+ghost use Rattle.ss_fragment.specs.Targets.{target_of, target_at, is_before, is_past, slot_cmp, tied_cmp, is_past_slot};
 
-use crate::cell::{Cell, any_row, is_live, live_row};
+use crate::cell::{Cell, any_row};
 use crate::mark::{PrefixedSlot, sought_prefix};
 use ss_value::{Value, compare};
 use std::cmp::Ordering;
@@ -22,10 +22,12 @@ pub struct Aim<'a> {
     pub values: &'a [Value],
     /// The prefix of the key that is sought.
     pub prefix: u64,
+    /// Whether no other key of the fragment's columns has that prefix. Then no row is read.
+    pub decides: bool,
     pub slot: usize,
 }
 
-/// An aim at a key or a row's key, with the prefix of that key.
+/// An aim at a key or a row's key, with the prefix of that key. Reads what is sought, and no cell.
 pub fn aim_at<'a>(
     cells: &'a [Cell],
     key: &'a [u8],
@@ -35,13 +37,14 @@ pub fn aim_at<'a>(
 ) -> Aim<'a>
     ensures { target_of result ≡ target_at cells.now key.now is_key values.now slot }
 {
-    let prefix = sought_prefix(key, is_key, values);
+    let (prefix, decides) = sought_prefix(key, is_key, values);
     Aim {
         cells,
         key,
         is_key,
         values,
         prefix,
+        decides,
         slot,
     }
 }
@@ -120,7 +123,19 @@ fn compare_slot(aim: &Aim, slot: usize) -> Ordering
     }
 }
 
-/// Whether a mark stands before an aim: by its prefix, and by its row only where the prefixes tie.
+/// How a slot whose prefix is the aim's compares to it: by its number alone where the prefix decides the key, and else by its row.
+#[inline]
+fn compare_tied(aim: &Aim, slot: usize) -> Ordering
+    ensures { result ≡ tied_cmp (target_of aim.now) slot }
+{
+    if aim.decides {
+        slot.cmp(&aim.slot)
+    } else {
+        compare_slot(aim, slot)
+    }
+}
+
+/// Whether a mark stands before an aim: by its prefix, and by its row only where the prefixes tie and don't decide the key.
 #[inline]
 pub fn is_before(aim: &Aim, mark: &PrefixedSlot) -> bool
     ensures { result ≡ is_before (target_of aim.now) mark.now }
@@ -128,7 +143,7 @@ pub fn is_before(aim: &Aim, mark: &PrefixedSlot) -> bool
     match mark.prefix.cmp(&aim.prefix) {
         Ordering::Less => true,
         Ordering::Greater => false,
-        Ordering::Equal => compare_slot(aim, mark.slot).is_lt(),
+        Ordering::Equal => compare_tied(aim, mark.slot).is_lt(),
     }
 }
 
@@ -150,31 +165,11 @@ fn is_past_slot(aim: &Aim, slot: usize) -> bool
     }
 }
 
-/// Whether a mark's row has another key than the one that is sought: by its prefix first.
+/// Whether a mark's row has another key than the one that is sought: by its prefix, and by its row only where the prefixes tie
+/// and don't decide the key.
 #[inline]
-fn is_past(aim: &Aim, mark: &PrefixedSlot) -> bool
+pub fn is_past(aim: &Aim, mark: &PrefixedSlot) -> bool
     ensures { result ≡ is_past (target_of aim.now) mark.now }
 {
-    mark.prefix != aim.prefix || is_past_slot(aim, mark.slot)
-}
-
-/// Whether a search for a live row with a key ends at a mark: its row is live, or has another key.
-#[inline]
-pub fn stops(aim: &Aim, mark: &PrefixedSlot) -> bool
-    ensures { result ≡ stops (target_of aim.now) mark.now }
-{
-    is_live(aim.cells, mark.slot) || is_past(aim, mark)
-}
-
-/// The slot, where its row is live and has the key that is sought, else None.
-pub fn hit(aim: &Aim, slot: usize) -> Option<usize>
-    ensures { let a = target_of aim.now in result ≡ hit_at a.key a.is_key a.values slot (slice_get a.cells slot) }
-{
-    match live_row(aim.cells, slot) {
-        None => None,
-        Some(row) => match compare_sought(aim.key, aim.is_key, row.as_slice(), aim.values) {
-            Ordering::Equal => Some(slot),
-            _ => None,
-        },
-    }
+    mark.prefix != aim.prefix || (!aim.decides && is_past_slot(aim, mark.slot))
 }

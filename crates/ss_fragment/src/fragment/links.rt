@@ -11,7 +11,7 @@ ghost use Rattle.ss_fragment.specs.Invariant.{IsFragment, IsMark, live_list};
 
 use crate::cell::{Cell, any_row};
 use crate::order::Order;
-use crate::search::{aim_at, hit};
+use crate::search::aim_at;
 use ss_chunks::Hint;
 use ss_value::{NoMemory, Value};
 
@@ -30,11 +30,7 @@ pub(super) fn live_near(
 {
     // Slot 0 comes before every other slot with the key, so the search begins at the first of them.
     let aim = aim_at(cells, key, is_key, values, 0);
-    let (stop, hint) = order.next_stop(&aim);
-    match stop {
-        None => (None, hint),
-        Some(slot) => (hit(&aim, slot), hint),
-    }
+    order.next_hit(&aim)
 }
 
 /// The live slot with a key, or with the key of a row.
