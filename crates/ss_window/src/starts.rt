@@ -13,6 +13,17 @@ ghost use Rattle.ss_window.specs.Numbers.{rows_before, AreStarts};
 use ss_value::{NoMemory, Row, Rows};
 use std::collections::VecDeque;
 
+/// The unit at a position, where there is one. A queue has no index by which it could be read.
+fn unit_at(units: &VecDeque<Rows>, position: usize) -> &Rows
+    requires { position < length units.now.items }
+    ensures { slice_get units.now.items position ≡ Some result.now }
+{
+    let Some(unit) = units.get(position) else {
+        unreachable!()
+    };
+    unit
+}
+
 /// How many rows the units before a position have. Linear in the position.
 pub fn count_before(units: &VecDeque<Rows>, position: usize) -> usize
     requires within { position ≤ length units.now.items }
@@ -21,10 +32,7 @@ pub fn count_before(units: &VecDeque<Rows>, position: usize) -> usize
 {
     let mut rows = 0;
     for at in 0..position {
-        let Some(unit) = units.get(at) else {
-            unreachable!()
-        };
-        rows += unit.len();
+        rows += unit_at(units, at).len();
     }
     rows
 }
@@ -37,9 +45,7 @@ pub fn row_from(units: &VecDeque<Rows>, position: usize, behind: usize) -> Optio
 {
     let mut left = behind;
     for at in position..units.len() {
-        let Some(unit) = units.get(at) else {
-            unreachable!()
-        };
+        let unit = unit_at(units, at);
         if left < unit.len() {
             return unit.get(left);
         }
@@ -90,10 +96,7 @@ pub fn record_unit_ends(
         unreachable!()
     };
     for position in unit_ends.len()..units.len() {
-        let Some(unit) = units.get(position) else {
-            unreachable!()
-        };
-        end += unit.len();
+        end += unit_at(units, position).len();
         unit_ends.push_back(end)?;
     }
     Ok(())

@@ -1,6 +1,5 @@
-use Rattle.std.proofs.Common.{◌≡◌, suc, ◌+◌, ◌<◌, [], ◌∷◌, ◌++◌, length, Some, slice_get, refl, sym, ap, ◌∙◌, subst, arith}
+use Rattle.std.proofs.Common.{◌≡◌, suc, ◌+◌, ◌<◌, [], ◌∷◌, ◌++◌, length, sym, ap, ◌∙◌, subst, arith}
 use Rattle.std.proofs.lemmas.List.{length-append}
-use Rattle.std.proofs.lemmas.Option.{slice_get_read}
 use Rattle.ss_window.specs.Numbers.{rows_before, AreStarts}
 use Rattle.ss_window.proofs.Numbered.{before_next, before_within, with_end}
 use Rattle.ss_window.proofs.starts.record_unit_ends.Goals as goal
@@ -9,8 +8,8 @@ pub overflow_add-end : goal.overflow_add-end
 overflow_add-end c =
     let units = c.args.units.now.items in
     let position = c.loop-position.position in
-    let unit = c.in-Some-get.unit.now in
-    let here : slice_get units position ≡ Some unit = slice_get_read units (length units) position unit refl (omega arith) c.in-Some-get.ensures.lookup in
+    let unit = c.unit_at.result.now in
+    let here = c.unit_at.ensures in
     let next = before_next units position unit here in
     let within = before_within (suc position) units in
     omega arith
@@ -20,9 +19,9 @@ loop-position-preserved c =
     let units = c.args.units.now.items in
     let unit_ends = c.loop-position.unit_ends.items in
     let position = c.loop-position.position in
-    let unit = c.in-Some-get.unit.now in
+    let unit = c.unit_at.result.now in
     let end = c.loop-position.end + c.len-end.result in
-    let here : slice_get units position ≡ Some unit = slice_get_read units (length units) position unit refl (omega arith) c.in-Some-get.ensures.lookup in
+    let here = c.unit_at.ensures in
     let next = before_next units position unit here in
     let noted : c.push_back.new.self.items ≡ unit_ends ++ end ∷ [] = c.in_ok-push_back.ensures.items in
     let more : length unit_ends < length units = omega arith in
