@@ -29,7 +29,7 @@ module _ (params : Row) (test : Option Expr) (outer : Row) where
   abbrev here : Rows
   here = outer ∷ []
 
-  behind : (found : List Rows) (b : Bool) → where_passes params test here ≡ Ok b → onto found (row_passing params test outer) ≡ Ok (found ++ cond b (here ∷ []) [])
+  pub behind : (found : List Rows) (b : Bool) → where_passes params test here ≡ Ok b → onto found (row_passing params test outer) ≡ Ok (found ++ cond b (here ∷ []) [])
   behind found b is = ap (λ (answer : OrAbort Bool). onto found (answer >>= λ b. Ok (cond b (here ∷ []) []))) is
 
   pub one_passes : (count more : ℕ) → where_passes params test here ≡ Ok true → more ≡ count + 1 → CountedOn params test outer count more

@@ -52,7 +52,7 @@ plain_lent tree lent = λ params group. lent (get_or group 0 []) params
 
 module _ {A B : Type 0} (f : A → OrAbort B) (g : A → B) where
   -- where f gives what g does, so does the walk
-  all_given : ((x : A) → f x ≡ Ok (g x)) → (xs : List A) → try_map f xs ≡ Ok (map g xs)
+  pub all_given : ((x : A) → f x ≡ Ok (g x)) → (xs : List A) → try_map f xs ≡ Ok (map g xs)
   all_given h [] = refl
   all_given h (x ∷ xs) = λ j. h x j >>= λ y. all_given h xs j >>= λ ys. Ok (y ∷ ys)
 

@@ -7,36 +7,17 @@ ghost use Rattle.std.specs.Prelude.{◌≡◌, [], ◌∷◌, pos, IfOk};
 ghost use Rattle.ss_value.specs.declared.value.Value.TheVariants.{Int};
 ghost use Rattle.ss_value.specs.Rows.{column_value};
 ghost use Rattle.ss_model.specs.Queries.{order_by_cmp};
-ghost use Rattle.ss_rows.specs.Lent.{lent_value, lent_item, lent_row, lent_rows, AreSorted, CutsTuples};
+ghost use Rattle.ss_rows.specs.Lent.{lent_item, lent_row, lent_rows, AreSorted, CutsTuples};
 ghost use Rattle.ss_rows.specs.Meaning.{ordered_results};
 ghost use Rattle.ss_rows.specs.Tuples.{tuple_of};
 
-use crate::lent_values::{column_or, lent_or};
+use crate::lent_values::lent_value;
 use crate::order::compare_values;
 use crate::tuple::Tuple;
-use ss_sql_trees::{ColAt, Expr, OrderBy, Query, SelectItem};
+use ss_sql_trees::{OrderBy, Query, SelectItem};
 use ss_value::{NoMemory, Row, Rows, Seq, Value};
 use std::alloc::Global;
 use std::cmp::Ordering;
-
-/// The value of a literal, a parameter or a column, where it stands, and `zero` where there is none. Constant.
-fn lent_value<'a>(tree: &'a Expr, here: Tuple<'a>, params: &'a Row, zero: &'a Value) -> &'a Value
-    requires { zero.now ≡ Int (pos 0) }
-    ensures { result.now ≡ lent_value params.now (tuple_of here.entry) tree.now }
-{
-    match tree {
-        Expr::Lit(value) => value,
-        Expr::Param(n) => column_or(params, usize::from(*n), zero),
-        Expr::Col { source, column } => {
-            let at = ColAt {
-                source: *source,
-                column: *column,
-            };
-            lent_or(here.column(at), zero)
-        }
-        Expr::Unary { .. } | Expr::Binary { .. } => zero,
-    }
-}
 
 /// The value of an item that is a literal, a parameter or a column, where it stands, and `zero` where there is none. Constant.
 fn lent_item<'a>(
