@@ -85,7 +85,7 @@ fn row_in(rows: &Table, at: Slot) -> &Row
 
 /// The first row that is seen, from a live slot on by key, with a hint, and None where there is none.
 ///
-/// Costs a step of the table's walk for each row that is passed over.
+/// Costs a step of the table's walk for each row that is passed over; constant where the execution is limited to no value.
 fn seen_from(
     catalog: &Catalog,
     split: Option<&Value>,
@@ -97,6 +97,10 @@ fn seen_from(
     requires { IsOnTheWay (live_positions rows.now.live) from }
     ensures { FindsSeen catalog.now (value_behind split.entry) table rows.now.live from result.0 }
 {
+    // Every row is seen, so none is looked up.
+    if split.is_none() {
+        return (from, hint);
+    }
     let mut at = from;
     let mut near = hint;
     while let Some(slot) = at {

@@ -1,10 +1,28 @@
-use Rattle.std.proofs.Common.{ℕ, [], ◌∷◌, ◌++◌, sym, ap, ◌∙◌}
+use Rattle.std.proofs.Common.{◌≡◌, ℕ, [], ◌∷◌, ◌++◌, Option, Some, None, refl, sym, ap, ◌∙◌}
+use Rattle.std.specs.Prelude.{is_some, not, false}
+use Rattle.std.specs.Borrow.{Bor}
+use Rattle.ss_value.specs.declared.value.Value.{Value}
 use Rattle.ss_value.specs.Rows.{Row}
-use Rattle.ss_rows.specs.Sources.{first_position}
+use Rattle.ss_model.specs.declared.catalog.Catalog.{Catalog}
+use Rattle.ss_rows.specs.Sources.{Positioned, first_position}
 use Rattle.ss_rows.proofs.CallerLemmas.{walked_row, walked_on, walked_falls}
-use Rattle.ss_plan.specs.Seen.{row_is_seen, live_positions, value_behind}
+use Rattle.ss_plan.specs.Seen.{row_is_seen, live_positions, seen_of, value_behind}
 use Rattle.ss_plan.proofs.Filtered.{passes_first, passed_over}
 use Rattle.ss_plan.proofs.visible.seen_from.Goals as goal
+
+-- who is limited to no value sees all rows
+all_seen : (catalog : Catalog) (table : ℕ) (ps : Positioned) → seen_of catalog None table ps ≡ ps
+all_seen catalog table [] = refl
+all_seen catalog table (p ∷ ps) = ap (λ (qs : Positioned). p ∷ qs) (all_seen catalog table ps)
+
+all_seen_by : (catalog : Catalog) (split : Option (Bor Value)) (table : ℕ) (ps : Positioned) → is_some split ≡ false → seen_of catalog (value_behind split) table ps ≡ ps
+all_seen_by catalog None table ps none = all_seen catalog table ps
+all_seen_by catalog (Some value) table ps none = cc
+
+pub returns-then-is_none : goal.returns-then-is_none
+returns-then-is_none c = λ front back is from.
+    let none : is_some c.args.split ≡ false = c.is_none.ensures ∙ ap not c.if-is_none.true in
+    from ∙ ap first_position (sym (all_seen_by c.args.catalog.now c.args.split c.args.table back none))
 
 pub returns-then-is_seen : goal.returns-then-is_seen
 returns-then-is_seen c = λ front back is from.
