@@ -50,7 +50,7 @@ name_long (c ∷ cs) is =
     let few : length cs < 32 = grind (arith, nat_tests) in
     (omega arith, omega (arith, few))
 
-name_again : (t rest : List ℕ) → is_name t ≡ true → name_at (name_bytes t ++ rest) ≡ Ok (t, rest)
+pub name_again : (t rest : List ℕ) → is_name t ≡ true → name_at (name_bytes t ++ rest) ≡ Ok (t, rest)
 unfolding name_at name_bytes_at
 name_again t rest is =
     let long = name_long t is in

@@ -106,7 +106,7 @@ name_bytes_takes n bytes t rest are read =
     let size : n ≡ length t = sym (length-take-le n bytes enough) ∙ ap length both.0 in
     ((λ k. size k ∷ (sym (take-append-drop n bytes)) k) ∙ (λ k. length t ∷ (both.0 k ++ both.1 k)), subst IsBytes both.1 (rest_bytes_of n bytes are), ap is_name (sym both.0) ∙ good.0)
 
-name_takes : (bytes t rest : List ℕ) → IsBytes bytes → name_at bytes ≡ told t rest → (bytes ≡ name_bytes t ++ rest) × IsBytes rest × IsTrue (is_name t)
+pub name_takes : (bytes t rest : List ℕ) → IsBytes bytes → name_at bytes ≡ told t rest → (bytes ≡ name_bytes t ++ rest) × IsBytes rest × IsTrue (is_name t)
 unfolding name_at
 name_takes bytes t rest are read =
     let byte = bind_ok (in_record (byte_at bytes)) (λ n. if nat_lt 0 n.0 && nat_le n.0 32 then name_bytes_at n.0 n.1 else Err BadField) (t, rest) read in

@@ -20,3 +20,5 @@ pub use Rattle.ss_standing.proofs.Keeping.{front_goes_on, rest_replays}
 pub use Rattle.ss_standing.proofs.OneThing.{entries_tell}
 -- What a log counts of a store is how many executions its files stand for, which are one thing.
 pub use Rattle.ss_standing.proofs.Keeping.{counts_executions}
+-- What a loop over the items of a part has read so far: the next item joins those in front, and the first that is refused ends it.
+pub use Rattle.ss_standing.proofs.Loops.{for_refused, item_refused, next_for, next_item, no_more_for, no_more_items}

@@ -55,7 +55,7 @@ module _ (catalog : Catalog) where
       (slice_get_cases catalog.tables t).1
 
   -- the sources of a stream that isn't a border one
-  none_there : (db : Database) → WholeDatabase catalog db → (i : ℕ) → is_border_stream catalog i ≡ false → get_or db.next_numbers i finmap.empty ≡ finmap.empty
+  pub none_there : (db : Database) → WholeDatabase catalog db → (i : ℕ) → is_border_stream catalog i ≡ false → get_or db.next_numbers i finmap.empty ≡ finmap.empty
   none_there db whole i other =
       same_map nat_list_cmp_total (slice_cmp-IsAntisymmetric nat_cmp-IsAntisymmetric) (get_or db.next_numbers i finmap.empty) finmap.empty
       (λ q. none q (finmap.get (get_or db.next_numbers i finmap.empty) q) refl ∙ sym (get-empty (slice_cmp nat_cmp) q))

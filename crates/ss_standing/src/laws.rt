@@ -5,12 +5,14 @@ ghost use Rattle.ss_standing.specs.Laws.{ImageTellsKept, EntriesTellList, Stands
 ghost use Rattle.ss_standing.specs.Laws.{FrontsStand, FlushesLeaveFronts, FormingStands, ReceiptsBoundFronts};
 ghost use Rattle.ss_standing.specs.Behind.{BehindGoesOn};
 ghost use Rattle.ss_standing.specs.Keeping.{KeepsOverFlush, KeepsGoOn, FlushesKeep, CountsExecutions, LogReceiptsTell, KeptCountsStandOn, OneThingStandsOn};
+ghost use Rattle.ss_standing.specs.Checkpoints.{ImagesAreExact, ReadImagesStand, ImagesAreRead};
+ghost use Rattle.ss_standing.specs.Checkpoints.{CheckpointsStand, FrontCheckpointsStand, CheckpointsChangeNothing, EitherGenerationStands, KeepsOverCheckpoint};
 
 use ss_cmdlog::{
     files_stand_for_one_thing, first_groups_hold_the_first_entries, groups_hold_the_entries,
 };
 use ss_disk::Disk;
-use ss_model_laws::{kept_carries, replays_go_on, whole_databases_stay};
+use ss_model_laws::{batches_are_bounded, kept_carries, replays_go_on, whole_databases_stay};
 
 /// Two whole databases that an image has room for, with the same image, have the same kept.
 pub fn an_image_tells_what_is_kept()
@@ -135,3 +137,30 @@ pub fn one_thing_stands_on<D: Disk>()
 {
     stands_for_one();
 }
+
+/// Behind its catalogue's text an image is read as what is kept of a whole database, and nothing else is (`exact`). So
+/// bytes that are read to their end are the image of some database (`stand`), and the image of a database is read as what
+/// is kept of it (`again`).
+pub fn images_are_exact()
+    ensures exact { ImagesAreExact }
+    ensures stand { ReadImagesStand }
+    ensures again { ImagesAreRead }
+{}
+
+/// A checkpoint of a whole database stands for its place and for what is kept of the database (`alone`), also of the one
+/// behind a front of a list, at the place behind it (`fronts`). While it takes the place of a generation that stands for
+/// the same, whatever a crash leaves does (`meanwhile`), whichever of the two files the selector names (`either`).
+pub fn checkpoints_stand()
+    ensures alone { CheckpointsStand }
+    ensures fronts { FrontCheckpointsStand }
+    ensures meanwhile { CheckpointsChangeNothing }
+    ensures either { EitherGenerationStands }
+{
+    whole_databases_stay();
+    batches_are_bounded();
+}
+
+/// What stands of a list goes on over a checkpoint behind all that the log has of it.
+pub fn lists_stand_over_checkpoints<D: Disk>()
+    ensures { KeepsOverCheckpoint D D.kind.moment D.kind.images }
+{}

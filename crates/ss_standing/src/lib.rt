@@ -8,12 +8,14 @@
 //! tell no outcomes. The laws say that it is one thing all the same: whoever recovers from an image, by whatever
 //! database with that image, gets what the store had.
 //!
-//! - `laws`: each is the contract of a function that does nothing. `proofs/worked/Premises` meets their premises at a
-//!   small store, and `proofs/worked/Needed` shows that the law of images needs its own
+//! - `laws`: each is the contract of a function that does nothing. `proofs/worked/Premises` and
+//!   `proofs/worked/Checkpoint` meet their premises at a small store, and `proofs/worked/Needed` shows that the law of
+//!   images needs its own
 //!
 //! The definitions are `specs/Image`, how an image spells what is kept of a database; `specs/FitsImage`, what an image has
-//! room for; `specs/Standing`, what files stand for; `specs/Behind`, entries behind those that a generation has; and
-//! `specs/Keeping`, what stands of a list while it grows.
+//! room for; `specs/Readers`, how bytes are read part by part; `specs/ImageForm`, how an image is; `specs/Standing`, what
+//! files stand for; `specs/Behind`, entries behind those that a generation has; `specs/Keeping`, what stands of a list
+//! while it grows; and `specs/Checkpoints`, what a generation in place of another stands for.
 //!
 //! # Promises
 //!
@@ -27,6 +29,10 @@
 //! - What a crash leaves in a format stands for the empty database (`forming_stands`), and in a flush for a front of
 //!   what is flushed (`flushes_leave_fronts`, `prefixes_go_on`), which ends behind what is receipted
 //!   (`receipts_bound_fronts`). A flush that is done leaves what stands for all of the list (`flushes_keep`).
+//! - Bytes are read as what is kept of one database at most, and the image of a database as what is kept of it
+//!   (`images_are_exact`).
+//! - A checkpoint stands for its place, and what a crash leaves while it is written stands for what stood before it
+//!   (`checkpoints_stand`), so what stands of a list goes on over it (`lists_stand_over_checkpoints`).
 //!
 //! # Choices
 //!
@@ -41,6 +47,12 @@
 //! - What fits an image is said of what is kept (`FitsImage`), instead of the database, because batches and units that
 //!   were dropped are in no image, and a recovered database needn't have them. How many units of a window are kept
 //!   isn't bounded, though an image gives their number in four bytes, because it follows from how many there have been.
+//! - How an image is read is data (`Reader`), a few small readers put together (`kept_in`), instead of a relation between
+//!   bytes and what is kept. So each rule stands at the field that tells it, whoever reads the image by a program has a
+//!   definition for each part, and that reading is exact (`IsExact`) is one lemma for each way to put readers together.
+//! - Where several fields are tied, the rule stands in the test of the last of them: a stream's first kept batch is
+//!   judged at the count of the last procedure that takes the stream (`goes_with`). So the first byte that can't be is
+//!   known as soon as it is read.
 //! - Entries behind a generation aren't asked to be typed (`IsBehind`): a group has typed entries alone, so a
 //!   generation which files stand for has no others.
 #![tactic(auto)]
@@ -48,8 +60,9 @@
 mod laws;
 
 pub use laws::{
-    an_image_tells_what_is_kept, behind_goes_on, counts_are_executions, entries_tell_a_list,
-    flushes_keep, flushes_leave_fronts, forming_stands, fronts_stand, generations_go_on,
-    kept_counts_stand_on, log_receipts_tell, one_thing_stands_on, prefixes_go_on,
-    receipts_bound_fronts, stands_for_one, stands_for_one_text,
+    an_image_tells_what_is_kept, behind_goes_on, checkpoints_stand, counts_are_executions,
+    entries_tell_a_list, flushes_keep, flushes_leave_fronts, forming_stands, fronts_stand,
+    generations_go_on, images_are_exact, kept_counts_stand_on, lists_stand_over_checkpoints,
+    log_receipts_tell, one_thing_stands_on, prefixes_go_on, receipts_bound_fronts, stands_for_one,
+    stands_for_one_text,
 };

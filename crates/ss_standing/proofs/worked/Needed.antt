@@ -28,29 +28,29 @@ use Rattle.ss_standing.proofs.EmptyKept.{no_entries}
 use Rattle.ss_standing.proofs.ImageTells.{no_numbers_fit}
 use Rattle.ss_standing.proofs.Fronts.{empty_fits}
 
-abbrev start : Database
+abbrev pub start : Database
 start = empty_database workflow
 
 -- ---- that an image has room for it: 2^64 and 0 have one spelling
 
-abbrev rows : ℤ → Rows
+abbrev pub rows : ℤ → Rows
 rows n = (Int n ∷ []) ∷ []
 
-abbrev push : ℤ → Entry
+abbrev pub push : ℤ → Entry
 push n = Push 0 0 0 (codes "a") 0 (rows n)
 
 -- the database with a batch that is still to be taken
-abbrev pushed : ℤ → Database
+abbrev pub pushed : ℤ → Database
 pushed n = record start { streams = (rows n ∷ []) ∷ [] ∷ [] ∷ [] ∷ [] ∷ []; next_numbers = finmap.insert finmap.empty (codes "a") 1 ∷ finmap.empty ∷ finmap.empty ∷ finmap.empty ∷ finmap.empty ∷ [] }
 
-pushes : (n : ℤ) → apply workflow start (push n) ≡ Some (record { db = pushed n; outcome = Done []; emitted = [] })
+pub pushes : (n : ℤ) → apply workflow start (push n) ≡ Some (record { db = pushed n; outcome = Done []; emitted = [] })
 unfolding apply
 pushes n = rw (get-empty (slice_cmp nat_cmp) (codes "a")) refl
 
-abbrev listed : ℤ → List Listed
+abbrev pub listed : ℤ → List Listed
 listed n = record { entry = push n; outcome = Done [] } ∷ []
 
-pushed_whole : (n : ℤ) → WholeDatabase workflow (pushed n)
+pub pushed_whole : (n : ℤ) → WholeDatabase workflow (pushed n)
 pushed_whole n =
     subst (WholeDatabase workflow) (ap (λ o. unwrap_or (option_map (λ a. a.db) o) start) (pushes n)) (whole_after workflow accepted start (listed n) (empty_whole workflow accepted))
 
@@ -75,16 +75,16 @@ fits_needed law = other_kept (law workflow (pushed (pos 0)) (pushed (pos (2 ^ 64
 
 -- ---- that a database is whole: of a stream that is no border stream, no next number is spelled
 
-abbrev one_number : NextNumbers
+abbrev pub one_number : NextNumbers
 one_number = finmap.insert finmap.empty (codes "a") 1
 
 abbrev odd : Database
 odd = record start { next_numbers = finmap.empty ∷ one_number ∷ finmap.empty ∷ finmap.empty ∷ finmap.empty ∷ [] }
 
-one_entry : finmap.entries one_number ≡ (codes "a", 1) ∷ []
+pub one_entry : finmap.entries one_number ≡ (codes "a", 1) ∷ []
 one_entry = entries-insert nat_list_cmp_total finmap.empty (codes "a") 1 ∙ ap (put (slice_cmp nat_cmp) (codes "a") 1) (no_entries (slice_cmp nat_cmp))
 
-one_number_fits : FitNumbers one_number
+pub one_number_fits : FitNumbers one_number
 one_number_fits = (
   omega (arith, len-entries one_number, ap length one_entry),
   subst (All (λ (next : List ℕ × ℕ). next.1 < 2 ^ 64)) (sym one_entry) (All-from_recursion (λ (next : List ℕ × ℕ). next.1 < 2 ^ 64) ((codes "a", 1) ∷ []) (omega arith, tt)),

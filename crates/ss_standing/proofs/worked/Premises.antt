@@ -35,7 +35,7 @@ use Rattle.ss_standing.proofs.Fronts.{generation_goes_on, front_stands, empty_fi
 abbrev start : Database
 start = empty_database workflow
 
-start_whole : WholeDatabase workflow start
+pub start_whole : WholeDatabase workflow start
 start_whole = empty_whole workflow accepted
 
 -- ---- the image of a new store
@@ -44,9 +44,9 @@ told : kept workflow start ≡ kept workflow start
 told = image_tells workflow start start start_whole start_whole (empty_fits workflow) (empty_fits workflow) refl
 
 -- no bytes of text, one table, five streams, four counts, and no sources of one border stream
-pub image_is : length (empty_image_of workflow) ≡ 132
+pub zeros : empty_image_of workflow ≡ replicate 132 0
 unfolding number_bytes
-image_is = ap length (
+zeros =
     empty_image workflow
     ∙ (λ k. text_bytes []
     ++ (flat_map (λ b. b) (replicate 1 (no_table k))
@@ -54,7 +54,9 @@ image_is = ap length (
     ++ flat_map (λ b. b) (replicate 5 (no_stream k))
     ++ flat_map (number_bytes 8) (replicate 4 0)
     ++ flat_map (λ b. b) (replicate 1 (no_sources k))))
-    )
+
+pub image_is : length (empty_image_of workflow) ≡ 132
+image_is = ap length zeros
 
 -- ---- a store with the batch behind it
 
@@ -67,7 +69,7 @@ store = record { first = 0; image = empty_image_of workflow; groups = entries �
 abbrev seven : Row
 seven = Int (pos 7) ∷ []
 
-seven_typed : IsTypedRow seven
+pub seven_typed : IsTypedRow seven
 seven_typed = All-from_recursion IsTypedValue seven (omega arith, tt)
 
 is_group : IsGroup entries
@@ -110,7 +112,7 @@ has_front = record {
 
 -- ---- the premises of the laws, and the laws there
 
-new_store : Replayed workflow (fresh (empty_image_of workflow)) 0 (kept workflow start)
+pub new_store : Replayed workflow (fresh (empty_image_of workflow)) 0 (kept workflow start)
 new_store = fresh_replayed workflow start_whole
 
 -- a list that replays is told by its entries
