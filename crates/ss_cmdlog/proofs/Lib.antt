@@ -12,6 +12,7 @@ pub mod Logs
 pub mod Adding
 pub mod Filled
 pub mod Formatted
+pub mod Renewed
 pub mod Flat
 pub mod Staying
 pub mod OnlyRead

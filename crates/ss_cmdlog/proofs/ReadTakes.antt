@@ -27,22 +27,22 @@ bind_ok (Err e) f y h = cc
 pub ok_pair : {A B : Type 0} (a x : A) (b y : B) → read_so a b ≡ read_so x y → (a ≡ x) × (b ≡ y)
 ok_pair {A = A} {B = B} a x b y h = let p : ◌≡◌ {A = A × B} (a, b) (x, y) = cc in (ap (λ (q : A × B). q.0) p, ap (λ (q : A × B). q.1) p)
 
-abbrev valued : {A B : Type 0} → A → B → Result (A × B) ValueError
+abbrev pub valued : {A B : Type 0} → A → B → Result (A × B) ValueError
 valued a b = Ok (a, b)
 
-abbrev recorded : {A B : Type 0} → A → B → Result (A × B) RecordError
+abbrev pub recorded : {A B : Type 0} → A → B → Result (A × B) RecordError
 recorded a b = Ok (a, b)
 
-whole_ok : {A B : Type 0} (r : Result (A × B) ValueError) (x : A) (y : B) → whole r ≡ read_so x y → r ≡ valued x y
+pub whole_ok : {A B : Type 0} (r : Result (A × B) ValueError) (x : A) (y : B) → whole r ≡ read_so x y → r ≡ valued x y
 whole_ok {A = A} {B = B} (Ok z) x y h = let p : ◌≡◌ {A = A × B} z (x, y) = cc in ap Ok p
 whole_ok (Err e) x y h = cc
 
-as_field_ok : {A B : Type 0} (bytes : List ℕ) (r : Result (A × B) RecordError) (x : A) (y : B) → as_field bytes r ≡ read_so x y → r ≡ recorded x y
+pub as_field_ok : {A B : Type 0} (bytes : List ℕ) (r : Result (A × B) RecordError) (x : A) (y : B) → as_field bytes r ≡ read_so x y → r ≡ recorded x y
 as_field_ok {A = A} {B = B} bytes (Ok z) x y h = let p : ◌≡◌ {A = A × B} z (x, y) = cc in ap Ok p
 as_field_ok bytes (Err e) x y h = cc
 
 -- a test that a field stands, or doesn't
-kept_ok : {X : Type 0} (b : Bool) (x : Result X ℕ) (e : ℕ) (y : X) → cond b x (Err e) ≡ Ok y → (b ≡ true) × (x ≡ Ok y)
+pub kept_ok : {X : Type 0} (b : Bool) (x : Result X ℕ) (e : ℕ) (y : X) → cond b x (Err e) ≡ Ok y → (b ≡ true) × (x ≡ Ok y)
 kept_ok true x e y h = (refl, h)
 kept_ok false x e y h = cc
 

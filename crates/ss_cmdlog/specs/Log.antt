@@ -34,6 +34,7 @@ IsSettled kind disk = Only (kind.seen disk) (present kind disk)
 pub record IsOpen {D : Type 0} (kind : DiskKind D) (log : CmdLog D) (s : Stood) : Type 0 where
   pub going : log.halted ≡ None
   pub at : kind.tells → IsOpenAt (kind.seen log.disk) log.file log.gate s
+  pub first : kind.tells → log.first ≡ s.first
   pub count : kind.tells → log.count ≡ count_of s
   pub only : kind.honest → Only (kind.seen log.disk) (present kind log.disk)
 

@@ -16,7 +16,7 @@ use ss_value::NoMemory;
 use std::alloc::Global;
 
 /// The bytes in front of every generation.
-const MAGIC: [u8; 8] = [83, 83, 84, 79, 82, 69, 49, 10];
+pub(crate) const MAGIC: [u8; 8] = [83, 83, 84, 79, 82, 69, 49, 10];
 
 /// A generation without groups: its head, and a closed gate.
 #[tactic(auto, unfolding(crate::specs::Generation::head_bytes))]
@@ -76,6 +76,7 @@ impl<D: Disk> CmdLog<D> {
         requires settled { D.kind.honest → IsSettled D.kind disk }
         ensures open { IfOk result (λ log. IsOpen D.kind log (fresh image.now)) }
         ensures count { IfOk result (λ log. log.count ≡ 0) }
+        ensures first { IfOk result (λ log. log.first ≡ 0) }
         ensures moments { D.kind.honest → MatchResult result
             (λ log. LeavesOnly D.kind.moment D.kind.images disk log.disk (λ crashed. IsEmpty crashed ⊎ StandsFor crashed (fresh image.now)))
             (λ refused. LeavesOnly D.kind.moment D.kind.images disk refused.1 (λ crashed. IsEmpty crashed ⊎ StandsFor crashed (fresh image.now))) }
@@ -98,6 +99,7 @@ impl<D: Disk> CmdLog<D> {
             alloc,
             file: FileNo::First,
             gate: (bytes.len() - 1) as u64,
+            first: 0,
             count: 0,
             halted: None,
         })

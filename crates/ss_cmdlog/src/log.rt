@@ -26,7 +26,7 @@ pub enum LogError {
     DiskFault,
     /// The disk holds no store: the file's number, and in it the first byte that can't be. `open` alone answers it.
     Foreign { file: u8, at: u64 },
-    /// The disk had failed in an earlier call, and had this count of faults then. `flush` alone answers it.
+    /// The disk had failed in an earlier call, and had this count of faults then. `flush` and `renew` alone answer it.
     Halted { faults: u64 },
 }
 
@@ -65,6 +65,7 @@ pub struct CmdLog<D: Disk> {
     pub(crate) alloc: Global,
     pub(crate) file: FileNo,
     pub(crate) gate: u64,
+    pub(crate) first: u64,
     pub(crate) count: u64,
     pub(crate) halted: Option<u64>,
 }
@@ -167,6 +168,13 @@ impl<D: Disk> CmdLog<D> {
         }
         self.add_entries(entries.as_slice())?;
         Ok(Receipt { count: self.count })
+    }
+
+    /// The first place of the current generation: how many executions its image has. Takes no memory.
+    pub fn first(&self) -> u64
+        ensures { result ≡ self.now.first }
+    {
+        self.first
     }
 
     /// How many executions the log has: those of its image, and the entries behind it. While it isn't halted that is the count

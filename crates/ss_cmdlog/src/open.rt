@@ -113,6 +113,7 @@ impl<D: Disk> CmdLog<D> {
         ensures open { IfOk result (λ r. (s : Stood) × (D.kind.tells → store_at (D.kind.seen disk) ≡ Ok s)
             × IsOpen D.kind r.0 s × IsLoaded r.1 s × IsStood s) }
         ensures count { IfOk result (λ r. r.0.count ≡ r.1.first + length r.1.entries) }
+        ensures first { IfOk result (λ r. r.0.first ≡ r.1.first) }
         ensures foreign { D.kind.tells → IfErr result (λ refused. IsForeignAt (D.kind.seen disk) refused.0) }
         ensures same { D.kind.tells → MatchResult result (λ r. D.kind.seen r.0.disk ≡ D.kind.seen disk) (λ refused. D.kind.seen refused.1 ≡ D.kind.seen disk) }
         ensures moments { D.kind.honest → MatchResult result
@@ -137,6 +138,7 @@ impl<D: Disk> CmdLog<D> {
                     alloc,
                     file,
                     gate: gate as u64,
+                    first: loaded.first,
                     count,
                     halted: None,
                 };

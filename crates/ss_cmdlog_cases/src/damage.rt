@@ -1,5 +1,6 @@
 //! Bytes that can't be.
 
+use crate::renewals::twice_renewed;
 use crate::stores::{answer_of as read_of, store_of_steps};
 use crate::words::{bytes_of, file_of, number_of};
 use ss_case_files::Wrong;
@@ -41,13 +42,25 @@ fn is_done(alloc: Global, disk: &mut MemoryDisk, given: &str) -> Result<bool, Wr
     }
 }
 
-/// What is read of a store of three steps behind an image of two bytes, to which was done what words say.
-pub fn answer_of(alloc: Global, given: &str) -> Result<String, Wrong> {
-    let mut disk = store_of_steps(alloc)?;
+/// What is read of a disk to which was done what words say.
+fn read_behind(alloc: Global, disk: MemoryDisk, given: &str) -> Result<String, Wrong> {
+    let mut disk = disk;
     let done = is_done(alloc, &mut disk, given);
     let answer = read_of(alloc, disk);
     if done? {
         return answer;
     }
     Err(Wrong::text(alloc, "it can't be done"))
+}
+
+/// What is read of a store of three steps behind an image of two bytes, to which was done what words say.
+pub fn answer_of(alloc: Global, given: &str) -> Result<String, Wrong> {
+    let disk = store_of_steps(alloc)?;
+    read_behind(alloc, disk, given)
+}
+
+/// The same of a store whose generation was renewed twice, each time behind three steps.
+pub fn answer_of_renewed(alloc: Global, given: &str) -> Result<String, Wrong> {
+    let disk = twice_renewed(alloc)?;
+    read_behind(alloc, disk, given)
 }

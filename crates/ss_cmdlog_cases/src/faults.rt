@@ -14,7 +14,7 @@ use ss_value::{NoMemory, Seq};
 use std::alloc::Global;
 
 /// Why a call was refused.
-fn refusal_of(alloc: Global, refused: LogError) -> Result<String, Wrong> {
+pub fn refusal_of(alloc: Global, refused: LogError) -> Result<String, Wrong> {
     match refused {
         LogError::NoMemory => Err(Wrong::NoMemory),
         LogError::DiskFault => said(alloc, "disk fault"),
@@ -24,7 +24,7 @@ fn refusal_of(alloc: Global, refused: LogError) -> Result<String, Wrong> {
 }
 
 /// What a flush answered.
-fn words_of(alloc: Global, answer: Result<Receipt, LogError>) -> Result<String, Wrong> {
+pub fn words_of(alloc: Global, answer: Result<Receipt, LogError>) -> Result<String, Wrong> {
     match answer {
         Ok(Receipt { count }) => Ok(format!(in alloc; "receipt of {count}")?),
         Err(refused) => refusal_of(alloc, refused),
@@ -53,7 +53,7 @@ fn counts_of(alloc: Global, disk: &MemoryDisk) -> Result<String, Wrong> {
 }
 
 /// How often a disk was called and failed, what is read of it, and what is read behind a crash in each call from this one on.
-fn disk_after(alloc: Global, disk: MemoryDisk, from: u64) -> Result<String, Wrong> {
+pub fn disk_after(alloc: Global, disk: MemoryDisk, from: u64) -> Result<String, Wrong> {
     let counts = counts_of(alloc, &disk);
     let crashes = crashes_from(alloc, &disk, from);
     let read = answer_of(alloc, disk)?;
@@ -63,7 +63,7 @@ fn disk_after(alloc: Global, disk: MemoryDisk, from: u64) -> Result<String, Wron
 }
 
 /// The number of a call, as a list.
-fn one_call(alloc: Global, call: u64) -> Result<Seq<u64>, NoMemory> {
+pub fn one_call(alloc: Global, call: u64) -> Result<Seq<u64>, NoMemory> {
     let mut calls = Seq::new(alloc);
     calls.push(call)?;
     Ok(calls)

@@ -1,6 +1,6 @@
 //! The program `ss_cmdlog_cases`: runs cases of records and of the command log, in the files that the command line names, and
 //! counts them: which bytes are read as what, where the first byte that can't be is told, what a crash in each call of a
-//! store's making and of a flush leaves, and what a disk that fails there.
+//! store's making, of a flush and of a new generation leaves, and what a disk that fails there.
 //!
 //! The contracts say all of it of every store. That their definitions say what a person reads off docs/FORMATS.md, and that
 //! the calls answer at all, these cases show.
@@ -12,6 +12,8 @@
 //! crashes     CALL ~ ANSWERS     what a crash in this call of a store's making and of a flush leaves
 //! flushes     CALL ~ STORY       what the flushes answer where the disk fails at this call, and what is then on it
 //! openings    CALL ~ STORY       the same of a store's making and its opening
+//! renewals    CALL ~ STORY       the same of a new generation and a flush behind it
+//! renewed     DAMAGE ~ ANSWER    what is read of a damaged store whose generation was renewed twice
 //! ```
 //!
 //! FILE is `selector`, `first` or `second`; bytes stand as two hexadecimal digits each, and `|` parts fields. What is read of a store is `empty`;
@@ -24,6 +26,7 @@
 //! - `stores`: stores on a disk in memory, and what is read of one
 //! - `files`: the bytes of one, as docs/FORMATS.md shows them; `damage`: bytes that can't be
 //! - `crashes`: a crash in each call; `faults`: a disk that fails in each call
+//! - `renewals`: new generations, and a disk that fails in each call of one
 #![tactic(auto)]
 
 mod crashes;
@@ -31,6 +34,7 @@ mod damage;
 mod faults;
 mod files;
 mod records;
+mod renewals;
 mod stores;
 mod words;
 
@@ -41,7 +45,14 @@ use std::process::ExitCode;
 /// How blocks with this word are read, where there is such a kind.
 fn form_of(word: &str) -> Option<BlockForm> {
     match word {
-        "records" | "files" | "damages" | "crashes" | "flushes" | "openings" => Some(BlockForm {
+        "records"
+        | "files"
+        | "damages"
+        | "crashes"
+        | "flushes"
+        | "openings"
+        | "renewals"
+        | "renewed" => Some(BlockForm {
             behind: Behind::Nothing,
             has_rows: true,
         }),
@@ -57,6 +68,8 @@ fn answer_of(alloc: Global, kind: &str, given: &str) -> Result<String, Wrong> {
         "damages" => damage::answer_of(alloc, given),
         "crashes" => crashes::answer_of(alloc, given),
         "flushes" => faults::flushes_failing_at(alloc, given),
+        "renewals" => renewals::renewal_failing_at(alloc, given),
+        "renewed" => damage::answer_of_renewed(alloc, given),
         _ => faults::opening_failing_at(alloc, given),
     }
 }

@@ -22,6 +22,7 @@ returns-clause-open g c =
     let place : c.len.result - 1 ≡ length c.as_slice.result.now - 1 = omega arith in
     record {
       going = refl;
+      first = λ tells. refl;
       at = λ tells. fresh_open c.args.image.now c.as_slice.result.now _ (g.D.Disk.kind.seen c.fill_both.new.disk) _ _ c.in-Ok.ensures.long (c.as_slice.ensures.value ∙ c.in-Ok.ensures.spelled) (c.requires.empty tells)
           (c.in_default-fill_both.ensures.filled tells) (c.in_default-write_synced.ensures.ok tells) place;
       count = λ tells. refl;
