@@ -1,4 +1,5 @@
-//! What stands behind the lock.
+//! The desk, which is what stands behind the lock, and what changes it: a commit. `log` takes the lock and calls it; `looking`
+//! has its other calls.
 
 ghost use Rattle.std.specs.Prelude.{◌≡◌, ◌≤◌, OnOk, length};
 ghost use Rattle.ss_flow.specs.Advances.{HasRoom};

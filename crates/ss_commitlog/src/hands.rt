@@ -1,5 +1,5 @@
-//! Tokens go into the log's seat and come out again. None of it takes memory: a token has no bytes, and the list that
-//! held the tokens keeps its room.
+//! Tokens go into the log's seat and come out again, for `desk`, `looking` and `notes`, with the lock held. None of it takes
+//! memory: a token has no bytes, and the list that held the tokens keeps its room.
 
 ghost use Rattle.std.specs.Prelude.{◌≡◌, ◌+◌, ◌<◌, ◌≤◌, ◌^◌, [], ◌∷◌, ◌++◌, map, take, length, vec_len, vec_capacity};
 ghost use Rattle.ss_commitlog.specs.declared.role.Role.TheVariants.{Log};

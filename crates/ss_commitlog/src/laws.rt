@@ -1,4 +1,4 @@
-//! Laws of the definitions, each the contract of a function that does nothing.
+//! Laws of the definitions, each the contract of a function that does nothing, which callers cite.
 
 ghost use Rattle.ss_commitlog.specs.BorderStreams.{BorderStreamsStay};
 

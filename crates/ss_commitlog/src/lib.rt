@@ -7,12 +7,13 @@
 //! Source: S-Store's serial order of transaction executions (Meehan et al., PVLDB 8, 2015, section 2); that threads share
 //! it by tokens is this project's own rule.
 //!
-//! `ss_opening` opens a log and hands its tokens out; `ss_hand`, `ss_turns`, `ss_settle`, `ss_receipts` and `ss_engine` call it. Its
-//! lock is the innermost one: who holds it calls nobody.
+//! `ss_opening` opens a log and hands its tokens out; `ss_hand`, `ss_turns`, `ss_settle`, `ss_receipts`, `ss_lanes` and `ss_engine`
+//! call it. Its lock is the innermost one: who holds it takes no other lock, and waits for nobody.
 //!
 //! - `log`, `opening`: the calls; `placed`: what becomes of an entry; `posted`: what the disk posts
 //! - `token`, `role`: tokens; `blank`: the table before the log has a name
-//! - `desk`, `looking`: what stands behind the lock; `reading`: what is read of it
+//! - `desk`: what stands behind the lock, and a commit to it; `looking`: the looks at it; `reading`: what these read. `log` takes the
+//!   lock and calls `desk` and `looking`, each of which is called under it alone
 //! - `rule`: the rule of the table; `hands`, `notes`: its steps
 //! - `laws`: what callers need to know of lists
 //!
@@ -42,8 +43,8 @@
 //! of its seat (`Begins`). That each entry was added under all roles that it concerns is kept beside the rule
 //! (`Recorded`). So no entry behind a mark's list concerns the mark (`Continues`).
 //!
-//! A call takes the lock, joins its tokens into the log's seat, does one step on word 0, and splits them off again. A
-//! step looks (`Looked`) or adds (`Added`); either tells that all that the joined tokens knew was right (`Shown`), and
+//! Once it is open, a call takes the lock, joins its tokens into the log's seat, does a step on word 0, and splits them off again; a commit that has no
+//! memory does none. A step looks (`Looked`) or adds (`Added`); either tells that all that the joined tokens knew was right (`Shown`), and
 //! behind it they know the log's list. `post` and `see` are steps on words 1 and 2 and take no lock. `close` joins all
 //! tokens for good.
 //!
@@ -60,8 +61,9 @@
 //!   the lock is one of these; so the list always replays (`IsLegal`), whatever the interleaving. Marks that all know one
 //!   list need the entry's value behind that list, and no more (lemma `right_at_one_list`).
 //! - `look` (`ok`): the batch that a consumer finds; `ready_at` (`ready`): just the procedures of a partition that are
-//!   ready; `tail` (`ok`): the entries from a place on; each of the list that the token then knows (`Follows`).
-//! - `meet` (`one`), `meet_all`, `meet_with` (`Met`), `meet_tail`: these tokens then know one list.
+//!   ready; each of the list that the token then knows (`Follows`).
+//! - `meet` (`one`), `meet_all`, `meet_with` (`Met`): these tokens then know one list; `meet_tail` (`ok`) gives the entries from a
+//!   place of it on, too.
 //! - `close`: a list that replays and has its orders (`legal`) and goes on from what each token knew (`list`), with the
 //!   streams after it (`streams`).
 #![tactic(auto)]

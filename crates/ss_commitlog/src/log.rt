@@ -1,4 +1,5 @@
-//! The log that threads share.
+//! The log that threads share: each call takes the lock and asks the desk, but `post` and `see`, which step on the table beside
+//! it. The root page says who calls.
 
 ghost use Rattle.std.specs.Prelude.{◌≡◌, ◌⊎◌, ◌<◌, ◌≤◌, ◌-◌, ◌↔◌, ℕ, List, IfOk, true, drop, length};
 ghost use Rattle.std.specs.Int.{IsBitSet};
@@ -27,11 +28,11 @@ use std::sync::{Mutex, Wait};
 
 /// One list of executions, and the batches that are still to take after it.
 ///
-/// Every call but `post` and `see` takes the lock; none of them calls anybody while it holds it. What they cost under
-/// the lock: `commit` a step for each mark, each batch and each input; `look` a copy of the batch; `tail` and `meet_tail`
-/// a copy of the entries; `ready_at` a look at each procedure's home, and at the inputs of those that are at home there;
+/// Every call but `post` and `see` takes the lock; none of them takes another lock, or waits, while it holds it. What they
+/// cost under the lock: `commit` a step for each mark, each batch and each input; `look` a copy of the batch; `meet_tail` a
+/// copy of the entries; `ready_at` a look at each procedure's home, and at the inputs of those that are at home there;
 /// `meet`, `meet_all` and `meet_with` a step or two for each token. No commit looks at the list. Memory: `commit` an
-/// entry's and its batches' room, made before the first step; `look`, `tail` and `meet_tail` their copies; all others
+/// entry's and its batches' room, made before the first step; `look` and `meet_tail` their copies; all others
 /// none.
 #[derive(Drop)]
 pub struct CommitLog<I: Life> {
@@ -80,21 +81,6 @@ impl<I: Life> CommitLog<I> {
         self.desk
             .lock(rt)
             .look(&self.table, alloc, mark, stream, consumer, r)
-    }
-
-    /// Copies of the entries from a place on, of the list that the note then knows.
-    pub fn tail<R: Wait>(
-        &self,
-        rt: &R,
-        alloc: Global,
-        note: &mut Note<I>,
-        from: u64,
-    ) -> Result<Seq<Listed>, NoMemory>
-        requires from { I.first ≤ from }
-        ensures note { Follows I.catalog I.parts I.limit note.old note.new }
-        ensures ok { IfOk result (λ copies. copies ≡ drop (from - I.first) (listed_of note.new.list)) }
-    {
-        self.desk.lock(rt).tail(&self.table, alloc, note, from)
     }
 
     /// The procedures that stand at a partition and have their next batch, after the list that the note then knows.

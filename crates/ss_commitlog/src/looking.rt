@@ -1,4 +1,5 @@
-//! Looks at what stands behind the lock. Each shows its tokens the list first.
+//! Looks under the lock, at what the desk holds; `log` takes the lock and calls them. Each shows its tokens the list first. What
+//! it then reads, `reading` reads.
 
 ghost use Rattle.std.specs.Prelude.{◌≡◌, ◌<◌, ◌≤◌, ◌-◌, ◌↔◌, ℕ, List, IfOk, true, drop, length};
 ghost use Rattle.std.specs.Int.{IsBitSet};
@@ -41,25 +42,6 @@ impl<I: Life> Desk<I> {
     {
         show(table, &mut self.seat, mark);
         batch_for(&self.streams, &self.counts, alloc, stream, consumer, r)
-    }
-
-    /// Copies of the entries from a place on.
-    pub fn tail(
-        &mut self,
-        table: &LogTable,
-        alloc: Global,
-        note: &mut Note<I>,
-        from: u64,
-    ) -> Result<Seq<Listed>, NoMemory>
-        requires table { (table.now.shared.table_id ≡ I.table) × (0 < I.table.words) }
-        requires from { I.first ≤ from }
-        ensures list { (self.new ≡ self.old) × (note.new.list ≡ self.old) }
-        ensures note { Follows I.catalog I.parts I.limit note.old note.new }
-        ensures ok { IfOk result (λ copies. copies ≡ drop (from - I.first) (listed_of note.new.list)) }
-    {
-        show(table, &mut self.seat, note);
-        let skip = (from - self.first) as usize;
-        copy_from(alloc, self.list.as_slice(), skip)
     }
 
     /// The procedures that stand at a partition and have their next batch after the list.

@@ -1,4 +1,5 @@
-//! Steps of one token or two.
+//! Steps of one token or two, be they marks or notes: those that show them the list, for `looking`, and `end_all`, by which
+//! `Desk::close` takes all tokens for good, with the lock held; and `post` and `see`, for `log`, which need none.
 
 ghost use Rattle.std.specs.Prelude.{◌≡◌, ◌⊎◌, ◌+◌, ◌<◌, ◌≤◌, ◌∷◌, [], length};
 ghost use Rattle.ss_commitlog.specs.declared.role.Role.TheVariants.{Disk, Log};

@@ -1,4 +1,5 @@
-//! The opening of a log under a name.
+//! The opening of a log under a name, with all its tokens. `ss_opening` calls it; no thread has the log yet, and no lock is
+//! taken.
 
 ghost use Rattle.std.specs.Prelude.{◌≡◌, ◌≤◌, ◌+◌, ◌^◌, ℕ, [], length, vec_capacity, IfOk};
 ghost use Rattle.ss_model.specs.Database.{stream_batches};

@@ -1,4 +1,7 @@
-//! What becomes of an entry.
+//! What becomes of an entry: a place in the list, or the reason why it has none.
+//!
+//! `CommitLog::commit` answers a place without the entry, which the list keeps, or the reason. `ss_turns` makes a `Placed` of it, and `ss_lanes`
+//! carries that to the client.
 
 use ss_model::Listed;
 

@@ -1,4 +1,4 @@
-//! What the disk posts.
+//! What the disk posts, for whoever sees it: a value.
 
 /// The two numbers that the disk posts.
 #[derive(Clone, Copy, Drop)]

@@ -1,4 +1,4 @@
-//! What is read of the list, of streams and of counts.
+//! What is read of the list, of streams and of counts, with the log's lock held. `looking` alone calls it.
 
 ghost use Rattle.std.specs.Prelude.{◌≡◌, ◌<◌, ◌↔◌, ℕ, IfOk, length, drop};
 ghost use Rattle.std.specs.Int.{IsBitSet};

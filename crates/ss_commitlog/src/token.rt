@@ -1,4 +1,4 @@
-//! The tokens of a log.
+//! The tokens of a log: rights without bytes, which callers hold and lend to its calls.
 
 use crate::rule::LogSeat;
 use ss_model::Life;

@@ -1,4 +1,5 @@
-//! The engine that threads share.
+//! The engine that threads share, whatever they do there: a value without calls of its own. `session/open` makes it and
+//! `session/close` takes it apart; the calls on it stand in the folders `client`, `partition` and `session`.
 
 use ss_hand::Partition;
 use ss_lanes::Hub;

@@ -2,7 +2,7 @@
 //!
 //! An engine begins with what `ss_opening` makes of a database. Requests go out from lanes (`ss_lanes`) as jobs to the inbox of a
 //! partition, with the client's mark in the commit log, and come back as replies; they wait in the hub of `ss_lanes`, which calls
-//! nobody. Who runs the work of an inbox takes the partitions of an entry out of their bays (`ss_hand`), runs and commits it
+//! none of those who act. Who runs the work of an inbox takes the partitions of an entry out of their bays (`ss_hand`), runs and commits it
 //! (`ss_turns`), and puts them back. What is ready at the end `ss_settle` runs.
 //!
 //! Source: S-Store's clients and partition engines, whose triggered work goes ahead of client work (Meehan et al., PVLDB 8,
@@ -10,26 +10,29 @@
 //!
 //! # Rooms
 //!
-//! `engine` is what threads share: the hub, the bays, the catalogue, the home of each procedure, how many partitions run, the
-//! runner, and the gate (that of `ss_settle`, which is told of each execution, so that a test may hold one). Who acts on it has a
-//! folder:
+//! `engine` is what threads share: the hub with the commit log in it, the bays, the catalogue, the home of each procedure, how many
+//! partitions run, the runner, and the gate (that of `ss_settle`, which is told of each execution, so that a test may hold one).
+//! Beside it clients share the lock of `ss_receipts`. Who acts on it has a folder:
 //!
 //! - `client`, a client's side. It touches its lane, the hub, the commit log's lock, where marks and notes meet, and the lock of
 //!   `ss_receipts`, under which it may flush the disk. It takes no partition itself: what it asks for it sends, to the inbox that
-//!   `touched` tells. `submit` takes one request and `send` waits for its answer; `receipt` asks that answers be durable;
-//!   `requests` makes those of one client in order, and calls the others. Threads of clients call `requests`. While `send` waits
+//!   `touched` tells. `submit` takes one request, and by `send` waits for its answer; `receipt` asks that answers be durable;
+//!   `requests` makes those of one client in order, and calls `submit` and `receipt`. Threads of clients call it. While `send` waits
 //!   at an inbox that has no executor it pumps it, so its thread then does all that an executor does.
 //! - `partition`, a partition's side. It alone takes partitions out of their bays and puts them back (`hands`), until the close;
 //!   besides it touches the inboxes, the slots of clients and the commit log's lock, and never the disk or `ss_receipts`. `pump`
 //!   takes what waits in an inbox, and sleeps there: `serve` serves a job and answers into the client's slot, `follow` a hint or,
-//!   where nothing waits, the first procedure that is ready, and `wake` puts hints into the inboxes of other homes; `touched`
-//!   reads which partitions an entry touches, `least` finds the first of a small set, and `pumped` is what a pump came to.
-//!   Executors call `pump` and `rest`, clients that wait `pump`, and the thread of the session `stop` and `no_executor`.
+//!   where nothing waits, the first procedure that is ready, and `wake` puts hints into the inboxes of the homes of what may be
+//!   ready; `touched` reads which partitions an entry touches, `least` finds the first of a small set, and `pumped` is what a pump
+//!   came to. Executors call `pump` and `rest`, clients that wait `pump`, and the thread of the session `stop` and `no_executor`;
+//!   all of these stand in `pump`.
 //! - `session`, a run from end to end. `open` makes an engine with a lane for each client, `threads` lets clients and executors at
-//!   it, by the hub too, `close` takes it apart with all partitions in one hand, and `run` is all three, with the lock of
-//!   `ss_receipts` and the last flush. What stands above this crate calls `run_session`.
+//!   it, by the hub too, `close` takes it apart with all partitions in one hand, and `run` is all three, in order: behind the
+//!   threads it takes the command log out of the lock of `ss_receipts`, and behind the close it makes the last flush. What stands
+//!   above this crate calls `run_session`.
 //!
-//! Of the locks none is held while another one is waited for, but that of `ss_receipts`, under which the commit log's is taken.
+//! Of the locks none is held while another one is waited for, but that of `ss_receipts`, under which the commit log's is taken. Bays
+//! are no locks: who has some may wait for more, in rising order, and for any lock but that of `ss_receipts`.
 //!
 //! In `specs/`: `Pumped`, `Engines`, `Serving`, `Tried`, `Least`, `Assured`, `Closings`, `Clients`, `Sessions`.
 //!
@@ -79,11 +82,6 @@ mod engine;
 mod partition;
 mod session;
 
-pub use engine::Engine;
-pub use partition::pumped::Pumped;
 pub use session::close::Closed;
-pub use session::open::NewEngine;
 pub use session::run::{Finished, run_session};
-pub use ss_commitlog::Unlisted;
-pub use ss_lanes::{Due, Lane, Room, lanes_serve};
 pub use ss_settle::{Gate, NoGate};

@@ -1,4 +1,5 @@
-//! Partitions that come together, one by one: their shards beside one another, each with its own part.
+//! Partitions that come together, one by one: their shards beside one another, each with its own part. `taking` puts those of a
+//! set there, and `closing` all; `joining` makes one shard of them. It touches no bay and no lock.
 
 ghost use Rattle.std.specs.Prelude.{◌≡◌, ℕ, suc, [], ◌∷◌, ◌++◌, IfOk};
 ghost use Rattle.ss_hand.specs.Apart.{shards_of, shards_in, ArePartitions, AreSetApart, IsRoom, HasRoom};

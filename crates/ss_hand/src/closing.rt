@@ -1,4 +1,4 @@
-//! All partitions in one hand, once there are no bays any more.
+//! All partitions in one hand, once there are no bays any more. The close of `ss_engine` calls it.
 
 ghost use Rattle.std.specs.Prelude.{◌≡◌, ◌≤◌, length, map, IfOk, OnOk};
 ghost use Rattle.std.specs.List.{range_with_len};

@@ -1,4 +1,4 @@
-//! What is in hand.
+//! What is in hand: a shard with the marks of its partitions. A value, which `ss_turns` and `ss_settle` are lent.
 
 use ss_commitlog::Marks;
 use ss_model::Life;

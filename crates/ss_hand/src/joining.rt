@@ -1,4 +1,5 @@
-//! Shards in hand that become one.
+//! Shards in hand that become one, for `taking` and `closing`: first all marks meet under the commit log's lock, with the note
+//! of whoever takes; then the shards are joined without it.
 
 ghost use Rattle.std.specs.Prelude.{◌≡◌, ◌≤◌, OnOk, OnErr};
 ghost use Rattle.std.specs.List.Sorted.{IsStrictlyIncreasing};

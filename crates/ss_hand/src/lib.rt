@@ -10,10 +10,17 @@
 //! transactions hold all partitions that they touch (Meehan et al., PVLDB 8, 2015, section 3). That marks of a commit log
 //! say of which list a part is, is this project's own rule.
 //!
+//! `ss_opening` makes the first partitions. `ss_engine` calls all else: `take_parts` and `put_parts` around each execution, `show_note`
+//! behind a step, `in_one_hand` at its close. `ss_turns` and `ss_settle` are lent a hand, and work on its shard and its marks.
+//!
+//! What is touched here is bays, and the commit log's lock: `take_parts`, `show_note` and `in_one_hand` take it once each, and let it
+//! go before they answer. `take_parts` waits at bays that are empty, in rising order, with those in hand that it has; `put_parts`
+//! waits for nobody. Inboxes, slots, receipts and the disk are not seen here.
+//!
 //! - `partition`: what a bay has; `hand`: what is in hand; `turns`: the turns of the bays that this was taken from
 //! - `taking`, `putting`: the two calls; `closing`: all partitions, once there are no bays any more
 //! - `meeting`: a note that comes to know what ran on the parts in hand
-//! - `apart`, `joining`: partitions that come together, and shards in hand that become one
+//! - `apart`: shards beside one another, each its own, with their marks; `joining`: how they become the one shard of a hand
 //!
 //! In `specs/`: `Partitions` (what a bay has), `Apart` (partitions beside one another), `Meetings` (tokens that go on),
 //! `Hands` (what is in hand).

@@ -1,4 +1,4 @@
-//! A note that comes to know what ran on the parts in hand.
+//! A note that comes to know what ran on the parts in hand. `ss_engine` asks for it behind a step, for the note of whoever pumps.
 
 ghost use Rattle.std.specs.Prelude.{◌≡◌, ◌≤◌, ℕ, List, []};
 ghost use Rattle.ss_model.specs.Accepted.{Accepted};
@@ -11,7 +11,8 @@ use ss_commitlog::{CommitLog, Note};
 use ss_model::Life;
 use std::sync::Wait;
 
-/// A mark in hand and the note then know one list; so the note knows what ran on the parts. It is in hand what was.
+/// The first mark in hand and the note then know one list; so the note knows what ran on the parts. The mark may go on too, and
+/// the same partitions are in hand.
 ///
 /// Takes the log's lock once, and no memory.
 pub fn show_note<I: Life, R: Wait>(

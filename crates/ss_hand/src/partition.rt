@@ -1,4 +1,5 @@
-//! What a bay has.
+//! What a bay has. It is a value and touches nothing: `ss_opening` makes one for each bay, `putting` one for each that it fills
+//! again, and `taking` and `apart` take it apart into what a hand holds.
 
 use ss_commitlog::Mark;
 use ss_model::Life;

@@ -1,4 +1,5 @@
-//! Partitions back into their bays.
+//! Partitions back into their bays, each by its turn, which waits for nobody. `ss_engine` calls it behind an execution, and
+//! `taking` where memory is short.
 
 ghost use Rattle.std.specs.Prelude.{◌≡◌, ◌≤◌, List, ℕ, map};
 ghost use Rattle.ss_model.specs.Accepted.{Accepted};
@@ -47,7 +48,7 @@ pub(crate) fn put_back<I: Life>(bays: &Bays<Partition<I>>, hand: Hand<I>, turns:
 /// Gives each partition its part back, and puts it into its bay, the last one first. `parts` is how many partitions run, and the
 /// turns are those that came with the hand.
 ///
-/// A step for each bay, and for each partition but the first what `release` takes, whatever the rows. Takes no memory.
+/// A step for each bay, and for each partition but the first what `part` of `ss_shard` takes, whatever the rows. Takes no memory.
 pub fn put_parts<I: Life>(
     alloc: Global,
     catalog: &Catalog,

@@ -1,4 +1,5 @@
-//! Partitions out of their bays, in one hand.
+//! Partitions out of their bays, in one hand. It waits at bays in rising order, and then takes the commit log's lock once, by
+//! `joining`. `ss_engine` calls it before an execution.
 
 ghost use Rattle.std.specs.Prelude.{◌≡◌, ◌≤◌, ◌<◌, ℕ, IfOk, OnOk};
 ghost use Rattle.std.specs.Int.{IsBitSet};

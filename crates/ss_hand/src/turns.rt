@@ -1,4 +1,4 @@
-//! The turns of bays.
+//! The turns of bays, which `taking` gets with the partitions and `putting` gives up again: a value.
 
 use crate::partition::Partition;
 use ss_model::Life;

@@ -1,4 +1,5 @@
-//! Lanes that the engine's close takes apart when no client asks any more.
+//! Lanes that the engine's close takes apart when no client asks any more: their marks and answers, in lists that have their
+//! room already. It touches no lock.
 
 ghost use Rattle.std.specs.Prelude.{◌≡◌, ◌≤◌, ◌+◌, ◌++◌, [], map, length, vec_capacity};
 ghost use Rattle.ss_lanes.specs.Apart.{AreMarksOf};

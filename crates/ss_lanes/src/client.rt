@@ -1,4 +1,5 @@
-//! Clients beside their requests: each with its lane, with room for its answers.
+//! Clients beside their requests: each with its lane, with room for its answers. `ss_engine`'s session makes them before its
+//! threads, and takes the lanes again behind them. It touches no lock.
 
 ghost use Rattle.std.specs.Prelude.{◌≡◌, ◌≤◌, [], map, length, vec_capacity, IfOk};
 ghost use Rattle.ss_report_laws.specs.Replies.{requests_of};

@@ -1,4 +1,6 @@
-//! What of a client's answers waits for a receipt.
+//! What of a client's answers waits for a receipt: a value of the lane. `lane` counts it at each answer, `fresh` begins it, and
+//! `told` notes faults in it; in `ss_engine`, `client/requests` asks whether a receipt is due, and `client/receipt` notes that
+//! there is one.
 
 ghost use Rattle.std.specs.Prelude.{◌≡◌, ◌+◌, ◌<◌, ◌≤◌, ◌^◌, IfSome};
 ghost use Rattle.ss_lanes.specs.Dues.{due_after, failed_at, no_due, place_of, receipted};

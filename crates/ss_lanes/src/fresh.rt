@@ -1,4 +1,5 @@
-//! Lanes before the first request.
+//! Lanes before the first request, one for each client, of the client's mark and a note. `ss_opening` makes them; no thread has
+//! them yet.
 
 ghost use Rattle.std.specs.Prelude.{◌≡◌, ◌+◌, [], IfOk, OnOk};
 ghost use Rattle.ss_commitlog.specs.declared.role.Role.TheVariants.{Client};

@@ -1,7 +1,9 @@
-//! What clients share with those who run their requests.
+//! What clients share with those who run their requests: an inbox for each partition, a slot for each client, and the commit
+//! log. Each inbox and each slot has a lock of its own, which a call here takes and lets go.
 //!
-//! A client puts its job and takes its reply, and rests meanwhile (`put_job`, `take_reply`, `rest_in_turn`, `rest_at_slot`). Who
-//! runs what waits takes it, puts hints, and answers (`take`, `put_hint`, `reply`, `refuse`), or looks and rests.
+//! A client puts its job and takes its reply, and rests meanwhile (`put_job`, `take_reply`, `rest_in_turn`, `rest_at_slot`), by
+//! `client/send` of `ss_engine`. Who runs what waits takes it, puts hints, and answers (`take`, `put_hint`, `reply`, `refuse`),
+//! or looks and rests, by its folder `partition`.
 
 ghost use Rattle.std.specs.Prelude.{◌≡◌, ◌<◌, length, IfOk, IfErr, IfSome};
 ghost use Rattle.ss_commitlog.specs.declared.role.Role.TheVariants.{Client};

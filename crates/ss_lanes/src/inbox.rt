@@ -1,4 +1,4 @@
-//! The inbox of a partition, behind a lock of its own.
+//! The inbox of a partition, behind a lock of its own. The hub has one for each partition, and alone calls it.
 
 ghost use Rattle.std.specs.Prelude.{◌≡◌, ◌<◌, ◌∷◌, [], ◌++◌, length, IfErr, OnOk};
 

@@ -1,4 +1,5 @@
-//! A client's job, which waits in an inbox: there it is a `Task::Job` of `ss_sched`, beside hints.
+//! A client's job, which waits in an inbox: there it is a `Task::Job` of `ss_sched`, beside hints. A client's thread makes it,
+//! and who takes it serves it.
 
 ghost use Rattle.std.specs.Prelude.{◌≡◌, ◌<◌, true, length};
 ghost use Rattle.ss_model.specs.Database.{fits_entry};

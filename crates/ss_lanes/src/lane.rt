@@ -1,4 +1,5 @@
-//! A client's side of the engine.
+//! A client's side of the engine: a value that the client's thread alone has, with what becomes of it at each answer. It touches
+//! no lock.
 
 ghost use Rattle.std.specs.Prelude.{◌≡◌, ◌≢◌, ℕ, ◌+◌, ◌<◌, ◌≤◌, [], ◌∷◌, ◌++◌, length, OnOk};
 ghost use Rattle.ss_model.specs.declared.entry.Asked.{Asked};

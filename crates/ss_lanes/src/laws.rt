@@ -1,4 +1,4 @@
-//! Laws of lanes, each the contract of a function that does nothing.
+//! Laws of lanes, each the contract of a function that does nothing, which sessions cite.
 
 ghost use Rattle.ss_lanes.specs.Served.{LanesServe};
 

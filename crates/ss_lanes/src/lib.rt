@@ -9,7 +9,13 @@
 //!
 //! That marks travel with requests is this project's own rule.
 //!
-//! Nothing here runs an entry, or calls whoever does: `ss_engine` takes jobs out of inboxes, and says what may be replied.
+//! `ss_opening` makes the hub, fresh lanes and their room. `ss_engine` calls all else: its folder `client` sends and takes replies, its folder
+//! `partition` takes jobs and replies, its `session` makes clients of lanes and takes them apart. Nothing here runs an entry, or
+//! calls whoever does.
+//!
+//! What is touched here is the locks of inboxes and slots, each inside of one call of the hub, which holds no other lock meanwhile;
+//! and the posted numbers of the commit log, which take none. Marks and notes meet in the log by `ss_engine`. Bays, receipts and the
+//! disk are not seen here.
 //!
 //! - `lane`: a client's side, with its law in `laws`; `due`: what of its answers waits for a receipt; `told`: a lane that is told what
 //!   became of the disk

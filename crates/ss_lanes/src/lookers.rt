@@ -1,4 +1,4 @@
-//! How many threads look at the same time.
+//! How many threads look at the same time: a counter that all threads share without a lock. `signal` asks it before it looks.
 
 use std::sync::atomic::{AtomicU32, Ordering};
 

@@ -1,4 +1,4 @@
-//! Whether a reply is the one that is waited for.
+//! Whether a reply is the one that is waited for, compared by value. `slot` asks it with the slot's lock held.
 
 ghost use Rattle.std.specs.Prelude.{◌≡◌, ◌↔◌, IsTrue};
 ghost use Rattle.ss_model.specs.declared.entry.Entry.TheVariants.{Call, Push};

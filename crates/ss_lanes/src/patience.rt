@@ -1,4 +1,5 @@
-//! How long it pays to look before a sleep.
+//! How long it pays to look before a sleep, learned from the looks before: two numbers that threads share without a lock.
+//! `signal` keeps one.
 
 use std::sync::atomic::{AtomicU32, Ordering};
 

@@ -1,4 +1,5 @@
-//! What comes back to a client.
+//! What comes back to a client: made by whoever served its job, put into the client's slot by the hub, and taken there by the
+//! client.
 
 ghost use Rattle.std.specs.Prelude.{◌≡◌};
 ghost use Rattle.ss_commitlog.specs.declared.role.Role.TheVariants.{Client};

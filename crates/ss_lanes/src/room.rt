@@ -1,4 +1,4 @@
-//! Room for what a close collects, made before the first request.
+//! Room for what a close collects, made by `ss_opening` before the first request, so that the close needs no memory for it.
 
 ghost use Rattle.std.specs.Prelude.{◌≡◌, ◌≤◌, [], length, vec_capacity};
 

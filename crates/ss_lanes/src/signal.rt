@@ -1,4 +1,4 @@
-//! Whether something waits behind a lock, told without the lock.
+//! Whether something waits behind a lock, told without the lock. Inboxes and slots have one each, and set it under their lock.
 
 use crate::lookers::Lookers;
 use crate::patience::Patience;

@@ -1,4 +1,4 @@
-//! The slot of a client, in which its reply waits behind a lock of its own.
+//! The slot of a client, in which its reply waits behind a lock of its own. The hub has one for each client, and alone calls it.
 
 ghost use Rattle.std.specs.Prelude.{◌≡◌, IfSome, IfNone, Some, None};
 ghost use Rattle.ss_lanes.specs.Owning.{IsOwn};

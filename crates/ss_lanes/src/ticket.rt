@@ -1,4 +1,5 @@
-//! The three numbers by which a reply is tied to its request.
+//! The three numbers by which a reply is tied to its request: a value, which the client's `send` puts into its job, `reply`
+//! gives back, and `own` compares with the lane's.
 
 /// The numbers that go out with a request and come back with its reply.
 #[derive(Clone, Copy, Drop)]

@@ -1,4 +1,5 @@
-//! A lane that is told what became of the disk.
+//! A lane that is told what became of the disk, for `client/receipt` of `ss_engine`: its mark sees the posted numbers, without a
+//! lock.
 
 ghost use Rattle.std.specs.Prelude.{◌≡◌, ◌≢◌};
 ghost use Rattle.ss_lanes.specs.Dues.{failed_at};

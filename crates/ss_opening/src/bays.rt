@@ -1,4 +1,5 @@
-//! Partitions in their bays before the first entry.
+//! Partitions in their bays before the first entry, for `opening`: a shard is split, and each part gets its mark. No thread has
+//! the bays yet.
 
 ghost use Rattle.std.specs.Prelude.{◌≡◌, ◌≤◌, [], length, IfOk};
 ghost use Rattle.ss_party.specs.Tags.{TagsFrom};

@@ -2,7 +2,8 @@
 //!
 //! A database comes as the shard of all partitions with its streams. It is split into a shard for each partition, and each of
 //! these goes into a bay with the mark of its partition; each client has its lane with its mark. Nothing here runs an entry, or
-//! knows who will: `ss_engine` adds its catalogue, its runner and its gate.
+//! knows who will: `session/open` of `ss_engine`, which calls it, adds its catalogue, its runner, its gate and the number of its partitions. No thread has any
+//! of it yet, so no lock is taken; and the disk is not touched.
 //!
 //! - `opening`: all of it, and what threads share; `bays`: partitions in their bays
 //!
@@ -10,10 +11,11 @@
 //!
 //! # Promises
 //!
-//! - `begin` (`ok`): a bay for each partition that runs (`bays`), a fresh lane for each client (`lanes`: `AreFresh`), the home of
-//!   each procedure (`homes`), and the notes of as many readers as there are partitions, and of the disk, before the first entry.
-//! - What stands in a bay is the shard of its partition, which has its part of the opening's database, with the mark that knows
-//!   no entry yet (`ArePartitionsFrom`).
+//! - `begin`: a bay for each partition that runs (`bays`), a fresh lane for each client (`lanes`: `AreFresh`), the home of each
+//!   procedure (`homes`), and the notes of as many readers as there are partitions (`notes`), and of the disk (`disk`), before
+//!   the first entry. Its hub and its room have by their types what callers need.
+//! - What stands in a bay is by the bay's type the shard of its partition, which has its part of the opening's database, with the
+//!   mark that knows no entry yet; within this crate that is `ArePartitionsFrom`.
 #![tactic(auto)]
 
 mod bays;

@@ -1,4 +1,5 @@
-//! What an engine begins with, made from a database.
+//! What an engine begins with, made from a database: `session/open` of `ss_engine` calls it. No lock is taken, since no thread
+//! has any of it yet.
 
 ghost use Rattle.std.specs.Prelude.{◌≡◌, ◌≤◌, ◌+◌, ◌^◌, ℕ, [], length, IfOk};
 ghost use Rattle.ss_model.specs.Database.{stream_batches};

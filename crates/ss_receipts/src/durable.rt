@@ -1,4 +1,6 @@
-//! One flush for the places of all clients, behind the lock.
+//! One flush for the places of all clients, for `receipts`, which calls it with the lock of this crate held. The commit log's
+//! lock is taken in it where the client's mark meets the disk's note, and where the tail of the list is copied, and never over
+//! the flush.
 
 ghost use Rattle.std.specs.Prelude.{◌≡◌, ◌+◌, ◌-◌, ◌≤◌, ◌^◌, length, drop, None, IfOk};
 ghost use Rattle.ss_model.specs.Accepted.{Accepted};

@@ -1,4 +1,4 @@
-//! The last flush.
+//! The last flush: of the whole list, behind settling. `run_session` of `ss_engine` calls it when the engine is closed.
 
 ghost use Rattle.std.specs.Prelude.{◌≡◌, ◌+◌, ◌≤◌, ◌^◌, ℕ, length};
 ghost use Rattle.ss_model.specs.Accepted.{Accepted};

@@ -1,4 +1,5 @@
-//! A flush of the rest of a list.
+//! A flush of the rest of a list, by the command log that its caller has in hand: `durable` under the disk's lock, `finishing`
+//! without one. It takes none itself.
 
 ghost use Rattle.std.specs.Prelude.{◌≡◌, ◌+◌, ◌≤◌, ℕ, List, length, None};
 ghost use Rattle.ss_model.specs.declared.entry.Listed.{Listed};

@@ -1,4 +1,5 @@
-//! What stands behind the disk's lock.
+//! What stands behind the disk's lock: the command log with its disk, and the disk's token of the commit log. `receipts` makes
+//! it, and `durable` works on it.
 
 use ss_cmdlog::CmdLog;
 use ss_commitlog::Note;

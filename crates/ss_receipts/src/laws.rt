@@ -1,4 +1,5 @@
-//! What follows where a log holds a list. Each is the contract of a function that does nothing.
+//! What follows where a log holds a list. Each is the contract of a function that does nothing; sessions of `ss_engine` and
+//! `ss_top` cite them.
 
 ghost use Rattle.ss_receipts.specs.Laws.{HoldsGoOn, HeldFrontsStand, AllStands, PastIsOfDisk, ReplayedAreRecordable};
 

@@ -7,12 +7,13 @@
 //! Source: group commit of DeWitt, Katz, Olken, Shapiro, Stonebraker and Wood (SIGMOD 1984), of a command log as in Malviya,
 //! Weisberg, Madden and Stonebraker (ICDE 2014); S-Store logs so (Meehan et al., PVLDB 8, 2015, section 3).
 //!
-//! `ss_engine` calls it, for clients and behind the last step. The commit log's lock is taken under this one, never the other way
-//! round, and is not held over a flush.
+//! `ss_engine` calls it, for clients (`ensure_durable`) and behind the last step (`finish`, once it has the command log out of the lock
+//! again by `into_parts`). The commit log's lock is taken under this one, never the other way round, and is not held over a flush.
+//! Who holds this lock may flush the disk, and waits for that and for the commit log's lock alone; `finish` takes no lock. Bays, inboxes and slots are not seen here.
 //!
 //! - `receipts`: the lock and its calls; `keeper`: what stands behind it
 //! - `durable`: one flush for all, behind the lock; `finishing`: the last flush, once the list is whole
-//! - `flush`: a flush of the rest of a list; `rest`: the entries of that rest
+//! - `flush`: a flush of the rest of a list; `rest`: the entries of that rest, for these two
 //! - `laws`: what follows where a log holds a list
 //!
 //! In `specs/`: `Past` (what a disk was up to the opening), `Holding` (what a log and its disk hold of a list), `Durable` (what

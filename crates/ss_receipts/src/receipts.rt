@@ -1,4 +1,5 @@
-//! The disk's lock.
+//! The disk's lock, with the calls that take it. Threads of clients call `ensure_durable` by `client/receipt` of `ss_engine`,
+//! whose session makes it and takes it apart.
 
 ghost use Rattle.std.specs.Prelude.{◌≡◌, ◌+◌, ◌≤◌, ◌^◌, [], length};
 ghost use Rattle.ss_model.specs.Accepted.{Accepted};

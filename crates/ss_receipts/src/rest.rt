@@ -1,4 +1,5 @@
-//! The entries of the rest of a list.
+//! The plain entries, without their outcomes, of the rest of a list that the disk doesn't have. Memory alone: `durable` moves what it
+//! got from the commit log, and `finishing` copies what its caller keeps.
 
 ghost use Rattle.std.specs.Prelude.{◌≡◌, IfOk};
 ghost use Rattle.ss_standing.specs.Standing.{listed_entries};

@@ -1,4 +1,5 @@
-//! What is told of each execution, for tests that hold one until another one is seen.
+//! What is told of each execution, for tests that hold one until another one is seen. `ss_engine` tells it of each turn, and
+//! `settling` of its steps; no lock is held then, but partitions may be in hand.
 
 use ss_model::Entry;
 

@@ -4,6 +4,10 @@
 //! least rank, then of least number. Who takes all partitions in one hand, and who closes the log behind the last step, is not
 //! seen here: that is `ss_engine`.
 //!
+//! `Engine::close` calls `settle`; all threads of the session are done by then. It is lent the hand. What it touches besides is the commit
+//! log's lock, which each look for what is ready takes once for all marks together and once for each partition, and each step as
+//! `execute_step` of `ss_turns` does. There are no bays any more; inboxes, slots, receipts and the disk are not seen here.
+//!
 //! - `settling`: the steps, and how they ended; `ranking`: which ready procedure is the next one
 //! - `gate`: what is told of each execution, of these steps too
 //!

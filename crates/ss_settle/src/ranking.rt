@@ -1,4 +1,4 @@
-//! Which of the procedures that are ready settling runs next.
+//! Which of the procedures that are ready settling runs next: sets and ranks alone. `settling` asks.
 
 ghost use Rattle.std.specs.Prelude.{◌≡◌, ◌<◌, ◌↔◌, IfSome, IfNone, IsTrue, None};
 ghost use Rattle.ss_settle.specs.Members.{NoneBelow};

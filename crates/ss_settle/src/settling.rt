@@ -1,4 +1,4 @@
-//! Settling at the close of an engine: steps run until no procedure is ready.
+//! Settling at the close of an engine, which calls it: steps run until no procedure is ready.
 
 ghost use Rattle.std.specs.Prelude.{◌≡◌, ◌<◌, ℕ, List, true, IfSome, IfNone};
 ghost use Rattle.ss_turns.specs.Executed.{IsStepped};

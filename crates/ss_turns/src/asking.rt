@@ -1,4 +1,5 @@
-//! The commit of what a client asked for.
+//! The commit of what a client asked for, for `execution`: the marks in hand and the client's own go together under the commit
+//! log's lock.
 
 ghost use Rattle.ss_commitlog.specs.Meaning.{HasClientBelow};
 ghost use Rattle.ss_commitlog.specs.Right.{IsRight};

@@ -1,4 +1,5 @@
-//! Executions on the parts in hand: an entry runs, joins the log's list, and only then is committed.
+//! Executions on the parts in hand: an entry runs, joins the log's list, and only then is committed. `serve` and `follow` of
+//! `ss_engine` call it, and `ss_settle` for steps of the close.
 
 ghost use Rattle.std.specs.Prelude.{◌≡◌, true, get_or};
 ghost use Rattle.ss_model.specs.declared.entry.Entry.TheVariants.{Step as StepEntry};

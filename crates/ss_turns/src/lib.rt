@@ -5,9 +5,12 @@
 //! not seen here, nor who asked: that is `ss_engine`, which has a job served by `execute_asked` and a hint followed by
 //! `execute_step`; at the close, with all partitions in hand, `ss_settle` calls the second.
 //!
-//! - `execution`: an entry that a client asks for, or the next step of a procedure, on the parts in hand
-//! - `running`: its run, its commit and its end; `asking`: the commit of what a client asked for
-//! - `stepping`: the batches of a step, and its run
+//! What is touched here is the shard and the marks in hand, which are lent, and the commit log's lock: a commit takes it once, a step
+//! once more for each of its inputs, and it is let go before anything runs. Bays, inboxes, slots and the disk are not seen here.
+//!
+//! - `execution`: an entry that a client asks for, or the next step of a procedure, on the parts in hand; it calls the others
+//! - `running`: its run, its commit and its end; `asking`: the run's commit where a client asked for it, with the client's mark
+//! - `stepping`: the batches of a step, and its run on them
 //! - `works`: what each execution of an engine is given
 //!
 //! In `specs/`: `Runs` (a run that waits for its end, and behind it), `Commits`, `Stepping`, `Executed`.

@@ -1,4 +1,5 @@
-//! A run on the parts in hand: an entry runs and is committed, and the run ends as its commit was answered.
+//! A run on the parts in hand: an entry runs and is committed, and the run ends as its commit was answered. `execution` calls
+//! all three, `asking` the commit and `stepping` the run. The commit alone takes the commit log's lock.
 
 ghost use Rattle.std.specs.Prelude.{◌≡◌, ◌≤◌, ℕ, true, IfOk, OnErr};
 ghost use Rattle.ss_model.specs.Accepted.{Accepted};

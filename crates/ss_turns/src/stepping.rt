@@ -1,4 +1,4 @@
-//! The batches of a step, and its run.
+//! The batches of a step, each copied under the commit log's lock, and its run on them. `execution` calls it.
 
 ghost use Rattle.std.specs.Prelude.{◌≡◌, ◌≤◌, ◌<◌, ◌^◌, ℕ, true, [], IfOk, IfSome, OnErr, get_or, length};
 ghost use Rattle.std.specs.List.{AllByRecursion};

@@ -1,4 +1,5 @@
-//! What each execution of an engine is given.
+//! What each execution of an engine is given, whoever runs it: a way to wait, the log, the catalogue, the runner. Who pumps
+//! makes one, and so does the close; it is lent down from there.
 
 ghost use Rattle.std.specs.Prelude.{◌≡◌, ◌≤◌};
 

@@ -1,4 +1,5 @@
-//! Receipts for lanes.
+//! Receipts for a client's lane, for `requests`. Under the lock of `ss_receipts`, and so perhaps behind a flush of the disk, the
+//! lane's mark learns how far the list is receipted; then mark and note meet under the commit log's lock.
 
 ghost use Rattle.std.specs.Prelude.{◌≡◌};
 ghost use Rattle.ss_engine.specs.Assured.{AsksForReceipt, with_faults};

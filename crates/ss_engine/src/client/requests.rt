@@ -1,4 +1,5 @@
-//! A client's requests, one after another, with a receipt where one is due.
+//! A client's requests, one after another, with a receipt where one is due. `session/threads` calls it in the client's thread.
+//! It touches the lane alone; `submit` and `receipt`, which it calls, touch the rest.
 
 ghost use Rattle.std.specs.Prelude.{◌≡◌, ◌≤◌, true, length};
 ghost use Rattle.ss_model.specs.Database.{fits_entry};
@@ -62,7 +63,7 @@ pub(crate) fn make_requests<I: Life, N: Runner + Drop, G: Gate + Drop, R: Wait, 
             lane = make_request(rt, alloc, engine, receipts, lane, request);
         }
     }
-    // Whatever comes of it, the close flushes what has no receipt yet.
+    // Whatever comes of it, the last flush of the session writes what has no receipt yet.
     let (lane, _) = engine.ensure_durable(rt, alloc, receipts, lane);
     lane
 }

@@ -1,4 +1,5 @@
-//! A client's entry is sent, and its answer waited for.
+//! A client's entry is sent as a job into an inbox of the hub, and its answer waited for at the client's slot; then mark and
+//! note of the lane meet under the commit log's lock. `submit` calls it. Where the inbox has no executor it pumps it meanwhile.
 
 ghost use Rattle.std.specs.Prelude.{◌≡◌, ◌<◌, ◌≤◌, true, length};
 ghost use Rattle.ss_model.specs.Database.{fits_entry};

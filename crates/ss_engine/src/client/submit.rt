@@ -1,4 +1,5 @@
-//! The call of a client for one request.
+//! The call of a client for one request, which `requests` makes: a copy of what is asked, with its number, is sent to the inbox
+//! of the first partition that it touches. It takes no lock of its own; `send` does.
 
 ghost use Rattle.std.specs.Prelude.{◌≡◌, ◌<◌, ◌≤◌, true, length};
 ghost use Rattle.ss_model.specs.Database.{fits_entry};

@@ -1,4 +1,6 @@
-//! The next step of a procedure that may be ready.
+//! The next step of a procedure that may be ready, which `pump` asks for where it has a hint or nothing waits. It is looked up
+//! under the commit log's lock first; then its partitions are taken from the bays, it runs, they go back, and hints are put into
+//! inboxes.
 
 ghost use Rattle.std.specs.Prelude.{◌≡◌, ◌<◌, true};
 ghost use Rattle.ss_engine.specs.Tried.{StepsAt, IsOfProcedure, IsTried, tried_of};

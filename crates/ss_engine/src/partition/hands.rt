@@ -1,4 +1,4 @@
-//! Partitions in and out of the engine's bays.
+//! Partitions in and out of the engine's bays, by the two calls of `ss_hand`, for `serve` and `follow`.
 
 ghost use Rattle.std.specs.Prelude.{◌≡◌, ◌<◌, ℕ, List, map, IfOk};
 ghost use Rattle.std.specs.Int.{IsBitSet};

@@ -1,4 +1,4 @@
-//! The least members of small sets.
+//! The least members of small sets of numbers: of partitions for `touched`, of procedures for `follow`. It touches nothing.
 
 ghost use Rattle.std.specs.Prelude.{◌<◌, ◌≤◌, IfSome, IfNone};
 ghost use Rattle.ss_engine.specs.Least.{IsLeastIn, NoneBelow};

@@ -1,4 +1,6 @@
-//! The engine runs the work of its inboxes, and who does so sleeps there while nothing waits.
+//! The engine runs the work of its inboxes, and who does so sleeps there while nothing waits. It takes from the inbox under its
+//! lock, and lets go of that before `serve` or `follow` runs what was taken. `session/threads` calls it for executors, and
+//! `client/send` where there is none.
 
 ghost use Rattle.std.specs.Prelude.{◌<◌};
 ghost use Rattle.ss_engine.specs.Pumped.{IsPumped};

@@ -1,4 +1,5 @@
-//! What the work of an inbox came to.
+//! What the work of an inbox came to: `serve` and `follow` tell it to `pump`, and that tells it to its caller. A value, which
+//! touches nothing.
 
 use ss_commitlog::Unlisted;
 

@@ -1,4 +1,6 @@
-//! A client's job is served.
+//! A client's job is served, for `pump`: its partitions are taken from the bays, it runs, they go back, hints are put into
+//! inboxes, the note of whoever pumps meets the client's mark under the commit log's lock, and the reply goes into the client's
+//! slot. A job that waited in the wrong inbox, or for which there is no memory, is refused.
 
 ghost use Rattle.std.specs.Prelude.{◌≡◌, List, ℕ, map, true, IfOk};
 ghost use Rattle.ss_model.specs.Database.{fits_entry};
@@ -18,9 +20,9 @@ use ss_turns::{Works, execute_asked};
 use std::sync::Wait;
 
 impl<I: Life, N: Runner + Drop, G: Gate + Drop> Engine<I, N, G> {
-    /// Executes what a client asks for on the partitions that it touches, of which p is the least, and answers the client.
-    ///
-    /// Out of memory before that has changed nothing.
+    /// Executes what a client asks for on the partitions that it touches, and answers the client. Of these p has to be the
+    /// least; where it isn't, and where there is no memory to take them, the job is refused as for want of memory, and nothing has
+    /// changed.
     pub(crate) fn serve<R: Wait>(
         &self,
         works: &Works<I, N, R>,

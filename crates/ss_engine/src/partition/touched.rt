@@ -1,4 +1,5 @@
-//! The partitions that an entry touches: read off the entry, and not taken.
+//! The partitions that an entry touches, read off the entry and the catalogue, and not taken. `client/submit` asks for the
+//! first, to which it sends a job, and `serve` for all.
 
 ghost use Rattle.std.specs.Prelude.{◌≡◌, ◌<◌, true};
 ghost use Rattle.ss_model.specs.Database.{fits_entry};

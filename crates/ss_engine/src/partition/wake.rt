@@ -1,4 +1,5 @@
-//! Hints of what an entry may have made ready.
+//! Hints of what an entry may have made ready, put into the inboxes of the homes of these procedures, under their locks. `serve`
+//! and `follow` call it behind an execution, when no partition is in hand any more.
 
 ghost use Rattle.std.specs.Prelude.{◌≡◌, true};
 ghost use Rattle.ss_model.specs.Database.{fits_entry};

@@ -1,4 +1,6 @@
-//! The close of an engine: all partitions in one hand, the last steps, and what is handed over.
+//! The close of an engine, which `run` asks for when no thread has it any more: bays and hub are taken apart, with all
+//! partitions in one hand `ss_settle` runs the last steps, and list, database and answers are handed over. The disk is not
+//! touched.
 
 ghost use Rattle.std.specs.Prelude.{◌≡◌, ◌≤◌, ◌+◌, length, IfOk};
 ghost use Rattle.std.specs.List.{range_with_len};

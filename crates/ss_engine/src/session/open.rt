@@ -1,4 +1,5 @@
-//! The opening of an engine, with a lane for each client.
+//! The opening of an engine, with a lane for each client, for `run`: what `ss_opening` makes of a database, with the catalogue,
+//! the runner and the gate. No thread has it yet, and no lock is taken.
 
 ghost use Rattle.std.specs.Prelude.{◌≡◌, ◌≤◌, ◌+◌, ◌^◌, ℕ, [], length, IfOk};
 ghost use Rattle.ss_model.specs.Database.{stream_batches};

@@ -1,4 +1,5 @@
-//! A whole run in threads, on an opened log.
+//! A whole run in threads, on an opened log: `open`, `threads`, `close`, and the last flush. It has the command log, which it
+//! puts behind the lock of `ss_receipts` while threads run, and takes out again behind them. `ss_top` calls it.
 
 ghost use Rattle.std.specs.Prelude.{◌≡◌, ◌≤◌, ◌+◌, ◌^◌, ℕ, [], length, IfOk, IfErr};
 ghost use Rattle.ss_model.specs.Accepted.{Accepted};

@@ -1,4 +1,6 @@
-//! Clients that make their requests in threads of their own, beside executors of the partitions.
+//! Clients that make their requests in threads of their own, beside executors of the partitions, for `run`. An executor pumps
+//! until it is stopped; all clients are waited for, then executors are stopped and waited for. Where a thread can't be had, the
+//! hub is told so.
 
 ghost use Rattle.std.specs.Prelude.{◌≡◌, ◌<◌, length};
 ghost use Rattle.ss_lanes.specs.Clients.{AllFit, EachAt, EachHasLane, HasLane, HasMade, MayBegin};
