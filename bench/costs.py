@@ -49,7 +49,9 @@ CATALOGUE = {
             ("beside", ["k"], [{"sql": "UPDATE t SET v = v + 1 WHERE k = :k"}]),
             ("moved", ["k", "g"], [{"sql": "UPDATE t SET g = :g WHERE k = :k"}]),
             ("range", ["g"], [{"return": "SELECT COUNT(*), SUM(v) FROM t WHERE g = :g"}]),
-            ("walk", [], [{"return": "SELECT COUNT(*), SUM(v) FROM t"}]),
+            ("count", [], [{"return": "SELECT COUNT(*) FROM t"}]),
+            ("sum", [], [{"return": "SELECT SUM(v) FROM t"}]),
+            ("filter", ["v"], [{"return": "SELECT COUNT(*) FROM t WHERE v < :v"}]),
         ]
     ],
 }
@@ -59,6 +61,9 @@ INDEXED = dict(CATALOGUE, tables=[dict(TABLE, indexes=[["g"]])] + CATALOGUE["tab
 # the operations that run on a table with an index on g
 BY_INDEX = {"beside", "moved", "range"}
 
+# the operations that walk the table, whose costs are told for each row
+WALKS = {"count", "sum", "filter"}
+
 SQLITE = {
     "insert": "INSERT INTO u VALUES (?, 1)",
     "look": "SELECT v FROM t WHERE k = ?",
@@ -66,7 +71,9 @@ SQLITE = {
     "beside": "UPDATE t SET v = v + 1 WHERE k = ?",
     "moved": "UPDATE t SET g = ?2 WHERE k = ?1",
     "range": "SELECT COUNT(*), SUM(v) FROM t WHERE g = ?",
-    "walk": "SELECT COUNT(*), SUM(v) FROM t",
+    "count": "SELECT COUNT(*) FROM t",
+    "sum": "SELECT SUM(v) FROM t",
+    "filter": "SELECT COUNT(*) FROM t WHERE v < ?",
 }
 
 WORDS = {
@@ -76,7 +83,9 @@ WORDS = {
     "beside": "the same, beside an index",
     "moved": "update by key of an indexed column",
     "range": "forty rows by an indexed column",
-    "walk": "walk, for each row",
+    "count": "COUNT of all, for each row",
+    "sum": "SUM of a column, for each row",
+    "filter": "COUNT of half, by no key, for each row",
 }
 
 
@@ -91,6 +100,8 @@ def calls(operation, size, many):
         return [[draw.randrange(size), draw.randrange(max(1, size // GROUPS))] for _ in range(many)]
     if operation == "range":
         return [[draw.randrange(max(1, size // GROUPS))] for _ in range(many)]
+    if operation == "filter":
+        return [[size // 2] for _ in range(many)]
     return [[] for _ in range(many)]
 
 
@@ -154,7 +165,7 @@ def of_both(operation, size, many, runs):
 def times(operation, size):
     """How often an operation is run: what walks, less often; at a great size more often, since what is taken off then
     is the time of filling and of the report."""
-    if operation == "walk":
+    if operation in WALKS:
         return max(5, min(2_000, 5_000_000 // size))
     return max(20_000, size // 4)
 
@@ -170,16 +181,16 @@ def measured(sizes, runs):
             measure.row(["", "calls", *(f"{number:,}" for number in many)])
             told = many
         tooks = [of_both(operation, size, number, runs) for size, number in zip(sizes, many)]
-        parts = [number * (size if operation == "walk" else 1) for size, number in zip(sizes, many)]
+        parts = [number * (size if operation in WALKS else 1) for size, number in zip(sizes, many)]
         for place, engine in enumerate(("sstore", "SQLite")):
-            costs = [measure.both(took[place], part, 3 if operation == "walk" else 1) for took, part in zip(tooks, parts)]
+            costs = [measure.both(took[place], part, 3 if operation in WALKS else 1) for took, part in zip(tooks, parts)]
             measure.row([WORDS[operation] if place == 0 else "", engine, *costs])
         for size, took, part in zip(sizes, tooks, parts):
             found[operation, size] = [1e6 * one.wall / part for one in took]
     return found
 
 
-COLOURS = ["#1f6f8b", "#b5651d", "#4b7f52", "#7d4b8f", "#8b1f3f", "#5f5f2e", "#2e4a7d"]
+COLOURS = ["#1f6f8b", "#b5651d", "#4b7f52", "#7d4b8f", "#8b1f3f", "#5f5f2e", "#2e4a7d", "#333333", "#a08000"]
 
 
 def drawing(found, sizes):
