@@ -21,8 +21,9 @@
 //! - `Streams::emit` puts exactly one batch behind the others of a stream (`joined`), and can't fail where there is
 //!   room (`free`), which `reserve` makes (`ok`). `pass` moves a consumer exactly one batch further (`passed`), and
 //!   leaves no less room (`room`). `batch` is exactly the batch of a number.
-//! - Of the calls of `Streams` only `new`, `resume`, `reserve` and an `emit` without room take memory. Where there is
-//!   none, `resume` and `emit` give back what they were given (`refused`).
+//! - Of the calls of `Streams` only `new`, `resume`, `duplicate`, `reserve` and an `emit` without room take memory. Where
+//!   there is none, `resume` and `emit` give back what they were given (`refused`).
+//! - `duplicate` is the same streams, value for value; `first_kept` is exactly how many batches all consumers have passed.
 //! - `empty_streams` gives the streams of the empty database.
 //!
 //! # How streams stand for those of a database

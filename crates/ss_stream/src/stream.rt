@@ -7,7 +7,7 @@ ghost use Rattle.std.specs.VecDeque.{deque_capacity};
 ghost use Rattle.ss_stream.specs.Pending.{emitted_count, least_passed, pending_at_first, pending_from, with_batch, moved_cursor, passed_by, pending_batch, HasNext, CanResume, resume};
 
 use crate::cursor::Cursor;
-use ss_value::{NoMemory, Rows, Seq};
+use ss_value::{Copies, NoMemory, Rows, Seq};
 use std::alloc::Global;
 use std::collections::VecDeque;
 use std::marker::Model;
@@ -91,6 +91,17 @@ fn drop_taken(first: u64, batches: &mut VecDeque<Rows>, least: u64)
     }
 }
 
+/// Puts copies of these batches behind others. Linear in their values. Out of memory may leave some of them there.
+fn push_copies(alloc: Global, copies: &mut Seq<Rows>, batches: &[Rows]) -> Result<(), NoMemory>
+    ensures { OnOk result (copies.new ≡ copies.old ++ batches.now) }
+{
+    for rows in batches {
+        let copy = rows.duplicate(alloc)?;
+        copies.push(copy)?;
+    }
+    Ok(())
+}
+
 impl Stream {
     /// The stream with these cursors, before its first batch. Takes no memory.
     pub fn new(alloc: Global, cursors: Vec<Cursor>) -> Stream
@@ -116,6 +127,29 @@ impl Stream {
             batches: VecDeque::from(kept.into_vec()),
             cursors: cursors.into_vec(),
         }
+    }
+
+    /// An equal stream, its batches copied, with whatever room. Linear in their values and in the cursors.
+    pub fn duplicate(&self, alloc: Global) -> Result<Stream, NoMemory>
+        ensures { IfOk result (λ copy. copy.pending ≡ self.now.pending) }
+    {
+        let cursors = Vec::from_slice(alloc, self.cursors.as_slice())?;
+        let (front, back) = self.batches.as_slices();
+        let mut batches = Seq::with_capacity(alloc, self.batches.len())?;
+        push_copies(alloc, &mut batches, front)?;
+        push_copies(alloc, &mut batches, back)?;
+        Ok(Stream {
+            first: self.first,
+            batches: VecDeque::from(batches.into_vec()),
+            cursors,
+        })
+    }
+
+    /// How many batches all consumers have passed: the number of the first one that is kept, where one is. Constant.
+    pub fn first_kept(&self) -> u64
+        ensures { result ≡ self.now.pending.first }
+    {
+        self.first
     }
 
     /// How many batches were ever emitted.

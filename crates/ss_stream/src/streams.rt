@@ -16,10 +16,12 @@ use std::marker::Model;
 /// still to take, and how far each consumer has come.
 ///
 /// Contracts see the list of them, and beside it the room of each: how many emits to it can't fail. A batch is moved in,
-/// lent, and dropped when its last consumer has passed it. No call copies a row. What calls cost:
+/// lent, and dropped when its last consumer has passed it. No call but `duplicate` copies a row. What calls cost:
 ///
-/// - `emit`, `batch`, `emitted_count`, `reserve`: constant, on average over many calls where room is made.
+/// - `emit`, `batch`, `emitted_count`, `first_kept`, `reserve`: constant, on average over many calls where room is made.
 /// - `pass`: a look at each consumer of the stream; a batch that all of them have passed is dropped.
+/// - `duplicate`: a copy of each kept batch. It is for an image of a database, whose writer holds the list's lock no longer
+///   than that.
 #[derive(Drop)]
 pub struct Streams {
     streams: Seq<Stream>,
@@ -150,6 +152,21 @@ impl Streams {
         Ok(resumed_streams(alloc, lists, kept, room))
     }
 
+    /// Equal streams, their batches copied, with whatever room. Linear in the values of the kept batches.
+    pub fn duplicate(&self, alloc: Global) -> Result<Streams, NoMemory>
+        ensures { IfOk result (λ copy. copy.streams ≡ self.now.streams) }
+    {
+        let mut copies = Reserved::new(alloc);
+        copies.reserve(self.streams.len())?;
+        for stream in self.streams.as_slice() {
+            let copy = stream.duplicate(alloc)?;
+            copies.add(copy);
+        }
+        Ok(Streams {
+            streams: copies.into_seq(),
+        })
+    }
+
     /// How many streams there are.
     pub fn len(&self) -> usize
         ensures { result ≡ length self.now.streams }
@@ -163,6 +180,14 @@ impl Streams {
         ensures { result ≡ emitted_count (stream_at self.now stream) }
     {
         self.streams.at(usize::from(stream)).emitted_count()
+    }
+
+    /// How many batches of a stream all its consumers have passed: the number of the first that is kept, where one is.
+    pub fn first_kept(&self, stream: u16) -> u64
+        requires { stream < length self.now.streams }
+        ensures { result ≡ (stream_at self.now stream).first }
+    {
+        self.streams.at(usize::from(stream)).first_kept()
     }
 
     /// The batch of a number of a stream, and None exactly where all consumers have passed it or it isn't emitted yet.
