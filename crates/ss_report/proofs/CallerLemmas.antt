@@ -4,5 +4,3 @@
 pub use Rattle.ss_report.proofs.Floats.{entry_no_float, row_no_float}
 -- The tables of a map by name, in the order of their names.
 pub use Rattle.ss_report.proofs.Naming.{values_named}
--- A table has as many rows as are shown.
-pub use Rattle.ss_report.proofs.Walking.{rows_counted}

@@ -6,7 +6,7 @@ use Rattle.ss_value.specs.Rows.{Row}
 use Rattle.ss_model.specs.declared.catalog.Catalog.{Catalog}
 use Rattle.ss_model.specs.declared.entry.Listed.{Listed}
 use Rattle.ss_model.specs.ReportLines.{entry_line, list_lines, row_line}
-use Rattle.ss_report.specs.Lent.{rows_behind}
+use Rattle.ss_shard.specs.Lent.{rows_behind}
 use Rattle.ss_report.specs.Readable.{AddsLines}
 use Rattle.ss_report.proofs.Steps.{IsUnderWay, lines_more}
 

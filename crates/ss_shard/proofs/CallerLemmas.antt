@@ -24,3 +24,5 @@ pub use Rattle.ss_shard.proofs.Staging.{all_count, def_there, units_there}
 pub use Rattle.ss_shard.proofs.Standing.{carried, gone_past}
 -- The tables of a shard with one of them changed.
 pub use Rattle.ss_shard.proofs.Tables.{contents_put, contents_taken, table_there}
+-- A table has as many rows as are lent of it.
+pub use Rattle.ss_shard.proofs.Walking.{rows_counted}

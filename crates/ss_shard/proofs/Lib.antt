@@ -17,6 +17,7 @@ pub mod Inserting
 pub mod JoinedPairs
 pub mod Joining
 pub mod Named
+pub mod Numbered
 pub mod Numbers
 pub mod Occurring
 pub mod OpeningLemmas
@@ -29,4 +30,5 @@ pub mod Shapes
 pub mod Staging
 pub mod Standing
 pub mod Tables
+pub mod Walking
 pub mod Crossing

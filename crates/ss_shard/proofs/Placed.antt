@@ -6,10 +6,14 @@ use Rattle.ss_model.specs.Database.{NextNumbers}
 use Rattle.ss_shard.specs.Sources.{number_of, numbers_at, number_in, HasSource, SameNumbers}
 use Rattle.ss_shard.proofs.Numbers.{bytes_cmp}
 
--- a stream that isn't there has no numbers
+-- a stream that isn't there has no source
+pub no_stream : (sources : List NextNumbers) (s : ℕ) → slice_get sources s ≡ None → numbers_at sources s ≡ finite.empty
+no_stream sources s none = sym (unwrap_or-slice_get sources s finite.empty) ∙ ap (λ o. unwrap_or o finite.empty) none
+
+-- and no numbers
 pub past_end : (sources : List NextNumbers) (s : ℕ) (source : List ℕ) → slice_get sources s ≡ None → number_in sources s source ≡ 0
 past_end sources s source none =
-    ap (λ (ns : NextNumbers). number_of ns source) (sym (unwrap_or-slice_get sources s finite.empty) ∙ ap (λ o. unwrap_or o finite.empty) none)
+    ap (λ (ns : NextNumbers). number_of ns source) (no_stream sources s none)
     ∙ ap (λ o. unwrap_or o 0) (finite.get-empty bytes_cmp source)
 
 nothing_past : (sources : List NextNumbers) (s : ℕ) → (s < length sources → ⊥) → numbers_at sources s ≡ finite.empty

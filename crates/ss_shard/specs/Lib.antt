@@ -2,6 +2,7 @@ pub mod Contents
 pub mod Sources
 pub mod ShardValue
 pub mod Rows
+pub mod Lent
 pub mod Shards
 pub mod Windows
 pub mod Changes

@@ -1,5 +1,6 @@
 -- The numbers that the next pushes of sources have to carry.
-use Rattle.std.specs.Prelude.{◌≡◌, ◌==◌, ℕ, nat_lt, cond, List, [], get_or, set, length, unwrap_or, IsSome, IsTrue}
+use Rattle.std.specs.Prelude.{◌≡◌, ◌==◌, ℕ, nat_le, nat_lt, cond, List, [], get_or, set, length, unwrap_or, IsSome, IsTrue}
+use Rattle.std.specs.Borrow.{Bor}
 use Rattle.std.specs.Coded.{Coded, coded_list, coded_ℕ}
 use Rattle.std.specs.FinMap as finite
 use Rattle.ss_value.specs.Words.{is_name}
@@ -43,6 +44,14 @@ pub record SameNumbers (old new : List NextNumbers) : Type 0 where
 -- the next numbers, with this one for a source of a stream
 abbrev pub with_number : List NextNumbers → ℕ → List ℕ → ℕ → List NextNumbers
 with_number sources s source n = set sources s (finite.insert (numbers_at sources s) source n)
+
+-- the sources with a next number of at least 1: another counts as none
+abbrev pub positive : NextNumbers → NextNumbers
+positive m = finite.retain_keys m (λ source. nat_le 1 (number_of m source))
+
+-- the bytes of a name that is lent, with the number beside it
+abbrev pub lent_source : Bor (List ℕ) × ℕ → List ℕ × ℕ
+lent_source e = (e.0.now, e.1)
 
 -- what a push of the number `seq` comes to where `next` is next: done, a duplicate, or behind a gap
 abbrev pub push_outcome : ℕ → ℕ → Outcome

@@ -11,6 +11,7 @@
 //! - `joins`: tables with their indexes take in those of another part, and give them back
 //! - `exchanges`: what two shards have at a home changes places
 //! - `pairs`: a row of a table and its pairs, put in together, and whether they are there already
+//! - `rows`: the rows of a table, lent in the order of their keys
 //! - `sources`: the sources of pushes, with the numbers that their next pushes have to carry
 //! - `database`: shards before the first execution, and the shard of all partitions with the streams beside it
 //! - `unions`: a shard takes in the parts of several others, and gives them back
@@ -32,6 +33,9 @@
 //! - In each of the `indexes` of a table every live row has its pair (`rows`). `next_number` is exactly the next
 //!   number. Each source is a name, and so is each source of a whole database that a shard stands for
 //!   (`sources_are_names`), of which the model knows nothing.
+//! - `rows_in_order` lends the rows of a table in the order of their keys, and `numbered_sources` the sources of a stream
+//!   that have pushed, each with its number: with `windows` and `cursors` all that an image of a database is written from.
+//!   `resumed` gives a shard the windows, counts and sources that were read from one, and changes nothing else.
 //! - `absorb`, `unite` and `join` bring the parts of several shards into one, and `release`, `part` and `split` give
 //!   them back: whatever database each held its parts of, each holds just the parts that it then has (`HasAbsorbed`,
 //!   `WereUnited`, `WereJoined`; `HasReleased`, `WereParted`, `WasSplit`). Out of memory leaves each shard what it
@@ -70,6 +74,7 @@ mod exchanges;
 mod joins;
 mod laws;
 mod pairs;
+mod rows;
 mod shard;
 mod sources;
 mod splits;
@@ -77,6 +82,7 @@ mod unions;
 
 pub use database::{Database, TABLE_ROWS, blank, opening};
 pub use laws::{carried_to_each, holds_itself};
+pub use rows::rows_in_order;
 pub use shard::{Shard, WINDOW_UNITS};
 pub use sources::{Sources, no_sources, push_outcome};
 pub use splits::{join, split};

@@ -1,6 +1,7 @@
 //! The tables, indexes and windows of a partition, with the changes since the last commit or rollback.
 
 ghost use Rattle.std.specs.Prelude.{◌≡◌, ◌<◌, List, [], length, map, set, get_or, Some, OnOk, IfOk, IfErr, OnErr, IfSome, slice_get, option_map};
+ghost use Rattle.std.specs.FinMap as finmap;
 ghost use Rattle.std.specs.Option.{option_copied};
 ghost use Rattle.std.specs.List.{AllByRecursion};
 ghost use Rattle.ss_model.specs.Database.{Database};
@@ -14,7 +15,7 @@ ghost use Rattle.ss_shard.specs.Contents.{tables_of};
 ghost use Rattle.ss_shard.specs.ShardValue.{ShardValue};
 ghost use Rattle.ss_shard.specs.Rows.{IsKeyed, HasSlot, HasKeyOf, refusal_of};
 ghost use Rattle.ss_shard.specs.Shards.{IsOf, CanRollBack, Changed, Same, IsCommitted, AllInvariant};
-ghost use Rattle.ss_shard.specs.Sources.{number_in, HasSource, AreNames, AllAreNames, SameNumbers, with_number};
+ghost use Rattle.ss_shard.specs.Sources.{number_in, HasSource, AreNames, AllAreNames, SameNumbers, lent_source, positive, with_number};
 ghost use Rattle.ss_shard.specs.Windows.{kept_part, HoldsDatabase};
 ghost use Rattle.ss_shard.specs.Parts.{dealing_of};
 ghost use Rattle.ss_shard.specs.Changes.{RowInserted, InsertStops, SlotTaken, SlotPut, UnitStaged, StagingStops};
@@ -147,6 +148,23 @@ impl Shard {
         }
     }
 
+    /// This shard with these windows, counts and sources in place of its own, which are let go. Constant, but for letting go;
+    /// takes no memory.
+    ///
+    /// For a shard that is made of an image: its rows are inserted first, as any row is, and then it is given the rest, which
+    /// no other call can.
+    pub fn resumed(self, windows: Seq<Window>, cursors: Seq<u64>, sources: Seq<Sources>) -> Shard
+        requires { self.changes ≡ [] }
+        ensures { result ≡ record self { windows = windows; cursors = cursors; sources = sources } }
+    {
+        Shard {
+            windows,
+            cursors,
+            sources,
+            ..self
+        }
+    }
+
     /// A table by its number. Constant.
     pub fn table(&self, table: u16) -> Option<&Table>
         ensures { option_copied result ≡ slice_get self.now.tables table }
@@ -159,6 +177,13 @@ impl Shard {
         ensures { result.now ≡ self.now.tables }
     {
         self.tables.as_slice()
+    }
+
+    /// All windows, by number. Constant.
+    pub fn windows(&self) -> &[Window]
+        ensures { result.now ≡ self.now.windows }
+    {
+        self.windows.as_slice()
     }
 
     /// A window by its number. Constant.
@@ -193,6 +218,22 @@ impl Shard {
         match self.sources.get(usize::from(stream)) {
             Some(sources) => sources.next(source),
             None => 0,
+        }
+    }
+
+    /// The sources of a stream that have pushed, by the bytes of their names in rising order, each with the number that its next
+    /// push has to carry; none where there is no such stream. Linear in the stream's sources, with memory for a reference and a
+    /// number for each that is listed: the names are lent and not copied.
+    pub fn numbered_sources<'a>(
+        &'a self,
+        alloc: Global,
+        stream: u16,
+    ) -> Result<Vec<(&'a [u8], u64)>, NoMemory>
+        ensures { IfOk result (λ list. map lent_source list.items ≡ finmap.entries (positive (get_or self.now.sources stream finmap.empty))) }
+    {
+        match self.sources.get(usize::from(stream)) {
+            Some(sources) => sources.numbered(alloc),
+            None => Ok(Vec::new(alloc)),
         }
     }
 

@@ -1,8 +1,8 @@
 //! The sources of pushes, with the numbers that their next pushes have to carry.
 
-ghost use Rattle.std.specs.Prelude.{◌≡◌, List, ℕ, IfOk, OnOk, OnErr, IsSome, replicate};
+ghost use Rattle.std.specs.Prelude.{◌≡◌, List, ℕ, IfOk, OnOk, OnErr, IsSome, map, replicate};
 ghost use Rattle.std.specs.FinMap as finite;
-ghost use Rattle.ss_shard.specs.Sources.{number_of, AreNames, push_outcome};
+ghost use Rattle.ss_shard.specs.Sources.{number_of, AreNames, lent_source, positive, push_outcome};
 
 use ss_model::Outcome;
 use ss_value::{Name, NoMemory, Seq};
@@ -64,6 +64,23 @@ impl Sources {
         ensures { result ≡ number_of self.now source.now }
     {
         self.numbers.get(source.as_bytes()).copied().unwrap_or(0)
+    }
+
+    /// The sources that have pushed, by the bytes of their names in rising order, each with the number that its next push has
+    /// to carry.
+    ///
+    /// One walk of the map: linear in its sources, with memory for a reference and a number for each that is listed. The names
+    /// are lent and not copied, since whoever writes them down needs no more.
+    pub fn numbered<'a>(&'a self, alloc: Global) -> Result<Vec<(&'a [u8], u64)>, NoMemory>
+        ensures { IfOk result (λ list. map lent_source list.items ≡ finite.entries (positive self.now)) }
+    {
+        let mut list = Vec::new(alloc);
+        for (name, number) in self.numbers.iter() {
+            if *number >= 1 {
+                list.push((name.as_slice(), *number))?;
+            }
+        }
+        Ok(list)
     }
 
     /// Gives a source an entry, with the number 0, where it has none yet: no number changes. Logarithmic, and a copy of the

@@ -5,7 +5,7 @@ use Rattle.serde_json.specs.Data.{Data}
 use Rattle.serde_json.specs.View.{view}
 use Rattle.ss_lemmas.proofs.LoopItem.{next}
 use Rattle.ss_model.specs.ReportLines.{row_line}
-use Rattle.ss_report.specs.Lent.{rows_behind}
+use Rattle.ss_shard.specs.Lent.{rows_behind}
 use Rattle.ss_report.proofs.CallerLemmas.{row_no_float}
 use Rattle.ss_audit.specs.Saying.{LeavesBehind}
 use Rattle.ss_audit.proofs.Saying.{breaks_more, breaks_same, said_all, said_more}

@@ -1,6 +1,6 @@
 use Rattle.std.proofs.Common.{map, drop}
 use Rattle.ss_model.specs.ReportLines.{row_line}
-use Rattle.ss_report.specs.Lent.{rows_behind}
+use Rattle.ss_shard.specs.Lent.{rows_behind}
 use Rattle.ss_audit.proofs.Saying.{ComesTo}
 use Rattle.ss_audit.proofs.tables.behind_rows_said.Given as goal
 

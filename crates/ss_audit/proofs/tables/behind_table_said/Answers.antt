@@ -5,7 +5,7 @@ use Rattle.serde_json.specs.Data.{Data}
 use Rattle.serde_json.specs.View.{view}
 use Rattle.ss_model.specs.ReportLines.{row_line, table_line}
 use Rattle.ss_shard.specs.Contents.{rows_by_key}
-use Rattle.ss_report.proofs.CallerLemmas.{rows_counted}
+use Rattle.ss_shard.proofs.CallerLemmas.{rows_counted}
 use Rattle.ss_audit.specs.Saying.{LeavesBehind}
 use Rattle.ss_audit.proofs.Saying.{both_behind, breaks_behind, breaks_first, breaks_same}
 use Rattle.ss_audit.proofs.tables.behind_table_said.Goals as goal

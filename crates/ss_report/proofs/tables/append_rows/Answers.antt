@@ -2,7 +2,7 @@ use Rattle.std.proofs.Common.{Bor, ◌≡◌, List, [], map, drop, refl, ap, ari
 use Rattle.std.proofs.lemmas.List.{drop_all}
 use Rattle.ss_value.specs.Rows.{Row}
 use Rattle.ss_model.specs.ReportLines.{row_line}
-use Rattle.ss_report.specs.Lent.{rows_behind}
+use Rattle.ss_shard.specs.Lent.{rows_behind}
 use Rattle.ss_report.proofs.Listing.{row_more}
 use Rattle.ss_report.proofs.Steps.{begun, ended}
 use Rattle.ss_report.proofs.tables.append_rows.Goals as goal

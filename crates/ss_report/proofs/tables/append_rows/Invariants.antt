@@ -1,6 +1,6 @@
 use Rattle.std.proofs.Common.{map, drop}
 use Rattle.ss_model.specs.ReportLines.{row_line}
-use Rattle.ss_report.specs.Lent.{rows_behind}
+use Rattle.ss_shard.specs.Lent.{rows_behind}
 use Rattle.ss_report.proofs.Steps.{IsUnderWay}
 use Rattle.ss_report.proofs.tables.append_rows.Given as goal
 

@@ -4,7 +4,7 @@ ghost use Rattle.std.specs.FinMap as finmap;
 ghost use Rattle.std.specs.Prelude.{◌≡◌, IfOk, IsSome, Some};
 ghost use Rattle.ss_table.specs.TableValue.{row_at};
 ghost use Rattle.ss_shard.specs.Contents.{rows_by_key};
-ghost use Rattle.ss_report.specs.Lent.{rows_behind};
+ghost use Rattle.ss_shard.specs.Lent.{rows_behind};
 
 use ss_table::Table;
 use ss_value::{NoMemory, Row, Slot};

@@ -4,8 +4,8 @@ use Rattle.std.specs.Option.{IsSome}
 use Rattle.std.specs.FinMap as finmap
 use Rattle.ss_value.specs.Rows.{Row}
 use Rattle.ss_table.specs.Near.{without_hint}
-use Rattle.ss_report.proofs.Walking.{Walked, walk_begun, walk_ended, walk_at, walk_on, walk_within, stands_row, rows_of_entries}
-use Rattle.ss_report.proofs.rows.rows_in_order.Goals as goal
+use Rattle.ss_shard.proofs.Walking.{Walked, walk_begun, walk_ended, walk_at, walk_on, walk_within, stands_row, rows_of_entries}
+use Rattle.ss_shard.proofs.rows.rows_in_order.Goals as goal
 
 pub loop-at-init : goal.loop-at-init
 loop-at-init c = walk_begun (finmap.entries c.args.table.now.live) (without_hint c.first_near-at.result) c.new-rows.result.items c.first_near-at.ensures c.new-rows.ensures.items

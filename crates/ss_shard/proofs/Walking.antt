@@ -11,8 +11,8 @@ use Rattle.ss_model.specs.Contents.{Table}
 use Rattle.ss_table.specs.TableValue.{LiveRows, first_in, after_in, row_among}
 use Rattle.ss_table.specs.Keyed.{SlotsDiffer}
 use Rattle.ss_shard.specs.Contents.{without_slot, rows_by_key}
-use Rattle.ss_shard.proofs.CallerLemmas.{entries_by_key}
-use Rattle.ss_report.specs.Lent.{rows_behind}
+use Rattle.ss_shard.proofs.ByKey.{entries_by_key}
+use Rattle.ss_shard.specs.Lent.{rows_behind}
 
 abbrev pub Live : Type 0
 Live = Row × (ℕ × Row)
