@@ -5,6 +5,7 @@ pub mod Dealt
 pub mod Desks
 pub mod Growing
 pub mod InAndOut
+pub mod Knowing
 pub mod Lists
 pub mod Meeting
 pub mod OneList

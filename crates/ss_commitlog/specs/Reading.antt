@@ -6,12 +6,20 @@ use Rattle.ss_model.specs.Database.{Database, batch_count, stream_batches}
 use Rattle.ss_model.specs.Partitions.{home_of}
 use Rattle.ss_model.specs.Settling.{is_ready_now}
 use Rattle.ss_model.specs.Accepted.{Accepted}
+use Rattle.ss_stream.specs.OfDatabase.{AreStreamsOf}
 use Rattle.ss_stream.specs.Pending.{Pending, pending_batch}
 use Rattle.ss_stream.specs.Streams.{ReservedStreams, stream_at}
+use Rattle.ss_commitlog.specs.Right.{known_database}
+use Rattle.ss_commitlog.specs.Roles.{In}
+use Rattle.ss_commitlog.specs.Tokens.{Known}
 
 -- the batch that a consumer finds: none where it isn't emitted, or the consumer has passed it
 abbrev pub found_batch : Database → ℕ → ℕ → ℕ → Option Rows
 found_batch d s q r = cond (nat_lt r (batch_count d q)) None (slice_get (stream_batches d s) r)
+
+-- the streams of the database that each of these tokens knows
+abbrev pub AreKnownStreams : Catalog → Database → List Known → List Pending → Type 0
+AreKnownStreams catalog db ks streams = (k : Known) → In k ks → AreStreamsOf catalog (known_database catalog db k) streams
 
 -- the procedure's home is this partition, and its next batch is there on each of its inputs
 abbrev pub IsReadyAt : Catalog → ℕ → Database → ℕ → ℕ → Type 0

@@ -64,6 +64,8 @@
 //!   ready; each of the list that the token then knows (`Follows`).
 //! - `meet` (`one`), `meet_all`, `meet_with` (`Met`): these tokens then know one list; `meet_tail` (`ok`) gives the entries from a
 //!   place of it on, too.
+//! - `streams` (`streams`): the streams after the one list that its tokens then know (`marks`). To a checkpoint, which has the marks
+//!   of all partitions, they are those of the whole list, since each entry touches a partition: none is added meanwhile.
 //! - `close`: a list that replays and has its orders (`legal`) and goes on from what each token knew (`list`), with the
 //!   streams after it (`streams`).
 #![tactic(auto)]

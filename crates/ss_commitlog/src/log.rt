@@ -9,7 +9,7 @@ ghost use Rattle.ss_stream.specs.OfDatabase.{AreStreamsOf};
 ghost use Rattle.ss_commitlog.specs.declared.role.Role.TheVariants.{Disk};
 ghost use Rattle.ss_commitlog.specs.declared.rule.Item.{Item};
 ghost use Rattle.ss_commitlog.specs.Meaning.{listed_of, HasClientBelow, HaveClientsBelow};
-ghost use Rattle.ss_commitlog.specs.Reading.{found_batch, IsReadyAt};
+ghost use Rattle.ss_commitlog.specs.Reading.{found_batch, AreKnownStreams, IsReadyAt};
 ghost use Rattle.ss_commitlog.specs.Right.{IsRight, known_database};
 ghost use Rattle.ss_commitlog.specs.Committing.{Commits};
 ghost use Rattle.ss_commitlog.specs.Tokens.{known, roles_of, Covers, Follows, Continues, AllContinue, AllSaw, KnowOne, MeetAll, Met};
@@ -30,10 +30,10 @@ use std::sync::{Mutex, Wait};
 ///
 /// Every call but `post` and `see` takes the lock; none of them takes another lock, or waits, while it holds it. What they
 /// cost under the lock: `commit` a step for each mark, each batch and each input; `look` a copy of the batch; `meet_tail` a
-/// copy of the entries; `ready_at` a look at each procedure's home, and at the inputs of those that are at home there;
-/// `meet`, `meet_all` and `meet_with` a step or two for each token. No commit looks at the list. Memory: `commit` an
-/// entry's and its batches' room, made before the first step; `look` and `meet_tail` their copies; all others
-/// none.
+/// copy of the entries; `streams` a copy of the batches that are still to take; `ready_at` a look at each procedure's home, and
+/// at the inputs of those that are at home there; `meet`, `meet_all` and `meet_with` a step or two for each token. No commit
+/// looks at the list. Memory: `commit` an entry's and its batches' room, made before the first step; `look`, `meet_tail` and
+/// `streams` their copies; all others none.
 #[derive(Drop)]
 pub struct CommitLog<I: Life> {
     pub(crate) table: LogTable,
@@ -135,6 +135,24 @@ impl<I: Life> CommitLog<I> {
         self.desk
             .lock(rt)
             .meet_tail(&self.table, alloc, mark, note, from)
+    }
+
+    /// All these tokens then know one list. Gives a copy of the streams after it: the batches that some consumer has still to
+    /// take, and no others. Takes the lock once, and holds it for a step or two for each token and that copy. Out of memory
+    /// gives no copy, and the tokens have met all the same.
+    ///
+    /// It is for a checkpoint, which has all partitions in hand. Each entry touches a partition, so the list stays as it is
+    /// while their marks are in one hand, and these are its streams until one of the marks is given back.
+    pub fn streams<R: Wait>(
+        &self,
+        rt: &R,
+        alloc: Global,
+        marks: &mut Marks<I>,
+    ) -> Result<Streams, NoMemory>
+        ensures marks { MeetAll I.catalog I.parts I.limit marks.old marks.new }
+        ensures streams { IfOk result (λ copy. AreKnownStreams I.catalog I.opening marks.new copy.streams) }
+    {
+        self.desk.lock(rt).streams(&self.table, alloc, marks)
     }
 
     /// Posts a receipted count and the faults of the disk. Needs no lock.

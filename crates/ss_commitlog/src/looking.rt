@@ -93,6 +93,22 @@ impl<I: Life> Desk<I> {
         show(table, &mut self.seat, note);
     }
 
+    /// All tokens see the list. A copy of the streams after it.
+    pub fn streams(
+        &mut self,
+        table: &LogTable,
+        alloc: Global,
+        marks: &mut Marks<I>,
+    ) -> Result<Streams, NoMemory>
+        requires table { (table.now.shared.table_id ≡ I.table) × (0 < I.table.words) }
+        ensures list { (self.new ≡ self.old) × (length self.old ≤ I.limit) }
+        ensures marks { AllKnow self.old marks.old marks.new × AllContinue I.catalog I.parts self.old marks.old }
+        ensures streams { IfOk result (λ copy. AreStreamsOf I.catalog (after I.catalog I.opening (listed_of self.old)) copy.streams) }
+    {
+        show_marks(table, &mut self.seat, self.alloc, marks);
+        self.streams.duplicate(alloc)
+    }
+
     /// Two tokens see the list, and each other's numbers. Copies of the entries from a place on.
     pub fn meet_tail(
         &mut self,
