@@ -3,3 +3,7 @@ pub mod Texts
 pub mod OneAnswer
 pub mod CommonBytes
 pub mod CallerLemmas
+pub mod Held
+pub mod Pieces
+pub mod PendingBatches
+pub mod NextNumbers

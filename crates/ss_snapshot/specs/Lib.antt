@@ -1,3 +1,4 @@
 pub mod EmptyImage
 pub mod Foreign
 pub mod Laws
+pub mod Held
