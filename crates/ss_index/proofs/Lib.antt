@@ -1,6 +1,7 @@
 pub mod CallerLemmas
 pub mod Counting
 pub mod Dealing
+pub mod Halves
 pub mod Merging
 pub mod Ranging
 pub mod Rising

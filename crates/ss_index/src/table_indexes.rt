@@ -2,6 +2,8 @@
 
 ghost use Rattle.std.specs.Prelude.{◌≡◌, List, [], ◌∷◌, ◌++◌, OnOk, OnErr, slice_get};
 ghost use Rattle.std.specs.Option.{option_copied};
+ghost use Rattle.std.specs.List.{AllByRecursion};
+ghost use Rattle.ss_index.specs.Pairs.{AreCounted};
 ghost use Rattle.ss_index.specs.Indexes.{with_rows, without_rows, agree_in, HavePair, MayJoinAll, joined_all, shells, AreLastShells, WereParted};
 
 use crate::index::Index;
@@ -29,87 +31,120 @@ impl Model for Indexes {
     ghost view = { λ o. o.items.items };
 }
 
+// A table may have any number of indexes. So what walks them calls itself on halves, as an item at a time would use a stack as
+// deep as there are indexes.
+
 /// Drops the pair of a row in a slot once from each index.
+///
+/// One drop an index. It calls itself on each half, so that the stack is logarithmic in the number of indexes.
 fn drop_pairs(indexes: &mut [Index], row: &Row, slot: Slot)
     requires { HavePair row.now slot indexes.old }
     ensures { indexes.new ≡ without_rows row.now slot indexes.old }
 {
-    match indexes.split_first_mut() {
-        None => (),
-        Some((first, others)) => {
-            first.drop_row(row, slot);
-            drop_pairs(others, row, slot)
-        }
+    let count = indexes.len();
+    if count > 1 {
+        let (left, right) = indexes.split_at_mut(count / 2);
+        drop_pairs(left, row, slot);
+        drop_pairs(right, row, slot);
+        return;
+    }
+    if let Some(index) = indexes.first_mut() {
+        index.drop_row(row, slot);
     }
 }
 
 /// Adds the pair of a row in a slot to each index. Out of memory drops those again that were added.
+///
+/// One add an index, and one drop where it fails. It calls itself on each half, so that the stack is logarithmic in the
+/// number of indexes.
 fn add_pairs(indexes: &mut [Index], row: &Row, slot: Slot) -> Result<(), NoMemory>
     ensures ok { OnOk result (indexes.new ≡ with_rows row.now slot indexes.old) }
     ensures err { OnErr result (indexes.new ≡ indexes.old) }
+    ensures counted { OnOk result (AllByRecursion (λ h. AreCounted h.pairs) indexes.old) }
 {
-    match indexes.split_first_mut() {
-        None => Ok(()),
-        Some((index, others)) => {
-            // The law by which an add and a drop give the same index back.
-            index.pairs_are_counted();
-            index.add(row, slot)?;
-            if add_pairs(others, row, slot).is_err() {
-                index.drop_row(row, slot);
-                return Err(NoMemory);
-            }
-            Ok(())
+    let count = indexes.len();
+    if count > 1 {
+        let (front, back) = indexes.split_at_mut(count / 2);
+        add_pairs(front, row, slot)?;
+        if add_pairs(back, row, slot).is_err() {
+            drop_pairs(front, row, slot);
+            return Err(NoMemory);
         }
+        return Ok(());
     }
+    let Some(index) = indexes.first_mut() else {
+        return Ok(());
+    };
+    // The law by which an add and a drop give the same index back.
+    index.pairs_are_counted();
+    index.add(row, slot)
 }
 
-/// Whether two rows have the same pair in each of these indexes.
+/// Whether two rows have the same pair in each of these indexes. One comparison an index, up to the first that differs, and
+/// a stack that is the same for any number.
 fn agree_in(indexes: &[Index], a: &Row, b: &Row) -> bool
     ensures { result ≡ agree_in a.now b.now indexes.now }
 {
-    match indexes.split_first() {
-        None => true,
-        Some((first, others)) => first.agree(a, b) && agree_in(others, a, b),
-    }
+    indexes.iter().all(|index| index.agree(a, b))
 }
 
 /// Takes in the fellow of each index. Out of memory releases those again that were taken in.
+///
+/// One call an index, and one release where it fails. It calls itself on each half, so that the stack is logarithmic in
+/// the number of indexes.
 fn absorb_all(indexes: &mut [Index], others: &mut [Index]) -> Result<(), NoMemory>
     requires { MayJoinAll indexes.old others.old }
     ensures ok { OnOk result ((indexes.new ≡ joined_all indexes.old others.old) × (others.new ≡ shells others.old)) }
     ensures err { OnErr result ((indexes.new ≡ indexes.old) × (others.new ≡ others.old)) }
+    ensures last { OnOk result (AreLastShells indexes.new others.new) }
+    ensures counted { OnOk result (AllByRecursion (λ h. AreCounted h.pairs) indexes.old × AllByRecursion (λ h. AreCounted h.pairs) others.old) }
 {
-    let Some((index, behind)) = indexes.split_first_mut() else {
+    let count = indexes.len();
+    if count > 1 {
+        let (left, right) = indexes.split_at_mut(count / 2);
+        let (fellows, behind) = others.split_at_mut(count / 2);
+        absorb_all(left, fellows)?;
+        if absorb_all(right, behind).is_err() {
+            release_all(left, fellows);
+            return Err(NoMemory);
+        }
+        return Ok(());
+    }
+    let Some(index) = indexes.first_mut() else {
         return Ok(());
     };
-    let Some((other, fellows)) = others.split_first_mut() else {
+    let Some(other) = others.first_mut() else {
         unreachable!()
     };
     // The laws by which what is taken in and released gives the same indexes back.
     index.holds_a_part();
     index.pairs_are_counted();
     other.pairs_are_counted();
-    index.absorb(other)?;
-    if absorb_all(behind, fellows).is_err() {
-        index.release(other);
-        return Err(NoMemory);
-    }
-    Ok(())
+    index.absorb(other)
 }
 
 /// Gives the last part of each index back to its fellow.
+///
+/// One release an index. It calls itself on each half, so that the stack is logarithmic in the number of indexes.
 fn release_all(indexes: &mut [Index], backs: &mut [Index])
     requires { AreLastShells indexes.old backs.old }
     ensures { WereParted indexes.old indexes.new backs.new }
 {
-    let Some((index, behind)) = indexes.split_first_mut() else {
+    let count = indexes.len();
+    if count > 1 {
+        let (left, right) = indexes.split_at_mut(count / 2);
+        let (fellows, behind) = backs.split_at_mut(count / 2);
+        release_all(left, fellows);
+        release_all(right, behind);
+        return;
+    }
+    let Some(index) = indexes.first_mut() else {
         return;
     };
-    let Some((back, fellows)) = backs.split_first_mut() else {
+    let Some(back) = backs.first_mut() else {
         unreachable!()
     };
     index.release(back);
-    release_all(behind, fellows)
 }
 
 impl Indexes {

@@ -1,17 +1,60 @@
-use Rattle.std.proofs.Common.{◌≡◌, ◌∷◌, sym, subst, ◌∙◌, rules}
-use Rattle.ss_index.specs.Pairs.{IndexValue}
-use Rattle.ss_index.specs.Parts.{joined, WasParted}
-use Rattle.ss_index.specs.Indexes.{MayJoinAll}
-use Rattle.ss_index.proofs.Uniting.{came_apart}
+use Rattle.std.proofs.Common.{◌≡◌, ◌++◌, sym, ap, subst, ◌∙◌, rules, arith}
+use Rattle.std.proofs.lemmas.List.{map-append}
+use Rattle.ss_index.specs.Parts.{shell}
+use Rattle.ss_index.specs.Indexes.{joined_all, shells, AreLastShells, WereParted}
+use Rattle.ss_index.proofs.Halves.{as_many_join, cut_join, cut_joined, shells_of_both, all_came_apart}
 use Rattle.ss_index.proofs.table_indexes.+absorb_all.Goals as goal
+
+pub split_at_mut-fellows-requires : goal.split_at_mut-fellows-requires
+split_at_mut-fellows-requires t c = let same = as_many_join c.args.indexes.now c.args.others.now c.requires in omega (arith, same)
+
+pub absorb_all-requires : goal.absorb_all-requires
+absorb_all-requires t c =
+    let left = c.split_at_mut-left in
+    let fellows = c.split_at_mut-fellows in
+    let may = cut_join c.args.indexes.now c.args.others.now left.result.0.now left.result.1.now fellows.result.0.now fellows.result.1.now
+    left.ensures.value fellows.ensures.value (left.ensures.front_len ∙ sym fellows.ensures.front_len) c.requires in
+    (search rules, may.0)
+
+pub absorb_all-requires-then-count-gt1 : goal.absorb_all-requires-then-count-gt1
+absorb_all-requires-then-count-gt1 t c =
+    let left = c.split_at_mut-left in
+    let fellows = c.split_at_mut-fellows in
+    let may = cut_join c.args.indexes.now c.args.others.now left.result.0.now left.result.1.now fellows.result.0.now fellows.result.1.now
+    left.ensures.value fellows.ensures.value (left.ensures.front_len ∙ sym fellows.ensures.front_len) c.requires in
+    (search rules, may.1)
 
 pub returns-then-is_err-clause-err : goal.returns-then-is_err-clause-err
 returns-then-is_err-clause-err t c =
-    let i : IndexValue = c.in-Some.index.now in
-    let k : IndexValue = c.in-Some-split_first_mut.other.now in
-    let same : (c.absorb_all.new.indexes ≡ c.in-Some.behind.now) × (c.absorb_all.new.others ≡ c.in-Some-split_first_mut.fellows.now) = search rules in
-    let all : MayJoinAll (i ∷ c.in-Some.behind.now) (k ∷ c.in-Some-split_first_mut.fellows.now) =
-    subst (λ ks. MayJoinAll (i ∷ c.in-Some.behind.now) ks) c.in-Some-split_first_mut.ensures.cases.0 (subst (λ is. MayJoinAll is c.args.others.now) c.in-Some.ensures.cases.0 c.requires) in
-    let was : WasParted (joined i k) c.release.new.self c.release.new.back = subst (λ x. WasParted x c.release.new.self c.release.new.back) c.in_ok-absorb.ensures.ok.0 c.release.ensures in
-    let back = came_apart i k all.0 c.pairs_are_counted.ensures c.pairs_are_counted-2.ensures c.release.new.self c.release.new.back was in
-    ((λ j. back.0 j ∷ same.0 j) ∙ sym c.in-Some.ensures.cases.0, (λ j. back.1 j ∷ same.1 j) ∙ sym c.in-Some-split_first_mut.ensures.cases.0)
+    let left = c.split_at_mut-left in
+    let fellows = c.split_at_mut-fellows in
+    let may = cut_join c.args.indexes.now c.args.others.now left.result.0.now left.result.1.now fellows.result.0.now fellows.result.1.now
+    left.ensures.value fellows.ensures.value (left.ensures.front_len ∙ sym fellows.ensures.front_len) c.requires in
+    let new = c.release_all.new in
+    let second = c.absorb_all-then-count-gt1.new in
+    let same : (second.indexes ≡ left.result.1.now) × (second.others ≡ fellows.result.1.now) = search rules in
+    let counted = c.in_ok-absorb_all.ensures.counted in
+    let was : WereParted (joined_all left.result.0.now fellows.result.0.now) new.indexes new.backs =
+    subst (λ x. WereParted x new.indexes new.backs) c.in_ok-absorb_all.ensures.ok.0 c.release_all.ensures in
+    let back = all_came_apart left.result.0.now fellows.result.0.now new.indexes new.backs may.0 counted.0 counted.1 was in
+    ((λ j. back.0 j ++ same.0 j) ∙ sym left.ensures.value, (λ j. back.1 j ++ same.1 j) ∙ sym fellows.ensures.value)
+
+pub returns-then-count-gt1-clause-ok : goal.returns-then-count-gt1-clause-ok
+returns-then-count-gt1-clause-ok t c =
+    let left = c.split_at_mut-left in
+    let fellows = c.split_at_mut-fellows in
+    let first = c.in_ok-absorb_all.ensures.ok in
+    let new = c.absorb_all-then-count-gt1.new in
+    let second : (new.indexes ≡ joined_all left.result.1.now fellows.result.1.now) × (new.others ≡ shells fellows.result.1.now) = search rules in
+    let all = cut_joined c.args.indexes.now c.args.others.now left.result.0.now left.result.1.now fellows.result.0.now fellows.result.1.now
+    left.ensures.value fellows.ensures.value (left.ensures.front_len ∙ sym fellows.ensures.front_len) in (
+      (λ j. first.0 j ++ second.0 j) ∙ all,
+      (λ j. first.1 j ++ second.1 j) ∙ sym (map-append shell fellows.result.0.now fellows.result.1.now) ∙ ap shells (sym fellows.ensures.value),
+    )
+
+pub returns-then-count-gt1-clause-last : goal.returns-then-count-gt1-clause-last
+returns-then-count-gt1-clause-last t c =
+    let first = c.absorb_all.new in
+    let second = c.absorb_all-then-count-gt1.new in
+    let right : AreLastShells second.indexes second.others = search rules in
+    shells_of_both first.indexes second.indexes first.others second.others c.in_ok-absorb_all.ensures.last right
