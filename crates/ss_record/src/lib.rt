@@ -40,6 +40,6 @@ mod write;
 
 pub use laws::{records_are_read_again, what_is_read_is_spelled_so};
 pub use numbers::{push_u16, push_u32, push_u64};
-pub use read::{byte_of, decode_row, u32_of, u64_of};
-pub use record::{RecordError, entry_in, read_record};
+pub use read::{byte_of, decode_row, u16_of, u32_of, u64_of};
+pub use record::{RecordError, entry_in, name_in, read_record};
 pub use write::{encode_row, record_of, write_record};

@@ -36,7 +36,8 @@ pub fn byte_of(bytes: &[u8]) -> Result<(u8, &[u8]), ValueError>
     }
 }
 
-pub(crate) fn u16_of(bytes: &[u8]) -> Result<(u16, &[u8]), ValueError>
+/// The number of two bytes in front, and the bytes behind it. `Truncated` where there are fewer.
+pub fn u16_of(bytes: &[u8]) -> Result<(u16, &[u8]), ValueError>
     ensures { Gives (λ x. (x.0, x.1.now)) result (number_at 2 bytes.now) }
 {
     if bytes.len() < 2 {

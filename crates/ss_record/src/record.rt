@@ -155,8 +155,10 @@ fn name_of_length(alloc: Global, bytes: &[u8], count: usize) -> Result<(Name, &[
     }
 }
 
+/// The name in front, behind its length of one byte, and the bytes behind it: `Truncated` where these end too early, and
+/// `BadField` at a length that no name has, which is told before the bytes behind it, and at a name that isn't one.
 #[tactic(auto, unfolding(crate::specs::Records::name_at))]
-fn name_in(alloc: Global, bytes: &[u8]) -> Result<(Name, &[u8]), RecordError>
+pub fn name_in(alloc: Global, bytes: &[u8]) -> Result<(Name, &[u8]), RecordError>
     ensures { Reads (λ x. (x.0, x.1.now)) result (name_at bytes.now) }
 {
     match byte_of(bytes) {

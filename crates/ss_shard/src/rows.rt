@@ -23,7 +23,8 @@ fn live_row(table: &Table, slot: Slot) -> &Row
 
 /// The rows of a table in the order of their keys, lent and not copied.
 ///
-/// One walk by hints, in which no step searches: linear in the rows, with memory for one reference for each.
+/// One walk by hints, with memory for one reference for each row: linear in the rows where the table has one part, since no
+/// step searches, and a search in each part for each row where it has several.
 pub fn rows_in_order<'a>(alloc: Global, table: &'a Table) -> Result<Vec<&'a Row>, NoMemory>
     ensures { IfOk result (λ rows. rows_behind rows.items ≡ finmap.values (rows_by_key table.now.live)) }
 {

@@ -1,7 +1,7 @@
--- A shard and streams tell what is kept of the whole database that they stand for.
-use Rattle.std.proofs.Common.{◌≡◌, ◌∙◌, ℕ, ◌+◌, ◌-◌, ◌<◌, ◌≤◌, min, nat_le, List, [], ◌∷◌, length, map, drop, Bool, true, false, cond, refl, sym, ap, arith, Option, Some, None, length-drop}
-use Rattle.std.specs.Prelude.{unwrap_or}
-use Rattle.std.specs.List.{filter, fold}
+-- A shard and streams tell what is kept of the whole database that they stand for, and stand for each of which the same is kept.
+use Rattle.std.proofs.Common.{◌≡◌, ◌∙◌, ℕ, ◌+◌, ◌-◌, ◌<◌, ◌≤◌, min, nat_le, List, [], ◌∷◌, length, map, drop, Bool, true, false, cond, refl, sym, ap, arith, subst, Option, Some, None, length-drop}
+use Rattle.std.specs.Prelude.{get_or, unwrap_or}
+use Rattle.std.specs.List.{filter, fold, range_with_len}
 use Rattle.std.specs.Ordering.{nat_cmp}
 use Rattle.std.specs.Cmp.Lexicographic.{slice_cmp, nat_list_cmp_total}
 use Rattle.std.specs.FinMap as finmap
@@ -14,12 +14,14 @@ use Rattle.ss_model.specs.declared.catalog.Catalog.{Catalog}
 use Rattle.ss_model.specs.Database.{Database, NextNumbers, batch_count, stream_batches, is_border_stream}
 use Rattle.ss_model.specs.Orders.{procedure_takes}
 use Rattle.ss_model.specs.Results.{map_indexed}
-use Rattle.ss_model.specs.Settling.{kept, least_count, procedure_numbers}
+use Rattle.ss_model.specs.Settling.{Kept, kept, least_count, procedure_numbers}
 use Rattle.ss_model.specs.WholeDatabase.{WholeDatabase}
-use Rattle.ss_model_kept.proofs.CallerLemmas.{get_or-map_index, length-map_index}
+use Rattle.ss_model_kept.proofs.CallerLemmas.{from_kept, get_or-map_index, length-map_index, same_least}
 use Rattle.ss_stream.specs.declared.cursor.Cursor.{Cursor}
 use Rattle.ss_stream.specs.Pending.{Pending, cursor_at, emitted_count, least_passed}
-use Rattle.ss_stream.specs.OfDatabase.{consumer_cursors, kept_stream, kept_streams}
+use Rattle.ss_stream.specs.OfDatabase.{consumer_cursors, consumers_of, kept_stream, kept_streams}
+use Rattle.ss_shard.specs.declared.database.Database.{Database as Held}
+use Rattle.ss_shard.specs.Databases.{StandsFor}
 use Rattle.ss_shard.specs.Sources.{positive, number_of, numbers_at, SameNumbers}
 use Rattle.ss_snapshot.specs.Held.{HeldTellsKept, HaveNoSources}
 
@@ -29,7 +31,7 @@ least_min : (a b : ℕ) (cs : List Cursor) → least_passed (min a b) cs ≡ min
 least_min a b [] = omega arith
 least_min a b (c ∷ cs) = let rest = least_min a b cs in omega (arith, rest)
 
-least_within : (a : ℕ) (cs : List Cursor) → least_passed a cs ≤ a
+pub least_within : (a : ℕ) (cs : List Cursor) → least_passed a cs ≤ a
 least_within a [] = omega arith
 least_within a (c ∷ cs) = let rest = least_within a cs in omega (arith, rest)
 
@@ -65,7 +67,7 @@ module _ (catalog : Catalog) (d : Database) where
   abbrev g : Pending → ℕ × (ℕ × List Rows)
   g p = (emitted_count p, (p.first, p.batches))
 
-  streams_tell : length d.streams ≡ length catalog.streams → map_indexed f d.streams ≡ map g (kept_streams catalog d)
+  pub streams_tell : length d.streams ≡ length catalog.streams → map_indexed f d.streams ≡ map g (kept_streams catalog d)
   streams_tell long =
       let none : Pending = record { first = 0; batches = []; cursors = [] } in
       let n = length catalog.streams in
@@ -130,3 +132,32 @@ held_tells_kept catalog d shard streams holds are whole =
       counts = sym holds.counts k;
       next_numbers = sources k;
     }
+
+-- ---- what stands for a database stands for each other of which the same is kept
+
+module _ (catalog : Catalog) (x y : Database) (same : kept catalog x ≡ kept catalog y) where
+  stream_alike : (s : ℕ) → kept_stream catalog x s ≡ kept_stream catalog y s
+  stream_alike s =
+      let alike = from_kept catalog x y same in
+      let least = same_least catalog x y s alike.counts (alike.lengths s) in
+      let tells = stream_tells catalog x s in
+      let tells_other = stream_tells catalog y s in
+      let first : (kept_stream catalog x s).first ≡ (kept_stream catalog y s).first = ap (λ (t : ℕ × (ℕ × List Rows)). t.1.0) (sym tells) ∙ least ∙ ap (λ (t : ℕ × (ℕ × List Rows)). t.1.0) tells_other in
+      let batches : (kept_stream catalog x s).batches ≡ (kept_stream catalog y s).batches =
+      ap (λ (t : ℕ × (ℕ × List Rows)). t.1.1) (sym tells) ∙ alike.tails s (least_count catalog x s) (omega arith) ∙ ap (λ n. drop n (stream_batches y s)) least ∙ ap (λ (t : ℕ × (ℕ × List Rows)). t.1.1) tells_other in
+      let cursors : consumer_cursors catalog x s ≡ consumer_cursors catalog y s = ap (λ (counts : List ℕ). map (λ q. cursor_at (get_or counts q 0) q) (consumers_of catalog s)) alike.counts in
+      λ k. record { first = first k; batches = batches k; cursors = cursors k }
+
+  pub stands_alike : (database : Held) → StandsFor catalog database x → StandsFor catalog database y
+  unfolding kept
+  stands_alike database stands = record {
+    shard = record {
+      contents = record {
+        tables = stands.shard.contents.tables ∙ ap (λ (k : Kept). k.tables) same;
+        windows = stands.shard.contents.windows ∙ ap (λ (k : Kept). k.windows) same;
+      };
+      counts = stands.shard.counts ∙ ap (λ (k : Kept). k.counts) same;
+      numbers = subst (λ (ms : List NextNumbers). SameNumbers ms database.whole.sources) (ap (λ (k : Kept). k.next_numbers) same) stands.shard.numbers;
+    };
+    streams = stands.streams ∙ (λ k. map (λ s. stream_alike s k) (range_with_len 0 (length catalog.streams)));
+  }

@@ -7,3 +7,17 @@ pub mod Held
 pub mod Pieces
 pub mod PendingBatches
 pub mod NextNumbers
+pub mod Putting
+pub mod Readings
+pub mod Puts
+pub mod Units
+pub mod Chunks
+pub mod AllTables
+pub mod Eaches
+pub mod LeastCounts
+pub mod SourcesRead
+pub mod KeptTells
+pub mod ResumedStreams
+pub mod WholeRead
+pub mod BesideRead
+pub mod ReadImages

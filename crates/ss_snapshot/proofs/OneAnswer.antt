@@ -1,21 +1,25 @@
--- Bytes have one answer: a catalogue, or the first byte that can't be.
-use Rattle.std.proofs.Common.{◌≡◌, ◌∙◌, inl, inr, ℕ, List, Option, Some, None, Result, Ok, Err, IfOk, IfErr, refl, sym, ap, subst}
+-- Bytes have one answer: a catalogue and what is kept of a database, or the first byte that can't be.
+use Rattle.std.proofs.Common.{◌≡◌, ◌∙◌, ◌-◌, ◌++◌, inl, inr, ℕ, List, length, Option, Some, None, refl, sym, ap, subst}
+use Rattle.std.proofs.lemmas.List.{append_cancel_left}
 use Rattle.serde_json.specs.Data.{Data}
 use Rattle.serde_json.specs.Read.{read}
 use Rattle.ss_model.specs.declared.catalog.Catalog.{Catalog}
-use Rattle.ss_model.specs.Database.{empty_database}
+use Rattle.ss_model.specs.Database.{Database as Model}
 use Rattle.ss_model.specs.Settling.{kept}
 use Rattle.ss_catalog.specs.declared.error.CatalogError.{CatalogError}
 use Rattle.ss_catalog.specs.declared.error.CatalogError.TheVariants as catalog
 use Rattle.ss_catalog.specs.Reads.{Reads, Refuses as RefusesValue}
 use Rattle.ss_catalog.specs.Answers.{HasOneCatalog as ValueHasOneCatalog, IsReadOrRefused}
-use Rattle.ss_snapshot.specs.declared.error.ImageError.{ImageError}
-use Rattle.ss_snapshot.specs.declared.error.ImageError.TheVariants.{NoMemory, Foreign}
-use Rattle.ss_standing.specs.Image.{kept_bytes, empty_image_of, BeginsWithText}
-use Rattle.ss_snapshot.specs.EmptyImage.{IsReadFromItsText, IsEmptyImage}
-use Rattle.ss_snapshot.specs.Foreign.{IsNoCatalog, EndsInText, HasForeignText, HasForeignRest, common_bytes, Refuses, FindsCatalog, RefusesText, text_refusal}
-use Rattle.ss_snapshot.specs.Laws.{HasOneCatalog, IsImageOrForeign, HasOneOffset}
+use Rattle.ss_catalog.proofs.CallerLemmas.{err_same, ok_or_err}
+use Rattle.ss_standing.specs.Checkpoints.{ImagesAreRead}
+use Rattle.ss_standing.specs.Image.{kept_bytes, text_bytes, BeginsWithText}
+use Rattle.ss_standing.specs.ImageForm.{kept_in, to_the_end}
+use Rattle.ss_standing.specs.Laws.{ImageTellsKept}
+use Rattle.ss_standing.specs.Standing.{IsImageAt}
 use Rattle.ss_standing.proofs.CallerLemmas.{image_begins, one_text}
+use Rattle.ss_snapshot.specs.Own.{IsReadFromItsText}
+use Rattle.ss_snapshot.specs.Foreign.{IsNoCatalog, EndsInText, HasForeignText, RefusesText, text_refusal}
+use Rattle.ss_snapshot.specs.Images.{IsImageOf, HasForeignRest, HasOneKept, IsImageOrForeign, HasOneOffset}
 
 -- ---- values
 
@@ -62,12 +66,16 @@ another_text one text d k json reads differs c own is =
 -- ---- images
 
 -- an image begins with its catalogue's text
-pub begins : (bytes : List ℕ) (c : Catalog) → IsEmptyImage bytes c → BeginsWithText bytes c.text
-begins bytes c image = record {
+pub begins : (bytes : List ℕ) (first : ℕ) (c : Catalog) (db : Model) → IsImageOf bytes first c db → BeginsWithText bytes c.text
+begins bytes first c db image = record {
   short = image.short;
-  behind = kept_bytes c (kept c (empty_database c));
-  spelled = image.spelled ∙ image_begins c (kept c (empty_database c));
+  behind = kept_bytes c (kept c db);
+  spelled = image.image.spelled ∙ image_begins c (kept c db);
 }
+
+-- so do bytes that are refused behind it
+rest_begins : (first : ℕ) (bytes : List ℕ) (at : ℕ) (rest : HasForeignRest first bytes at) → BeginsWithText bytes rest.catalog.text
+rest_begins first bytes at rest = record { short = rest.short; behind = rest.rest; spelled = rest.begins }
 
 module _ (one : ValueHasOneCatalog) where
   -- a text is one catalogue's
@@ -76,39 +84,46 @@ module _ (one : ValueHasOneCatalog) where
       let same = one_value b.text own.value other.value (said a own b.text is) other.reads.reads_back in
       one other.value a b (subst (λ (v : Data). Reads v a) same own.reads) other.reads
 
-  pub one_catalog : HasOneCatalog
-  one_catalog bytes a b h k = of_one_text a b h.own k.own (one_text bytes a.text b.text (begins bytes a h) (begins bytes b k))
+  pub one_kept : ImageTellsKept → HasOneKept
+  one_kept tells bytes first a b x y h k =
+      let same = of_one_text a b h.own k.own (one_text bytes a.text b.text (begins bytes first a x h) (begins bytes first b y k)) in
+      let other = subst (λ (c : Catalog). IsImageAt c first bytes y) (sym same) k.image in
+      (same, tells a x y h.image.whole other.whole h.image.fits other.fits (sym h.image.spelled ∙ other.spelled) ∙ ap (λ (c : Catalog). kept c y) same)
 
-  pub image_or_foreign : IsImageOrForeign
-  image_or_foreign bytes c at image (inl ends) = ends.cut c.text (begins bytes c image)
-  image_or_foreign bytes c at image (inr (inl text)) = text.foreign c image.own (one_text bytes c.text text.text (begins bytes c image) text.begins)
-  image_or_foreign bytes c at image (inr (inr rest)) =
-      let same = of_one_text c rest.catalog image.own rest.own (one_text bytes c.text rest.catalog.text (begins bytes c image) rest.begins) in
-      rest.another (image.spelled ∙ ap empty_image_of same)
+  -- what is behind the text of an image is read to its end
+  not_refused : ImagesAreRead → (bytes : List ℕ) (first : ℕ) (c : Catalog) (db : Model) (at : ℕ) (rest : HasForeignRest first bytes at) → c ≡ rest.catalog → IsImageAt c first bytes db → ⊥
+  not_refused again bytes first c db at rest same image =
+      let read = again rest.catalog first bytes db rest.accepted (subst (λ (k : Catalog). IsImageAt k first bytes db) same image) in
+      let behind = append_cancel_left (text_bytes rest.catalog.text) rest.rest (kept_bytes rest.catalog (kept rest.catalog db)) (sym rest.begins ∙ read.0) in
+      ok_or_err (to_the_end (kept_in rest.catalog first) rest.rest) (kept rest.catalog db) rest.left (ap (to_the_end (kept_in rest.catalog first)) behind ∙ read.1) rest.refused
+
+  pub image_or_foreign : ImagesAreRead → IsImageOrForeign
+  image_or_foreign again bytes first c db at image (inl ends) = ends.cut c.text (begins bytes first c db image)
+  image_or_foreign again bytes first c db at image (inr (inl text)) = text.foreign c image.own (one_text bytes c.text text.text (begins bytes first c db image) text.begins)
+  image_or_foreign again bytes first c db at image (inr (inr rest)) =
+      let same = of_one_text c rest.catalog image.own rest.own (one_text bytes c.text rest.catalog.text (begins bytes first c db image) (rest_begins first bytes at rest)) in
+      not_refused again bytes first c db at rest same image.image
 
   -- two of the three don't go together
   ends_or_not : (bytes text : List ℕ) (m n : ℕ) → EndsInText bytes m → BeginsWithText bytes text → m ≡ n
   ends_or_not bytes text m n ends front = absurd (ends.cut text front)
 
-  text_or_not : (bytes : List ℕ) (m n : ℕ) → HasForeignText bytes m → HasForeignRest bytes n → ⊥
-  text_or_not bytes m n text rest = text.foreign rest.catalog rest.own (one_text bytes rest.catalog.text text.text rest.begins text.begins)
+  text_or_not : (bytes : List ℕ) (first m n : ℕ) → HasForeignText bytes m → HasForeignRest first bytes n → ⊥
+  text_or_not bytes first m n text rest = text.foreign rest.catalog rest.own (one_text bytes rest.catalog.text text.text (rest_begins first bytes n rest) text.begins)
+
+  one_left : (first : ℕ) (bytes : List ℕ) (m n : ℕ) (h : HasForeignRest first bytes m) (k : HasForeignRest first bytes n) → h.left ≡ k.left
+  one_left first bytes m n h k =
+      let same = of_one_text h.catalog k.catalog h.own k.own (one_text bytes h.catalog.text k.catalog.text (rest_begins first bytes m h) (rest_begins first bytes n k)) in
+      let behind = append_cancel_left (text_bytes k.catalog.text) h.rest k.rest (ap (λ (c : Catalog). text_bytes c.text ++ h.rest) (sym same) ∙ sym h.begins ∙ k.begins) in
+      err_same (to_the_end (kept_in k.catalog first) k.rest) h.left k.left ((λ i. to_the_end (kept_in (sym same i) first) (sym behind i)) ∙ h.refused) k.refused
 
   pub one_offset : HasOneOffset
-  one_offset bytes m n (inl h) (inl k) = h.offset ∙ sym k.offset
-  one_offset bytes m n (inl h) (inr (inl k)) = ends_or_not bytes k.text m n h k.begins
-  one_offset bytes m n (inl h) (inr (inr k)) = ends_or_not bytes k.catalog.text m n h k.begins
-  one_offset bytes m n (inr (inl h)) (inl k) = sym (ends_or_not bytes h.text n m k h.begins)
-  one_offset bytes m n (inr (inr h)) (inl k) = sym (ends_or_not bytes h.catalog.text n m k h.begins)
-  one_offset bytes m n (inr (inl h)) (inr (inl k)) = h.offset ∙ sym k.offset
-  one_offset bytes m n (inr (inl h)) (inr (inr k)) = absurd (text_or_not bytes m n h k)
-  one_offset bytes m n (inr (inr h)) (inr (inl k)) = absurd (text_or_not bytes n m k h)
-  one_offset bytes m n (inr (inr h)) (inr (inr k)) =
-      let same = of_one_text h.catalog k.catalog h.own k.own (one_text bytes h.catalog.text k.catalog.text h.begins k.begins) in
-      h.offset ∙ ap (λ (c : Catalog). common_bytes bytes (empty_image_of c)) same ∙ sym k.offset
-
--- what answers to bytes that are an image is its catalogue, or want of memory
-pub answered : HasOneCatalog → IsImageOrForeign → (bytes : List ℕ) (result : Result Catalog ImageError) → IfOk result (IsEmptyImage bytes) → IfErr result (Refuses bytes)
-    → FindsCatalog bytes result
-answered one either bytes (Ok r) ok refusal c image = one bytes r c ok image
-answered one either bytes (Err NoMemory) ok refusal c image = refl
-answered one either bytes (Err (Foreign at)) ok refusal c image = absurd (either bytes c at image refusal)
+  one_offset bytes first m n (inl h) (inl k) = h.offset ∙ sym k.offset
+  one_offset bytes first m n (inl h) (inr (inl k)) = ends_or_not bytes k.text m n h k.begins
+  one_offset bytes first m n (inl h) (inr (inr k)) = ends_or_not bytes k.catalog.text m n h (rest_begins first bytes n k)
+  one_offset bytes first m n (inr (inl h)) (inl k) = sym (ends_or_not bytes h.text n m k h.begins)
+  one_offset bytes first m n (inr (inr h)) (inl k) = sym (ends_or_not bytes h.catalog.text n m k (rest_begins first bytes m h))
+  one_offset bytes first m n (inr (inl h)) (inr (inl k)) = h.offset ∙ sym k.offset
+  one_offset bytes first m n (inr (inl h)) (inr (inr k)) = absurd (text_or_not bytes first m n h k)
+  one_offset bytes first m n (inr (inr h)) (inr (inl k)) = absurd (text_or_not bytes first n m k h)
+  one_offset bytes first m n (inr (inr h)) (inr (inr k)) = h.offset ∙ ap (λ (left : ℕ). length bytes - left) (one_left first bytes m n h k) ∙ sym k.offset

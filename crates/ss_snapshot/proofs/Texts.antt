@@ -7,25 +7,25 @@ use Rattle.ss_record.specs.Numbers.{IsBytes, number_bytes}
 use Rattle.ss_record.specs.Reading.{number_at, Fails}
 use Rattle.ss_record.proofs.CallerLemmas.{number_again, takes_number, respelled_4}
 use Rattle.ss_catalog.proofs.CallerLemmas.{ok_same, ok_or_err}
-use Rattle.ss_standing.specs.Image.{BeginsWithText}
+use Rattle.ss_standing.specs.Image.{BeginsWithText, text_bytes}
 use Rattle.ss_snapshot.specs.Foreign.{EndsInText, RefusesCut, length_refusal}
 
 abbrev numbered : ℕ → List ℕ → Result (ℕ × List ℕ) ValueError
 numbered n rest = Ok (n, rest)
 
--- a text that is found stands in front
-pub text_found : (bytes : List ℕ) (n : ℕ) (rest : List ℕ) → IsBytes bytes → number_at 4 bytes ≡ numbered n rest → n ≤ length rest → BeginsWithText bytes (take n rest)
-text_found bytes n rest are read enough =
-    let takes = takes_number 4 respelled_4 bytes n rest are read in
-    let long : length (take n rest) ≡ n = length-take-le n rest enough in
-    let small : n < 256 ^ 4 = takes.2 in
-    record {
-      short = omega (arith, long, small);
-      behind = drop n rest;
-      spelled = takes.0
-          ∙ (λ k. number_bytes 4 ((sym long) k) ++ (sym (take-append-drop n rest)) k)
-          ∙ sym (append_assoc (number_bytes 4 (length (take n rest))) (take n rest) (drop n rest));
-    }
+module _ (bytes : List ℕ) (n : ℕ) (rest : List ℕ) (are : IsBytes bytes) (read : number_at 4 bytes ≡ numbered n rest) (enough : n ≤ length rest) where
+  long : length (take n rest) ≡ n
+  long = length-take-le n rest enough
+
+  -- a text that is found has room for its length, and stands in front
+  pub text_fits : length (take n rest) < 2 ^ 32
+  text_fits = (let small : n < 256 ^ 4 = (takes_number 4 respelled_4 bytes n rest are read).2 in omega (arith, long, small))
+
+  pub text_spelled : bytes ≡ text_bytes (take n rest) ++ drop n rest
+  text_spelled =
+      (takes_number 4 respelled_4 bytes n rest are read).0
+      ∙ (λ k. number_bytes 4 ((sym long) k) ++ (sym (take-append-drop n rest)) k)
+      ∙ sym (append_assoc (number_bytes 4 (length (take n rest))) (take n rest) (drop n rest))
 
 -- the number in front of one that stands there
 number_in_front : (bytes text : List ℕ) (front : BeginsWithText bytes text) → number_at 4 bytes ≡ numbered (length text) (text ++ front.behind)

@@ -1,5 +1,6 @@
 -- What is kept of the whole database that a shard and streams stand for, told by themselves, and its image.
-use Rattle.std.specs.Prelude.{◌≡◌, ℕ, false, List, map}
+use Rattle.std.specs.Prelude.{◌≡◌, ℕ, false, length, List, map}
+use Rattle.std.specs.List.{range_with_len}
 use Rattle.std.specs.FinMap as finmap
 use Rattle.ss_value.specs.Rows.{Rows}
 use Rattle.ss_model.specs.declared.catalog.Catalog.{Catalog}
@@ -7,7 +8,8 @@ use Rattle.ss_model.specs.Database.{Database, NextNumbers, is_border_stream}
 use Rattle.ss_model.specs.Settling.{Kept, kept}
 use Rattle.ss_model.specs.WholeDatabase.{WholeDatabase}
 use Rattle.ss_stream.specs.Pending.{Pending, emitted_count}
-use Rattle.ss_stream.specs.OfDatabase.{AreStreamsOf}
+use Rattle.ss_stream.specs.OfDatabase.{AreStreamsOf, consumers_of}
+use Rattle.ss_stream.specs.Streams.{cursors_at}
 use Rattle.ss_shard.specs.Contents.{tables_of}
 use Rattle.ss_shard.specs.ShardValue.{ShardValue}
 use Rattle.ss_shard.specs.Sources.{numbers_at, positive}
@@ -34,6 +36,17 @@ abbrev pub HeldTellsKept : Type 0
 HeldTellsKept =
     (catalog : Catalog) (d : Database) (shard : ShardValue) (streams : List Pending) → HoldsDatabase catalog shard d → AreStreamsOf catalog d streams →
     WholeDatabase catalog d → kept catalog d ≡ kept_held shard streams
+
+-- the cursors of each stream are those of the procedures that take it, each at its procedure's count
+abbrev pub AreAtCounts : Catalog → List ℕ → List Pending → Type 0
+AreAtCounts catalog counts streams =
+    map (λ (p : Pending). p.cursors) streams ≡ map (λ s. cursors_at counts (consumers_of catalog s)) (range_with_len 0 (length catalog.streams))
+
+-- law: a shard and streams that tell what is kept of a whole database stand for it, where the streams' cursors are at the counts
+abbrev pub KeptTellsHeld : Type 0
+KeptTellsHeld =
+    (catalog : Catalog) (d : Database) (shard : ShardValue) (streams : List Pending) → WholeDatabase catalog d → kept catalog d ≡ kept_held shard streams →
+    AreAtCounts catalog shard.cursors streams → HoldsDatabase catalog shard d × AreStreamsOf catalog d streams
 
 -- they stand for some whole database
 abbrev pub StandForSome : Catalog → ShardValue → List Pending → Type 0

@@ -1,4 +1,14 @@
-pub mod EmptyImage
+pub mod Own
 pub mod Foreign
-pub mod Laws
+pub mod Images
 pub mod Held
+pub mod Parts
+pub mod ImageParts
+pub mod Tables
+pub mod Windows
+pub mod Streams
+pub mod Counts
+pub mod Sources
+pub mod Resumed
+pub mod Beside
+pub mod Read

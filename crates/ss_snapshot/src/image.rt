@@ -1,16 +1,23 @@
-//! The image of an empty database, written and read.
+//! The image of an empty database, written, and that of any whole database, read.
 
-ghost use Rattle.std.specs.Prelude.{◌≡◌, ◌<◌, ◌^◌, length, OnOk, IfOk, IfErr};
+ghost use Rattle.std.specs.Prelude.{◌≡◌, ◌<◌, ◌≤◌, ◌^◌, length, OnOk, IfOk, IfErr};
 ghost use Rattle.ss_model.specs.Accepted.{Accepted};
+ghost use Rattle.ss_shard.specs.Databases.{IsWhole};
+ghost use Rattle.ss_shard.specs.Parts.{IsWholeShard};
 ghost use Rattle.ss_standing.specs.Image.{empty_image_of};
-ghost use Rattle.ss_snapshot.specs.EmptyImage.{IsEmptyImage};
-ghost use Rattle.ss_snapshot.specs.Foreign.{common_bytes, Refuses, FindsCatalog};
+ghost use Rattle.ss_snapshot.specs.Foreign.{rest_refusal};
+ghost use Rattle.ss_snapshot.specs.Images.{FindsImage, IsReadAs, Refuses};
+ghost use Rattle.ss_snapshot.specs.Read.{IsReadBehindText};
 
 use crate::error::ImageError;
 use crate::kept::{push_counts, push_sources, push_streams, push_tables, push_windows};
 use crate::laws::bytes_have_one_answer;
+use crate::reading::{PartError, database_in};
 use crate::text::{catalog_of, push_text, text_in};
+use ss_catalog::a_value_has_one_answer;
 use ss_model::Catalog;
+use ss_shard::Database;
+use ss_standing::images_are_exact;
 use ss_value::{NoMemory, Seq};
 use std::alloc::Global;
 
@@ -33,57 +40,72 @@ pub fn empty_image(alloc: Global, catalog: &Catalog) -> Result<Seq<u8>, NoMemory
     Ok(Seq::from_vec(image))
 }
 
-/// How many first bytes two slices have in common.
-fn common_bytes(bytes: &[u8], image: &[u8]) -> usize
-    ensures { result ≡ common_bytes bytes.now image.now }
+/// The refusal of what is behind a catalogue's text. A subtraction that stops at 0, since no reader's clause says that no more
+/// bytes are left than there are.
+fn refusal(bytes: &[u8], refused: PartError) -> ImageError
+    ensures { result ≡ rest_refusal bytes.now refused }
 {
-    for (at, found) in bytes.iter().enumerate() {
-        let Some(wanted) = image.get(at) else {
-            return at;
-        };
-        if wanted != found {
-            return at;
-        }
+    match refused {
+        PartError::NoMemory => ImageError::NoMemory,
+        PartError::Foreign { left } => ImageError::Foreign {
+            at: bytes.len().saturating_sub(left) as u64,
+        },
     }
-    bytes.len()
 }
 
-/// The catalogue of an image, without the law that there is no other.
-///
-/// The catalogue's image is written and compared, instead of being read number by number: what counts is the first byte
-/// that differs, and this is then how many first bytes two lists have in common. Costs a copy of the text.
-fn catalog_in(alloc: Global, bytes: &[u8]) -> Result<Catalog, ImageError>
-    ensures ok { IfOk result (IsEmptyImage bytes.now) }
-    ensures accepted { IfOk result Accepted }
-    ensures refused { IfErr result (Refuses bytes.now) }
+/// The catalogue whose text the bytes begin with, and the database of those behind it.
+fn catalog_and_database_in(
+    alloc: Global,
+    bytes: &[u8],
+    first: u64,
+    partitions: u8,
+) -> Result<(Catalog, Database), ImageError>
+    requires some { 1 ≤ partitions }
+    requires few { partitions ≤ 8 }
+    requires place { first ≤ 2 ^ 60 }
+    ensures read { IfOk result (IsReadBehindText bytes.now first) }
+    ensures whole { IfOk result (λ read. IsWholeShard read.0 partitions read.1.whole) }
+    ensures refused { IfErr result (Refuses first bytes.now) }
 {
-    let text = text_in(bytes)?;
+    let (text, rest) = text_in(bytes)?;
     let catalog = catalog_of(alloc, text)?;
-    let image = empty_image(alloc, &catalog)?;
-    if image.as_slice() != bytes {
-        let at = common_bytes(bytes, image.as_slice());
-        return Err(ImageError::Foreign { at: at as u64 });
+    match database_in(alloc, rest, &catalog, first, partitions) {
+        Ok(database) => Ok((catalog, database)),
+        Err(refused) => Err(refusal(bytes, refused)),
     }
-    Ok(catalog)
 }
 
-/// The catalogue of which the bytes are the empty database's image, or the first byte that can't be.
+/// The catalogue and the database of which the bytes are the image at this place, dealt to so many partitions, 1 to 8; or the
+/// first byte that can't be.
 ///
-/// What `empty_image` writes is read again to the same catalogue, where that is what its text is read as. What is read is
-/// accepted, and is what its text is read as.
+/// What `empty_image` and `write_image` write is read again to the same catalogue, where that is what its text is read as, and
+/// to a database that stands for whatever the written one stood for. What is read is accepted, and whole.
 ///
 /// `Foreign` tells the end of bytes that end inside the text or its length, which has four bytes; the text's first byte
 /// where it isn't UTF-8 or JSON, where `read_catalog` refuses it, or where it isn't the compact text of its value; and else
-/// the first byte that differs from the image of that catalogue, where an end differs from a byte.
+/// the first byte of the first field that can't be, with the bounds that follow from the catalogue, from the fields before it
+/// and from the place, which no stream has had more batches than.
 ///
-/// Costs what `read_catalog` and `empty_image` cost, and time linear in the bytes. There are two copies of the text, of which
-/// the catalogue keeps one.
-pub fn read_empty_image(alloc: Global, bytes: &[u8]) -> Result<Catalog, ImageError>
-    ensures ok { IfOk result (IsEmptyImage bytes.now) }
-    ensures accepted { IfOk result Accepted }
-    ensures refused { IfErr result (Refuses bytes.now) }
-    ensures again { FindsCatalog bytes.now result }
+/// Costs what `read_catalog` costs, and an insert for each row. There are two copies of the text, of which the catalogue
+/// keeps one.
+pub fn read_image(
+    alloc: Global,
+    bytes: &[u8],
+    first: u64,
+    partitions: u8,
+) -> Result<(Catalog, Database), ImageError>
+    requires some { 1 ≤ partitions }
+    requires few { partitions ≤ 8 }
+    requires place { first ≤ 2 ^ 60 }
+    ensures image { IfOk result (IsReadAs bytes.now first) }
+    ensures accepted { IfOk result (λ read. Accepted read.0) }
+    ensures is_whole { IfOk result (λ read. IsWholeShard read.0 partitions read.1.whole × IsWhole read.0 read.1) }
+    ensures refused { IfErr result (Refuses first bytes.now) }
+    ensures again { FindsImage bytes.now first result }
 {
+    // Laws: a text is one catalogue's, and behind it an image is read as what is kept of its database, and nothing else is.
+    a_value_has_one_answer();
+    images_are_exact();
     bytes_have_one_answer();
-    catalog_in(alloc, bytes)
+    catalog_and_database_in(alloc, bytes, first, partitions)
 }

@@ -5,8 +5,8 @@ ghost use Rattle.serde_json.specs.Data.{depth};
 ghost use Rattle.serde_json.specs.Read.{max_depth, read};
 ghost use Rattle.serde_json.specs.View.{view};
 ghost use Rattle.ss_model.specs.Accepted.{Accepted};
-ghost use Rattle.ss_standing.specs.Image.{text_bytes, BeginsWithText};
-ghost use Rattle.ss_snapshot.specs.EmptyImage.{IsReadFromItsText};
+ghost use Rattle.ss_standing.specs.Image.{text_bytes};
+ghost use Rattle.ss_snapshot.specs.Own.{IsReadFromItsText};
 ghost use Rattle.ss_snapshot.specs.Foreign.{RefusesCut, RefusesText, length_refusal, text_refusal};
 
 use crate::error::ImageError;
@@ -54,9 +54,10 @@ fn uncounted(bytes: &[u8], refused: ValueError) -> ImageError
     }
 }
 
-/// The text that the bytes begin with, whatever it says.
-pub(crate) fn text_in(bytes: &[u8]) -> Result<&[u8], ImageError>
-    ensures found { IfOk result (λ text. BeginsWithText bytes.now text.now) }
+/// The text that the bytes begin with, whatever it says, and the bytes behind it.
+pub(crate) fn text_in(bytes: &[u8]) -> Result<(&[u8], &[u8]), ImageError>
+    ensures short { IfOk result (λ x. length x.0.now < 2 ^ 32) }
+    ensures found { IfOk result (λ x. bytes.now ≡ text_bytes x.0.now ++ x.1.now) }
     ensures refused { IfErr result (RefusesCut bytes.now) }
 {
     let (length, rest) = match u32_of(bytes) {
@@ -66,8 +67,8 @@ pub(crate) fn text_in(bytes: &[u8]) -> Result<&[u8], ImageError>
     if rest.len() < length as usize {
         return Err(cut(bytes));
     }
-    let (text, _) = rest.split_at(length as usize);
-    Ok(text)
+    let (text, behind) = rest.split_at(length as usize);
+    Ok((text, behind))
 }
 
 /// The value that a text spells.

@@ -21,4 +21,5 @@ mod units;
 mod window;
 
 pub use laws::{commits_for_good, shows_few, shows_when_it_moves};
+pub use slides::first_kept;
 pub use window::Window;

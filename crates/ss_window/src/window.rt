@@ -134,6 +134,14 @@ impl Window {
         self.units.row_between(from as usize, end as usize, at)
     }
 
+    /// How many units a committed window keeps. Constant.
+    pub fn kept_count(&self) -> usize
+        requires { (self.now).fresh ≡ 0 }
+        ensures { result ≡ length (self.now).kept }
+    {
+        self.units.len()
+    }
+
     /// The kept unit at this position of a committed window, and None exactly past the last. Takes no memory.
     pub fn kept(&self, at: usize) -> Option<&Rows>
         requires { (self.now).fresh ≡ 0 }

@@ -13,27 +13,13 @@ use ss_value::NoMemory;
 use ss_window::Window;
 use std::alloc::Global;
 
-/// How many units a committed window holds. A walk over them, as the writing is.
-fn kept_count(window: &Window) -> usize
-    requires { (window.now).fresh ≡ 0 }
-    ensures { result ≡ length (window.now).kept }
-{
-    // A law: a window has had 2^62 units at most, so they can be counted.
-    window.invariant_holds();
-    let mut count = 0;
-    while window.kept(count).is_some() {
-        count += 1;
-    }
-    count
-}
-
 /// Adds all units that a committed window holds.
 fn push_units(alloc: Global, out: &mut Vec<u8>, window: &Window) -> Result<(), NoMemory>
     requires { (window.now).fresh ≡ 0 }
     ensures spelled { OnOk result (out.new.items ≡ out.old.items ++ flat_map (counted_rows 8) (window.now).kept) }
     ensures fits { OnOk result (All (FitRows (2 ^ 64)) (window.now).kept) }
 {
-    for at in 0..kept_count(window) {
+    for at in 0..window.kept_count() {
         let Some(unit) = window.kept(at) else {
             unreachable!()
         };
@@ -50,7 +36,7 @@ fn push_window(alloc: Global, out: &mut Vec<u8>, window: &Window) -> Result<(), 
     ensures fits { OnOk result (FitsWindow (kept_part window.now)) }
 {
     push_long(out, window.units())?;
-    push_count(out, kept_count(window))?;
+    push_count(out, window.kept_count())?;
     push_units(alloc, out, window)?;
     Ok(())
 }
