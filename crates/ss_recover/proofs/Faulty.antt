@@ -9,16 +9,17 @@ use Rattle.ss_model.specs.declared.catalog.Catalog.{Catalog}
 use Rattle.ss_model.specs.declared.entry.Entry.{Entry}
 use Rattle.ss_model.specs.declared.entry.Listed.{Listed}
 use Rattle.ss_model.specs.declared.entry.Outcome.{Outcome}
-use Rattle.ss_model.specs.Database.{Applied, Database as Model, apply, empty_database}
+use Rattle.ss_model.specs.Database.{Applied, Database as Model, apply}
 use Rattle.ss_model.specs.Replays.{Replays, after}
+use Rattle.ss_model.specs.Settling.{SameKeptApplied, kept}
 use Rattle.ss_model.proofs.CallerLemmas.{goes_on}
+use Rattle.ss_model_kept.proofs.CallerLemmas.{kept_is_enough}
+use Rattle.ss_model_laws.proofs.CallerLemmas.{kept_carries}
 use Rattle.ss_disk.specs.Files.{Files}
 use Rattle.ss_cmdlog.specs.Generation.{Stood}
 use Rattle.ss_cmdlog.specs.Opening.{number_of, store_at}
 use Rattle.ss_cmdlog.specs.Store.{IsEmpty, current_file, entries_of}
-use Rattle.ss_snapshot.specs.EmptyImage.{IsEmptyImage}
-use Rattle.ss_snapshot.specs.Foreign.{IsForeignAt}
-use Rattle.ss_snapshot.specs.Laws.{HasOneCatalog, HasOneOffset, IsImageOrForeign}
+use Rattle.ss_snapshot.specs.Images.{IsForeignAt, IsImageOf, HasOneKept, HasOneOffset, IsImageOrForeign}
 use Rattle.ss_standing.specs.Standing.{listed_entries}
 use Rattle.ss_standing.proofs.CallerLemmas.{entries_tell}
 use Rattle.ss_recover.specs.Faults.{ReadsAs, record_place, image_place}
@@ -61,6 +62,30 @@ module _ (catalog : Catalog) (d : Model) (first : ℕ) where
       (stops.before ∙ sym (ap (take (length a)) others.before ∙ take-take (length a) (length b) entries (omega (arith, shorter)))) shorter
       stops.entry (ap (λ (es : List Entry). slice_get es (length a)) others.before ∙ at_front entries (length b) (length a) shorter ∙ stops.there) stops.stops
 
+-- ---- databases of which the same is kept
+
+-- what has no value on the one has none on the other
+no_value_either : (catalog : Catalog) (x y : Model) → kept catalog x ≡ kept catalog y → (e : Entry) → apply catalog x e ≡ None → apply catalog y e ≡ None
+no_value_either catalog x y same e none = by (apply catalog x e) (apply catalog y e) (kept_is_enough catalog x y same e) none
+  where
+    by : (a b : Option Applied) → SameKeptApplied catalog a b → a ≡ None → b ≡ None
+    by None None alike is = refl
+    by None (Some b) alike is = absurd alike
+    by (Some a) b alike is = absurd (cc)
+
+-- a list that stops on the one stops on the other
+stops_either : (catalog : Catalog) (x y : Model) → kept catalog x ≡ kept catalog y → (first : ℕ) (entries : List Entry) (list : List Listed) → StopsBehind catalog x first entries list → StopsBehind catalog y first entries list
+stops_either catalog x y same first entries list stops =
+    let carried = kept_carries catalog x y same list in
+    record {
+      before = stops.before;
+      replays = carried.replays stops.replays;
+      few = stops.few;
+      entry = stops.entry;
+      there = stops.there;
+      stops = ⊎_elim (λ (last : first + length list ≡ 2 ^ 60). inl last) (λ (none : apply catalog (after catalog x list) stops.entry ≡ None). inr (no_value_either catalog (after catalog x list) (after catalog y list) carried.after stops.entry none)) stops.stops;
+    }
+
 -- ---- files
 
 ok_is : {A E : Type 0} (x y : A) → ◌≡◌ {A = Result A E} (Ok x) (Ok y) → x ≡ y
@@ -86,31 +111,37 @@ empty_no_fault disk which at empty (inl bytes) = bytes.0 empty
 empty_no_fault disk which at empty (inr (inl image)) = unselected disk which image.s empty image.reads
 empty_no_fault disk which at empty (inr (inr entry)) = unselected disk which entry.s empty entry.reads
 
-module _ (one : HasOneCatalog) (either : IsImageOrForeign) (offset : HasOneOffset) where
-  one_image : (disk : Files) (which other : ℕ) (s t : Stood) (a b : Catalog) → ReadsAs disk which s → ReadsAs disk other t → IsEmptyImage s.image a → IsEmptyImage t.image b → a ≡ b
-  one_image disk which other s t a b reads others image images =
+module _ (one : HasOneKept) (either : IsImageOrForeign) (offset : HasOneOffset) where
+  one_image : (disk : Files) (which other : ℕ) (s t : Stood) (a b : Catalog) (x y : Model) → ReadsAs disk which s → ReadsAs disk other t → IsImageOf s.image s.first a x → IsImageOf t.image t.first b y
+      → (a ≡ b) × (kept a x ≡ kept b y)
+  one_image disk which other s t a b x y reads others image images =
       let same = (one_reading disk which other s t reads others).0 in
-      one t.image a b (subst (λ (u : Stood). IsEmptyImage u.image a) same image) images
+      one t.image t.first a b x y (subst (λ (u : Stood). IsImageOf u.image u.first a x) same image) images
 
-  image_not : (disk : Files) (which other off : ℕ) (s t : Stood) (a : Catalog) → ReadsAs disk which s → ReadsAs disk other t → IsEmptyImage s.image a → IsForeignAt t.image off → ⊥
-  image_not disk which other off s t a reads others image foreign =
-      either t.image a off (subst (λ (u : Stood). IsEmptyImage u.image a) (one_reading disk which other s t reads others).0 image) foreign
+  image_not : (disk : Files) (which other off : ℕ) (s t : Stood) (a : Catalog) (x : Model) → ReadsAs disk which s → ReadsAs disk other t → IsImageOf s.image s.first a x → IsForeignAt t.first t.image off → ⊥
+  image_not disk which other off s t a x reads others image foreign =
+      either t.image t.first a x off (subst (λ (u : Stood). IsImageOf u.image u.first a x) (one_reading disk which other s t reads others).0 image) foreign
+
+  -- a list that stops behind the image of one generation does behind that of the other, which is the same
+  stops_there : (s t : Stood) (a b : Catalog) (x y : Model) (list : List Listed) → s ≡ t → (a ≡ b) × (kept a x ≡ kept b y) → StopsBehind a x s.first (entries_of s) list → StopsBehind b y t.first (entries_of t) list
+  stops_there s t a b x y list same alike stops =
+      stops_either b x y (ap (λ (c : Catalog). kept c x) (sym alike.0) ∙ alike.1) t.first (entries_of t) list
+      (subst (λ (c : Catalog). StopsBehind c x t.first (entries_of t) list) alike.0 (subst (λ (u : Stood). StopsBehind a x u.first (entries_of u) list) same stops))
 
   pub store_no_fault : StoreHasNoFault
   store_no_fault disk catalog which at store (inl bytes) = unread disk store.which which at store.s store.reads bytes.1
-  store_no_fault disk catalog which at store (inr (inl image)) = image_not disk store.which which image.offset store.s image.s catalog store.reads image.reads store.image image.foreign
+  store_no_fault disk catalog which at store (inr (inl image)) = image_not disk store.which which image.offset store.s image.s catalog store.db store.reads image.reads store.image image.foreign
   store_no_fault disk catalog which at store (inr (inr entry)) =
       let same = (one_reading disk which store.which entry.s store.s entry.reads store.reads).0 in
-      let catalogs = one_image disk which store.which entry.s store.s entry.catalog catalog entry.reads store.reads entry.image store.image in
-      let stops : StopsBehind catalog (empty_database catalog) store.s.first (entries_of store.s) entry.list =
-      subst (λ (c : Catalog). StopsBehind c (empty_database c) store.s.first (entries_of store.s) entry.list) catalogs (subst (λ (u : Stood). StopsBehind entry.catalog (empty_database entry.catalog) u.first (entries_of u) entry.list) same entry.stops) in
+      let alike = one_image disk which store.which entry.s store.s entry.catalog catalog entry.db store.db entry.reads store.reads entry.image store.image in
+      let stops = stops_there entry.s store.s entry.catalog catalog entry.db store.db entry.list same alike entry.stops in
       let there = ap (λ (es : List Entry). slice_get es (length entry.list)) store.entries ∙ stops.there in
       let within = slice_get_within (listed_entries store.list) (length entry.list) stops.entry there in
-      none_stops catalog (empty_database catalog) store.s.first store.list entry.list store.replays store.few stops.replays (stops.before ∙ ap (take (length entry.list)) (sym store.entries))
+      none_stops catalog store.db store.s.first store.list entry.list store.replays store.few stops.replays (stops.before ∙ ap (take (length entry.list)) (sym store.entries))
       (omega (arith, within, length-map store.list (λ (l : Listed). l.entry))) stops.entry there stops.stops
 
   pub store_one_catalog : StoreHasOneCatalog
-  store_one_catalog disk a b store other = one_image disk store.which other.which store.s other.s a b store.reads other.reads store.image other.image
+  store_one_catalog disk a b store other = (one_image disk store.which other.which store.s other.s a b store.db other.db store.reads other.reads store.image other.image).0
 
   same_length : (catalog : Catalog) (d : Model) (first : ℕ) (entries : List Entry) (a b : List Listed) → StopsBehind catalog d first entries a → StopsBehind catalog d first entries b → length a ≡ length b
   same_length catalog d first entries a b stops others = ⊎_elim
@@ -129,16 +160,15 @@ module _ (one : HasOneCatalog) (either : IsImageOrForeign) (offset : HasOneOffse
   one_fault disk which at other place (inl a) (inr (inr b)) = absurd (unread disk other which at b.s b.reads a.1)
   one_fault disk which at other place (inr (inl a)) (inl b) = absurd (unread disk which other place a.s a.reads b.1)
   one_fault disk which at other place (inr (inr a)) (inl b) = absurd (unread disk which other place a.s a.reads b.1)
-  one_fault disk which at other place (inr (inl a)) (inr (inr b)) = absurd (image_not disk other which a.offset b.s a.s b.catalog b.reads a.reads b.image a.foreign)
-  one_fault disk which at other place (inr (inr a)) (inr (inl b)) = absurd (image_not disk which other b.offset a.s b.s a.catalog a.reads b.reads a.image b.foreign)
+  one_fault disk which at other place (inr (inl a)) (inr (inr b)) = absurd (image_not disk other which a.offset b.s a.s b.catalog b.db b.reads a.reads b.image a.foreign)
+  one_fault disk which at other place (inr (inr a)) (inr (inl b)) = absurd (image_not disk which other b.offset a.s b.s a.catalog a.db a.reads b.reads a.image b.foreign)
   one_fault disk which at other place (inr (inl a)) (inr (inl b)) =
       let same = one_reading disk which other a.s b.s a.reads b.reads in
-      let offsets = offset b.s.image a.offset b.offset (subst (λ (u : Stood). IsForeignAt u.image a.offset) same.0 a.foreign) b.foreign in
+      let offsets = offset b.s.image b.s.first a.offset b.offset (subst (λ (u : Stood). IsForeignAt u.first u.image a.offset) same.0 a.foreign) b.foreign in
       (same.1, a.place ∙ ap (λ (n : ℕ). image_place + n) offsets ∙ sym b.place)
   one_fault disk which at other place (inr (inr a)) (inr (inr b)) =
       let same = one_reading disk which other a.s b.s a.reads b.reads in
-      let catalogs = one_image disk which other a.s b.s a.catalog b.catalog a.reads b.reads a.image b.image in
-      let stops : StopsBehind b.catalog (empty_database b.catalog) b.s.first (entries_of b.s) a.list =
-      subst (λ (c : Catalog). StopsBehind c (empty_database c) b.s.first (entries_of b.s) a.list) catalogs (subst (λ (u : Stood). StopsBehind a.catalog (empty_database a.catalog) u.first (entries_of u) a.list) same.0 a.stops) in
-      let lengths = same_length b.catalog (empty_database b.catalog) b.s.first (entries_of b.s) a.list b.list stops b.stops in
+      let alike = one_image disk which other a.s b.s a.catalog b.catalog a.db b.db a.reads b.reads a.image b.image in
+      let stops = stops_there a.s b.s a.catalog b.catalog a.db b.db a.list same.0 alike a.stops in
+      let lengths = same_length b.catalog b.db b.s.first (entries_of b.s) a.list b.list stops b.stops in
       (same.1, a.place ∙ (λ k. image_place + length (same.0 k).image + record_place (same.0 k).groups (lengths k)) ∙ sym b.place)

@@ -1,5 +1,5 @@
--- The empty database, by its image.
-use Rattle.std.proofs.Common.{◌≡◌, ℕ, List, ap}
+-- The empty database by its image, and what an image is of.
+use Rattle.std.proofs.Common.{◌≡◌, ℕ, List}
 use Rattle.ss_model.specs.declared.catalog.Catalog.{Catalog}
 use Rattle.ss_model.specs.declared.entry.Listed.{Listed}
 use Rattle.ss_model.specs.Accepted.{Accepted}
@@ -10,7 +10,11 @@ use Rattle.ss_cmdlog.specs.Generation.{Stood}
 use Rattle.ss_standing.specs.Image.{empty_image_of}
 use Rattle.ss_standing.specs.Standing.{IsImageAt, Replayed}
 use Rattle.ss_standing.proofs.CallerLemmas.{empty_fits}
+use Rattle.ss_shard.specs.declared.database.Database.{Database}
+use Rattle.ss_shard.specs.Databases.{StandsFor}
+use Rattle.ss_snapshot.specs.Images.{IsImageOf}
 use Rattle.ss_recover.specs.Recovering.{LeadsTo}
+use Rattle.ss_replay.specs.Replaying.{IsOnAt}
 use Rattle.ss_replay.proofs.CallerLemmas.{empty_had}
 
 -- bytes that are the empty database's image are that at any place
@@ -22,6 +26,13 @@ empty_image_at catalog accepted first bytes is = record {
   spelled = is;
 }
 
+-- what stands for a database can take entries from the place of its image on
+pub image_takes : (catalog : Catalog) (bytes : List ℕ) (first : ℕ) (database : Database) (db : Model) → IsImageOf bytes first catalog db → StandsFor catalog database db → IsOnAt catalog database first db
+image_takes catalog bytes first database db image stands = record {
+  on = record { stands = stands; whole = image.image.whole };
+  had = image.image.had;
+}
+
 -- what a generation's entries lead to it stands for
 pub leads_replayed : (catalog : Catalog) (s : Stood) (list : List Listed) (place : ℕ) (db : Model) → LeadsTo catalog s list place db → Replayed catalog s place (kept catalog db)
 leads_replayed catalog s list place db leads = record {
@@ -31,5 +42,5 @@ leads_replayed catalog s list place db leads = record {
   entries = leads.entries;
   replays = leads.replays;
   count_is = leads.placed;
-  kept_is = ap (kept catalog) leads.reached;
+  kept_is = leads.reached;
 }

@@ -4,6 +4,8 @@ pub mod Moments
 pub mod Composed
 pub mod Images
 pub mod Places
+pub mod Told
+pub mod Alike
 pub mod Formed
 pub mod Restored
 pub mod Faulty

@@ -7,11 +7,11 @@ use Rattle.std.proofs.lemmas.List.Elements.{All-append, All-head, All-nil, All-t
 use Rattle.ss_model.specs.declared.catalog.Catalog.{Catalog}
 use Rattle.ss_model.specs.declared.entry.Entry.{Entry}
 use Rattle.ss_model.specs.declared.entry.Listed.{Listed}
-use Rattle.ss_model.specs.Database.{Database as Model, empty_database}
+use Rattle.ss_model.specs.Database.{Database as Model}
 use Rattle.ss_model.specs.Replays.{after}
 use Rattle.ss_model.specs.Settling.{kept}
 use Rattle.ss_model.specs.WholeDatabase.{HadAtMost}
-use Rattle.ss_model_laws.proofs.CallerLemmas.{empty_whole, had_at_most, whole_after}
+use Rattle.ss_model_laws.proofs.CallerLemmas.{had_at_most, whole_after}
 use Rattle.ss_catalog.specs.Answers.{HasOneCatalog}
 use Rattle.ss_disk.specs.Files.{Files}
 use Rattle.ss_disk.proofs.CallerLemmas.{stays_fewer}
@@ -25,8 +25,7 @@ use Rattle.ss_cmdlog.specs.Log.{HasCallCause, IsOpen}
 use Rattle.ss_cmdlog.specs.Opening.{number_of, store_at, IsForeignAt as IsForeignStore, IsLoaded, IsOpenRefusal, OnlyReads}
 use Rattle.ss_cmdlog.specs.Store.{entries_of, StandsFor}
 use Rattle.ss_cmdlog.proofs.CallerLemmas.{open_stands}
-use Rattle.ss_snapshot.specs.EmptyImage.{IsEmptyImage}
-use Rattle.ss_snapshot.specs.Foreign.{IsForeignAt}
+use Rattle.ss_snapshot.specs.Images.{IsImageOf}
 use Rattle.ss_snapshot.proofs.CallerLemmas.{of_one_text}
 use Rattle.ss_standing.specs.Standing.{Stands, StandsForAtLeast, StandsForReplayed}
 use Rattle.ss_recover.specs.declared.error.RecoverError.{RecoverError}
@@ -37,10 +36,9 @@ use Rattle.ss_recover.specs.Errors.{opening_refusal, stored_refusal}
 use Rattle.ss_recover.specs.Faults.{IsStore, ReadsAs}
 use Rattle.ss_recover.specs.Loading.{IsStored, RefusesLoaded}
 use Rattle.ss_recover.specs.Recovering.{DiffersFrom, GoesOn, IsOwnCatalog, IsRecovered, LeadsTo, RefusesAsSaid}
-use Rattle.ss_recover.proofs.Images.{empty_image_at, leads_replayed}
+use Rattle.ss_recover.proofs.Images.{leads_replayed}
 use Rattle.ss_recover.proofs.Places.{placed_so}
 use Rattle.ss_recover.proofs.Moments.{old_or, only_that}
-use Rattle.ss_replay.proofs.CallerLemmas.{empty_had}
 
 -- what a generation's groups hold has records
 entries_of_groups : (groups : List (List Entry)) → All IsGroup groups → All IsRecordable (flat_map (λ (es : List Entry). es) groups)
@@ -51,8 +49,8 @@ pub entries_recordable : (s : Stood) → IsStood s → All IsRecordable (entries
 entries_recordable s stood = entries_of_groups s.groups stood.groups
 
 -- the database that a store's entries lead to
-abbrev pub reached : Stored → Model
-reached r = after r.catalog (empty_database r.catalog) r.known
+abbrev pub reached : Stored → Model → Model
+reached r db = after r.catalog db r.known
 
 module _ {D : Type 0} (kind : DiskKind D) (told_by : kind.honest → kind.tells) (old : D) where
   -- ---- a store that isn't opened
@@ -68,6 +66,10 @@ module _ {D : Type 0} (kind : DiskKind D) (told_by : kind.honest → kind.tells)
 
   module _ (log : CmdLog D) (loaded : Loaded) (s : Stood) (read : kind.tells → store_at (kind.seen old) ≡ Ok s) (is_open : IsOpen kind log s) (is_loaded : IsLoaded loaded s)
       (reads : OnlyReads kind old log.disk) where
+    -- the image of what was loaded is that of the generation
+    image_so : (catalog : Catalog) (db : Model) → IsImageOf loaded.image loaded.first catalog db → IsImageOf s.image s.first catalog db
+    image_so catalog db image = rw (sym is_loaded.image, sym is_loaded.first) image
+
     -- it is read from the log's file
     read_so : kind.tells → ReadsAs (kind.seen old) (number_of log.file) s
     read_so told =
@@ -82,7 +84,7 @@ module _ {D : Type 0} (kind : DiskKind D) (told_by : kind.honest → kind.tells)
     pub unstored : (given : Option Catalog) (e : StoredError) → RefusesLoaded loaded e → RefusesAsSaid kind given old log.disk (stored_refusal (number_of log.file) e)
     unstored given stored.NoMemory why = λ true'. old_or kind old log.disk _ (reads.moments true')
     unstored given (stored.Foreign at) (inl odd) =
-        (reads, λ told. inr (inl (record { s = s; reads = read_so told; offset = odd.offset; foreign = subst (λ (bytes : List ℕ). IsForeignAt bytes odd.offset) is_loaded.image odd.foreign; place = odd.place })))
+        (reads, λ told. inr (inl (record { s = s; reads = read_so told; offset = odd.offset; foreign = rw (sym is_loaded.image, sym is_loaded.first) odd.foreign; place = odd.place })))
     unstored given (stored.Foreign at) (inr odd) = (
       reads,
       λ told. inr (inr (record {
@@ -90,7 +92,8 @@ module _ {D : Type 0} (kind : DiskKind D) (told_by : kind.honest → kind.tells)
         reads = read_so told;
         catalog = odd.catalog;
         accepted = odd.accepted;
-        image = subst (λ (bytes : List ℕ). IsEmptyImage bytes odd.catalog) is_loaded.image odd.image;
+        db = odd.db;
+        image = image_so odd.catalog odd.db odd.image;
         list = odd.list;
         stops = rw (sym is_loaded.first, sym is_loaded.entries) odd.stops;
         place = odd.place ∙ placed_so loaded s is_loaded odd.list odd.stops.before;
@@ -98,21 +101,21 @@ module _ {D : Type 0} (kind : DiskKind D) (told_by : kind.honest → kind.tells)
     )
 
     module _ (parts : ℕ) (r : Stored) (is : IsStored loaded parts r) where
-      leads : LeadsTo r.catalog s r.known r.first (reached r)
+      leads : LeadsTo r.catalog s r.known r.first (reached r is.db)
       leads = record {
-        opening = empty_database r.catalog;
-        image = empty_image_at r.catalog is.accepted s.first s.image (sym is_loaded.image ∙ is.image.spelled);
+        opening = is.db;
+        image = (image_so r.catalog is.db is.image).image;
         entries = is.entries ∙ is_loaded.entries;
         replays = is.replays;
         placed = is.placed ∙ ap (λ (n : ℕ). n + length r.known) is_loaded.first;
         reached = refl;
       }
 
-      replayed : kind.tells → StandsForReplayed r.catalog (kind.seen old) r.first (kept r.catalog (reached r))
+      replayed : kind.tells → StandsForReplayed r.catalog (kind.seen old) r.first (kept r.catalog (reached r is.db))
       replayed told = record {
         stood = s;
         stands = subst (λ (d : Files). StandsFor d s) (reads.same told) (open_stands (kind.seen log.disk) log.file log.gate s (is_open.at told));
-        replayed = leads_replayed r.catalog s r.known r.first (reached r) leads;
+        replayed = leads_replayed r.catalog s r.known r.first (reached r is.db) leads;
       }
 
       is_store : kind.tells → IsStore (kind.seen old) r.catalog
@@ -121,32 +124,33 @@ module _ {D : Type 0} (kind : DiskKind D) (told_by : kind.honest → kind.tells)
         s = s;
         reads = read_so told;
         accepted = is.accepted;
-        image = subst (λ (bytes : List ℕ). IsEmptyImage bytes r.catalog) is_loaded.image is.image;
+        db = is.db;
+        image = image_so r.catalog is.db is.image;
         list = r.known;
         entries = is.entries ∙ is_loaded.entries;
         replays = is.replays;
         few = omega (arith, is.few, is.placed, is_loaded.first);
       }
 
-      goes_on : log.count ≡ loaded.first + length loaded.entries → GoesOn kind parts (record { database = r.database; catalog = r.catalog; first = r.first; known = r.known; log = log }) (reached r)
+      goes_on : log.count ≡ loaded.first + length loaded.entries → GoesOn kind parts (record { database = r.database; catalog = r.catalog; first = r.first; known = r.known; log = log }) (reached r is.db)
       goes_on count =
-          let whole = empty_whole r.catalog is.accepted in
+          let image = is.image.image in
           record {
-            ready = record { whole = whole_after r.catalog is.accepted (empty_database r.catalog) r.known whole; dealt = is.dealt; holds = is.holds };
-            had = subst (λ (n : ℕ). HadAtMost n (reached r)) (sym is.placed) (had_at_most r.catalog is.accepted (empty_database r.catalog) whole loaded.first ((empty_had r.catalog loaded.first).streams) r.known);
+            ready = record { whole = whole_after r.catalog is.accepted is.db r.known image.whole; dealt = is.dealt; holds = is.holds };
+            had = subst (λ (n : ℕ). HadAtMost n (reached r is.db)) (sym is.placed) (had_at_most r.catalog is.accepted is.db image.whole loaded.first image.had.streams r.known);
             few = is.few;
             s = s;
             log = is_open;
             count = omega (arith, count, is.placed, ap (λ (es : List Entry). length es) is.entries, length-map r.known (λ (l : Listed). l.entry));
             leads = leads;
-            generation = leads_replayed r.catalog s r.known r.first (reached r) leads;
+            generation = leads_replayed r.catalog s r.known r.first (reached r is.db) leads;
           }
 
       pub restored : HasOneCatalog → (given : Option Catalog) → IfSome given IsOwnCatalog → IfSome given (λ (c : Catalog). r.catalog.text ≡ c.text) → log.count ≡ loaded.first + length loaded.entries
-          → IsRecovered kind given parts old (record { database = r.database; catalog = r.catalog; first = r.first; known = r.known; log = log }) (reached r)
+          → IsRecovered kind given parts old (record { database = r.database; catalog = r.catalog; first = r.first; known = r.known; log = log }) (reached r is.db)
       restored one given theirs same count =
-          let stood : kind.tells → Stands r.catalog (kind.seen old) r.first (kept r.catalog (reached r)) = λ told. inr (replayed told) in
-          let moments = λ (true' : kind.honest). old_or kind old log.disk (λ image. Stands r.catalog image r.first (kept r.catalog (reached r))) (reads.moments true') in
+          let stood : kind.tells → Stands r.catalog (kind.seen old) r.first (kept r.catalog (reached r is.db)) = λ told. inr (replayed told) in
+          let moments = λ (true' : kind.honest). old_or kind old log.disk (λ image. Stands r.catalog image r.first (kept r.catalog (reached r is.db))) (reads.moments true') in
           record {
             own = (is.accepted, is.image.own);
             given_one = λ c given_is. of_one_text one r.catalog c is.image.own (subst (λ (o : Option Catalog). IfSome o IsOwnCatalog) given_is theirs).1 (subst (λ (o : Option Catalog). IfSome o (λ (c : Catalog). r.catalog.text ≡ c.text)) given_is same);
@@ -170,7 +174,7 @@ module _ {D : Type 0} (kind : DiskKind D) (told_by : kind.honest → kind.tells)
               own = (is.accepted, is.image.own);
               stored_is = refl;
               store = is_store;
-              stands = λ told. (r.first, kept r.catalog (reached r), replayed told);
+              stands = λ told. (r.first, kept r.catalog (reached r is.db), replayed told);
               another = differs.another;
             },
           )

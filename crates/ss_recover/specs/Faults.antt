@@ -4,15 +4,14 @@ use Rattle.ss_model.specs.declared.catalog.Catalog.{Catalog}
 use Rattle.ss_model.specs.declared.entry.Entry.{Entry}
 use Rattle.ss_model.specs.declared.entry.Listed.{Listed}
 use Rattle.ss_model.specs.Accepted.{Accepted}
-use Rattle.ss_model.specs.Database.{empty_database}
+use Rattle.ss_model.specs.Database.{Database as Model}
 use Rattle.ss_model.specs.Replays.{Replays}
 use Rattle.ss_record.specs.Spelling.{records}
 use Rattle.ss_disk.specs.Files.{Files}
 use Rattle.ss_cmdlog.specs.Generation.{Stood}
 use Rattle.ss_cmdlog.specs.Store.{current_file, entries_of}
 use Rattle.ss_cmdlog.specs.Opening.{number_of, store_at}
-use Rattle.ss_snapshot.specs.EmptyImage.{IsEmptyImage}
-use Rattle.ss_snapshot.specs.Foreign.{IsForeignAt}
+use Rattle.ss_snapshot.specs.Images.{IsImageOf, IsForeignAt}
 use Rattle.ss_standing.specs.Standing.{listed_entries}
 use Rattle.ss_replay.specs.Replaying.{StopsBehind}
 
@@ -37,29 +36,29 @@ pub record ReadsAs (disk : Files) (which : ℕ) (s : Stood) : Type 0 where
   pub selector : disk.selector ≡ byte ∷ []
   pub named : which ≡ number_of (current_file byte)
 
--- the files are a store of this catalogue: the image is that of its empty database, and the entries replay on this one, each at
--- its place
+-- the files are a store of this catalogue: the image is that of a database, and the entries replay on this one, each at its place
 pub record IsStore (disk : Files) (catalog : Catalog) : Type 0 where
   pub which : ℕ
   pub s : Stood
   pub reads : ReadsAs disk which s
   pub accepted : Accepted catalog
-  pub image : IsEmptyImage s.image catalog
+  pub db : Model
+  pub image : IsImageOf s.image s.first catalog db
   pub list : List Listed
   pub entries : listed_entries list ≡ entries_of s
-  pub replays : Replays catalog (empty_database catalog) list
+  pub replays : Replays catalog db list
   pub few : s.first + length list ≤ 2 ^ 60
 
 -- the first pass: the bytes are no generation, whatever its image says
 abbrev pub HasForeignBytes : Files → ℕ → ℕ → Type 0
 HasForeignBytes disk which at = (disk.selector ≢ []) × (store_at disk ≡ Err (which, at))
 
--- the second: the image is that of no empty database
+-- the second: the image is that of no database
 pub record HasForeignImage (disk : Files) (which at : ℕ) : Type 0 where
   pub s : Stood
   pub reads : ReadsAs disk which s
   pub offset : ℕ
-  pub foreign : IsForeignAt s.image offset
+  pub foreign : IsForeignAt s.first s.image offset
   pub place : at ≡ image_place + offset
 
 -- the third: an entry doesn't replay behind those before it, and is told at its record
@@ -68,9 +67,10 @@ pub record HasForeignEntry (disk : Files) (which at : ℕ) : Type 0 where
   pub reads : ReadsAs disk which s
   pub catalog : Catalog
   pub accepted : Accepted catalog
-  pub image : IsEmptyImage s.image catalog
+  pub db : Model
+  pub image : IsImageOf s.image s.first catalog db
   pub list : List Listed
-  pub stops : StopsBehind catalog (empty_database catalog) s.first (entries_of s) list
+  pub stops : StopsBehind catalog db s.first (entries_of s) list
   pub place : at ≡ image_place + length s.image + record_place s.groups (length list)
 
 -- the first pass that finds a fault gives the place

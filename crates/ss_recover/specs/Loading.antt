@@ -4,14 +4,13 @@ use Rattle.ss_model.specs.declared.catalog.Catalog.{Catalog}
 use Rattle.ss_model.specs.declared.entry.Entry.{Entry}
 use Rattle.ss_model.specs.declared.entry.Listed.{Listed}
 use Rattle.ss_model.specs.Accepted.{Accepted}
-use Rattle.ss_model.specs.Database.{empty_database}
+use Rattle.ss_model.specs.Database.{Database as Model}
 use Rattle.ss_model.specs.Replays.{Replays, after}
 use Rattle.ss_record.specs.Spelling.{records}
 use Rattle.ss_shard.specs.Databases.{StandsFor}
 use Rattle.ss_shard.specs.Parts.{IsWholeShard}
 use Rattle.ss_cmdlog.specs.declared.open.Loaded.{Loaded}
-use Rattle.ss_snapshot.specs.EmptyImage.{IsEmptyImage}
-use Rattle.ss_snapshot.specs.Foreign.{IsForeignAt}
+use Rattle.ss_snapshot.specs.Images.{IsImageOf, IsForeignAt}
 use Rattle.ss_standing.specs.Standing.{listed_entries}
 use Rattle.ss_recover.specs.declared.stored.Stored.{Stored}
 use Rattle.ss_recover.specs.declared.stored.StoredError.{StoredError}
@@ -20,31 +19,32 @@ use Rattle.ss_recover.specs.Faults.{image_place, group_head}
 use Rattle.ss_replay.specs.declared.entries.Replayed.{Replayed}
 use Rattle.ss_replay.specs.Replaying.{StopsBehind}
 
--- the image is that of the catalogue's empty database, and the entries replay on this one, up to the last place
+-- the image is that of a database, and the entries replay on this one, up to the last place
 pub record IsStored (loaded : Loaded) (parts : ℕ) (r : Stored) : Type 0 where
   pub accepted : Accepted r.catalog
-  pub image : IsEmptyImage loaded.image r.catalog
+  pub db : Model
+  pub image : IsImageOf loaded.image loaded.first r.catalog db
   pub entries : listed_entries r.known ≡ loaded.entries
-  pub replays : Replays r.catalog (empty_database r.catalog) r.known
+  pub replays : Replays r.catalog db r.known
   pub placed : r.first ≡ loaded.first + length r.known
   pub few : r.first ≤ 2 ^ 60
   pub dealt : IsWholeShard r.catalog parts r.database.whole
-  pub holds : StandsFor r.catalog r.database (after r.catalog (empty_database r.catalog) r.known)
+  pub holds : StandsFor r.catalog r.database (after r.catalog db r.known)
 
 -- what is stored of a catalogue, where this came of the entries from this place on
 abbrev pub stored_as : Catalog → ℕ → Replayed → Stored
 stored_as catalog first r = record { database = r.database; catalog = catalog; first = first + length r.list; known = r.list }
 
--- bytes are no image, and are told at the first one that can't be, by its place in the file
-pub record HasOddImage (image : List ℕ) (at : ℕ) : Type 0 where
+-- bytes are no image at this place, and are told at the first one that can't be, by its place in the file
+pub record HasOddImage (first : ℕ) (image : List ℕ) (at : ℕ) : Type 0 where
   pub offset : ℕ
-  pub foreign : IsForeignAt image offset
+  pub foreign : IsForeignAt first image offset
   pub place : at ≡ image_place + offset
 
 -- why they aren't: out of memory says nothing
-abbrev pub RefusesImage : List ℕ → StoredError → Type 0
-RefusesImage image NoMemory = Unit {0}
-RefusesImage image (Foreign at) = HasOddImage image at
+abbrev pub RefusesImage : ℕ → List ℕ → StoredError → Type 0
+RefusesImage first image NoMemory = Unit {0}
+RefusesImage first image (Foreign at) = HasOddImage first image at
 
 -- how many groups begin up to the entry at this position, by how many entries each has
 abbrev pub groups_begun : List ℕ → ℕ → ℕ
@@ -59,12 +59,13 @@ place_behind image sizes entries = image_place + image + group_head * groups_beg
 pub record HasOddEntry (loaded : Loaded) (at : ℕ) : Type 0 where
   pub catalog : Catalog
   pub accepted : Accepted catalog
-  pub image : IsEmptyImage loaded.image catalog
+  pub db : Model
+  pub image : IsImageOf loaded.image loaded.first catalog db
   pub list : List Listed
-  pub stops : StopsBehind catalog (empty_database catalog) loaded.first loaded.entries list
+  pub stops : StopsBehind catalog db loaded.first loaded.entries list
   pub place : at ≡ place_behind (length loaded.image) loaded.sizes (listed_entries list)
 
 -- why contents are no store's: out of memory says nothing
 abbrev pub RefusesLoaded : Loaded → StoredError → Type 0
 RefusesLoaded loaded NoMemory = Unit {0}
-RefusesLoaded loaded (Foreign at) = HasOddImage loaded.image at ⊎ HasOddEntry loaded at
+RefusesLoaded loaded (Foreign at) = HasOddImage loaded.first loaded.image at ⊎ HasOddEntry loaded at

@@ -1,7 +1,8 @@
 -- What recovery gives, and what it leaves of the disk.
-use Rattle.std.specs.Prelude.{◌≡◌, ◌≢◌, ◌⊎◌, ◌≤◌, ◌+◌, ◌^◌, ℕ, List, length, Option, Some, None}
+use Rattle.std.specs.Prelude.{◌≡◌, ◌≢◌, ◌⊎◌, ◌≤◌, ◌+◌, ◌-◌, ◌^◌, ◌++◌, ℕ, List, [], length, map, replicate, Option, Some, None}
 use Rattle.ss_disk.specs.Kinds.{DiskKind, present}
 use Rattle.ss_value.specs.FaultCounts.{Rose}
+use Rattle.ss_value.specs.Rows.{Rows}
 use Rattle.ss_model.specs.declared.catalog.Catalog.{Catalog}
 use Rattle.ss_model.specs.declared.entry.Listed.{Listed}
 use Rattle.ss_model.specs.Accepted.{Accepted}
@@ -19,7 +20,8 @@ use Rattle.ss_cmdlog.specs.Generation.{Stood}
 use Rattle.ss_cmdlog.specs.Log.{IsOpen}
 use Rattle.ss_cmdlog.specs.Opening.{OnlyReads}
 use Rattle.ss_cmdlog.specs.Store.{IsEmpty, entries_of}
-use Rattle.ss_snapshot.specs.EmptyImage.{IsReadFromItsText}
+use Rattle.ss_snapshot.specs.Own.{IsReadFromItsText}
+use Rattle.ss_snapshot.specs.Held.{kept_held}
 use Rattle.ss_standing.specs.Standing.{listed_entries, IsImageAt, Replayed, Stands, StandsForReplayed, StandsOn}
 use Rattle.ss_recover.specs.declared.recovered.Recovered.{Recovered}
 use Rattle.ss_recover.specs.declared.error.RecoverError.{RecoverError}
@@ -36,14 +38,14 @@ pub record IsReady (catalog : Catalog) (parts : ℕ) (database : Database) (db :
   pub dealt : IsWholeShard catalog parts database.whole
   pub holds : StandsFor catalog database db
 
--- the generation's entries, with these outcomes, lead from its image to this place and to this database
+-- the generation's entries, with these outcomes, lead from its image to this place, and to a database of which the same is kept as of this one
 pub record LeadsTo (catalog : Catalog) (s : Stood) (list : List Listed) (place : ℕ) (db : Model) : Type 0 where
   pub opening : Model
   pub image : IsImageAt catalog s.first s.image opening
   pub entries : listed_entries list ≡ entries_of s
   pub replays : Replays catalog opening list
   pub placed : place ≡ s.first + length list
-  pub reached : db ≡ after catalog opening list
+  pub reached : kept catalog db ≡ kept catalog (after catalog opening list)
 
 -- what was recovered stands for this database, and its log is open on a generation that stands for the same
 pub record GoesOn {D : Type 0} (kind : DiskKind D) (parts : ℕ) (r : Recovered D) (db : Model) : Type 0 where
@@ -56,9 +58,22 @@ pub record GoesOn {D : Type 0} (kind : DiskKind D) (parts : ℕ) (r : Recovered 
   pub leads : LeadsTo r.catalog s r.known r.first db
   pub generation : Replayed r.catalog s r.first (kept r.catalog db)
 
--- the database that was recovered: the empty one, behind the entries of the log
+-- items of which these are kept, behind as many blank ones as aren't
+abbrev pub behind_blanks : ℕ → List Rows → List Rows
+behind_blanks had items = replicate (had - length items) [] ++ items
+
+-- a database of which this is kept: the units and batches that aren't kept are blank
+abbrev pub database_of : Kept → Model
+database_of k = record {
+  contents = record { tables = k.tables; windows = map (λ w. behind_blanks w.0 w.1) k.windows };
+  streams = map (λ s. behind_blanks s.0 s.1.1) k.streams;
+  counts = k.counts;
+  next_numbers = k.next_numbers;
+}
+
+-- the database that was recovered: as the program's tells it
 abbrev pub recovered_database : {D : Type 0} → Recovered D → Model
-recovered_database r = after r.catalog (empty_database r.catalog) r.known
+recovered_database r = database_of (kept_held r.database.whole r.database.streams.streams)
 
 -- since then a crash leaves what it could leave at first, or what stands for so many executions and for what is kept after them
 abbrev pub LeavesOldOr : {D : Type 0} → DiskKind D → D → D → (Files → Type 0) → Type 0
@@ -80,6 +95,10 @@ pub record IsRecovered {D : Type 0} (kind : DiskKind D)
   pub moments : kind.honest → LeavesOldOr kind old r.log.disk (StandsForIt r db)
   pub stands_on : kind.honest → StandsOn r.catalog kind.moment kind.images (kind.moment old) r.log.disk
   pub quiet : kind.honest → Only (kind.seen old) (present kind old) → LeavesOnly kind.moment kind.images old r.log.disk (StandsForIt r db)
+
+-- some database was
+abbrev pub WasRecovered : {D : Type 0} → DiskKind D → Option Catalog → ℕ → D → Recovered D → Type 0
+WasRecovered kind given parts old r = (db : Model) × IsRecovered kind given parts old r db
 
 -- ---- refusals
 

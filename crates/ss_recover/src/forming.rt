@@ -1,10 +1,11 @@
 //! A new store.
 
 ghost use Rattle.std.specs.Prelude.{◌≡◌, ◌≤◌, Some, IfOk, IfErr, MatchResult};
+ghost use Rattle.ss_model.specs.Database.{empty_database};
 ghost use Rattle.ss_cmdlog.specs.Log.{IsSettled};
 ghost use Rattle.ss_cmdlog.specs.Store.{IsEmpty};
 ghost use Rattle.ss_recover.specs.Errors.{forming_refusal};
-ghost use Rattle.ss_recover.specs.Recovering.{IsOwnCatalog, IsRecovered, RefusesAsSaid, recovered_database};
+ghost use Rattle.ss_recover.specs.Recovering.{IsOwnCatalog, IsRecovered, RefusesAsSaid};
 
 use crate::error::RecoverError;
 use crate::recovered::Recovered;
@@ -39,7 +40,7 @@ pub(crate) fn form<D: Disk>(
     requires few { partitions ≤ 8 }
     requires empty { D.kind.tells → IsEmpty (D.kind.seen disk) }
     requires settled { D.kind.honest → IsSettled D.kind disk }
-    ensures recovered { IfOk result (λ r. IsRecovered D.kind (Some catalog) partitions disk r (recovered_database r)) }
+    ensures recovered { IfOk result (λ r. IsRecovered D.kind (Some catalog) partitions disk r (empty_database catalog)) }
     ensures refused { IfErr result (λ refused. RefusesAsSaid D.kind (Some catalog) disk refused.1 refused.0) }
     ensures later { MatchResult result (λ r. D.kind.faults disk ≤ D.kind.faults r.log.disk) (λ refused. D.kind.faults disk ≤ D.kind.faults refused.1) }
 {

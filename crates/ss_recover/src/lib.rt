@@ -17,17 +17,20 @@
 //!
 //! # Promises
 //!
-//! - `recover` (`recovered`: `IsRecovered`): the entries, each with its outcome, replay from the image's database to
-//!   the one that is given, which is whole; the log is open on a generation that stands for the same; on an honest disk
-//!   a crash since the call began leaves what it could leave before, or what stands for this (`moments`), and takes
-//!   nothing that one at an earlier moment could not take (`stands_on`). A refusal carries what it says of the disk and
-//!   what it leaves of it (`refused`: `RefusesAsSaid`).
+//! - `recover` (`recovered`: `IsRecovered`): the entries, each with its outcome, replay from the image's database to one
+//!   of which the same is kept as of the one that is given, which is whole; the log is open on a generation that stands
+//!   for the same; on an honest disk a crash since the call began leaves what it could leave before, or what stands for
+//!   this (`moments`), and takes nothing that one at an earlier moment could not take (`stands_on`). A refusal carries
+//!   what it says of the disk and what it leaves of it (`refused`: `RefusesAsSaid`).
 //! - Law `a_disk_has_one_fault`: a disk is empty, or a store of one catalogue, or has one first fault.
 //!
 //! # Choices
 //!
 //! - What a crash may leave is what it could leave before, or what stands for what is recovered (`moments`), instead of
 //!   the second alone for a disk with nothing unsynced, because it needs no premise. The second follows (`quiet`).
+//! - The database that is recovered is named by the program's own value (`recovered_database`), instead of being some
+//!   database, because who runs on it has to name it before it runs. All that is said of it depends on what is kept of
+//!   it, which is all that an image tells.
 //! - A refusal leaves the disk as it was, but where a store was being made. A disk that holds something else isn't
 //!   mended or cut, because the first byte that can't be is all that is known of it.
 //! - The database is dealt to the partitions as it is made, instead of later, because a table's rows are dealt as they

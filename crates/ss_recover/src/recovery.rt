@@ -13,6 +13,7 @@ use crate::recovered::Recovered;
 use crate::restoring::restore;
 use ss_disk::{Disk, FileNo};
 use ss_model::Catalog;
+use ss_model_laws::wholeness_stays;
 use ss_proc::Runner;
 use ss_value::Failed;
 use std::alloc::Global;
@@ -49,8 +50,9 @@ fn is_empty<D: Disk>(disk: &mut D) -> Result<bool, Failed>
 /// `OtherCatalog` and `Nothing` a read gives what it gave. Behind the other two an empty disk may have become a store of the
 /// given catalogue, before any execution; a crash leaves this or what it could leave before.
 ///
-/// Linear in the current file, which is read whole into one buffer, and costs what the entries cost to run; room for their
-/// list is made once. A disk that isn't empty has seven calls, of which none changes it; making a store takes nine.
+/// Linear in the current file, which is read whole into one buffer, and costs an insert for each row of its image and what
+/// the entries cost to run; room for their list is made once. A disk that isn't empty has seven calls, of which none
+/// changes it; making a store takes nine.
 pub fn recover<N: Runner, D: Disk>(
     alloc: Global,
     runner: &N,
@@ -67,6 +69,7 @@ pub fn recover<N: Runner, D: Disk>(
     ensures nothing { D.kind.tells → IsEmpty (D.kind.seen disk) → catalog ≡ None
         → IfErr result (λ refused. (refused.0 ≡ RecoverError.Nothing) ⊎ (refused.0 ≡ RecoverError.DiskFault)) × OnOk result ⊥ }
 {
+    wholeness_stays();
     let Ok(empty) = is_empty(&mut disk) else {
         return Err((RecoverError::DiskFault, disk));
     };

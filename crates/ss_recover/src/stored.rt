@@ -1,9 +1,11 @@
 //! What a store's contents come to.
 
-ghost use Rattle.std.specs.Prelude.{◌≡◌, ◌≤◌, ◌+◌, ◌^◌, length, All, IfOk, IfErr};
+ghost use Rattle.std.specs.Prelude.{◌≡◌, ◌≤◌, ◌+◌, ◌^◌, ℕ, length, All, IfOk, IfErr};
 ghost use Rattle.ss_model.specs.Accepted.{Accepted};
 ghost use Rattle.ss_record.specs.Bounds.{IsRecordable};
-ghost use Rattle.ss_snapshot.specs.EmptyImage.{IsEmptyImage};
+ghost use Rattle.ss_shard.specs.Databases.{IsWhole};
+ghost use Rattle.ss_shard.specs.Parts.{IsWholeShard};
+ghost use Rattle.ss_snapshot.specs.Images.{IsReadAs};
 ghost use Rattle.ss_recover.specs.Loading.{IsStored, RefusesImage, RefusesLoaded, stored_as};
 
 use crate::place::{image_byte, place_behind};
@@ -11,8 +13,8 @@ use ss_cmdlog::Loaded;
 use ss_model::{Catalog, Listed};
 use ss_proc::Runner;
 use ss_replay::{ReplayError, Replayed, replay};
-use ss_shard::{Database, opening};
-use ss_snapshot::{ImageError, read_empty_image};
+use ss_shard::Database;
+use ss_snapshot::{ImageError, read_image};
 use ss_value::{NoMemory, Seq};
 use std::alloc::Global;
 
@@ -45,14 +47,23 @@ impl From<NoMemory> for StoredError {
     }
 }
 
-/// The catalogue of an image.
-fn catalog_of(alloc: Global, image: &[u8]) -> Result<Catalog, StoredError>
-    ensures ok { IfOk result (IsEmptyImage image.now) }
-    ensures accepted { IfOk result Accepted }
-    ensures refused { IfErr result (RefusesImage image.now) }
+/// The catalogue and the database of an image at this place, dealt to so many partitions.
+fn image_at(
+    alloc: Global,
+    image: &[u8],
+    first: u64,
+    partitions: u8,
+) -> Result<(Catalog, Database), StoredError>
+    requires some { 1 ≤ partitions }
+    requires few { partitions ≤ 8 }
+    requires place { first ≤ 2 ^ 60 }
+    ensures image { IfOk result (IsReadAs image.now first) }
+    ensures accepted { IfOk result (λ read. Accepted read.0) }
+    ensures is_whole { IfOk result (λ read. IsWholeShard read.0 partitions read.1.whole × IsWhole read.0 read.1) }
+    ensures refused { IfErr result (RefusesImage first image.now) }
 {
-    match read_empty_image(alloc, image) {
-        Ok(catalog) => Ok(catalog),
+    match read_image(alloc, image, first, partitions) {
+        Ok(read) => Ok(read),
         Err(ImageError::NoMemory) => Err(StoredError::NoMemory),
         Err(ImageError::Foreign { at }) => Err(StoredError::Foreign {
             at: image_byte(at)?,
@@ -60,19 +71,27 @@ fn catalog_of(alloc: Global, image: &[u8]) -> Result<Catalog, StoredError>
     }
 }
 
-/// The catalogue of what was loaded.
-fn loaded_catalog(alloc: Global, loaded: &Loaded) -> Result<Catalog, StoredError>
-    ensures ok { IfOk result (IsEmptyImage loaded.now.image) }
-    ensures accepted { IfOk result Accepted }
+/// The catalogue and the database of the image of what was loaded, dealt to so many partitions.
+fn loaded_image(
+    alloc: Global,
+    loaded: &Loaded,
+    partitions: u8,
+) -> Result<(Catalog, Database), StoredError>
+    requires some { 1 ≤ partitions }
+    requires few { partitions ≤ 8 }
+    requires place { loaded.now.first ≤ 2 ^ 60 }
+    ensures image { IfOk result (IsReadAs loaded.now.image loaded.now.first) }
+    ensures accepted { IfOk result (λ read. Accepted read.0) }
+    ensures is_whole { IfOk result (λ read. IsWholeShard read.0 partitions read.1.whole × IsWhole read.0 read.1) }
     ensures refused { IfErr result (RefusesLoaded loaded.now) }
 {
-    match catalog_of(alloc, loaded.image.as_slice()) {
-        Ok(catalog) => Ok(catalog),
+    match image_at(alloc, loaded.image.as_slice(), loaded.first, partitions) {
+        Ok(read) => Ok(read),
         Err(refused) => Err(refused),
     }
 }
 
-/// Replays the entries of what was loaded on the catalogue's empty database, which is dealt to so many partitions.
+/// Replays the entries of what was loaded on the database of its image.
 ///
 /// The catalogue is lent, so that a refusal lets it go in one place and not in each. A refused entry's record is sought by
 /// the records before it.
@@ -80,16 +99,16 @@ fn replay_loaded<N: Runner>(
     alloc: Global,
     catalog: &Catalog,
     runner: &N,
+    database: Database,
     loaded: Loaded,
-    partitions: u8,
 ) -> Result<Replayed, StoredError>
     requires accepted { Accepted catalog.now }
-    requires image { IsEmptyImage loaded.image catalog.now }
+    requires image { IsReadAs loaded.image loaded.first (catalog.now, database) }
+    requires whole { IsWhole catalog.now database }
     requires first { loaded.first ≤ 2 ^ 60 }
     requires recordable { All IsRecordable loaded.entries }
-    requires some { 1 ≤ partitions }
-    requires few { partitions ≤ 8 }
-    ensures ok { IfOk result (λ r. IsStored loaded partitions (stored_as catalog.now loaded.first r)) }
+    ensures ok { IfOk result (λ r. (parts : ℕ) → IsWholeShard catalog.now parts database.whole
+        → IsStored loaded parts (stored_as catalog.now loaded.first r)) }
     ensures placed { IfOk result (λ r. loaded.first + length r.list ≤ 2 ^ 60) }
     ensures refused { IfErr result (RefusesLoaded loaded) }
 {
@@ -99,7 +118,6 @@ fn replay_loaded<N: Runner>(
         entries,
         sizes,
     } = loaded;
-    let database = opening(alloc, catalog, partitions)?;
     match replay(alloc, catalog, runner, database, first, entries) {
         Ok(replayed) => Ok(replayed),
         Err(ReplayError::NoMemory) => Err(StoredError::NoMemory),
@@ -114,7 +132,7 @@ fn replay_loaded<N: Runner>(
 
 /// Reads the image and replays the entries, on a database that is dealt to so many partitions.
 ///
-/// Linear in the image; and costs what the replay costs.
+/// Linear in the image, and costs an insert for each of its rows; and costs what the replay costs.
 pub(crate) fn stored_in<N: Runner>(
     alloc: Global,
     runner: &N,
@@ -128,9 +146,9 @@ pub(crate) fn stored_in<N: Runner>(
     ensures ok { IfOk result (IsStored loaded partitions) }
     ensures refused { IfErr result (RefusesLoaded loaded) }
 {
-    let catalog = loaded_catalog(alloc, &loaded)?;
+    let (catalog, database) = loaded_image(alloc, &loaded, partitions)?;
     let first = loaded.first;
-    match replay_loaded(alloc, &catalog, runner, loaded, partitions) {
+    match replay_loaded(alloc, &catalog, runner, database, loaded) {
         Ok(Replayed { list, database }) => Ok(Stored {
             database,
             catalog,

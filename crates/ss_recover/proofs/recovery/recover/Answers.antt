@@ -1,13 +1,16 @@
 use Rattle.std.proofs.Common.{Some}
 use Rattle.std.proofs.lemmas.Result.{IfErr-weaker, IfOk-weaker}
-use Rattle.ss_recover.specs.Recovering.{recovered_database}
+use Rattle.ss_model.specs.Database.{empty_database}
+use Rattle.ss_recover.proofs.Alike.{recovered_told}
 use Rattle.ss_recover.proofs.Composed.{recovered_since, refused_since}
 use Rattle.ss_recover.proofs.recovery.recover.Goals as goal
 
 pub returns-then-not-empty-clause-recovered : goal.returns-then-not-empty-clause-recovered
 returns-then-not-empty-clause-recovered g c =
     IfOk-weaker c.restore.result _ _
-    (λ r found. recovered_since g.D.Disk.kind g.met.D.Disk.honest_tells c.args.catalog c.args.disk c.is_empty.new.disk c.is_empty.ensures.reads c.args.partitions r (recovered_database r) found)
+    (λ r found.
+    recovered_told g.D.Disk.kind c.wholeness_stays.ensures c.args.catalog c.args.partitions c.args.disk r
+    (found.0, recovered_since g.D.Disk.kind g.met.D.Disk.honest_tells c.args.catalog c.args.disk c.is_empty.new.disk c.is_empty.ensures.reads c.args.partitions r found.0 found.1))
     c.restore.ensures.recovered
 
 pub returns-then-not-empty-clause-refused : goal.returns-then-not-empty-clause-refused
@@ -20,7 +23,9 @@ pub returns-in-Some-clause-recovered : goal.returns-in-Some-clause-recovered
 returns-in-Some-clause-recovered g c =
     rw c.in-Some.is (
     IfOk-weaker c.form.result _ _
-    (λ r found. recovered_since g.D.Disk.kind g.met.D.Disk.honest_tells (Some c.in-Some.catalog) c.args.disk c.is_empty.new.disk c.is_empty.ensures.reads c.args.partitions r (recovered_database r) found)
+    (λ r found.
+    recovered_told g.D.Disk.kind c.wholeness_stays.ensures (Some c.in-Some.catalog) c.args.partitions c.args.disk r
+    (empty_database c.in-Some.catalog, recovered_since g.D.Disk.kind g.met.D.Disk.honest_tells (Some c.in-Some.catalog) c.args.disk c.is_empty.new.disk c.is_empty.ensures.reads c.args.partitions r (empty_database c.in-Some.catalog) found))
     c.form.ensures.recovered)
 
 pub returns-in-Some-clause-refused : goal.returns-in-Some-clause-refused

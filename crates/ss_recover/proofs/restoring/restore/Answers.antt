@@ -1,7 +1,7 @@
 use Rattle.std.proofs.Common.{List, All, subst, sym}
 use Rattle.ss_model.specs.declared.entry.Entry.{Entry}
 use Rattle.ss_record.specs.Bounds.{IsRecordable}
-use Rattle.ss_recover.proofs.Restored.{another, entries_recordable, restored, unopened, unstored}
+use Rattle.ss_recover.proofs.Restored.{another, entries_recordable, reached, restored, unopened, unstored}
 use Rattle.ss_recover.proofs.restoring.restore.Goals as goal
 
 pub stored_in-requires-clause-recordable : goal.stored_in-requires-clause-recordable
@@ -27,8 +27,10 @@ returns-in-Ok-agreed-clause-recovered g c =
     let r = c.in-Ok-stored_in.stored in
     let (s, read, is_open, is_loaded, stood) = c.in-Ok.ensures.open in
     rw c.in-Ok-agreed.ensures.ok (
-    restored g.D.Disk.kind g.met.D.Disk.honest_tells c.args.disk c.in-Ok.opened.0 c.in-Ok.opened.1 s read is_open is_loaded (record { same = c.in-Ok.ensures.same; moments = c.in-Ok.ensures.moments; fewer = c.in-Ok.ensures.fewer })
-    c.args.partitions r c.in-Ok-stored_in.ensures.ok c.a_value_has_one_answer.ensures.catalog c.args.given c.requires.own c.in-Ok-agreed.ensures.text c.in-Ok.ensures.count)
+      reached r c.in-Ok-stored_in.ensures.ok.db,
+      restored g.D.Disk.kind g.met.D.Disk.honest_tells c.args.disk c.in-Ok.opened.0 c.in-Ok.opened.1 s read is_open is_loaded (record { same = c.in-Ok.ensures.same; moments = c.in-Ok.ensures.moments; fewer = c.in-Ok.ensures.fewer })
+          c.args.partitions r c.in-Ok-stored_in.ensures.ok c.a_value_has_one_answer.ensures.catalog c.args.given c.requires.own c.in-Ok-agreed.ensures.text c.in-Ok.ensures.count,
+    )
 
 pub returns-in-Err-agreed-clause-refused : goal.returns-in-Err-agreed-clause-refused
 returns-in-Err-agreed-clause-refused g c =
