@@ -50,11 +50,11 @@ module _ (catalog : Catalog) (requests : List Request) (list : List Listed) wher
 
 module _ {D : Type 0} (change : D → D → DiskChange) where
   pub whole_runs_are_right : RunsHoldFromEach change → StandsForOne → KeptCarries → PrintedIsRight → WholeRunsAreRight change
-  whole_runs_are_right from_each one carries law = λ limit catalog accepted requests opening first list text old new run tells empty printed lines end are.
+  whole_runs_are_right from_each one carries law = λ every limit catalog accepted requests opening first list text old new run tells empty printed lines end are.
       let disk = change old new in
       let start = empty_database catalog in
       let stands = empty_stands catalog disk.seen_before empty in
-      let begins = from_each.whole limit catalog requests opening first list text old new run tells 0 start stands in
+      let begins = from_each.whole every limit catalog requests opening first list text old new run tells 0 start stands in
       let same = (one catalog disk.seen_before first 0 (kept catalog opening) (kept catalog start) (run.session.stood tells) stands).1 in
       let session = subst (λ (place : ℕ). WholeSession catalog requests place list text disk start) (sym begins.0) begins.1 in
       let read = subst (λ (place : ℕ). IsReadableReport catalog requests start place list text) (sym begins.0) (readable_from catalog requests list carries opening start same first text printed) in

@@ -1,5 +1,5 @@
 -- That an audit answers yes of what a run on an empty disk printed.
-use Rattle.std.specs.Prelude.{◌≡◌, ℕ, List, length, Ok}
+use Rattle.std.specs.Prelude.{◌≡◌, ℕ, List, length, Option, Ok}
 use Rattle.ss_lines.specs.declared.line.Line.{Line}
 use Rattle.ss_model.specs.declared.catalog.Catalog.{Catalog}
 use Rattle.ss_model.specs.declared.entry.Listed.{Listed}
@@ -27,7 +27,7 @@ module _ {D : Type 0} (disk_of : D → D → DiskChange) where
   -- law: an audit answers yes of the lines of a whole run that began on an empty disk, where its report was printed so that it is read again
   abbrev pub WholeRunsAreRight : Type 0
   WholeRunsAreRight =
-      (limit : ℕ) (catalog : Catalog) → Accepted catalog → (requests : List Request) (opening : Database) (first : ℕ) (list : List Listed) (text : List ℕ)
-      (old new : D) → IsWholeRun limit catalog requests opening first list text (disk_of old new) →
+      (every : Option ℕ) (limit : ℕ) (catalog : Catalog) → Accepted catalog → (requests : List Request) (opening : Database) (first : ℕ)
+      (list : List Listed) (text : List ℕ) (old new : D) → IsWholeRun every limit catalog requests opening first list text (disk_of old new) →
       (disk_of old new).tells → IsEmpty (disk_of old new).seen_before → IsReadableReport catalog requests opening first list text →
       (lines : List Line) (end : ℕ) → AreLinesOf text lines → AnswersYes catalog requests lines end list

@@ -1,5 +1,5 @@
 -- Two runs on one disk go on from each other.
-use Rattle.std.proofs.Common.{◌≡◌, ◌⊎◌, ◌∙◌, inl, inr, ℕ, ◌+◌, ◌≤◌, List, ◌++◌, length, take, refl, sym, ap, subst, arith, append-nil, length-append, length-take-le}
+use Rattle.std.proofs.Common.{◌≡◌, ◌⊎◌, ◌∙◌, inl, inr, ℕ, ◌+◌, ◌≤◌, List, ◌++◌, length, take, Option, refl, sym, ap, subst, arith, append-nil, length-append, length-take-le}
 use Rattle.ss_disk.specs.Kinds.{DiskKind, present}
 use Rattle.std.proofs.Math.Seq.{take-append-add}
 use Rattle.ss_model.specs.declared.catalog.Catalog.{Catalog}
@@ -68,10 +68,10 @@ module _ (goes_on : ReplaysGoOn) (carries : KeptCarries) (one_thing : StandsForO
       replays : Replays catalog b two
       crashes : AtEachMoment (change mid new) (Prefix catalog b n two)
 
-    goes_of : (limit : ℕ) (requests : List Request) (b : Database) (n : ℕ) (two : List Listed) (mid new : D) → HadList limit catalog requests b n two (change mid new) → Goes b n two mid new
-    goes_of limit requests b n two mid new (inl (text, run)) =
+    goes_of : (every : Option ℕ) (limit : ℕ) (requests : List Request) (b : Database) (n : ℕ) (two : List Listed) (mid new : D) → HadList every limit catalog requests b n two (change mid new) → Goes b n two mid new
+    goes_of every limit requests b n two mid new (inl (text, run)) =
         let session = run.session.each b refl in record { stood = run.session.stood; replays = session.replies_and_tables.one_by_one; crashes = session.wherever_a_crash_falls }
-    goes_of limit requests b n two mid new (inr (status, count, text, run)) =
+    goes_of every limit requests b n two mid new (inr (status, count, text, run)) =
         let session = run.session.each b refl in record { stood = run.session.stood; replays = session.replies.one_by_one; crashes = session.wherever_a_crash_falls }
 
     -- behind what a read gave between the two
@@ -95,11 +95,11 @@ module _ (goes_on : ReplaysGoOn) (carries : KeptCarries) (one_thing : StandsForO
 
     -- ---- behind a whole run
 
-    behind_all : (limit : ℕ) (requests others : List Request) (a b : Database) (m n : ℕ) (one two : List Listed) (text : List ℕ) (old mid new : D) → kind.honest → IsWholeRun limit catalog requests a m one text (change old mid)
-        → HadList limit catalog others b n two (change mid new) → GoesOnBehindAll change catalog a b m n one two old mid new
-    behind_all limit requests others a b m n one two text old mid new true' first had =
+    behind_all : (every each : Option ℕ) (limit : ℕ) (requests others : List Request) (a b : Database) (m n : ℕ) (one two : List Listed) (text : List ℕ) (old mid new : D) → kind.honest → IsWholeRun every limit catalog requests a m one text (change old mid)
+        → HadList each limit catalog others b n two (change mid new) → GoesOnBehindAll change catalog a b m n one two old mid new
+    behind_all every each limit requests others a b m n one two text old mid new true' first had =
         let session = first.session.each a refl in
-        let second = goes_of limit others b n two mid new had in
+        let second = goes_of each limit others b n two mid new had in
         let lists = one_list true' a b m n one two mid new session.replies_and_tables.one_by_one (session.all_stands true' (kind.seen mid) (sees mid true')) second in
         let list = one ++ two in
         let before = less_at_each kind (Prefix catalog a m one) (Prefix catalog a m list) old mid (front_goes_on catalog a m one two) session.wherever_a_crash_falls in
@@ -114,12 +114,12 @@ module _ (goes_on : ReplaysGoOn) (carries : KeptCarries) (one_thing : StandsForO
 
     -- ---- behind a run that stopped
 
-    behind_front : (limit : ℕ) (requests others : List Request) (a b : Database) (m n : ℕ) (one two : List Listed) (status count : ℕ) (text : List ℕ) (old mid new : D) → kind.honest
-        → IsStoppedRun limit catalog requests a m one status count text (change old mid) → HadList limit catalog others b n two (change mid new) → GoesOnBehindFront change catalog a b m n one two count old mid new
-    behind_front limit requests others a b m n one two status count text old mid new true' first had =
+    behind_front : (every each : Option ℕ) (limit : ℕ) (requests others : List Request) (a b : Database) (m n : ℕ) (one two : List Listed) (status count : ℕ) (text : List ℕ) (old mid new : D) → kind.honest
+        → IsStoppedRun every limit catalog requests a m one status count text (change old mid) → HadList each limit catalog others b n two (change mid new) → GoesOnBehindFront change catalog a b m n one two count old mid new
+    behind_front every each limit requests others a b m n one two status count text old mid new true' first had =
         let session = first.session.each a refl in
         let receipts = session.every_receipt_stands in
-        let second = goes_of limit others b n two mid new had in
+        let second = goes_of each limit others b n two mid new had in
         let front = receipts.fronts true' (kind.seen mid) (sees mid true') in
         let part = take front.some one in
         let many : m + front.some ≡ m + length part = omega (arith, length-take-le front.some one front.within) in
@@ -144,8 +144,8 @@ module _ (goes_on : ReplaysGoOn) (carries : KeptCarries) (one_thing : StandsForO
 pub calls_go_on : ReplaysGoOn → KeptCarries → StandsForOne → {D : Type 0} (kind : DiskKind D) → (kind.honest → kind.tells)
     → ((disk : D) → kind.honest → kind.images disk (kind.moment disk) (kind.seen disk)) → CallsGoOn (disk_of kind)
 calls_go_on goes_on carries one kind told sees = record {
-  whole = λ limit catalog requests others a b m n first second text old mid new true' ran had.
-      behind_all goes_on carries one catalog kind told sees limit requests others a b m n first second text old mid new true' ran had;
-  stopped = λ limit catalog requests others a b m n first second status count text old mid new true' ran had.
-      behind_front goes_on carries one catalog kind told sees limit requests others a b m n first second status count text old mid new true' ran had;
+  whole = λ every each limit catalog requests others a b m n first second text old mid new true' ran had.
+      behind_all goes_on carries one catalog kind told sees every each limit requests others a b m n first second text old mid new true' ran had;
+  stopped = λ every each limit catalog requests others a b m n first second status count text old mid new true' ran had.
+      behind_front goes_on carries one catalog kind told sees every each limit requests others a b m n first second status count text old mid new true' ran had;
 }

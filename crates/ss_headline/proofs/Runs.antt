@@ -1,5 +1,5 @@
 -- Runs come together.
-use Rattle.std.proofs.Common.{◌≡◌, ◌⊎◌, inl, inr, ℕ, ◌-◌, ◌^◌, ◌<◌, ◌≤◌, List, [], ◌∷◌, sym, arith}
+use Rattle.std.proofs.Common.{◌≡◌, ◌⊎◌, inl, inr, ℕ, ◌-◌, ◌^◌, ◌<◌, ◌≤◌, List, [], ◌∷◌, Option, sym, arith}
 use Rattle.ss_disk.specs.Kinds.{DiskKind}
 use Rattle.std.specs.List.{AllByRecursion}
 use Rattle.ss_model.specs.declared.entry.Answer.{Answer}
@@ -46,9 +46,9 @@ module _ {D : Type 0} (kind : DiskKind D) where
   change = disk_of kind
 
   pub whole_runs : AnswersMakeReport → WholeSessions change → SessionsHoldFromEach change → WholeRuns change
-  whole_runs makes sessions from_each = λ limit catalog requests db first list missing answers old mid new opened closed settled answered within.
+  whole_runs makes sessions from_each = λ every limit catalog requests db first list missing answers old mid new opened closed settled answered within.
       let text = report_text catalog requests (weave missing requests answers) first list db Whole in
-      let session = sessions catalog requests db first list text old mid new opened closed settled (makes catalog requests db first list Whole missing answers answered) in record {
+      let session = sessions every catalog requests db first list text old mid new opened closed settled (makes catalog requests db first list Whole missing answers answered) in record {
         within = within;
         logged = settled.logged;
         session = record {
@@ -59,20 +59,21 @@ module _ {D : Type 0} (kind : DiskKind D) where
       }
 
   -- a disk that failed since the opening has failed since before it
-  failed_since : (status first : ℕ) (list : List Listed) (count : ℕ) (old mid new : D) → kind.faults old ≤ kind.faults mid → LogEndsAsStopped status first list count (change mid new) → LogEndsAsStopped status first list count (change old new)
-  failed_since status first list count old mid new le logged told = elim (logged told) [
+  failed_since : (every : Option ℕ) (status first : ℕ) (list : List Listed) (count : ℕ) (old mid new : D) → kind.faults old ≤ kind.faults mid → LogEndsAsStopped every status first list count (change mid new)
+      → LogEndsAsStopped every status first list count (change old new)
+  failed_since every status first list count old mid new le logged told = elim (logged told) [
     | inl front ↦ inl front
     | inr failed ↦ inr (record { status_is = failed.status_is; rose = (let rose = failed.rose in omega (arith, rose, le)) })
   ]
 
   pub stopped_runs : AnswersMakeReport → StoppedSessions change → SessionsHoldFromEach change → StoppedRuns change
-  stopped_runs makes sessions from_each = λ limit catalog requests db first list status count missing answers old mid new opened closed receipted logged answered within.
+  stopped_runs makes sessions from_each = λ every limit catalog requests db first list status count missing answers old mid new opened closed receipted logged answered within.
       let end = stop_at status count limit first list (kind.faults old) (kind.faults new) in
       let text = report_text catalog requests (weave missing requests answers) first list db end in
       let since = answered_since _ (kind.faults old) opened.faults requests first list answers answered in
       let session = sessions catalog requests limit db first list status count text old mid new opened closed receipted (makes catalog requests db first list end missing answers since) in record {
         within = within;
-        logged = failed_since status first list count old mid new opened.faults logged;
+        logged = failed_since every status first list count old mid new opened.faults logged;
         session = record {
           whole = opened.whole;
           stood = opened.stood;
@@ -82,8 +83,8 @@ module _ {D : Type 0} (kind : DiskKind D) where
 
   pub runs_hold_from_each : StandsForOne → RunsHoldFromEach change
   runs_hold_from_each one = record {
-    whole = λ limit catalog requests opening first list text old new run told place db stands.
+    whole = λ every limit catalog requests opening first list text old new run told place db stands.
         let same = one catalog (kind.seen old) place first (kept catalog db) (kept catalog opening) stands (run.session.stood told) in (same.0, run.session.each db same.1);
-    stopped = λ limit catalog requests opening first list status count text old new run told place db stands.
+    stopped = λ every limit catalog requests opening first list status count text old new run told place db stands.
         let same = one catalog (kind.seen old) place first (kept catalog db) (kept catalog opening) stands (run.session.stood told) in (same.0, run.session.each db same.1);
   }

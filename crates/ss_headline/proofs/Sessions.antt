@@ -34,7 +34,7 @@ module _ {D : Type 0} (kind : DiskKind D) (bounds : ReceiptsBoundFronts) where
       bounds catalog db first list n image (run.each (kind.moment new) image run.later (omega arith) left) (receipt true' image left)
 
   pub whole_sessions : WholeSessions change
-  whole_sessions = λ catalog requests db first list text old mid new opened closed settled report. record {
+  whole_sessions = λ every catalog requests db first list text old mid new opened closed settled report. record {
     replies_and_tables = record { one_by_one = closed.replays; report = report };
     in_order = closed.orders;
     wherever_a_crash_falls = crashes_join kind catalog db first list old mid new opened closed;

@@ -1,5 +1,5 @@
 -- Between calls: what is said of a disk on which nothing was pending, and how two runs on one disk go on from each other.
-use Rattle.std.specs.Prelude.{◌≡◌, ◌⊎◌, ◌≤◌, ◌+◌, ℕ, List, ◌++◌, length, take}
+use Rattle.std.specs.Prelude.{◌≡◌, ◌⊎◌, ◌≤◌, ◌+◌, ℕ, List, ◌++◌, length, take, Option}
 use Rattle.ss_disk.specs.Kinds.{DiskKind}
 use Rattle.ss_model.specs.declared.catalog.Catalog.{Catalog}
 use Rattle.ss_model.specs.declared.entry.Listed.{Listed}
@@ -43,10 +43,10 @@ pub record AreOneList (catalog : Catalog) (a b : Database) (m n : ℕ) (one two 
   pub drained : Drained catalog (after catalog b two) → Drained catalog (after catalog a (one ++ two))
 
 -- a run, whole or stopped, had this list
-abbrev pub HadList : ℕ → Catalog → List Request → Database → ℕ → List Listed → DiskChange → Type 0
-HadList limit catalog requests opening first list disk =
-    ((text : List ℕ) × IsWholeRun limit catalog requests opening first list text disk) ⊎
-    ((status : ℕ) × (count : ℕ) × (text : List ℕ) × IsStoppedRun limit catalog requests opening first list status count text disk)
+abbrev pub HadList : Option ℕ → ℕ → Catalog → List Request → Database → ℕ → List Listed → DiskChange → Type 0
+HadList every limit catalog requests opening first list disk =
+    ((text : List ℕ) × IsWholeRun every limit catalog requests opening first list text disk) ⊎
+    ((status : ℕ) × (count : ℕ) × (text : List ℕ) × IsStoppedRun every limit catalog requests opening first list status count text disk)
 
 module _ {D : Type 0} (disk_of : D → D → DiskChange) where
   -- a crash in either call leaves a prefix of the one list, and all of the first stands through the second
@@ -65,11 +65,13 @@ module _ {D : Type 0} (disk_of : D → D → DiskChange) where
     pub crashes : AtEachMoment (disk_of old new) (λ image. Prefix catalog a m one image ⊎ Prefix catalog a m (take some one ++ two) image)
     pub stays : AlwaysLeaves (disk_of mid new) (StandsForAtLeast catalog count)
 
-  -- law: on an honest disk a run goes on from the one before it, which was whole, or had stopped
+  -- law: on an honest disk a run goes on from the one before it, which was whole, or had stopped; either may have had checkpoints
   pub record CallsGoOn : Type 0 where
-    pub whole : (limit : ℕ) (catalog : Catalog) (requests others : List Request) (a b : Database) (m n : ℕ) (one two : List Listed) (text : List ℕ) (old mid new : D) →
-        (disk_of old mid).honest → IsWholeRun limit catalog requests a m one text (disk_of old mid) → HadList limit catalog others b n two (disk_of mid new) →
+    pub whole : (every each : Option ℕ) (limit : ℕ) (catalog : Catalog) (requests others : List Request) (a b : Database) (m n : ℕ)
+        (one two : List Listed) (text : List ℕ) (old mid new : D) → (disk_of old mid).honest →
+        IsWholeRun every limit catalog requests a m one text (disk_of old mid) → HadList each limit catalog others b n two (disk_of mid new) →
         GoesOnBehindAll catalog a b m n one two old mid new
-    pub stopped : (limit : ℕ) (catalog : Catalog) (requests others : List Request) (a b : Database) (m n : ℕ) (one two : List Listed) (status count : ℕ) (text : List ℕ)
-        (old mid new : D) → (disk_of old mid).honest → IsStoppedRun limit catalog requests a m one status count text (disk_of old mid) →
-        HadList limit catalog others b n two (disk_of mid new) → GoesOnBehindFront catalog a b m n one two count old mid new
+    pub stopped : (every each : Option ℕ) (limit : ℕ) (catalog : Catalog) (requests others : List Request) (a b : Database) (m n : ℕ)
+        (one two : List Listed) (status count : ℕ) (text : List ℕ) (old mid new : D) → (disk_of old mid).honest →
+        IsStoppedRun every limit catalog requests a m one status count text (disk_of old mid) →
+        HadList each limit catalog others b n two (disk_of mid new) → GoesOnBehindFront catalog a b m n one two count old mid new

@@ -1,5 +1,5 @@
 -- How the headline's sentences come from what the calls below owe.
-use Rattle.std.specs.Prelude.{◌≡◌, ◌≤◌, ℕ, List, length}
+use Rattle.std.specs.Prelude.{◌≡◌, ◌+◌, ◌<◌, ◌≤◌, ℕ, List, length, Option, Some}
 use Rattle.ss_model.specs.declared.catalog.Catalog.{Catalog}
 use Rattle.ss_model.specs.declared.entry.Answer.{Answer}
 use Rattle.ss_model.specs.declared.entry.Listed.{Listed}
@@ -15,7 +15,7 @@ use Rattle.ss_standing.specs.Standing.{listed_entries, Stands}
 use Rattle.ss_standing.specs.Behind.{IsBehind}
 use Rattle.ss_headline.specs.Disks.{DiskChange}
 use Rattle.ss_headline.specs.Sentences.{WholeSession, StoppedSession, entries_from, room_from, stop_at}
-use Rattle.ss_headline.specs.Runs.{LogEndsWith, LogEndsAsStopped, IsWholeRun, IsStoppedRun}
+use Rattle.ss_headline.specs.Runs.{LogEndsAs, LogEndsAsStopped, Logged, IsWholeRun, IsStoppedRun}
 use Rattle.ss_headline.specs.Layers.{Opened, Closed, Settled, FewUnreceipted, Receipted}
 
 -- ---- receipts and logs
@@ -23,7 +23,14 @@ use Rattle.ss_headline.specs.Layers.{Opened, Closed, Settled, FewUnreceipted, Re
 -- law: where a generation has a list behind the entries that it was opened with, the store's log ends with the list
 abbrev pub LogsEndWithLists : Type 0
 LogsEndWithLists =
-    (opened now : Stood) (list : List Listed) (seen : Files) → IsBehind opened now (listed_entries list) → StandsFor seen now → LogEndsWith list seen
+    (every : Option ℕ) (opened now : Stood) (list : List Listed) (seen : Files) → IsBehind opened now (listed_entries list) → StandsFor seen now →
+    LogEndsAs every list seen
+
+-- law: where a log ends as a list does, and its generation began near the list's end, it has what it should with checkpoints
+abbrev pub NearGenerationsBegin : Type 0
+NearGenerationsBegin =
+    (every first : ℕ) (list : List Listed) (now : Stood) (seen : Files) → LogEndsAs (Some every) list seen → StandsFor seen now →
+    first + length list < now.first + every → Logged (Some every) first list seen
 
 -- law: where all but 16 of a client's entries stand below a place, at most 16 are from there on
 abbrev pub FewStandBehind : Type 0
@@ -43,8 +50,9 @@ module _ {D : Type 0} (disk_of : D → D → DiskChange) where
   -- law: an opening, an engine that was settled and closed, and its report are a whole session
   abbrev pub WholeSessions : Type 0
   WholeSessions =
-      (catalog : Catalog) (requests : List Request) (db : Database) (first : ℕ) (list : List Listed) (text : List ℕ) (old mid new : D) →
-      Opened catalog db first (disk_of old mid) → Closed catalog db first list (disk_of mid new) → Settled catalog db first list (disk_of mid new) →
+      (every : Option ℕ) (catalog : Catalog) (requests : List Request) (db : Database) (first : ℕ) (list : List Listed) (text : List ℕ)
+      (old mid new : D) → Opened catalog db first (disk_of old mid) → Closed catalog db first list (disk_of mid new) →
+      Settled every catalog db first list (disk_of mid new) →
       Report catalog requests db first list Whole text → WholeSession catalog requests first list text (disk_of old new) db
 
   -- the stop of this list on a disk that was so before and is so now
@@ -77,30 +85,33 @@ module _ {D : Type 0} (disk_of : D → D → DiskChange) where
   -- law: an opening, an engine that was settled and closed, and the answers to its clients are a whole run
   abbrev pub WholeRuns : Type 0
   WholeRuns =
-      (limit : ℕ) (catalog : Catalog) (requests : List Request) (db : Database) (first : ℕ) (list : List Listed)
+      (every : Option ℕ) (limit : ℕ) (catalog : Catalog) (requests : List Request) (db : Database) (first : ℕ) (list : List Listed)
       (missing : Answer) (answers : List (List Answer)) (old mid new : D) →
-      Opened catalog db first (disk_of old mid) → Closed catalog db first list (disk_of mid new) → Settled catalog db first list (disk_of mid new) →
+      Opened catalog db first (disk_of old mid) → Closed catalog db first list (disk_of mid new) →
+      Settled every catalog db first list (disk_of mid new) →
       AreAnswered requests first list Whole answers → length list ≤ room_from limit first →
-      IsWholeRun limit catalog requests db first list (report_text catalog requests (weave missing requests answers) first list db Whole) (disk_of old new)
+      IsWholeRun every limit catalog requests db first list
+      (report_text catalog requests (weave missing requests answers) first list db Whole) (disk_of old new)
 
   -- law: an opening, an engine that was closed, its receipts, its log and the answers to its clients are a stopped run
   abbrev pub StoppedRuns : Type 0
   StoppedRuns =
-      (limit : ℕ) (catalog : Catalog) (requests : List Request) (db : Database) (first : ℕ) (list : List Listed) (status count : ℕ)
+      (every : Option ℕ) (limit : ℕ) (catalog : Catalog) (requests : List Request) (db : Database) (first : ℕ) (list : List Listed) (status count : ℕ)
       (missing : Answer) (answers : List (List Answer)) (old mid new : D) →
       Opened catalog db first (disk_of old mid) → Closed catalog db first list (disk_of mid new) → Receipted catalog first list count (disk_of mid new) →
-      LogEndsAsStopped status first list count (disk_of mid new) →
+      LogEndsAsStopped every status first list count (disk_of mid new) →
       AreAnswered requests first list (stop_on status count limit first list mid new) answers → length list ≤ room_from limit first →
-      IsStoppedRun limit catalog requests db first list status count
+      IsStoppedRun every limit catalog requests db first list status count
       (report_text catalog requests (weave missing requests answers) first list db (stop_on status count limit first list old new)) (disk_of old new)
 
   -- law: a run is one from every place and database that the disk stood for
   pub record RunsHoldFromEach : Type 0 where
-    pub whole : (limit : ℕ) (catalog : Catalog) (requests : List Request) (opening : Database) (first : ℕ) (list : List Listed) (text : List ℕ) (old new : D) →
-        IsWholeRun limit catalog requests opening first list text (disk_of old new) → (disk_of old new).tells → (place : ℕ) (db : Database) →
-        Stands catalog (disk_of old new).seen_before place (kept catalog db) →
+    pub whole : (every : Option ℕ) (limit : ℕ) (catalog : Catalog) (requests : List Request) (opening : Database) (first : ℕ) (list : List Listed)
+        (text : List ℕ) (old new : D) → IsWholeRun every limit catalog requests opening first list text (disk_of old new) → (disk_of old new).tells →
+        (place : ℕ) (db : Database) → Stands catalog (disk_of old new).seen_before place (kept catalog db) →
         (place ≡ first) × WholeSession catalog requests first list text (disk_of old new) db
-    pub stopped : (limit : ℕ) (catalog : Catalog) (requests : List Request) (opening : Database) (first : ℕ) (list : List Listed) (status count : ℕ) (text : List ℕ)
-        (old new : D) → IsStoppedRun limit catalog requests opening first list status count text (disk_of old new) → (disk_of old new).tells →
+    pub stopped : (every : Option ℕ) (limit : ℕ) (catalog : Catalog) (requests : List Request) (opening : Database) (first : ℕ) (list : List Listed)
+        (status count : ℕ) (text : List ℕ) (old new : D) →
+        IsStoppedRun every limit catalog requests opening first list status count text (disk_of old new) → (disk_of old new).tells →
         (place : ℕ) (db : Database) → Stands catalog (disk_of old new).seen_before place (kept catalog db) →
         (place ≡ first) × StoppedSession catalog requests limit first list status count text (disk_of old new) db

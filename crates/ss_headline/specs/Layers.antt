@@ -1,5 +1,5 @@
 -- What the calls below the top one owe, so that a run is what the headline says.
-use Rattle.std.specs.Prelude.{◌≡◌, ℕ, ◌+◌, ◌<◌, ◌≤◌, List, ◌++◌, length}
+use Rattle.std.specs.Prelude.{◌≡◌, ℕ, ◌+◌, ◌<◌, ◌≤◌, List, ◌++◌, length, Option}
 use Rattle.std.specs.List.{AllByRecursion}
 use Rattle.ss_model.specs.declared.catalog.Catalog.{Catalog}
 use Rattle.ss_model.specs.declared.entry.Listed.{Listed}
@@ -11,7 +11,7 @@ use Rattle.ss_model.specs.WholeDatabase.{WholeDatabase}
 use Rattle.ss_report_laws.specs.Replies.{mine}
 use Rattle.ss_standing.specs.Standing.{Stands, Prefix, StandsForAtLeast}
 use Rattle.ss_headline.specs.Disks.{DiskChange, AlwaysLeaves, AtEachMoment, AtTheExit}
-use Rattle.ss_headline.specs.Runs.{LogEndsWith}
+use Rattle.ss_headline.specs.Runs.{Logged}
 use Rattle.ss_headline.specs.Sentences.{ReceiptsStay}
 
 -- a store was recovered, or made on an empty disk: the files stood for this, as does what a crash leaves anew at each moment, and nothing
@@ -31,11 +31,11 @@ pub record Closed (catalog : Catalog) (db : Database) (first : ℕ) (list : List
   pub crashes : AlwaysLeaves disk (Prefix catalog db first list)
   pub receipts_stay : ReceiptsStay catalog disk
 
--- the engine had settled, and all was flushed: no batch is pending, all of the list is receipted, and the log ends with it
-pub record Settled (catalog : Catalog) (db : Database) (first : ℕ) (list : List Listed) (disk : DiskChange) : Type 0 where
+-- the engine had settled, and all was flushed: no batch is pending, all of the list is receipted, and the log ends as the list does
+pub record Settled (every : Option ℕ) (catalog : Catalog) (db : Database) (first : ℕ) (list : List Listed) (disk : DiskChange) : Type 0 where
   pub drained : Drained catalog (after catalog db list)
   pub receipt : AtTheExit disk (StandsForAtLeast catalog (first + length list))
-  pub logged : disk.tells → LogEndsWith list disk.seen_now
+  pub logged : disk.tells → Logged every first list disk.seen_now
 
 -- a client's entries but for the last 16 at most stand below this place
 pub record FewUnreceipted (client first : ℕ) (list : List Listed) (count : ℕ) : Type 0 where

@@ -1,8 +1,7 @@
 -- Runs on a disk: the session is one from each database that the disk stood for.
-use Rattle.std.specs.Prelude.{◌≡◌, ◌⊎◌, ◌≤◌, ◌+◌, ℕ, List, ◌++◌, length, take}
+use Rattle.std.specs.Prelude.{◌≡◌, ◌⊎◌, ◌<◌, ◌≤◌, ◌+◌, ℕ, List, length, take, Option, Some, None}
 use Rattle.ss_value.specs.FaultCounts.{Rose}
 use Rattle.ss_model.specs.declared.catalog.Catalog.{Catalog}
-use Rattle.ss_model.specs.declared.entry.Entry.{Entry}
 use Rattle.ss_model.specs.declared.entry.Listed.{Listed}
 use Rattle.ss_model.specs.declared.entry.Request.{Request}
 use Rattle.ss_model.specs.Database.{Database}
@@ -11,6 +10,7 @@ use Rattle.ss_model.specs.WholeDatabase.{WholeDatabase}
 use Rattle.ss_disk.specs.Files.{Files}
 use Rattle.ss_cmdlog.specs.Generation.{Stood}
 use Rattle.ss_cmdlog.specs.Store.{StandsFor, entries_of}
+use Rattle.ss_standing.specs.Ends.{EndAs}
 use Rattle.ss_standing.specs.Standing.{listed_entries, Stands}
 use Rattle.ss_headline.specs.Disks.{DiskChange}
 use Rattle.ss_headline.specs.Sentences.{WholeSession, StoppedSession, room_from}
@@ -22,40 +22,55 @@ pub record FromStore (catalog : Catalog) (opening : Database) (first : ℕ) (dis
   pub stood : disk.tells → Stands catalog disk.seen_before first (kept catalog opening)
   pub each : (db : Database) → kept catalog db ≡ kept catalog opening → session db
 
--- the last entries of the store are those of the list
-pub record LogEndsWith (list : List Listed) (seen : Files) : Type 0 where
+-- ---- what the log has
+
+-- the last entries of the store are those of the list; with checkpoints the log may have begun anew in the middle of it
+pub record LogEndsAs (every : Option ℕ) (list : List Listed) (seen : Files) : Type 0 where
   pub stood : Stood
   pub stands : StandsFor seen stood
-  pub before : List Entry
-  pub ends : entries_of stood ≡ before ++ listed_entries list
+  pub ends : EndAs every (entries_of stood) (listed_entries list)
 
 -- so they are those of a front of the list, which ends at this place at least
-pub record LogEndsWithFront (first : ℕ) (list : List Listed) (least : ℕ) (seen : Files) : Type 0 where
+pub record LogEndsWithFront (every : Option ℕ) (first : ℕ) (list : List Listed) (least : ℕ) (seen : Files) : Type 0 where
   pub some : ℕ
   pub within : some ≤ length list
   pub enough : least ≤ first + some
-  pub logged : LogEndsWith (take some list) seen
+  pub logged : LogEndsAs every (take some list) seen
+
+-- the current generation began less than so many executions before this place
+pub record BeginsNear (every place : ℕ) (seen : Files) : Type 0 where
+  pub stood : Stood
+  pub stands : StandsFor seen stood
+  pub near : place < stood.first + every
+
+-- behind a list that began at this place the log ends as the list does, and with checkpoints its generation began near the end
+abbrev pub Logged : Option ℕ → ℕ → List Listed → Files → Type 0
+Logged None first list seen = LogEndsAs None list seen
+Logged (Some every) first list seen = LogEndsAs (Some every) list seen × BeginsNear every (first + length list) seen
 
 -- the disk failed in the call, and the run stopped with the status that tells so (5), or where there was no memory to tell it (6)
 pub record HasFailed (status : ℕ) (disk : DiskChange) : Type 0 where
   pub status_is : (status ≡ 5) ⊎ (status ≡ 6)
   pub rose : Rose disk.faults_before disk.faults_now
 
--- the log ends with a front of the list that has all below this count, or the disk has failed
-abbrev pub LogEndsAsStopped : ℕ → ℕ → List Listed → ℕ → DiskChange → Type 0
-LogEndsAsStopped status first list count disk = disk.tells → LogEndsWithFront first list count disk.seen_now ⊎ HasFailed status disk
+-- the log ends as a front of the list that has all below this count, or the disk has failed
+abbrev pub LogEndsAsStopped : Option ℕ → ℕ → ℕ → List Listed → ℕ → DiskChange → Type 0
+LogEndsAsStopped every status first list count disk =
+    disk.tells → LogEndsWithFront every first list count disk.seen_now ⊎ HasFailed status disk
 
--- this list, which began at this database and place, is a whole run with this report; a log that ends with it tells it also where the
--- report is cut
-pub record IsWholeRun (limit : ℕ) (catalog : Catalog) (requests : List Request) (opening : Database) (first : ℕ) (list : List Listed) (text : List ℕ)
-    (disk : DiskChange) : Type 0 where
+-- ---- runs
+
+-- This list, which began at this database and place, is a whole run with this report. Without checkpoints the log ends with the list,
+-- and tells it also where the report is cut; with them the last one is near the list's end.
+pub record IsWholeRun (every : Option ℕ) (limit : ℕ) (catalog : Catalog) (requests : List Request) (opening : Database) (first : ℕ)
+    (list : List Listed) (text : List ℕ) (disk : DiskChange) : Type 0 where
   pub within : length list ≤ room_from limit first
-  pub logged : disk.tells → LogEndsWith list disk.seen_now
+  pub logged : disk.tells → Logged every first list disk.seen_now
   pub session : FromStore catalog opening first disk (WholeSession catalog requests first list text disk)
 
 -- the list stopped with this status, where the executions below the count are receipted
-pub record IsStoppedRun (limit : ℕ) (catalog : Catalog) (requests : List Request) (opening : Database) (first : ℕ) (list : List Listed) (status count : ℕ)
-    (text : List ℕ) (disk : DiskChange) : Type 0 where
+pub record IsStoppedRun (every : Option ℕ) (limit : ℕ) (catalog : Catalog) (requests : List Request) (opening : Database) (first : ℕ)
+    (list : List Listed) (status count : ℕ) (text : List ℕ) (disk : DiskChange) : Type 0 where
   pub within : length list ≤ room_from limit first
-  pub logged : LogEndsAsStopped status first list count disk
+  pub logged : LogEndsAsStopped every status first list count disk
   pub session : FromStore catalog opening first disk (StoppedSession catalog requests limit first list status count text disk)

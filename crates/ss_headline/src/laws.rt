@@ -4,7 +4,7 @@ ghost use Rattle.ss_headline.specs.Disks.{disk_of};
 ghost use Rattle.ss_headline.specs.Owed.{OwedIsEnough, FullListsHaveAll};
 ghost use Rattle.ss_headline.specs.Untouched.{UncalledIsOnlyRead, NothingRanStands};
 ghost use Rattle.ss_headline.specs.Between.{QuietLeaves, QuietStays, CallsGoOn};
-ghost use Rattle.ss_headline.specs.Laws.{FewStandBehind, FewStayFew, LogsEndWithLists};
+ghost use Rattle.ss_headline.specs.Laws.{FewStandBehind, FewStayFew, LogsEndWithLists, NearGenerationsBegin};
 ghost use Rattle.ss_headline.specs.Laws.{WholeSessions, StoppedSessions, SessionsHoldFromEach, WholeRuns, StoppedRuns, RunsHoldFromEach};
 
 use ss_disk::{Claim, Disk};
@@ -34,10 +34,13 @@ pub fn full_lists_have_all()
     next_is_ready();
 }
 
-/// A store whose generation has a list behind the entries that it was opened with has a log that ends with the list. A
-/// whole run says that it does, because a report that the sink cut may be one of several lists, and the log is of one.
+/// A store whose generation has a list behind the entries that it was opened with has a log that ends with the list
+/// (`ends`). A whole run says that it does, because a report that the sink cut may be one of several lists, and the log is
+/// of one. With checkpoints the log may lack the list's beginning; then a whole run says how few entries stand behind the
+/// last checkpoint (`near`), because a recovery replays them.
 pub fn logs_end_with_lists()
-    ensures { LogsEndWithLists }
+    ensures ends { LogsEndWithLists }
+    ensures near { NearGenerationsBegin }
 {}
 
 /// Of a disk that no call has reached nothing has changed, whatever is known of it (`uncalled`). Where nothing ran a crash

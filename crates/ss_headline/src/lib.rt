@@ -37,6 +37,8 @@
 //!   with a free limit or free counts of faults each reply could say that the list is full or the log halted.
 //! - What a stopped run's log ends with is said of a log that goes on alone (`LogEndsAsStopped`): once a disk has failed
 //!   nobody knows what it has. That it failed is in the status, but for a run whose report found no memory.
+//! - Whether a store has checkpoints (`every`) is a parameter of a run, because a checkpoint drops entries: the log has
+//!   then only the end of a list. In their stead a whole run says how near the last checkpoint is (`Logged`).
 //! - A receipt is said twice (`EveryReceiptStands`): that each image stands for the receipted executions, and that it
 //!   is a front of the list which ends there at least. The second tells the first; the first is what a client was
 //!   promised, without the list.

@@ -9,7 +9,7 @@ use std::marker::Brand;
 /// catalogue, one list and one disk. It is a trait with ghost members, and no struct with ghost fields, since what carries
 /// the name has no value of it. A caller picks the values once for each opening, where it names [`Brand`].
 pub trait Life {
-    ghost use Rattle.std.specs.Prelude.{ℕ, List};
+    ghost use Rattle.std.specs.Prelude.{ℕ, List, Option};
     ghost use Rattle.atomic_table.specs.Seated.{TableId};
     ghost use Rattle.ss_model.specs.declared.catalog.Catalog.{Catalog};
     ghost use Rattle.ss_model.specs.Database.{Database};
@@ -29,6 +29,9 @@ pub trait Life {
 
     ghost clients: { ℕ };
 
+    // whether there are checkpoints, and then from how many entries behind the last one on the next is due
+    ghost every: { Option ℕ };
+
     // the table of the seats that tokens stand on, which is made before the name is picked
     ghost table: { TableId };
 
@@ -43,6 +46,7 @@ pub trait Life {
 }
 
 impl Life for Brand {
+    ghost use Rattle.std.specs.Prelude.{None};
     ghost use Rattle.ss_model.specs.Lives.{no_catalog, no_database, no_table, any_past};
 
     ghost catalog = { no_catalog };
@@ -56,6 +60,8 @@ impl Life for Brand {
     ghost parts = { 0 };
 
     ghost clients = { 0 };
+
+    ghost every = { None };
 
     ghost table = { no_table };
 

@@ -23,12 +23,12 @@ lists catalog requests db first list text told = record { replays = told.one_by_
 
 module _ {D : Type 0} (change : D → D → DiskChange) where
   pub whole_runs_take_each_once : TakesEachOnce → WholeRunsTakeEachOnce change
-  whole_runs_take_each_once law = λ limit catalog accepted requests opening first list text old new run q streams.
+  whole_runs_take_each_once law = λ every limit catalog accepted requests opening first list text old new run q streams.
       let session = run.session.each opening refl in
       law catalog accepted opening run.session.whole.in_step list session.replies_and_tables.one_by_one session.at_the_end q streams
 
   pub whole_runs_of_one_client : OneClientOneReport → WholeRunsOfOneClient change
-  whole_runs_of_one_client law = λ limit catalog accepted requests client alone x y same settled first list other text more old new before now one two refused none none_other.
+  whole_runs_of_one_client law = λ every each limit catalog accepted requests client alone x y same settled first list other text more old new before now one two refused none none_other.
       let told = (one.session.each x refl).replies_and_tables in
       let also = (two.session.each y refl).replies_and_tables in
       let runs : RunsAlone catalog x client requests list = record {
@@ -42,9 +42,9 @@ module _ {D : Type 0} (change : D → D → DiskChange) where
       (both.same_list, both.same_report first text more told.report also.report)
 
   pub whole_runs_have_one_list : RunsHoldFromEach change → AReportHasOneList → WholeRunsHaveOneList change
-  whole_runs_have_one_list from_each one_list = λ limit bound catalog accepted requests x y first place list other text old new before now one two tells tells_too same.
+  whole_runs_have_one_list from_each one_list = λ every each limit bound catalog accepted requests x y first place list other text old new before now one two tells tells_too same.
       let stood = subst (λ (seen : Files). Stands catalog seen place (kept catalog y)) same (two.session.stood tells_too) in
-      let from_other = from_each.whole limit catalog requests x first list text old new one tells place y stood in
+      let from_other = from_each.whole every limit catalog requests x first list text old new one tells place y stood in
       let told = from_other.1.replies_and_tables in
       let also = (two.session.each y refl).replies_and_tables in (
         one_list catalog accepted requests y text list other

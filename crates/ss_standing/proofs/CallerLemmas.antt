@@ -22,3 +22,5 @@ pub use Rattle.ss_standing.proofs.OneThing.{entries_tell}
 pub use Rattle.ss_standing.proofs.Keeping.{counts_executions}
 -- What a loop over the items of a part has read so far: the next item joins those in front, and the first that is refused ends it.
 pub use Rattle.ss_standing.proofs.Loops.{for_refused, item_refused, next_for, next_item, no_more_for, no_more_items}
+-- A log's entries end as a list's where they stand behind others, where the same is added to both, where a checkpoint has emptied the log, and without checkpoints.
+pub use Rattle.ss_standing.proofs.Ends.{end_behind, end_with_more, end_anew, ends_without}

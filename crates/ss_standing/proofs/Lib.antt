@@ -16,6 +16,7 @@ pub mod ImageExact
 pub mod ImageTells
 pub mod OneThing
 pub mod Fronts
+pub mod Ends
 pub mod Keeping
 pub mod Checkpoints
 pub mod worked

@@ -1,5 +1,5 @@
 -- The laws at a store that is made on an empty disk, run and closed: a client's batch goes through the workflow that splits and joins.
-use Rattle.std.proofs.Common.{◌≡◌, ◌⊎◌, ◌<◌, ◌==◌, ⊎_elim, ap, ◌∙◌, ℕ, zero, suc, pos, codes, List, [], ◌∷◌, ◌++◌, replicate, take, true, false, cond, Some, None, ◌+◌, ◌≤◌, inl, inr, refl, sym, subst, arith, append-nil}
+use Rattle.std.proofs.Common.{◌≡◌, ◌⊎◌, ◌<◌, ◌==◌, ⊎_elim, ap, ◌∙◌, ℕ, zero, suc, pos, codes, List, [], ◌∷◌, ◌++◌, length, replicate, take, true, false, cond, Option, Some, None, IfSome, ◌+◌, ◌≤◌, inl, inr, refl, sym, subst, arith, append-nil}
 use Rattle.ss_disk.specs.Kinds.{DiskKind}
 use Rattle.std.specs.List.{AllByRecursion, cons_option, filter_map}
 use Rattle.std.proofs.lemmas.Bool.{cases_lt}
@@ -32,15 +32,15 @@ use Rattle.ss_cmdlog.specs.Log.{IsSettled}
 use Rattle.ss_cmdlog.specs.Store.{IsEmpty, StandsFor, entries_of}
 use Rattle.ss_cmdlog.proofs.CallerLemmas.{files_stand_for_one}
 use Rattle.ss_standing.specs.Image.{empty_image_of}
-use Rattle.ss_standing.specs.Standing.{Stands, Prefix, StandsForAtLeast}
-use Rattle.ss_standing.proofs.CallerLemmas.{counts_executions, forming_stands, new_image_is, nothing_stands, batch_store, batch_files, batch_files_stand, batch_prefix, batch_stands, batch_at_least}
+use Rattle.ss_standing.specs.Standing.{Stands, Prefix, StandsForAtLeast, listed_entries}
+use Rattle.ss_standing.proofs.CallerLemmas.{counts_executions, forming_stands, new_image_is, nothing_stands, batch_store, batch_files, batch_files_stand, batch_prefix, batch_stands, batch_at_least, end_behind}
 use Rattle.ss_headline.specs.Between.{CallsGoOn, GoesOnBehindAll, GoesOnBehindFront, HadList, QuietLeaves, QuietStays}
 use Rattle.ss_headline.specs.Disks.{DiskChange, disk_of, AtEachMoment, NothingRan, OnlyRead}
 use Rattle.ss_headline.specs.Sentences.{WholeSession, StoppedSession, stop_at}
-use Rattle.ss_headline.specs.Runs.{IsWholeRun, IsStoppedRun, LogEndsAsStopped}
+use Rattle.ss_headline.specs.Runs.{IsWholeRun, IsStoppedRun, LogEndsAs, LogEndsAsStopped, Logged}
 use Rattle.ss_headline.specs.Untouched.{NothingRanStands, UncalledIsOnlyRead}
 use Rattle.ss_headline.specs.Owed.{owed, outside, ListsAsked, FullListsHaveAll}
-use Rattle.ss_headline.specs.Laws.{WholeSessions, StoppedSessions, WholeRuns, StoppedRuns, RunsHoldFromEach}
+use Rattle.ss_headline.specs.Laws.{LogsEndWithLists, NearGenerationsBegin, WholeSessions, StoppedSessions, WholeRuns, StoppedRuns, RunsHoldFromEach}
 use Rattle.ss_headline.specs.Layers.{Opened, Closed, Settled, FewUnreceipted, Receipted}
 use Rattle.ss_headline.proofs.Untouched.{none_stands}
 use Rattle.ss_headline.proofs.Owed.{owed_is_enough}
@@ -147,6 +147,27 @@ opened = record {
   faults = omega arith;
 }
 
+-- ---- what the log ends with, without checkpoints and with one at least each so many entries
+
+abbrev pub log_before : Stood → List Entry → List Listed → Type 0
+log_before s before list = entries_of s ≡ before ++ listed_entries list
+
+-- a list behind other entries of the store
+log_ends : (every : Option ℕ) (before : List Entry) (list : List Listed) → log_before batch_store before list → LogEndsAs every list batch_files
+log_ends every before list is = record { stood = batch_store; stands = batch_files_stand; ends = end_behind every (entries_of batch_store) before (listed_entries list) is }
+
+-- the store was made at place 0: with checkpoints it needs none for a list that ends before so many entries
+pub logged_to : (every : Option ℕ) (first : ℕ) (before : List Entry) (list : List Listed) → log_before batch_store before list → IfSome every (λ n. first + length list < n) → Logged every first list batch_files
+logged_to None first before list is few = log_ends None before list is
+logged_to (Some n) first before list is few =
+    let near : first + length list < 0 + n = omega (arith, few) in (log_ends (Some n) before list is, record { stood = batch_store; stands = batch_files_stand; near = near })
+
+behind_new : (every : Option ℕ) → LogsEndWithLists → LogEndsAs every whole_batch batch_files
+behind_new every law = law every new_store batch_store whole_batch batch_files (record { first = refl; image = refl; entries = refl }) batch_files_stand
+
+begins_near : LogsEndWithLists → NearGenerationsBegin → Logged (Some 6) 0 whole_batch batch_files
+begins_near ends law = law 6 0 whole_batch batch_store batch_files (behind_new (Some 6) ends) batch_files_stand (omega arith)
+
 -- ---- the batch runs, and the engine is closed
 
 matches : MatchesCounts workflow start
@@ -163,11 +184,11 @@ closed = record {
 all_receipted : (image : Files) → image ≡ batch_files → StandsForAtLeast workflow 5 image
 all_receipted image is = subst (StandsForAtLeast workflow 5) (sym is) batch_at_least
 
-settled : Settled workflow start 0 whole_batch (change 1 2)
-settled = record {
+settled : (every : Option ℕ) → IfSome every (λ n. 5 < n) → Settled every workflow start 0 whole_batch (change 1 2)
+settled every few = record {
   drained = whole_batch_drains;
   receipt = λ q image is. all_receipted image is;
-  logged = λ t. record { stood = batch_store; stands = batch_files_stand; before = []; ends = refl };
+  logged = λ t. logged_to every 0 [] whole_batch refl few;
 }
 
 -- the client's entry is below the receipt, which is for all of the list
@@ -214,8 +235,11 @@ reported end = answered_report workflow (request ∷ []) start 0 whole_batch end
 
 -- ---- the laws there, at a limit that the list meets
 
-whole_session : WholeSessions change → WholeSession workflow (request ∷ []) 0 whole_batch (report Whole) (change 0 2) start
-whole_session law = law workflow (request ∷ []) start 0 whole_batch (report Whole) 0 1 2 opened closed settled (reported Whole)
+whole_session : (every : Option ℕ) → IfSome every (λ n. 5 < n) → WholeSessions change → WholeSession workflow (request ∷ []) 0 whole_batch (report Whole) (change 0 2) start
+whole_session every few law = law every workflow (request ∷ []) start 0 whole_batch (report Whole) 0 1 2 opened closed (settled every few) (reported Whole)
+
+both_sessions : WholeSessions change → WholeSession workflow (request ∷ []) 0 whole_batch (report Whole) (change 0 2) start × WholeSession workflow (request ∷ []) 0 whole_batch (report Whole) (change 0 2) start
+both_sessions law = (whole_session None tt law, whole_session (Some 6) (omega arith) law)
 
 abbrev full_end : End
 full_end = stop_at 9 5 5 0 whole_batch 0 0
@@ -223,19 +247,26 @@ full_end = stop_at 9 5 5 0 whole_batch 0 0
 stopped_session : StoppedSessions change → StoppedSession workflow (request ∷ []) 5 0 whole_batch 9 5 (report full_end) (change 0 2) start
 stopped_session law = law workflow (request ∷ []) 5 start 0 whole_batch 9 5 (report full_end) 0 1 2 opened closed receipted (reported full_end)
 
-whole_run : WholeRuns change → IsWholeRun 5 workflow (request ∷ []) start 0 whole_batch (report Whole) (change 0 2)
-whole_run law = law 5 workflow (request ∷ []) start 0 whole_batch NoMemory told 0 1 2 opened closed settled (answered Whole) (omega arith)
+whole_run : (every : Option ℕ) → IfSome every (λ n. 5 < n) → WholeRuns change → IsWholeRun every 5 workflow (request ∷ []) start 0 whole_batch (report Whole) (change 0 2)
+whole_run every few law = law every 5 workflow (request ∷ []) start 0 whole_batch NoMemory told 0 1 2 opened closed (settled every few) (answered Whole) (omega arith)
+
+-- without checkpoints, and with one at least each six entries
+run_without : WholeRuns change → IsWholeRun None 5 workflow (request ∷ []) start 0 whole_batch (report Whole) (change 0 2)
+run_without = whole_run None tt
+
+run_with : WholeRuns change → IsWholeRun (Some 6) 5 workflow (request ∷ []) start 0 whole_batch (report Whole) (change 0 2)
+run_with = whole_run (Some 6) (omega arith)
 
 -- the log has all five entries
-logged : LogEndsAsStopped 9 0 whole_batch 5 (change 1 2)
-logged = λ t. inl (record { some = 5; within = omega arith; enough = omega arith; logged = record { stood = batch_store; stands = batch_files_stand; before = []; ends = refl } })
+logged : (every : Option ℕ) → LogEndsAsStopped every 9 0 whole_batch 5 (change 1 2)
+logged every = λ t. inl (record { some = 5; within = omega arith; enough = omega arith; logged = log_ends every [] whole_batch refl })
 
-stopped_run : StoppedRuns change → IsStoppedRun 5 workflow (request ∷ []) start 0 whole_batch 9 5 (report full_end) (change 0 2)
-stopped_run law = law 5 workflow (request ∷ []) start 0 whole_batch 9 5 NoMemory told 0 1 2 opened closed receipted logged (answered full_end) (omega arith)
+stopped_run : (every : Option ℕ) → StoppedRuns change → IsStoppedRun every 5 workflow (request ∷ []) start 0 whole_batch 9 5 (report full_end) (change 0 2)
+stopped_run every law = law every 5 workflow (request ∷ []) start 0 whole_batch 9 5 NoMemory told 0 1 2 opened closed receipted (logged every) (answered full_end) (omega arith)
 
 -- the disk was empty, and stood for the empty database
-from_empty : RunsHoldFromEach change → (opening : Database) (first : ℕ) → IsWholeRun 5 workflow (request ∷ []) opening first whole_batch (report Whole) (change 0 2) → 0 ≡ first
-from_empty law opening first run = (law.whole 5 workflow (request ∷ []) opening first whole_batch (report Whole) 0 2 run tt 0 start nothing_stands).0
+from_empty : RunsHoldFromEach change → (every : Option ℕ) (opening : Database) (first : ℕ) → IsWholeRun every 5 workflow (request ∷ []) opening first whole_batch (report Whole) (change 0 2) → 0 ≡ first
+from_empty law every opening first run = (law.whole every 5 workflow (request ∷ []) opening first whole_batch (report Whole) 0 2 run tt 0 start nothing_stands).0
 
 -- ---- a second run, of no request, behind the first
 
@@ -270,22 +301,25 @@ closed_again = record {
   receipts_stay = λ true' n. stays_none (λ disk. disk) images (StandsForAtLeast workflow n) 2 2 (omega arith);
 }
 
-settled_again : Settled workflow behind 5 [] (change 2 2)
-settled_again = record {
+settled_again : (every : Option ℕ) → IfSome every (λ n. 5 < n) → Settled every workflow behind 5 [] (change 2 2)
+settled_again every few = record {
   drained = whole_batch_drains;
   receipt = λ true' image is. all_receipted image is;
-  logged = λ t. record { stood = batch_store; stands = batch_files_stand; before = entries_of batch_store; ends = sym (append-nil (entries_of batch_store)) };
+  logged = λ t. logged_to every 5 (entries_of batch_store) [] (sym (append-nil (entries_of batch_store))) few;
 }
 
-second : WholeRuns change → HadList 5 workflow [] behind 5 [] (change 2 2)
-second law =
-    inl (report_text workflow [] (weave NoMemory [] nothing_told) 5 [] behind Whole, law 5 workflow [] behind 5 [] NoMemory nothing_told 2 2 2 opened_again closed_again settled_again (answered_nothing 5 Whole 8) (omega arith))
+second : (every : Option ℕ) → IfSome every (λ n. 5 < n) → WholeRuns change → HadList every 5 workflow [] behind 5 [] (change 2 2)
+second every few law = inl (
+  report_text workflow [] (weave NoMemory [] nothing_told) 5 [] behind Whole,
+  law every 5 workflow [] behind 5 [] NoMemory nothing_told 2 2 2 opened_again closed_again (settled_again every few) (answered_nothing 5 Whole 8) (omega arith),
+)
 
+-- the one with checkpoints, the other without them
 goes_on_behind_all : WholeRuns change → CallsGoOn change → GoesOnBehindAll change workflow start behind 0 5 whole_batch [] 0 2 2
-goes_on_behind_all runs law = law.whole 5 workflow (request ∷ []) [] start behind 0 5 whole_batch [] (report Whole) 0 2 2 tt (whole_run runs) (second runs)
+goes_on_behind_all runs law = law.whole None (Some 6) 5 workflow (request ∷ []) [] start behind 0 5 whole_batch [] (report Whole) 0 2 2 tt (run_without runs) (second (Some 6) (omega arith) runs)
 
 goes_on_behind_front : WholeRuns change → StoppedRuns change → CallsGoOn change → GoesOnBehindFront change workflow start behind 0 5 whole_batch [] 5 0 2 2
-goes_on_behind_front runs stops law = law.stopped 5 workflow (request ∷ []) [] start behind 0 5 whole_batch [] 9 5 (report full_end) 0 2 2 tt (stopped_run stops) (second runs)
+goes_on_behind_front runs stops law = law.stopped (Some 6) None 5 workflow (request ∷ []) [] start behind 0 5 whole_batch [] 9 5 (report full_end) 0 2 2 tt (stopped_run (Some 6) stops) (second None tt runs)
 
 -- while the store is made nothing has run
 nothing : NothingRan workflow (change 0 1)

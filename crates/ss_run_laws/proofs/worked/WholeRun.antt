@@ -1,6 +1,6 @@
 -- Two whole runs on a disk that tells nothing, as a folder does: a batch through a workflow, and three calls of one client; and the first on
 -- a disk that tells its contents.
-use Rattle.std.proofs.Common.{◌≡◌, ◌≤◌, ◌==◌, ℕ, zero, suc, pos, codes, List, [], ◌∷◌, length, Bool, true, false, cond, Some, None, refl, sym, arith}
+use Rattle.std.proofs.Common.{◌≡◌, ◌<◌, ◌≤◌, ◌==◌, ℕ, zero, suc, pos, codes, List, [], ◌∷◌, length, Bool, true, false, cond, Option, Some, None, IfSome, refl, sym, arith}
 use Rattle.std.specs.List.{cons_option, filter_map}
 use Rattle.ss_value.specs.declared.value.Value.TheVariants.{Int}
 use Rattle.ss_model.specs.declared.catalog.Catalog.{Catalog}
@@ -19,12 +19,13 @@ use Rattle.ss_model.specs.Settling.{Drained, streams_on}
 use Rattle.ss_model.proofs.Accounts as accounts
 use Rattle.ss_model_laws.proofs.CallerLemmas.{accepted, workflow, empty_whole, matching_stays, replays_orders, whole_batch, whole_batch_drains, whole_batch_replays}
 use Rattle.ss_disk.specs.Files.{Files}
-use Rattle.ss_standing.proofs.CallerLemmas.{nothing_stands, batch_store, batch_files, batch_files_stand}
+use Rattle.ss_standing.proofs.CallerLemmas.{nothing_stands, batch_files}
 use Rattle.ss_headline.specs.Disks.{DiskChange, disk_of}
 use Rattle.ss_headline.specs.Laws.{SessionsHoldFromEach}
 use Rattle.ss_headline.specs.Owed.{outside}
 use Rattle.ss_headline.specs.Runs.{IsWholeRun}
 use Rattle.ss_headline.specs.Sentences.{WholeSession, room_from}
+use Rattle.ss_headline.proofs.CallerLemmas.{batch_logged}
 use Rattle.ss_run_laws.specs.Once.{TakesEach}
 use Rattle.ss_run_laws.specs.WholeRun.{WholeRunsTakeEachOnce, WholeRunsOfOneClient, WholeRunsHaveOneList}
 use Rattle.ss_run_laws.proofs.worked.OneClient.{start, calls, calls_alone}
@@ -51,8 +52,8 @@ module _ (catalog : Catalog) (ok : Accepted catalog) (requests : List Request) (
         at_the_end = drained;
       }
 
-  whole_run : SessionsHoldFromEach change → length list ≤ room_from 5 0 → IsWholeRun 5 catalog requests (empty_database catalog) 0 list text (change tt tt)
-  whole_run law room = record {
+  whole_run : (every : Option ℕ) → SessionsHoldFromEach change → length list ≤ room_from 5 0 → IsWholeRun every 5 catalog requests (empty_database catalog) 0 list text (change tt tt)
+  whole_run every law room = record {
     within = room;
     logged = λ tells. absurd tells;
     session = record {
@@ -85,10 +86,10 @@ push_reported = record {
   text = refl;
 }
 
-takes_each : SessionsHoldFromEach change → WholeRunsTakeEachOnce change → (q : ℕ) → streams_on workflow q ≡ true → TakesEach workflow (empty_database workflow) whole_batch q
-takes_each each law =
-    law 5 workflow accepted pushes (empty_database workflow) 0 whole_batch push_text tt tt
-    (whole_run workflow accepted pushes whole_batch push_text whole_batch_replays push_reported whole_batch_drains each (omega arith))
+takes_each : SessionsHoldFromEach change → WholeRunsTakeEachOnce change → (every : Option ℕ) (q : ℕ) → streams_on workflow q ≡ true → TakesEach workflow (empty_database workflow) whole_batch q
+takes_each each law every =
+    law every 5 workflow accepted pushes (empty_database workflow) 0 whole_batch push_text tt tt
+    (whole_run workflow accepted pushes whole_batch push_text whole_batch_replays push_reported whole_batch_drains every each (omega arith))
 
 -- ---- the same on a disk that tells: empty before the run, and a store with the batch behind it
 
@@ -99,10 +100,11 @@ files true = batch_files
 abbrev told : Bool → Bool → DiskChange
 told = disk_of (record { tells = Unit {0}; honest = ⊥; seen = files; moment = λ disk. 0; images = λ disk moment image. Unit {0}; faults = λ disk. 0 })
 
-told_run : SessionsHoldFromEach told → IsWholeRun 5 workflow pushes (empty_database workflow) 0 whole_batch push_text (told false true)
-told_run law = record {
+-- the store was made at place 0, and has five entries: with checkpoints six entries apart it needs none
+told_run : (every : Option ℕ) → IfSome every (λ n. 5 < n) → SessionsHoldFromEach told → IsWholeRun every 5 workflow pushes (empty_database workflow) 0 whole_batch push_text (told false true)
+told_run every few law = record {
   within = omega arith;
-  logged = λ tells. record { stood = batch_store; stands = batch_files_stand; before = []; ends = refl };
+  logged = λ tells. batch_logged every 0 [] whole_batch refl few;
   session = record {
     whole = empty_whole workflow accepted;
     stood = λ tells. nothing_stands;
@@ -112,11 +114,11 @@ told_run law = record {
   };
 }
 
--- whatever whole run wrote this text from an empty disk, it had this list, from place 0 on
-one_list : SessionsHoldFromEach told → WholeRunsHaveOneList told → (opening : Database) (place : ℕ) (other : List Listed) → IsWholeRun 5 workflow pushes opening place other push_text (told false true)
+-- whatever whole run wrote this text from an empty disk, it had this list, from place 0 on, be there checkpoints in one of them
+one_list : SessionsHoldFromEach told → WholeRunsHaveOneList told → (opening : Database) (place : ℕ) (other : List Listed) → IsWholeRun None 5 workflow pushes opening place other push_text (told false true)
     → (whole_batch ≡ other) × (0 ≡ place)
 one_list each law opening place other run =
-    law 5 5 workflow accepted pushes (empty_database workflow) opening 0 place whole_batch other push_text false true false true (told_run each) run tt tt refl
+    law (Some 6) None 5 5 workflow accepted pushes (empty_database workflow) opening 0 place whole_batch other push_text false true false true (told_run (Some 6) (omega arith) each) run tt tt refl
 
 -- ---- three calls
 
@@ -141,8 +143,8 @@ drained (suc zero) streams = cc
 drained (suc (suc q)) streams = cc
 
 -- each whole run of the three that leaves none out has this list, and wrote this text
-alike : SessionsHoldFromEach change → WholeRunsOfOneClient change → (other : List Listed) (more : List ℕ) → IsWholeRun 5 accounts.accounts calls start 0 other more (change tt tt)
+alike : SessionsHoldFromEach change → WholeRunsOfOneClient change → (every : Option ℕ) (other : List Listed) (more : List ℕ) → IsWholeRun every 5 accounts.accounts calls start 0 other more (change tt tt)
     → outside calls other ≡ 0 → (accounts.three_calls ≡ other) × (text ≡ more)
-alike each law other more run none =
-    law 5 accounts.accounts accounts.accepted calls 0 calls_alone.alone start start refl refl 0 accounts.three_calls other text more tt tt tt tt
-    (whole_run accounts.accounts accounts.accepted calls accounts.three_calls text accounts.three_calls_replay reported drained each (omega arith)) run (λ s. refl) refl none
+alike each law every other more run none =
+    law None every 5 accounts.accounts accounts.accepted calls 0 calls_alone.alone start start refl refl 0 accounts.three_calls other text more tt tt tt tt
+    (whole_run accounts.accounts accounts.accepted calls accounts.three_calls text accounts.three_calls_replay reported drained None each (omega arith)) run (λ s. refl) refl none

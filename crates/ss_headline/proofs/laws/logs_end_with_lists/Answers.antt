@@ -1,5 +1,11 @@
 use Rattle.ss_cmdlog.specs.Store.{entries_of}
+use Rattle.ss_standing.specs.Standing.{listed_entries}
+use Rattle.ss_standing.proofs.CallerLemmas.{end_behind}
 use Rattle.ss_headline.proofs.laws.logs_end_with_lists.Goals as goal
 
-pub returns : goal.returns
-returns c = λ opened now list seen behind stands. record { stood = now; stands = stands; before = entries_of opened; ends = behind.entries }
+pub returns-clause-ends : goal.returns-clause-ends
+returns-clause-ends c = λ every opened now list seen behind stands.
+    record { stood = now; stands = stands; ends = end_behind every (entries_of now) (entries_of opened) (listed_entries list) behind.entries }
+
+pub returns-clause-near : goal.returns-clause-near
+returns-clause-near c = λ every first list now seen ends stands near. (ends, record { stood = now; stands = stands; near = near })
