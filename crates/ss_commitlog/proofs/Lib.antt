@@ -8,6 +8,7 @@ pub mod InAndOut
 pub mod Knowing
 pub mod Lists
 pub mod Meeting
+pub mod MeetingWith
 pub mod OneList
 pub mod Replaying
 pub mod Steps

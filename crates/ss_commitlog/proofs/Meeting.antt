@@ -79,7 +79,7 @@ drop_front [] ys (suc n) is = absurd (omega arith)
 drop_front (x ∷ xs) ys zero is = absurd (omega arith)
 drop_front (x ∷ xs) ys (suc n) is = drop_front xs ys n (omega arith)
 
-length-roles_of : (ks : List Known) → length (roles_of ks) ≡ length ks
+pub length-roles_of : (ks : List Known) → length (roles_of ks) ≡ length ks
 length-roles_of [] = refl
 length-roles_of (k ∷ ks) = ap suc (length-roles_of ks)
 

@@ -119,15 +119,21 @@ SeeOne k l = (k.count ≡ l.count) × (k.faults ≡ l.faults)
 abbrev pub KnowOne : Known → Known → Type 0
 KnowOne k l = (k.list ≡ l.list) × SeeOne k l
 
+-- each of these has seen the numbers that the token has seen
+abbrev pub AllSeeAs : Known → List Known → Type 0
+AllSeeAs l ks = (k : Known) → In k ks → SeeOne k l
+
 -- the same tokens, which then know one list of at most so many entries, that goes on from what each knew
 abbrev pub MeetAll : Catalog → ℕ → ℕ → List Known → List Known → Type 0
 MeetAll catalog parts limit ks ls = (list : List Item) × (length list ≤ limit) × AllKnow list ks ls × AllContinue catalog parts list ks
 
--- the same marks and the same note, which then know one list, that goes on from what each of them knew
+-- the same marks and the same note, which then know one list, that goes on from what each of them knew, and have seen the same
+-- numbers
 pub record Met (catalog : Catalog) (parts limit : ℕ) (marks : List Known) (note : Known) (new_marks : List Known) (new_note : Known) : Type 0 where
   pub know : AllKnow new_note.list marks new_marks
   pub go_on : AllContinue catalog parts new_note.list marks
   pub follows : Follows catalog parts limit note new_note
+  pub see : AllSeeAs new_note new_marks
 
 -- the tokens of these roles before the first entry, which has this place
 abbrev pub at_opening : ℕ → List Role → List Known

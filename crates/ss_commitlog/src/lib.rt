@@ -62,8 +62,8 @@
 //!   list need the entry's value behind that list, and no more (lemma `right_at_one_list`).
 //! - `look` (`ok`): the batch that a consumer finds; `ready_at` (`ready`): just the procedures of a partition that are
 //!   ready; each of the list that the token then knows (`Follows`).
-//! - `meet` (`one`), `meet_all`, `meet_with` (`Met`): these tokens then know one list; `meet_tail` (`ok`) gives the entries from a
-//!   place of it on, too.
+//! - `meet` (`one`), `meet_all`, `meet_with` (`Met`): these tokens then know one list; but for `meet_all` they have then seen the
+//!   same numbers, too. `meet_tail` and `meet_with_tail` (`ok`) give the entries from a place of the list on besides.
 //! - `streams` (`streams`): the streams after the one list that its tokens then know (`marks`). To a checkpoint, which has the marks
 //!   of all partitions, they are those of the whole list, since each entry touches a partition: none is added meanwhile.
 //! - `close`: a list that replays and has its orders (`legal`) and goes on from what each token knew (`list`), with the

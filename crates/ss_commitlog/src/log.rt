@@ -29,11 +29,11 @@ use std::sync::{Mutex, Wait};
 /// One list of executions, and the batches that are still to take after it.
 ///
 /// Every call but `post` and `see` takes the lock; none of them takes another lock, or waits, while it holds it. What they
-/// cost under the lock: `commit` a step for each mark, each batch and each input; `look` a copy of the batch; `meet_tail` a
-/// copy of the entries; `streams` a copy of the batches that are still to take; `ready_at` a look at each procedure's home, and
-/// at the inputs of those that are at home there; `meet`, `meet_all` and `meet_with` a step or two for each token. No commit
-/// looks at the list. Memory: `commit` an entry's and its batches' room, made before the first step; `look`, `meet_tail` and
-/// `streams` their copies; all others none.
+/// cost under the lock: `commit` a step for each mark, each batch and each input; `look` a copy of the batch; `meet_tail` and
+/// `meet_with_tail` a copy of the entries; `streams` a copy of the batches that are still to take; `ready_at` a look at each
+/// procedure's home, and at the inputs of those that are at home there; `meet`, `meet_all` and `meet_with` a step or two for
+/// each token. No commit looks at the list. Memory: `commit` an entry's and its batches' room, made before the first step;
+/// `look`, `meet_tail`, `meet_with_tail` and `streams` their copies; all others none.
 #[derive(Drop)]
 pub struct CommitLog<I: Life> {
     pub(crate) table: LogTable,
@@ -109,7 +109,7 @@ impl<I: Life> CommitLog<I> {
         self.desk.lock(rt).meet_all(&self.table, marks);
     }
 
-    /// All marks and the note then know one list. Takes the lock once.
+    /// All marks and the note then know one list, and have seen the same numbers. Takes the lock once.
     pub fn meet_with<R: Wait>(&self, rt: &R, marks: &mut Marks<I>, note: &mut Note<I>)
         ensures { Met I.catalog I.parts I.limit marks.old note.old marks.new note.new }
     {
@@ -135,6 +135,29 @@ impl<I: Life> CommitLog<I> {
         self.desk
             .lock(rt)
             .meet_tail(&self.table, alloc, mark, note, from)
+    }
+
+    /// All marks and the note then know one list, and have seen the same numbers. Gives copies of the entries of that list
+    /// from a place on. Takes the lock once, and holds it for a step or two for each token and those copies. Out of memory
+    /// gives no copies, and the tokens have met all the same.
+    ///
+    /// It is for a checkpoint, which has all partitions in hand: what the disk hasn't got yet is then flushed before the
+    /// image of the database takes the place of the log.
+    pub fn meet_with_tail<R: Wait>(
+        &self,
+        rt: &R,
+        alloc: Global,
+        marks: &mut Marks<I>,
+        note: &mut Note<I>,
+        from: u64,
+    ) -> Result<Seq<Listed>, NoMemory>
+        requires from { I.first ≤ from }
+        ensures met { Met I.catalog I.parts I.limit marks.old note.old marks.new note.new }
+        ensures ok { IfOk result (λ copies. copies ≡ drop (from - I.first) (listed_of note.new.list)) }
+    {
+        self.desk
+            .lock(rt)
+            .meet_with_tail(&self.table, alloc, marks, note, from)
     }
 
     /// All these tokens then know one list. Gives a copy of the streams after it: the batches that some consumer has still to

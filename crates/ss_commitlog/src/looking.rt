@@ -10,11 +10,11 @@ ghost use Rattle.ss_commitlog.specs.declared.role.Role.TheVariants.{Disk};
 ghost use Rattle.ss_commitlog.specs.Meaning.{listed_of, HaveClientsBelow};
 ghost use Rattle.ss_commitlog.specs.Reading.{found_batch, IsReadyAt};
 ghost use Rattle.ss_commitlog.specs.Right.{known_database};
-ghost use Rattle.ss_commitlog.specs.Tokens.{Follows, AllKnow, Continues, AllContinue, AllSaw, SeeOne};
+ghost use Rattle.ss_commitlog.specs.Tokens.{Follows, AllKnow, Continues, AllContinue, AllSaw, AllSeeAs, SeeOne};
 
 use crate::desk::Desk;
 use crate::hands::show_marks;
-use crate::notes::{end_all, show, show_two};
+use crate::notes::{end_all, show, show_marks_with, show_two};
 use crate::reading::{batch_for, copy_from, ready_set};
 use crate::rule::LogTable;
 use crate::token::{Mark, Marks, Note};
@@ -82,15 +82,15 @@ impl<I: Life> Desk<I> {
         show_marks(table, &mut self.seat, self.alloc, marks);
     }
 
-    /// All marks and a note see the list.
+    /// All marks and a note see the list, and each other's numbers.
     pub fn meet_with(&mut self, table: &LogTable, marks: &mut Marks<I>, note: &mut Note<I>)
         requires table { (table.now.shared.table_id ≡ I.table) × (0 < I.table.words) }
         ensures list { (self.new ≡ self.old) × (note.new.list ≡ self.old) }
         ensures marks { AllKnow note.new.list marks.old marks.new × AllContinue I.catalog I.parts note.new.list marks.old }
         ensures note { Follows I.catalog I.parts I.limit note.old note.new }
+        ensures see { AllSeeAs note.new marks.new }
     {
-        show_marks(table, &mut self.seat, self.alloc, marks);
-        show(table, &mut self.seat, note);
+        show_marks_with(table, &mut self.seat, self.alloc, marks, note);
     }
 
     /// All tokens see the list. A copy of the streams after it.
@@ -127,6 +127,28 @@ impl<I: Life> Desk<I> {
         ensures ok { IfOk result (λ copies. copies ≡ drop (from - I.first) (listed_of note.new.list)) }
     {
         show_two(table, &mut self.seat, mark, note);
+        let skip = (from - self.first) as usize;
+        copy_from(alloc, self.list.as_slice(), skip)
+    }
+
+    /// All marks and a note see the list, and each other's numbers. Copies of the entries from a place on.
+    pub fn meet_with_tail(
+        &mut self,
+        table: &LogTable,
+        alloc: Global,
+        marks: &mut Marks<I>,
+        note: &mut Note<I>,
+        from: u64,
+    ) -> Result<Seq<Listed>, NoMemory>
+        requires table { (table.now.shared.table_id ≡ I.table) × (0 < I.table.words) }
+        requires from { I.first ≤ from }
+        ensures list { (self.new ≡ self.old) × (note.new.list ≡ self.old) }
+        ensures marks { AllKnow note.new.list marks.old marks.new × AllContinue I.catalog I.parts note.new.list marks.old }
+        ensures note { Follows I.catalog I.parts I.limit note.old note.new }
+        ensures see { AllSeeAs note.new marks.new }
+        ensures ok { IfOk result (λ copies. copies ≡ drop (from - I.first) (listed_of note.new.list)) }
+    {
+        show_marks_with(table, &mut self.seat, self.alloc, marks, note);
         let skip = (from - self.first) as usize;
         copy_from(alloc, self.list.as_slice(), skip)
     }

@@ -1,4 +1,4 @@
-//! Steps of one token or two, be they marks or notes: those that show them the list, for `looking`, and `end_all`, by which
+//! Steps of one token or two, or of a note with all marks: those that show them the list, for `looking`, and `end_all`, by which
 //! `Desk::close` takes all tokens for good, with the lock held; and `post` and `see`, for `log`, which need none.
 
 ghost use Rattle.std.specs.Prelude.{◌≡◌, ◌⊎◌, ◌+◌, ◌<◌, ◌≤◌, ◌∷◌, [], length};
@@ -6,16 +6,18 @@ ghost use Rattle.ss_commitlog.specs.declared.role.Role.TheVariants.{Disk, Log};
 ghost use Rattle.ss_commitlog.specs.Roles.{In};
 ghost use Rattle.ss_commitlog.specs.Rule.{at_rest};
 ghost use Rattle.ss_commitlog.specs.Meaning.{IsLegal};
-ghost use Rattle.ss_commitlog.specs.Tokens.{joined, cut, token, log_view, known, head_or_reader, Knows, AllKnow, Continues, AllContinue, AllSaw};
+ghost use Rattle.ss_commitlog.specs.Tokens.{joined, cut, token, log_view, known, head_or_reader, Knows, AllKnow, Continues, AllContinue, AllSaw, AllSeeAs};
 
-use crate::hands::take_in_all;
+use crate::hands::{give_back, take_in_all};
 use crate::posted::Posted;
 use crate::rule::{
     First, LogSeat, LogTable, Looks, NewReader, PostsCount, PostsFaults, SeesCount, SeesFaults,
     TakesIn,
 };
-use crate::token::LogToken;
+use crate::token::{LogToken, Marks};
 use ss_model::Life;
+use ss_value::Seq;
+use std::alloc::Global;
 use std::marker::PhantomData;
 use std::mem::replace;
 
@@ -119,6 +121,51 @@ pub(crate) fn show_two<I: Life>(
     table.shared.load::<Looks>(seat, 0);
     *mark = give_one(table, seat);
     *note = give_one(table, seat);
+}
+
+/// All these tokens and a note see the list, and each other's numbers.
+fn show_with<I: Life>(
+    table: &LogTable,
+    seat: &mut LogSeat,
+    tokens: &mut Vec<LogToken<I>>,
+    note: &mut LogToken<I>,
+)
+    requires table { (table.now.shared.table_id ≡ I.table) × (seat.old.table_id ≡ I.table) × (0 < I.table.words) }
+    requires log { seat.old.me ≡ (log_view seat.old.me.0.now.known seat.old.me.0.now.count seat.old.me.0.now.faults, []) }
+    requires legal { IsLegal I.catalog I.parts I.clients I.limit I.opening seat.old.me.0.now.known }
+    ensures log { (seat.new.table_id ≡ I.table) × (seat.new.me ≡ (log_view seat.old.me.0.now.known seat.new.me.0.now.count seat.new.me.0.now.faults, [])) }
+    ensures tokens { AllKnow seat.old.me.0.now.known tokens.old.items tokens.new.items
+        × AllContinue I.catalog I.parts seat.old.me.0.now.known tokens.old.items }
+    ensures note { Knows seat.old.me.0.now.known note.old note.new × Continues I.catalog I.parts seat.old.me.0.now.known note.old }
+    ensures see { AllSeeAs note.new tokens.new.items }
+{
+    let count = tokens.len();
+    take_in_lent(table, seat, note);
+    take_in_all(table, seat, tokens);
+    table.shared.load::<Looks>(seat, 0);
+    give_back(table, seat, tokens, count);
+    *note = give_one(table, seat);
+}
+
+/// All these marks and a note see the list, and each other's numbers. An empty list stands in the marks' place meanwhile.
+pub(crate) fn show_marks_with<I: Life>(
+    table: &LogTable,
+    seat: &mut LogSeat,
+    alloc: Global,
+    marks: &mut Marks<I>,
+    note: &mut LogToken<I>,
+)
+    requires table { (table.now.shared.table_id ≡ I.table) × (seat.old.table_id ≡ I.table) × (0 < I.table.words) }
+    requires log { seat.old.me ≡ (log_view seat.old.me.0.now.known seat.old.me.0.now.count seat.old.me.0.now.faults, []) }
+    requires legal { IsLegal I.catalog I.parts I.clients I.limit I.opening seat.old.me.0.now.known }
+    ensures log { (seat.new.table_id ≡ I.table) × (seat.new.me ≡ (log_view seat.old.me.0.now.known seat.new.me.0.now.count seat.new.me.0.now.faults, [])) }
+    ensures marks { AllKnow seat.old.me.0.now.known marks.old marks.new × AllContinue I.catalog I.parts seat.old.me.0.now.known marks.old }
+    ensures note { Knows seat.old.me.0.now.known note.old note.new × Continues I.catalog I.parts seat.old.me.0.now.known note.old }
+    ensures see { AllSeeAs note.new marks.new }
+{
+    let mut own = replace(marks, Seq::new(alloc)).into_vec();
+    show_with(table, seat, &mut own, note);
+    *marks = Seq::from_vec(own);
 }
 
 /// All tokens go into the log's seat for good.

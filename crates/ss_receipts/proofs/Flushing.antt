@@ -1,8 +1,8 @@
 -- What a log holds of a list, over a flush of the rest of it.
-use Rattle.std.proofs.Common.{◌≡◌, ◌∙◌, inl, inr, ℕ, ◌+◌, ◌-◌, ◌≤◌, List, ◌++◌, length, take, drop, Some, None, refl, sym, ap, subst, arith, length-append, length-drop, length-take-le, take-add}
+use Rattle.std.proofs.Common.{◌≡◌, ◌∙◌, inl, inr, ℕ, ◌+◌, ◌-◌, ◌≤◌, List, ◌++◌, length, take, drop, Option, Some, None, refl, sym, ap, subst, arith, length-append, length-drop, length-take-le, take-add}
 use Rattle.std.specs.List.{flat_map}
 use Rattle.std.proofs.lemmas.Grind.{flat_map-append}
-use Rattle.std.proofs.lemmas.List.{append_assoc, map-append, take-map, take_all}
+use Rattle.std.proofs.lemmas.List.{map-append, take-map, take_all}
 use Rattle.ss_value.specs.FaultCounts.{Rose}
 use Rattle.ss_model.specs.declared.catalog.Catalog.{Catalog}
 use Rattle.ss_model.specs.declared.entry.Entry.{Entry}
@@ -20,11 +20,12 @@ use Rattle.ss_cmdlog.specs.Groups.{groups_of}
 use Rattle.ss_cmdlog.specs.Log.{IsOpen, IsReceipted, KeepsReceipts, HasAtLeast, KeepsCounts}
 use Rattle.ss_cmdlog.specs.Store.{StandsForPart, count_of, entries_of, with_groups}
 use Rattle.ss_cmdlog.proofs.CallerLemmas.{open_receipted}
+use Rattle.ss_standing.specs.Ends.{EndAs}
 use Rattle.ss_standing.specs.Standing.{listed_entries, Replayed, Prefix, StandsForAtLeast, Receipt, StandsOn}
 use Rattle.ss_standing.specs.Behind.{IsBehind}
 use Rattle.ss_standing.specs.Laws.{GenerationsGoOn}
 use Rattle.ss_standing.specs.Keeping.{Keeps, KeepsOverFlush, LogReceiptsTell, KeptCountsStandOn}
-use Rattle.ss_standing.proofs.CallerLemmas.{entries_count, front_replays, rest_replays}
+use Rattle.ss_standing.proofs.CallerLemmas.{end_with_more, entries_count, front_replays, rest_replays}
 use Rattle.ss_receipts.specs.Past.{LeavesSince}
 use Rattle.ss_receipts.specs.Holding.{Holds, AreRest}
 use Rattle.ss_receipts.proofs.Since.{since_run, since_now, nothing_since}
@@ -36,7 +37,7 @@ behind_more s groups added is = record { first = refl; image = refl; entries = f
 count_more : (s : Stood) (groups : List (List Entry)) → count_of (with_groups s groups) ≡ count_of s + length (flat_map (λ (es : List Entry). es) groups)
 count_more s groups = omega (arith, ap length (flat_map-append (λ (es : List Entry). es) s.groups groups), length-append (entries_of s) (flat_map (λ (es : List Entry). es) groups))
 
-at_least : (catalog : Catalog) (db : Database) (first : ℕ) (list : List Listed) (image : Files) → Prefix catalog db first list image → StandsForAtLeast catalog 0 image
+pub at_least : (catalog : Catalog) (db : Database) (first : ℕ) (list : List Listed) (image : Files) → Prefix catalog db first list image → StandsForAtLeast catalog 0 image
 at_least catalog db first list image f = record { count = first + f.some; k = kept catalog (after catalog db (take f.some list)); stands = f.stands; enough = omega arith }
 
 -- a count that rose from a later one rose from an earlier one, and is not 0
@@ -49,10 +50,10 @@ pub rest_count : (catalog : Catalog) (db : Database) (first : ℕ) (list : List 
 rest_count catalog db first list count entries rest begun within =
     omega (arith, ap length rest.entries_are, entries_count (drop (count - first) list), length-drop (count - first) list, begun, within)
 
-module _ {D : Type 0} (catalog : Catalog) (db : Database) (first opened before : ℕ) (past : ℕ → List (List ℕ) → Type 0) (kind : DiskKind D) (honest_tells : kind.honest → kind.tells)
+module _ {D : Type 0} (every : Option ℕ) (catalog : Catalog) (db : Database) (first opened before : ℕ) (past : ℕ → List (List ℕ) → Type 0) (kind : DiskKind D) (honest_tells : kind.honest → kind.tells)
     (goes_on : ReplaysGoOn) (more : GenerationsGoOn) (over : KeepsOverFlush D kind.moment kind.images) (tell : LogReceiptsTell D (present kind)) (stand : KeptCountsStandOn D kind.moment kind.images)
     (list : List Listed) (old new : CmdLog D) (count fault : ℕ) (entries : List Entry) (rest : AreRest catalog db first list count entries)
-    (h : Holds catalog db first opened before past kind list old count fault) (none : old.halted ≡ None) where
+    (h : Holds every catalog db first opened before past kind list old count fault) (none : old.halted ≡ None) where
   abbrev held : ℕ
   held = count - first
 
@@ -125,14 +126,11 @@ module _ {D : Type 0} (catalog : Catalog) (db : Database) (first opened before :
         database : kind.tells → after catalog (after catalog db (take held list)) (take k left) ≡ after catalog db (take (new.count - first) list)
         database known = sym (goes_on catalog db (take held list) (take k left)).ends ∙ ap (after catalog db) (front known)
 
-        ends : kind.tells → entries_of (with_groups s groups) ≡ (h.going none).earlier ++ listed_entries (take (new.count - first) list)
+        ends : kind.tells → EndAs every (entries_of (with_groups s groups)) (listed_entries (take (new.count - first) list))
         ends known =
-            let earlier = (h.going none).earlier in
-            (behind_more s groups (listed_entries (take k left)) are).entries
-            ∙ (ap (λ (es : List Entry). es ++ listed_entries (take k left)) ((h.going none).ends known)
-            ∙ (append_assoc earlier (listed_entries (take held list)) (listed_entries (take k left))
-            ∙ ap (λ (es : List Entry). earlier ++ es)
-            (sym (map-append (λ (l : Listed). l.entry) (take held list) (take k left)) ∙ ap listed_entries (front known))))
+            subst (EndAs every (entries_of (with_groups s groups))) (sym (map-append (λ (l : Listed). l.entry) (take held list) (take k left)) ∙ ap listed_entries (front known))
+            (subst (λ (es : List Entry). EndAs every es (listed_entries (take held list) ++ listed_entries (take k left))) (sym (behind_more s groups (listed_entries (take k left)) are).entries)
+            (end_with_more every (entries_of s) (listed_entries (take held list)) (listed_entries (take k left)) ((h.going none).ends known)))
 
         replayed : kind.tells → Replayed catalog (with_groups s groups) new.count (kept catalog (after catalog db (take (new.count - first) list)))
         replayed known =
@@ -142,14 +140,14 @@ module _ {D : Type 0} (catalog : Catalog) (db : Database) (first opened before :
             subst (λ (d : Database). Replayed catalog (with_groups s groups) new.count (kept catalog d)) (database known)
             (subst (λ (n : ℕ). Replayed catalog (with_groups s groups) n (kept catalog (after catalog (after catalog db (take held list)) (take k left)))) (omega (arith, length-take-le k left few, counted known)) now)
 
-        holds_first : Holds catalog db first opened before past kind list new new.count 0
+        holds_first : Holds every catalog db first opened before past kind list new new.count 0
         holds_first = record {
           begun = omega (arith, h.begun, low);
           within = omega (arith, high, rest_count catalog db first list count entries rest h.begun h.within);
           counted = λ _. refl;
           later = omega (arith, h.later, later);
           halt = inl (going, refl);
-          going = λ _. record { generation = with_groups s groups; opened_at = open'; replayed = replayed; earlier = (h.going none).earlier; ends = ends };
+          going = λ _. record { generation = with_groups s groups; opened_at = open'; replayed = replayed; ends = ends };
           crashes = crashes;
           receipt = λ honestly. told new.count honestly (open_receipted kind new (with_groups s groups) open' (honest_tells honestly) honestly new.count refl);
           stands_on = stands_on;
@@ -158,7 +156,7 @@ module _ {D : Type 0} (catalog : Catalog) (db : Database) (first opened before :
       -- all of it is written
       pub holds_all : ((es : List Entry) → flat_map (λ (e : List Entry). e) (groups_of es) ≡ es) → new.halted ≡ None → new.count ≡ count + length entries
           → IsOpen kind new (with_groups s (groups_of entries))
-          → Holds catalog db first opened before past kind list new new.count 0
+          → Holds every catalog db first opened before past kind list new new.count 0
       holds_all groups going counts open' =
           holds_first going (length left) (omega arith) (groups_of entries) (groups entries ∙ (rest.entries_are ∙ ap listed_entries (sym (take_all (length left) left (omega arith))))) open' (omega (arith, counts)) (omega (arith, counts))
 
@@ -166,7 +164,7 @@ module _ {D : Type 0} (catalog : Catalog) (db : Database) (first opened before :
       pub holds_some : ((es : List Entry) (j : ℕ) → (n : ℕ) × (n ≤ length es) × (flat_map (λ (e : List Entry). e) (take j (groups_of es)) ≡ take n es)) → new.halted ≡ None
           → count ≤ new.count → new.count ≤ count + length entries
           → (j : ℕ) × (j ≤ length (groups_of entries)) × IsOpen kind new (with_groups s (take j (groups_of entries)))
-          → Holds catalog db first opened before past kind list new new.count 0
+          → Holds every catalog db first opened before past kind list new new.count 0
       holds_some firsts going low high part =
           let n = firsts entries part.0 in
           holds_first going n.0 (omega (arith, n.1, ap length rest.entries_are, entries_count left)) (take part.0 (groups_of entries))
@@ -175,7 +173,7 @@ module _ {D : Type 0} (catalog : Catalog) (db : Database) (first opened before :
       -- the disk failed
       pub holds_halted : (n : ℕ) → new.halted ≡ Some n → n ≡ kind.faults new.disk → Rose (kind.faults old.disk) (kind.faults new.disk)
           → (kind.honest → IsReceipted (present kind) count old.disk → KeepsReceipts kind.moment kind.images count old.disk new.disk)
-          → Holds catalog db first opened before past kind list new count n
+          → Holds every catalog db first opened before past kind list new count n
       holds_halted n halted is rose stays = record {
         begun = h.begun;
         within = h.within;

@@ -1,5 +1,5 @@
 -- What stands behind the lock where the disk's note goes on.
-use Rattle.std.proofs.Common.{◌≡◌, ◌≢◌, ◌∙◌, inl, inr, ℕ, ◌+◌, ◌-◌, ◌≤◌, ◌^◌, List, ◌++◌, length, drop, Option, Some, None, Ok, Err, Result, sym, ap, subst, arith, length-append}
+use Rattle.std.proofs.Common.{◌≡◌, ◌≢◌, ◌∙◌, inl, inr, ℕ, ◌+◌, ◌-◌, ◌≤◌, ◌^◌, List, ◌++◌, length, drop, Option, Some, None, Ok, Err, OnOk, Result, sym, ap, subst, arith, length-append}
 use Rattle.ss_value.specs.FaultCounts.{Rose}
 use Rattle.ss_model.specs.declared.catalog.Catalog.{Catalog}
 use Rattle.ss_model.specs.declared.entry.Entry.{Entry}
@@ -18,22 +18,24 @@ use Rattle.ss_standing.specs.Standing.{listed_entries}
 use Rattle.ss_receipts.specs.declared.durable.DurableError.{DurableError}
 use Rattle.ss_receipts.specs.declared.durable.DurableError.TheVariants.{NoMemory, DiskFault, Halted}
 use Rattle.ss_receipts.specs.Holding.{HaltedAt, Holds, AreRest, KeeperView}
+use Rattle.ss_receipts.specs.Checkpointing.{IsCheckpointed}
 use Rattle.ss_receipts.specs.Durable.{IsDurable}
+use Rattle.ss_receipts.specs.Trimming.{IsTrimmed}
 use Rattle.ss_receipts.proofs.Growing.{holds_on}
 
-module _ {D : Type 0} (catalog : Catalog) (db : Database) (first opened before : ℕ) (past : ℕ → List (List ℕ) → Type 0) (kind : DiskKind D) where
+module _ {D : Type 0} (every : Option ℕ) (catalog : Catalog) (db : Database) (first opened before : ℕ) (past : ℕ → List (List ℕ) → Type 0) (kind : DiskKind D) where
   -- the note has met the list
   pub keeper_on : (parts limit : ℕ) (log : CmdLog D) (count : ℕ) (note later : Known) → Follows catalog parts limit note later → note.role ≡ DiskRole → note.count ≡ count
-      → Holds catalog db first opened before past kind (listed_of note.list) log count note.faults
-      → (later.role ≡ DiskRole) × (later.count ≡ count) × Holds catalog db first opened before past kind (listed_of later.list) log count later.faults
+      → Holds every catalog db first opened before past kind (listed_of note.list) log count note.faults
+      → (later.role ≡ DiskRole) × (later.count ≡ count) × Holds every catalog db first opened before past kind (listed_of later.list) log count later.faults
   keeper_on parts limit log count note later f role counted h =
       let same = f.sees.disk role in
       let list : listed_of note.list ++ listed_of f.goes_on.rest ≡ listed_of later.list = sym (ap listed_of f.goes_on.is ∙ listed_of-append note.list f.goes_on.rest) in (
         f.role ∙ role,
         same.0 ∙ counted,
-        subst (λ (n : ℕ). Holds catalog db first opened before past kind (listed_of later.list) log count n) (sym same.1)
-            (subst (λ (l : List Listed). Holds catalog db first opened before past kind l log count note.faults) list
-            (holds_on catalog db first opened before past kind (listed_of note.list) (listed_of f.goes_on.rest) log count note.faults h)),
+        subst (λ (n : ℕ). Holds every catalog db first opened before past kind (listed_of later.list) log count n) (sym same.1)
+            (subst (λ (l : List Listed). Holds every catalog db first opened before past kind l log count note.faults) list
+            (holds_on every catalog db first opened before past kind (listed_of note.list) (listed_of f.goes_on.rest) log count note.faults h)),
       )
 
 -- the rest of the list that the note knows, where another word for the same was given
@@ -69,6 +71,17 @@ durable_less wanted more count later fault told (Ok receipt) le same faults is =
 durable_less wanted more count later fault told (Err NoMemory) le same faults is = tt
 durable_less wanted more count later fault told (Err DiskFault) le same faults is = λ none. is (sym faults ∙ none)
 durable_less wanted more count later fault told (Err (Halted n)) le same faults is = (λ none. is.0 (sym faults ∙ none), is.1 ∙ sym faults)
+
+-- what refuses an image behind the lock refuses one behind the last flush
+pub untrimmed : {D : Type 0} (end bound fault : ℕ) (log : CmdLog D) (e : DurableError) → IsCheckpointed end fault (Err e) → IsTrimmed end bound fault log (Err e)
+untrimmed end bound fault log NoMemory is = tt
+untrimmed end bound fault log DiskFault is = is
+untrimmed end bound fault log (Halted n) is = is
+
+-- where it all is durable, the count is at its end
+pub all_durable : (wanted count fault : ℕ) (r : Result Receipt DurableError) (going : Type 0) → IsDurable wanted count fault r → count ≤ wanted → OnOk r going → OnOk r (going × (count ≡ wanted))
+all_durable wanted count fault (Ok receipt) going is le ok = (ok, omega (arith, is.0, is.1, le))
+all_durable wanted count fault (Err e) going is le ok = tt
 
 -- a token that goes on knows no shorter list
 pub no_shorter : (catalog : Catalog) (parts limit : ℕ) (k l : Known) → Follows catalog parts limit k l → length k.list ≤ length l.list

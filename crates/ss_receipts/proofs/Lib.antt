@@ -3,6 +3,8 @@ pub mod Recordable
 pub mod Since
 pub mod Growing
 pub mod Flushing
+pub mod Renewing
+pub mod Wholes
 pub mod Opening
 pub mod Tokens
 pub mod Keepers

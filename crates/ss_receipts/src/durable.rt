@@ -2,7 +2,7 @@
 //! lock is taken in it where the client's mark meets the disk's note, and where the tail of the list is copied, and never over
 //! the flush.
 
-ghost use Rattle.std.specs.Prelude.{◌≡◌, ◌+◌, ◌-◌, ◌≤◌, ◌^◌, length, drop, None, IfOk};
+ghost use Rattle.std.specs.Prelude.{◌≡◌, ◌+◌, ◌-◌, ◌≤◌, ◌^◌, length, drop, None, IfOk, OnOk};
 ghost use Rattle.ss_model.specs.Accepted.{Accepted};
 ghost use Rattle.ss_commitlog.specs.Meaning.{listed_of};
 ghost use Rattle.ss_commitlog.specs.Tokens.{Follows, KnowOne};
@@ -96,7 +96,7 @@ fn with_rest<I: Life, D: Disk + Drop, R: Wait>(
 }
 
 /// Writes the rest of the list that the note knows, and posts what has come of it.
-fn flushed<I: Life, D: Disk + Drop>(
+pub(crate) fn flushed<I: Life, D: Disk + Drop>(
     commits: &CommitLog<I>,
     keeper: &mut Keeper<I, D>,
     rest: &Seq<Entry>,
@@ -105,6 +105,8 @@ fn flushed<I: Life, D: Disk + Drop>(
     requires going { keeper.old.log.halted ≡ None }
     requires small { I.first + length keeper.old.note.list ≤ 2 ^ 60 }
     requires rest { rest.now ≡ listed_entries (drop (keeper.old.count - I.first) (listed_of keeper.old.note.list)) }
+    ensures list { keeper.new.note.list ≡ keeper.old.note.list }
+    ensures all { OnOk result ((keeper.new.log.halted ≡ None) × (keeper.new.count ≡ I.first + length keeper.old.note.list)) }
     ensures answer { IsDurable (I.first + length keeper.old.note.list) keeper.new.count keeper.new.note.faults result }
 {
     keeper.note.knows_what_replays();

@@ -1,7 +1,7 @@
 //! A flush of the rest of a list, by the command log that its caller has in hand: `durable` under the disk's lock, `finishing`
 //! without one. It takes none itself.
 
-ghost use Rattle.std.specs.Prelude.{◌≡◌, ◌+◌, ◌≤◌, ℕ, List, length, None};
+ghost use Rattle.std.specs.Prelude.{◌≡◌, ◌+◌, ◌≤◌, ℕ, List, length, None, OnOk};
 ghost use Rattle.ss_model.specs.declared.entry.Listed.{Listed};
 ghost use Rattle.ss_model.specs.Accepted.{Accepted};
 ghost use Rattle.ss_receipts.specs.Holding.{Holds, AreRest};
@@ -35,11 +35,12 @@ pub(crate) fn flush_rest<I: Life, D: Disk + Drop>(
     requires accepted { Accepted I.catalog }
     requires going { log.old.halted ≡ None }
     requires rest { (list : List Listed) × (fault : ℕ) × AreRest I.catalog I.opening I.first list count entries.now
-        × Holds I.catalog I.opening I.first I.moment I.faults I.past D.kind list log.old count fault }
+        × Holds I.every I.catalog I.opening I.first I.moment I.faults I.past D.kind list log.old count fault }
     ensures holds { (list : List Listed) (fault : ℕ) → AreRest I.catalog I.opening I.first list count entries.now
-        → Holds I.catalog I.opening I.first I.moment I.faults I.past D.kind list log.old count fault
-        → Holds I.catalog I.opening I.first I.moment I.faults I.past D.kind list log.new result.count result.faults }
+        → Holds I.every I.catalog I.opening I.first I.moment I.faults I.past D.kind list log.old count fault
+        → Holds I.every I.catalog I.opening I.first I.moment I.faults I.past D.kind list log.new result.count result.faults }
     ensures more { count ≤ result.count }
+    ensures going { OnOk result.answer (log.new.halted ≡ None) }
     ensures answer { IsDurable (count + length entries.now) result.count result.faults result.answer }
 {
     groups_hold_the_entries();

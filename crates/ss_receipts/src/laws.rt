@@ -9,19 +9,19 @@ use ss_standing::receipts_bound_fronts;
 
 /// What a log holds of a list it holds of each list that goes on from it.
 pub fn holds_go_on<I: Life, D: Disk>()
-    ensures { HoldsGoOn D I.catalog I.opening I.first I.moment I.faults I.past D.kind }
+    ensures { HoldsGoOn D I.every I.catalog I.opening I.first I.moment I.faults I.past D.kind }
 {}
 
 /// What a crash now leaves is a front of the list that ends at the receipted count at least.
 pub fn held_fronts_stand<I: Life, D: Disk>()
-    ensures { HeldFrontsStand D I.catalog I.opening I.first I.moment I.faults I.past D.kind }
+    ensures { HeldFrontsStand D I.every I.catalog I.opening I.first I.moment I.faults I.past D.kind }
 {
     receipts_bound_fronts();
 }
 
 /// Where all of the list is receipted, a crash now leaves all of it.
 pub fn all_stands<I: Life, D: Disk>()
-    ensures { AllStands D I.catalog I.opening I.first I.moment I.faults I.past D.kind }
+    ensures { AllStands D I.every I.catalog I.opening I.first I.moment I.faults I.past D.kind }
 {
     held_fronts_stand::<I, D>();
 }

@@ -7,17 +7,19 @@
 //! Source: group commit of DeWitt, Katz, Olken, Shapiro, Stonebraker and Wood (SIGMOD 1984), of a command log as in Malviya,
 //! Weisberg, Madden and Stonebraker (ICDE 2014); S-Store logs so (Meehan et al., PVLDB 8, 2015, section 3).
 //!
-//! `ss_engine` calls it, for clients (`ensure_durable`) and behind the last step (`finish`, once it has the command log out of the lock
-//! again by `into_parts`). The commit log's lock is taken under this one, never the other way round, and is not held over a flush.
-//! Who holds this lock may flush the disk, and waits for that and for the commit log's lock alone; `finish` takes no lock. Bays, inboxes and slots are not seen here.
+//! `ss_engine` calls it, for clients (`ensure_durable`), for whoever has all partitions in hand (`checkpointed`), and behind the last
+//! step (`finish` and then `trim`, once it has the command log out of the lock again by `into_parts`). The commit log's lock is taken
+//! under this one, never the other way round, and is not held over a flush or an image. Who holds this lock may flush the disk, and
+//! waits for that and for the commit log's lock alone; `finish` and `trim` take no lock. Bays, inboxes and slots are not seen here.
 //!
 //! - `receipts`: the lock and its calls; `keeper`: what stands behind it
 //! - `durable`: one flush for all, behind the lock; `finishing`: the last flush, once the list is whole
+//! - `checkpoint`: an image in place of the log's generation, behind the lock; `trimming`: the last one, behind the last flush
 //! - `flush`: a flush of the rest of a list; `rest`: the entries of that rest, for these two
 //! - `laws`: what follows where a log holds a list
 //!
 //! In `specs/`: `Past` (what a disk was up to the opening), `Holding` (what a log and its disk hold of a list), `Durable` (what
-//! is answered), `Laws`.
+//! is answered), `Checkpointing` and `Trimming` (the same of images), `Laws`.
 //!
 //! # What a log holds
 //!
@@ -34,12 +36,17 @@
 //! - `ensure_durable` (`answer`, `IsDurable`): a receipt of all places below the wanted one, or that there was no
 //!   memory, or that the disk has failed; whatever it is, the mark has then seen the receipted count and the faults
 //!   (`mark`).
-//! - `finish` (`Finishes`): the same of a list that is whole, for all of it.
+//! - `checkpointed` (`answer`, `IsCheckpointed`): the generation begins at the end of the list, or there was no memory, or the
+//!   disk has failed; whatever it is, all marks have then seen the receipted count and the faults (`seen`, `marks`).
+//! - `finish` (`Finishes`): as `ensure_durable`, of a list that is whole, for all of it.
+//! - `trim` (`Trims`): the log holds what it held, and fewer entries than are due stand behind the current generation's first
+//!   place, or there was no memory, or the disk has failed.
 //! - Laws: what a log holds of a list it holds of each that goes on from it (`holds_go_on`); each present image is a
 //!   front that ends at the count at least (`held_fronts_stand`), and all of the list where the count is at its end
 //!   (`all_stands`); the entries of a list that replays have records (`replayed_are_recordable`).
 #![tactic(auto)]
 
+mod checkpoint;
 mod durable;
 mod finishing;
 mod flush;
@@ -47,6 +54,7 @@ mod keeper;
 mod laws;
 mod receipts;
 mod rest;
+mod trimming;
 
 pub use durable::DurableError;
 pub use finishing::finish;
@@ -54,3 +62,4 @@ pub use laws::{
     all_stands, held_fronts_stand, holds_go_on, replayed_are_recordable, the_past_is_of_the_disk,
 };
 pub use receipts::Receipts;
+pub use trimming::trim;

@@ -1,4 +1,4 @@
-use Rattle.std.proofs.Common.{rules, ◌≡◌, ◌∙◌, refl, sym, ap, subst, []}
+use Rattle.std.proofs.Common.{rules, ◌≡◌, ◌∙◌, refl, sym, subst, []}
 use Rattle.atomic_table.specs.Table.{Me}
 use Rattle.ss_model.specs.declared.entry.Listed.{Listed}
 use Rattle.ss_commitlog.specs.declared.rule.View.{View}

@@ -1,3 +1,4 @@
+use Rattle.std.proofs.Common.{None}
 use Rattle.ss_model.specs.Database.{empty_database}
 use Rattle.ss_model.specs.Lives.{any_past}
 use Rattle.ss_commitlog_tests.specs.Workflow.{workflow}
@@ -11,6 +12,7 @@ ghosts-incarnation g a = record {
   limit = a.opening.limit;
   parts = a.opening.parts;
   clients = a.opening.clients;
+  every = None;
   table = a.blank.table.shared.table_id;
   moment = 0;
   faults = 0;
