@@ -3,7 +3,7 @@
 -- The log's list goes on from what the marks of all lanes and of all partitions knew. So it has no other entry of a lane's client than
 -- the lane knew; and no entry behind what a partition's mark knew touches that partition, so the shard in hand, which had each part as
 -- its mark's list leaves it, has it as the whole list leaves it.
-use Rattle.std.proofs.Common.{◌≡◌, ◌≤◌, ⊎_elim, ℕ, zero, suc, true, ◌⊎◌, List, [], ◌∷◌, ◌++◌, map, length, Some, IfSome, IfNone, Result, Err, refl, sym, ap, ◌∙◌, subst, arith, append-nil}
+use Rattle.std.proofs.Common.{◌≡◌, ◌≤◌, ⊎_elim, ℕ, zero, suc, true, List, [], ◌∷◌, ◌++◌, map, length, Some, IfSome, IfNone, Result, Err, refl, sym, ap, ◌∙◌, subst, arith, append-nil}
 use Rattle.std.proofs.lemmas.List.{length-map}
 use Rattle.std.proofs.lemmas.List.FromFn.{length-map-range_with_len}
 use Rattle.std.specs.List.{range_with_len}
@@ -59,7 +59,7 @@ is_whole catalog n db some hand is = record { number = zero_first n some hand.sh
 
 module _ (catalog : Catalog) (accepted : Accepted catalog) (n : ℕ) (some : 1 ≤ n) where
   -- each entry of a list that replays fits, so it touches some partition
-  each_touches : (db : Database) (list : List Item) → Replays catalog db (listed_of list) → EachTouches catalog n list
+  pub each_touches : (db : Database) (list : List Item) → Replays catalog db (listed_of list) → EachTouches catalog n list
   each_touches db [] replays i there = absurd there
   each_touches db (x ∷ xs) replays i there =
       let (a, is) = applied_of _ x.listed.outcome replays.0 in
@@ -67,7 +67,7 @@ module _ (catalog : Catalog) (accepted : Accepted catalog) (n : ℕ) (some : 1 �
       (λ j. each_touches (database_after catalog db x.listed.entry) xs replays.1 i j) there
 
   -- the shard of all partitions stands for what the whole list leaves
-  whole_holds : {I : Type 0} (db : Database) (hand : Hand I) (list : List Item) → IsInHand catalog n db (all_partitions n) hand → AllContinue catalog n list hand.marks → HoldsDatabase catalog hand.shard (after catalog db (listed_of list))
+  pub whole_holds : {I : Type 0} (db : Database) (hand : Hand I) (list : List Item) → IsInHand catalog n db (all_partitions n) hand → AllContinue catalog n list hand.marks → HoldsDatabase catalog hand.shard (after catalog db (listed_of list))
   whole_holds db hand list in_hand on =
       subst (HoldsDatabase catalog hand.shard) (nothing_blank catalog n (is_among (all_partitions n)) some (λ p low. among_all n p low) (after catalog db (listed_of list)))
       (holds_behind catalog accepted n some db (all_partitions n) hand in_hand list on)

@@ -10,3 +10,5 @@ pub mod Sessions
 pub mod Flushes
 pub mod HandedOver
 pub mod Crossing
+pub mod AllParts
+pub mod Checkpoints

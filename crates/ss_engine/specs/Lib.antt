@@ -1,5 +1,6 @@
 pub mod Pumped
 pub mod Assured
+pub mod Checkpoints
 pub mod Engines
 pub mod Least
 pub mod Tried

@@ -1,8 +1,9 @@
 -- What a run of clients in threads comes to, and what its disk then has.
-use Rattle.std.specs.Prelude.{◌≡◌, ◌⊎◌, ◌≤◌, ◌<◌, ◌+◌, ℕ, List, length, IfSome, IfNone, IsOk, Err}
+use Rattle.std.specs.Prelude.{◌≡◌, ◌⊎◌, ◌≤◌, ◌<◌, ◌+◌, ℕ, List, length, Option, Some, IfSome, IfNone, IsOk, Result, Err}
 use Rattle.ss_disk.specs.Kinds.{DiskKind, present}
 use Rattle.std.specs.List.{AllByRecursion}
 use Rattle.ss_model.specs.declared.catalog.Catalog.{Catalog}
+use Rattle.ss_model.specs.declared.entry.Listed.{Listed}
 use Rattle.ss_model.specs.declared.entry.Request.{Request}
 use Rattle.ss_model.specs.Database.{Database}
 use Rattle.ss_model.specs.Orders.{Orders}
@@ -20,6 +21,8 @@ use Rattle.ss_cmdlog.specs.Log.{IsOpen}
 use Rattle.ss_commitlog.specs.declared.placed.Unlisted.TheVariants.{NoMemory}
 use Rattle.ss_commitlog.specs.Meaning.{HaveClientsBelow}
 use Rattle.ss_standing.specs.Standing.{Prefix, Receipt, Replayed, StandsForAll, StandsForFront, StandsOn}
+use Rattle.ss_cmdlog.specs.declared.log.Receipt.{Receipt as ReceiptValue}
+use Rattle.ss_receipts.specs.declared.durable.DurableError.{DurableError}
 use Rattle.ss_receipts.specs.Durable.{IsDurable}
 use Rattle.ss_receipts.specs.Holding.{Holds}
 use Rattle.ss_receipts.specs.Past.{past_of}
@@ -74,18 +77,33 @@ module _ {D : Type 0} (kind : DiskKind D) where
   abbrev pub LeavesNow : D → (Files → Type 0) → Type 0
   LeavesNow disk P = kind.honest → (image : Files) → present kind disk image → P image
 
-  module _ (catalog : Catalog) (db : Database) (first : ℕ) where
+  -- with checkpoints, or without
+  module _ (every : Option ℕ) (catalog : Catalog) (db : Database) (first : ℕ) where
+    -- where checkpoints are asked for and the last flush went well, the log's generation begins near the end of the list
+    abbrev pub EndsNear : Finished D → Type 0
+    EndsNear ended = IsOk ended.flushed → (k : ℕ) → every ≡ Some k → first + length ended.closed.list < ended.log.first + k
+
+    -- of a log that had all of a list at this receipt: it has, faults that were told are the same ones, and what is answered is that
+    -- receipt, with a generation that begins near the end, or why there is no such
+    pub record IsTrimmedTo (opened before : ℕ) (past : ℕ → List (List ℕ) → Type 0) (list : List Listed) (receipt : ReceiptValue) (old_fault : ℕ) (new : CmdLog D) (answer : Result ReceiptValue DurableError) : Type 0 where
+      pub fault : ℕ
+      pub holds : Holds every catalog db first opened before past kind list new receipt.count fault
+      pub told : (old_fault ≡ 0) ⊎ (old_fault ≡ fault)
+      pub flushed : IsDurable receipt.count receipt.count fault answer
+      pub near : IsOk answer → (k : ℕ) → every ≡ Some k → receipt.count < new.first + k
+
     -- a run's list was flushed behind a receipted count, and where faults were told of before, they are the same. The disk was at this
     -- moment at the opening, with these faults and this past
     pub record IsFlushed (opened before : ℕ) (past : ℕ → List (List ℕ) → Type 0) (old_count old_fault : ℕ) (ended : Finished D) : Type 0 where
       pub count : ℕ
       pub fault : ℕ
-      pub holds : Holds catalog db first opened before past kind ended.closed.list ended.log count fault
+      pub holds : Holds every catalog db first opened before past kind ended.closed.list ended.log count fault
       pub more : old_count ≤ ended.receipted
       pub within : ended.receipted ≤ count
       pub told : (old_fault ≡ 0) ⊎ (old_fault ≡ fault)
       pub flushed : IsDurable (first + length ended.closed.list) count fault ended.flushed
       pub all_receipted : IsOk ended.flushed → ended.receipted ≡ first + length ended.closed.list
+      pub near : EndsNear ended
 
     -- what a run on a log leaves: what the log holds of the run's list, and how the last flush ended; a crash now leaves a front of the
     -- list that ends at the count that is told at least, and where the last flush went well, all of it
@@ -93,10 +111,11 @@ module _ {D : Type 0} (kind : DiskKind D) where
       pub count : ℕ
       pub fault : ℕ
       pub run : IsRun catalog db first limit clients requests ended.receipted fault ended.closed
-      pub holds : Holds catalog db first opened before past kind ended.closed.list ended.log count fault
+      pub holds : Holds every catalog db first opened before past kind ended.closed.list ended.log count fault
       pub begun : first ≤ ended.receipted
       pub within : ended.receipted ≤ count
       pub flushed : IsDurable (first + length ended.closed.list) count fault ended.flushed
+      pub near : EndsNear ended
       pub fronts : LeavesNow ended.log.disk (StandsForFront catalog db first ended.closed.list ended.receipted)
       pub all_stands : IsOk ended.flushed → LeavesNow ended.log.disk (StandsForAll catalog db first ended.closed.list)
 

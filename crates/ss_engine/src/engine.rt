@@ -42,7 +42,7 @@ impl<I: Life, N: Runner + Drop, G: Gate + Drop> Model for Engine<I, N, G> {
 
     ghost view = { λ e. e.bays };
 
-    ghost invariant = { λ e. IsEngine I.catalog I.parts I.first I.limit e.catalog e.homes e.parts e.bays };
+    ghost invariant = { λ e. IsEngine I.catalog I.parts I.first I.limit I.opening I.every e.catalog e.homes e.parts e.bays };
 }
 
 impl<I: Life, N: Runner + Drop, G: Gate + Drop> Engine<I, N, G> {

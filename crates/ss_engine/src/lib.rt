@@ -15,12 +15,13 @@
 //! Beside it clients share the lock of `ss_receipts`. Who acts on it has a folder:
 //!
 //! - `client`, a client's side. It touches its lane, the hub, the commit log's lock, where marks and notes meet, and the lock of
-//!   `ss_receipts`, under which it may flush the disk. It takes no partition itself: what it asks for it sends, to the inbox that
-//!   `touched` tells. `submit` takes one request, and by `send` waits for its answer; `receipt` asks that answers be durable;
-//!   `requests` makes those of one client in order, and calls `submit` and `receipt`. Threads of clients call it. While `send` waits
-//!   at an inbox that has no executor it pumps it, so its thread then does all that an executor does.
-//! - `partition`, a partition's side. It alone takes partitions out of their bays and puts them back (`hands`), until the close;
-//!   besides it touches the inboxes, the slots of clients and the commit log's lock, and never the disk or `ss_receipts`. `pump`
+//!   `ss_receipts`, under which it may flush the disk. What it asks for it sends, to the inbox that `touched` tells, and takes no
+//!   partition for it. `submit` takes one request, and by `send` waits for its answer; `receipt` asks that answers be durable;
+//!   `checkpoint` makes a checkpoint where one is due, and for that alone takes all partitions, by `hands`;
+//!   `requests` makes those of one client in order, and calls `checkpoint`, `submit` and `receipt`. Threads of clients call it.
+//!   While `send` waits at an inbox that has no executor it pumps it, so its thread then does all that an executor does.
+//! - `partition`, a partition's side. Its `hands` alone takes partitions out of their bays and puts them back, until the close, for
+//!   its own pages and for `checkpoint`; besides it touches the inboxes, the slots of clients and the commit log's lock, and never the disk or `ss_receipts`. `pump`
 //!   takes what waits in an inbox, and sleeps there: `serve` serves a job and answers into the client's slot, `follow` a hint or,
 //!   where nothing waits, the first procedure that is ready, and `wake` puts hints into the inboxes of the homes of what may be
 //!   ready; `touched` reads which partitions an entry touches, `least` finds the first of a small set, and `pumped` is what a pump
@@ -28,13 +29,14 @@
 //!   all of these stand in `pump`.
 //! - `session`, a run from end to end. `open` makes an engine with a lane for each client, `threads` lets clients and executors at
 //!   it, by the hub too, `close` takes it apart with all partitions in one hand, and `run` is all three, in order: behind the
-//!   threads it takes the command log out of the lock of `ss_receipts`, and behind the close it makes the last flush. What stands
-//!   above this crate calls `run_session`.
+//!   threads it takes the command log out of the lock of `ss_receipts`, and behind the close it makes the last flush, and the last
+//!   checkpoint where one is due. What stands above this crate calls `run_session`.
 //!
 //! Of the locks none is held while another one is waited for, but that of `ss_receipts`, under which the commit log's is taken. Bays
-//! are no locks: who has some may wait for more, in rising order, and for any lock but that of `ss_receipts`.
+//! are no locks: who has some may wait for more, in rising order, and for any lock; for that of `ss_receipts` who has all, to make a
+//! checkpoint. Who holds that lock waits for no bay, so the order is bays, then that lock, then the commit log's.
 //!
-//! In `specs/`: `Pumped`, `Engines`, `Serving`, `Tried`, `Least`, `Assured`, `Closings`, `Clients`, `Sessions`.
+//! In `specs/`: `Pumped`, `Engines`, `Serving`, `Tried`, `Least`, `Assured`, `Checkpoints`, `Closings`, `Clients`, `Sessions`.
 //!
 //! # What is known of threads
 //!
@@ -54,12 +56,14 @@
 //! - `ensure_durable` (`AsksForReceipt`): a receipt of all that the lane's answers tell, or all that waits goes on
 //!   waiting, or the lane is told of the disk's faults. By the lane's type all but 16 at most of its client's entries
 //!   stand below the count that it has seen (`IsDue`); `submit` needs that fewer than 16 wait.
-//! - `run_session` (`ok`: `EndsOnDisk`), from any database that the log's generation stands for (`OpensOn`): a list
+//! - `checkpoint_if` (`AsksForCheckpoint`): the place at which a generation begins that the client's last listed entry stands near,
+//!   or that there was no memory, or the lane is told of the disk's faults; all that waits for a receipt goes on waiting.
+//! - `run_session` (`ok`: `EndsOnDisk`), from any whole database that the log's generation stands for (`OpensOn`): a list
 //!   that replays and has its orders, with just the entries of each client that its answers report, how settling ended
 //!   on it, and which of its last entries are the steps of settling, in the model's order (`IsRun`); a crash at any
 //!   moment leaves a prefix of it, and takes nothing that one at an earlier moment could not take; and one now leaves a
-//!   front that ends at the receipted count at least, or all of it where the last flush went well. An error hands the
-//!   log back as it was (`err`).
+//!   front that ends at the receipted count at least, or all of it where the last flush went well. With checkpoints the
+//!   log's generation then begins near the list's end (`EndsNear`). An error hands the log back as it was (`err`).
 //!
 //! No clause says that an answer ever comes, or that an inbox had no job when a pump found none.
 //!
@@ -71,6 +75,8 @@
 //!   the list behind which they stand.
 //! - What a run leaves is said twice, under the name of the opening (`Ends`) and of two disks (`EndsOnDisk`), because
 //!   whoever called has no name, and the lock of `ss_receipts` speaks of the past that the name has.
+//! - A client that has come far makes the checkpoint itself, instead of a thread of its own, because it comes between requests
+//!   anyway, and no thread has to be had or told. Whether one is due it tells by its own last entry, which it knows without a lock.
 //! - The order of the input is kept for each client alone. Threads that run at the same time have none between them,
 //!   and each client's own order is what its answers can promise.
 //! - Each crate shows of its own types that threads may share them or hand them on (`proofs/Crossing`), instead of

@@ -70,7 +70,7 @@ impl<I: Life, N: Runner + Drop, G: Gate + Drop> Engine<I, N, G> {
 }
 
 /// What is answered, where it tells of faults with those that the lane was told. Takes no memory.
-fn with_faults(refused: DurableError, faults: u64) -> DurableError
+pub(crate) fn with_faults(refused: DurableError, faults: u64) -> DurableError
     ensures { result ≡ with_faults faults refused }
 {
     match refused {

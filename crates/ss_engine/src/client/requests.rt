@@ -1,5 +1,5 @@
-//! A client's requests, one after another, with a receipt where one is due. `session/threads` calls it in the client's thread.
-//! It touches the lane alone; `submit` and `receipt`, which it calls, touch the rest.
+//! A client's requests, one after another, with a checkpoint and a receipt where one is due. `session/threads` calls it in the
+//! client's thread. It touches the lane alone; `submit`, `checkpoint` and `receipt`, which it calls, touch the rest.
 
 ghost use Rattle.std.specs.Prelude.{◌≡◌, ◌≤◌, true, length};
 ghost use Rattle.ss_model.specs.Database.{fits_entry};
@@ -43,8 +43,38 @@ fn make_request<I: Life, N: Runner + Drop, G: Gate + Drop, R: Wait, D: Disk + Dr
     }
 }
 
-/// Makes those of these requests that are the client's, in order, each once the one before is answered, and then asks for a
-/// receipt of all.
+/// Where the generation begins of which the client asks first; 0 where no checkpoint is asked for, which takes no lock.
+fn first_begun<I: Life, R: Wait, D: Disk + Drop>(rt: &R, receipts: &Receipts<I, D>) -> u64 {
+    match receipts.every() {
+        None => 0,
+        Some(_) => receipts.begun(rt),
+    }
+}
+
+/// Makes one request, before which it makes a checkpoint where one is due by the place that the client was told last, and tells
+/// the place that it was told now. What speaks against a checkpoint is left to the request itself, and to the next one, before
+/// which it is tried again.
+fn make_next<I: Life, N: Runner + Drop, G: Gate + Drop, R: Wait, D: Disk + Drop>(
+    rt: &R,
+    alloc: Global,
+    engine: &Engine<I, N, G>,
+    receipts: &Receipts<I, D>,
+    lane: Lane<I>,
+    request: &Request,
+    begun: u64,
+) -> (Lane<I>, u64)
+    requires spare { 1 ≤ lane.spare }
+    requires own { request.now.client ≡ lane.client }
+    requires fits { fits_entry I.catalog (asked_entry lane.client (length lane.answers) request.now.what) ≡ true }
+    ensures { HasRequested I.first I.limit lane request.now.what result.0 }
+{
+    let (lane, checkpoint) = engine.checkpoint_if(rt, alloc, receipts, lane, begun);
+    let lane = make_request(rt, alloc, engine, receipts, lane, request);
+    (lane, checkpoint.unwrap_or(begun))
+}
+
+/// Makes those of these requests that are the client's, in order, each once the one before is answered, with a checkpoint before
+/// it where one is due, and then asks for a receipt of all.
 pub(crate) fn make_requests<I: Life, N: Runner + Drop, G: Gate + Drop, R: Wait, D: Disk + Drop>(
     rt: &R,
     alloc: Global,
@@ -58,9 +88,12 @@ pub(crate) fn make_requests<I: Life, N: Runner + Drop, G: Gate + Drop, R: Wait, 
     requires begins { MayBegin I.first requests.now number lane }
     ensures { HasMade I.first I.limit requests.now number result }
 {
+    let mut begun = first_begun(rt, receipts);
     for request in requests {
         if usize::from(request.client) == number {
-            lane = make_request(rt, alloc, engine, receipts, lane, request);
+            let (next, place) = make_next(rt, alloc, engine, receipts, lane, request, begun);
+            lane = next;
+            begun = place;
         }
     }
     // Whatever comes of it, the last flush of the session writes what has no receipt yet.

@@ -1,4 +1,4 @@
-//! Partitions in and out of the engine's bays, by the two calls of `ss_hand`, for `serve` and `follow`.
+//! Partitions in and out of the engine's bays, by the two calls of `ss_hand`, for `serve`, `follow` and `client/checkpoint`.
 
 ghost use Rattle.std.specs.Prelude.{◌≡◌, ◌<◌, ℕ, List, map, IfOk};
 ghost use Rattle.std.specs.Int.{IsBitSet};
@@ -20,7 +20,7 @@ use std::sync::Wait;
 impl<I: Life, N: Runner + Drop, G: Gate + Drop> Engine<I, N, G> {
     /// Takes the partitions of a set out of their bays, in rising order, and waits at each that is empty, as `take_parts` does. Takes
     /// the log's lock once. Out of memory has put back what it took; the note may know more of the list. `serve` and `follow` call
-    /// it.
+    /// it, and `client/checkpoint` for all partitions.
     pub(crate) fn take_set<R: Wait>(
         &self,
         works: &Works<I, N, R>,

@@ -10,6 +10,7 @@ ghost use Rattle.ss_commitlog.specs.declared.role.Role.TheVariants.{Disk};
 ghost use Rattle.ss_commitlog.specs.Committing.{IsOpening};
 ghost use Rattle.ss_commitlog.specs.Rule.{numbered, reader};
 ghost use Rattle.ss_commitlog.specs.Tokens.{known, at_opening};
+ghost use Rattle.ss_engine.specs.Engines.{AllowsCheckpoints};
 ghost use Rattle.ss_lanes.specs.Lanes.{AreFresh};
 
 use crate::engine::Engine;
@@ -62,6 +63,7 @@ impl<I: Life, N: Runner + Drop, G: Gate + Drop> Engine<I, N, G> {
         requires whole { IsWholeShard I.catalog I.parts whole × HoldsDatabase I.catalog whole I.opening }
         requires streams { AreStreamsOf I.catalog I.opening streams.streams }
         requires few { (s : ℕ) → length (stream_batches I.opening s) ≤ opening.first }
+        requires checkpoints { AllowsCheckpoints I.catalog I.opening I.first I.every }
         ensures lanes { IfOk result (λ o. AreFresh I.first I.clients o.lanes.items) }
         ensures notes { IfOk result (λ o. o.notes ≡ at_opening I.first (numbered reader 0 I.parts [])) }
         ensures disk { IfOk result (λ o. o.disk_note ≡ known Disk [] I.first 0) }

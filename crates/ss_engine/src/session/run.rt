@@ -1,18 +1,20 @@
 //! A whole run in threads, on an opened log: `open`, `threads`, `close`, and the last flush. It has the command log, which it
 //! puts behind the lock of `ss_receipts` while threads run, and takes out again behind them. `ss_top` calls it.
 
-ghost use Rattle.std.specs.Prelude.{◌≡◌, ◌≤◌, ◌+◌, ◌^◌, ℕ, [], length, IfOk, IfErr};
+ghost use Rattle.std.specs.Prelude.{◌≡◌, ◌≤◌, ◌+◌, ◌^◌, ℕ, [], length, Some, IfOk, IfErr, IfSome};
 ghost use Rattle.ss_model.specs.Accepted.{Accepted};
 ghost use Rattle.ss_model.specs.Database.{Database as ModelDatabase, stream_batches};
 ghost use Rattle.ss_model.specs.Orders.{MatchesCounts};
-ghost use Rattle.ss_model.specs.Replays.{Replays};
+ghost use Rattle.ss_model.specs.Replays.{Replays, after};
+ghost use Rattle.ss_model.specs.WholeDatabase.{WholeDatabase, HadAtMost};
 ghost use Rattle.ss_stream.specs.OfDatabase.{AreStreamsOf};
 ghost use Rattle.ss_shard.specs.Parts.{IsWholeShard};
 ghost use Rattle.ss_shard.specs.Windows.{HoldsDatabase};
 ghost use Rattle.ss_commitlog.specs.Committing.{IsOpening};
 ghost use Rattle.ss_receipts.specs.Holding.{Holds};
 ghost use Rattle.ss_engine.specs.Clients.{AllFit};
-ghost use Rattle.ss_engine.specs.Sessions.{AreOfClients, Ends, EndsOnDisk, IsFlushed, OpensOn};
+ghost use Rattle.ss_engine.specs.Engines.{AllowsCheckpoints};
+ghost use Rattle.ss_engine.specs.Sessions.{AreOfClients, Ends, EndsOnDisk, IsFlushed, IsLeftOver, IsTrimmedTo, OpensOn};
 
 use crate::engine::Engine;
 use crate::session::close::Closed;
@@ -24,9 +26,11 @@ use ss_disk::Disk;
 use ss_lanes::with_room;
 use ss_model::{Catalog, Life, Request};
 use ss_proc::Runner;
-use ss_receipts::{DurableError, Receipts, all_stands, finish, held_fronts_stand, holds_go_on};
+use ss_receipts::{
+    DurableError, Receipts, all_stands, finish, held_fronts_stand, holds_go_on, trim,
+};
 use ss_settle::Gate;
-use ss_shard::Shard;
+use ss_shard::{Database, Shard};
 use ss_stream::Streams;
 use ss_value::{NoMemory, Seq};
 use std::alloc::Global;
@@ -45,7 +49,7 @@ pub struct Finished<D: Disk + Drop> {
     /// receipts before it. The log's own count isn't told then, because a flush that failed may have written groups
     /// that nobody has a receipt of.
     pub receipted: u64,
-    /// How the last flush ended, which follows settling.
+    /// How the last flush ended, which follows settling, with the last checkpoint behind it, where one was due.
     pub flushed: Result<Receipt, DurableError>,
 }
 
@@ -69,6 +73,7 @@ fn incarnation<
     gate: G,
     requests: &Seq<Request>,
     opening: Opening,
+    every: Option<u64>,
 ) -> Result<Finished<D>, (NoMemory, CmdLog<D>)>
     requires blank { (blank.opening ≡ opening) × (blank.table.shared.table_id ≡ I.table) }
     requires numbers { (opening.first ≡ I.first) × (opening.limit ≡ I.limit) × (opening.parts ≡ I.parts) × (opening.clients ≡ I.clients) }
@@ -81,10 +86,12 @@ fn incarnation<
     requires holds { HoldsDatabase I.catalog whole I.opening }
     requires streams { AreStreamsOf I.catalog I.opening streams.streams }
     requires few { (s : ℕ) → length (stream_batches I.opening s) ≤ opening.first }
-    requires log { Holds I.catalog I.opening I.first I.moment I.faults I.past D.kind [] command_log I.first 0 }
+    requires every { every ≡ I.every }
+    requires checkpoints { AllowsCheckpoints I.catalog I.opening I.first I.every }
+    requires log { Holds I.every I.catalog I.opening I.first I.moment I.faults I.past D.kind [] command_log I.first 0 }
     requires fit { AllFit I.catalog requests.now }
     requires asked { AreOfClients I.clients requests.now }
-    ensures ok { IfOk result (Ends D.kind I.catalog I.opening I.first
+    ensures ok { IfOk result (Ends D.kind I.every I.catalog I.opening I.first
         I.limit I.clients I.moment I.faults I.past requests.now) }
     ensures err { IfErr result (λ e. e.1 ≡ command_log) }
 {
@@ -107,7 +114,7 @@ fn incarnation<
     holds_go_on::<I, D>();
     held_fronts_stand::<I, D>();
     all_stands::<I, D>();
-    let receipts = Receipts::new(command_log, disk_note);
+    let receipts = Receipts::new(command_log, disk_note, every);
     let lanes = run_clients(
         rt,
         alloc,
@@ -118,39 +125,97 @@ fn incarnation<
         requests.as_slice(),
     );
     let (command_log, mut disk_note) = receipts.into_parts();
-    // The disk's own note tells what was posted last.
     let posted = engine.hub.log.see(&mut disk_note);
     let closed = engine.close(rt, alloc, lanes, room, disk_note);
-    Ok(flushed_at_last::<I, D>(alloc, closed, command_log, posted.count, opening.first))
+    Ok(flushed_at_last::<I, D>(
+        alloc,
+        closed,
+        command_log,
+        posted.count,
+        opening.first,
+        every,
+    ))
 }
 
-/// The last flush, of what a run's list has behind the receipted count.
+/// Of a log that has all of a run's list: its generation begins near the end of the list, where checkpoints are asked for. Where
+/// there was no memory to have the database in one shard, there is none for its image.
+fn trimmed<I: Life, D: Disk + Drop>(
+    alloc: Global,
+    closed: &Closed,
+    log: &mut CmdLog<D>,
+    receipt: Receipt,
+    every: Option<u64>,
+) -> Result<Receipt, DurableError>
+    requires every { every ≡ I.every }
+    requires checkpoints { AllowsCheckpoints I.catalog I.opening I.first I.every }
+    requires accepted { Accepted I.catalog }
+    requires small { I.first + length closed.now.list ≤ 2 ^ 60 }
+    requires replays { Replays I.catalog I.opening closed.now.list }
+    requires catalog { closed.now.catalog ≡ I.catalog }
+    requires left { IfSome closed.now.database (IsLeftOver I.catalog (after I.catalog I.opening closed.now.list)) }
+    requires all { receipt.count ≡ I.first + length closed.now.list }
+    requires holds { (fault : ℕ)
+        × Holds I.every I.catalog I.opening I.first I.moment I.faults I.past D.kind closed.now.list log.old receipt.count fault }
+    ensures { (fault : ℕ)
+        → Holds I.every I.catalog I.opening I.first I.moment I.faults I.past D.kind closed.now.list log.old receipt.count fault
+        → IsTrimmedTo D.kind I.every I.catalog I.opening I.first I.moment I.faults I.past closed.now.list receipt fault log.new result }
+{
+    let Some(every) = every else {
+        return Ok(receipt);
+    };
+    let Some(database) = &closed.database else {
+        return Err(DurableError::NoMemory);
+    };
+    let Database { whole, streams } = database;
+    match trim::<I, D>(
+        alloc,
+        log,
+        &closed.catalog,
+        whole,
+        streams,
+        receipt.count,
+        every,
+    ) {
+        Ok(()) => Ok(receipt),
+        Err(refused) => Err(refused),
+    }
+}
+
+/// The last flush, of what a run's list has behind the receipted count, and the last checkpoint, where one is asked for and due.
 fn flushed_at_last<I: Life, D: Disk + Drop>(
     alloc: Global,
     closed: Closed,
     mut command_log: CmdLog<D>,
     receipted: u64,
     first: u64,
+    every: Option<u64>,
 ) -> Finished<D>
     requires first { first ≡ I.first }
+    requires every { every ≡ I.every }
+    requires checkpoints { AllowsCheckpoints I.catalog I.opening I.first I.every }
     requires accepted { Accepted I.catalog }
     requires small { I.first + length closed.list ≤ 2 ^ 60 }
     requires replays { Replays I.catalog I.opening closed.list }
+    requires catalog { closed.catalog ≡ I.catalog }
+    requires left { IfSome closed.database (IsLeftOver I.catalog (after I.catalog I.opening closed.list)) }
     requires holds { (fault : ℕ)
-        × Holds I.catalog I.opening I.first I.moment I.faults I.past D.kind closed.list command_log receipted fault }
+        × Holds I.every I.catalog I.opening I.first I.moment I.faults I.past D.kind closed.list command_log receipted fault }
     ensures closed { result.closed ≡ closed }
     ensures flushed { (fault : ℕ)
-        → Holds I.catalog I.opening I.first I.moment I.faults I.past D.kind closed.list command_log receipted fault
-        → IsFlushed D.kind I.catalog I.opening I.first
+        → Holds I.every I.catalog I.opening I.first I.moment I.faults I.past D.kind closed.list command_log receipted fault
+        → IsFlushed D.kind I.every I.catalog I.opening I.first
         I.moment I.faults I.past receipted fault result }
 {
     match finish::<I, D>(alloc, &mut command_log, &closed.list, first) {
-        Ok(receipt) => Finished {
-            closed,
-            log: command_log,
-            receipted: receipt.count,
-            flushed: Ok(receipt),
-        },
+        Ok(receipt) => {
+            let flushed = trimmed::<I, D>(alloc, &closed, &mut command_log, receipt, every);
+            Finished {
+                closed,
+                log: command_log,
+                receipted: receipt.count,
+                flushed,
+            }
+        }
         Err(refused) => Finished {
             closed,
             log: command_log,
@@ -163,7 +228,13 @@ fn flushed_at_last<I: Life, D: Disk + Drop>(
 /// Makes all requests on an opened log, those of each client in order and those of different clients at the same time, then
 /// settles, and flushes what has no receipt by then. `opening` has the place of the first entry, which is the log's count, and
 /// how many entries there may be, how many partitions run and how many clients ask. Shard and streams stand for a database `db`
-/// that is in step, at which the log's disk stands.
+/// that is whole, at which the log's disk stands.
+///
+/// With `every` a client makes a checkpoint before a request where its last listed entry stands so many places behind the
+/// beginning of the log's generation, and one is made at the end, behind the last flush, where it is due: so where all went
+/// well, fewer entries than that stand behind the log's image. Each checkpoint walks the database once and writes its image,
+/// and executors wait meanwhile. One for which there is no memory is tried again before the next request; the last one tells so
+/// as the last flush does.
 ///
 /// Whatever the threads do, all executions are one list, whose outcomes are those that they have one after another. The last of
 /// them are the steps of settling, in the model's order. A request for which there is no memory, or no place in the list, or no
@@ -195,6 +266,7 @@ pub fn run_session<
     gate: G,
     requests: &Seq<Request>,
     opening: Opening,
+    every: Option<u64>,
 ) -> Result<Finished<D>, (NoMemory, CmdLog<D>)>
     ghost db: { ModelDatabase }
     requires accepted { Accepted catalog }
@@ -203,13 +275,16 @@ pub fn run_session<
     requires small { opening.first + opening.limit ≤ 2 ^ 60 }
     requires matches { MatchesCounts catalog db }
     requires few { (s : ℕ) → length (stream_batches db s) ≤ opening.first }
+    requires whole_database { WholeDatabase catalog db }
+    requires had { HadAtMost opening.first db }
+    requires every { (k : ℕ) → every ≡ Some k → 1 ≤ k }
     requires whole { IsWholeShard catalog opening.parts whole }
     requires holds { HoldsDatabase catalog whole db }
     requires streams { AreStreamsOf catalog db streams.streams }
     requires log { OpensOn D.kind catalog db opening.first command_log }
     requires fit { AllFit catalog requests.now }
     requires asked { AreOfClients opening.clients requests.now }
-    ensures ok { IfOk result (EndsOnDisk D.kind catalog db opening.first
+    ensures ok { IfOk result (EndsOnDisk D.kind every catalog db opening.first
         opening.limit opening.clients requests.now command_log) }
     ensures err { IfErr result (λ e. e.1 ≡ command_log) }
 {
@@ -228,5 +303,6 @@ pub fn run_session<
         gate,
         requests,
         opening,
+        every,
     )
 }

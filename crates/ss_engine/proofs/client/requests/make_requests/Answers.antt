@@ -15,8 +15,8 @@ loop-request-init g c = record {
   room = c.requires.begins.room;
 }
 
-pub make_request-lane-requires-clause-fits : goal.make_request-lane-requires-clause-fits
-make_request-lane-requires-clause-fits g c =
+pub make_next-next-requires-clause-fits : goal.make_next-next-requires-clause-fits
+make_next-next-requires-clause-fits g c =
     let rs = c.args.requests.now in
     let i = c.loop-request.request-index in
     let r = c.request-item.result in
@@ -40,12 +40,12 @@ loop-request-preserved g c =
     elim c.if-from-number.branch [
       | then-from-number w ↦
           (let own : (r.client == k) ≡ true = ap (λ n. n == k) (sym c.from.ensures ∙ w.if-from-number.true) ∙ eqb_self k in
-          let new = w.make_request-lane.result in
+          let new = w.make_next-next.result.0 in
           record {
             made = subst (λ (lane : LaneView). HasMade first limit (take (i + 1) rs) k lane) (sym w.lane-is)
-                (made_requested first limit k (take i rs) (take (i + 1) rs) r old new (own_more k rs i r below here own) inv.made w.make_request-lane.ensures);
+                (made_requested first limit k (take i rs) (take (i + 1) rs) r old new (own_more k rs i r below here own) inv.made w.make_next-next.ensures);
             room = subst (λ (lane : LaneView). length (requests_of k (drop (i + 1) rs)) ≤ lane.spare) (sym w.lane-is)
-                (let l = own_left k rs i r below here own in let room = inv.room in let s = room_requested first limit old new r.what w.make_request-lane.ensures in omega arith);
+                (let l = own_left k rs i r below here own in let room = inv.room in let s = room_requested first limit old new r.what w.make_next-next.ensures in omega arith);
           })
       | else-from-number w ↦
           (let other : (r.client == k) ≡ false = eqb_apart r.client k (λ same. w.if-from-number.false (c.from.ensures ∙ same)) in

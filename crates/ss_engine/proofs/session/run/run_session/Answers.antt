@@ -17,10 +17,10 @@ pub incarnation-requires-clause-log : goal.incarnation-requires-clause-log
 incarnation-requires-clause-log g c = λ κs within.
     let laws = g.met.D.Disk g.world.𝓛 g.world.𝓜 g.world.𝓡 ((λ s x. x), (λ x. x), (λ x. x), λ x. x) in
     let opens : OpensOn {D = g.row.D.Denot} g.D.Disk.kind c.args.catalog g.db c.args.opening.first c.args.command_log = search (rules, c.requires) parts 40 in
-    holds_at_opening c.args.catalog g.db c.args.opening.first g.D.Disk.kind laws.honest_tells
+    holds_at_opening c.args.every c.args.catalog g.db c.args.opening.first g.D.Disk.kind laws.honest_tells
     c.args.command_log opens.stood opens.going opens.count opens.replayed
 
 pub returns-clause-ok : goal.returns-clause-ok
 returns-clause-ok g c =
-    ends_if_ok g.D.Disk.kind c.args.catalog g.db c.args.opening.first c.args.opening.limit c.args.opening.clients c.args.requests.now c.args.command_log
+    ends_if_ok g.D.Disk.kind c.args.every c.args.catalog g.db c.args.opening.first c.args.opening.limit c.args.opening.clients c.args.requests.now c.args.command_log
     c.incarnation.result c.incarnation.ensures.ok

@@ -10,6 +10,7 @@ ghosts-incarnation g a = record {
   limit = a.opening.limit;
   parts = a.opening.parts;
   clients = a.opening.clients;
+  every = a.every;
   table = a.blank.table.shared.table_id;
   moment = g.D.Disk.kind.moment a.command_log.disk;
   faults = g.D.Disk.kind.faults a.command_log.disk;
