@@ -12,6 +12,9 @@ sstore runs transactions and stream workflows on one database, and prints replie
     sstore FOLDER|- audit                    < FILE      a script and its report: is the report that of a run?
     sstore --help, sstore --version
 
+With --checkpoint 1..1000000 a run or a voter puts an image of the database in place of the log, each time so many entries
+behind the last one, so that recovery has less to replay.
+
 The first word is where the store is: a folder, which has to be there and is held by one process at a time, or - for
 memory, which ends with the program.
 

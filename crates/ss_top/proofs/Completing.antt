@@ -1,5 +1,5 @@
 -- Where a run has all that it needs it ends as done, or at out of memory.
-use Rattle.std.proofs.Common.{◌≡◌, ◌⊎◌, ◌∙◌, inl, inr, ℕ, List, [], ◌∷◌, Some, sym, ap, subst, arith}
+use Rattle.std.proofs.Common.{◌≡◌, ◌⊎◌, ◌∙◌, inl, inr, ℕ, List, [], ◌∷◌, Option, Some, None, sym, ap, subst, arith}
 use Rattle.ss_model.specs.declared.catalog.Catalog.{Catalog}
 use Rattle.ss_model.specs.declared.entry.Request.{Request}
 use Rattle.ss_disk.specs.Files.{Files}
@@ -35,22 +35,22 @@ module _ (limit : ℕ) (w : SinkChange) (disk : DiskChange) (no_fault : EmptyHas
   same_catalog a b store (inl empty) = absurd (empty_is_none disk.seen_before a empty store)
   same_catalog a b store (inr other) = one_catalog disk.seen_before a b store other
 
-  pub came_complete : (printing : Printing) (catalog : Catalog) (requests : List Request) (ended : Status) → CameTo limit printing catalog requests ended w disk → HasStoreCause ended w disk → HasRoom limit catalog requests disk → IsDoneOrShort ended
-  came_complete printing catalog requests Done came cause room = tt
-  came_complete printing catalog requests NoMemory came cause room = tt
-  came_complete printing catalog requests WriteFault came cause room = calm cause
-  came_complete printing catalog requests Disk came cause room = still cause
-  came_complete printing catalog requests Foreign came cause room = not_foreign catalog room.was came.file came.place (came.fault room.tells)
-  came_complete printing catalog requests OtherCatalog came cause room = came.differs (ap (λ (c : Catalog). c.text) (same_catalog came.stored catalog (came.store room.tells) room.was))
-  came_complete printing catalog requests Limit came cause room =
+  pub came_complete : (every : Option ℕ) (printing : Printing) (catalog : Catalog) (requests : List Request) (ended : Status) → CameTo every limit printing catalog requests ended w disk → HasStoreCause ended w disk → HasRoom limit catalog requests disk → IsDoneOrShort ended
+  came_complete every printing catalog requests Done came cause room = tt
+  came_complete every printing catalog requests NoMemory came cause room = tt
+  came_complete every printing catalog requests WriteFault came cause room = calm cause
+  came_complete every printing catalog requests Disk came cause room = still cause
+  came_complete every printing catalog requests Foreign came cause room = not_foreign catalog room.was came.file came.place (came.fault room.tells)
+  came_complete every printing catalog requests OtherCatalog came cause room = came.differs (ap (λ (c : Catalog). c.text) (same_catalog came.stored catalog (came.store room.tells) room.was))
+  came_complete every printing catalog requests Limit came cause room =
       let run = came.ran.stopped.run in
       let enough = room.room came.ran.stopped.opening came.ran.stopped.first run.session.whole (run.session.stood room.tells) in
       let more = came.ran.owed_more in
       omega (arith, enough, more)
-  came_complete printing catalog requests Usage came cause room = came
-  came_complete printing catalog requests Differs came cause room = came
-  came_complete printing catalog requests Input came cause room = came
-  came_complete printing catalog requests ReadFault came cause room = came
+  came_complete every printing catalog requests Usage came cause room = came
+  came_complete every printing catalog requests Differs came cause room = came
+  came_complete every printing catalog requests Input came cause room = came
+  came_complete every printing catalog requests ReadFault came cause room = came
 
   -- a recovery of a store that has room for what is pending
   pub recovered_complete : (catalog : Catalog) (ended : Status) → RecoveredTo limit ended w disk → HasStoreCause ended w disk → HasRoom limit catalog [] disk → IsDoneOrShort ended
@@ -60,7 +60,7 @@ module _ (limit : ℕ) (w : SinkChange) (disk : DiskChange) (no_fault : EmptyHas
   recovered_complete catalog Disk came cause room = still cause
   recovered_complete catalog Limit came cause room =
       let same : came.catalog ≡ catalog = same_catalog came.catalog catalog (came.stored room.tells) room.was in
-      came_complete InFull came.catalog [] Limit came.came tt (subst (λ c. HasRoom limit c [] disk) (sym same) room)
+      came_complete None InFull came.catalog [] Limit came.came tt (subst (λ c. HasRoom limit c [] disk) (sym same) room)
   recovered_complete catalog Foreign came cause room = not_foreign catalog room.was came.file came.place (came.fault room.tells)
   recovered_complete catalog OtherCatalog came cause room = came
   recovered_complete catalog Usage came cause room = came
@@ -69,16 +69,16 @@ module _ (limit : ℕ) (w : SinkChange) (disk : DiskChange) (no_fault : EmptyHas
   recovered_complete catalog ReadFault came cause room = came
 
   -- a show that has room for all that it owes
-  pub show_complete : HasOneCatalog → (show : Show) (ended : Status) → ShowEnds limit show ended w disk → HasStoreCause ended w disk → IsCompleteShow limit show disk ended
-  show_complete one show ended ends cause catalog voter room = by ended ends cause
+  pub show_complete : (every : Option ℕ) → HasOneCatalog → (show : Show) (ended : Status) → ShowEnds every limit show ended w disk → HasStoreCause ended w disk → IsCompleteShow limit show disk ended
+  show_complete every one show ended ends cause catalog voter room = by ended ends cause
     where
-      ran : (status : Status) → RanShow limit show status w disk → HasStoreCause status w disk → IsDoneOrShort status
+      ran : (status : Status) → RanShow every limit show status w disk → HasStoreCause status w disk → IsDoneOrShort status
       ran status r cause =
           let value : r.voter.value ≡ voter.value = (let same : Some r.voter.value ≡ Some voter.value = sym r.voter.json ∙ voter.json in cc) in
           let same : r.catalog ≡ catalog = one voter.value r.catalog catalog (subst (λ d. Reads d r.catalog) value r.voter.reads) voter.reads in
-          came_complete (Summary show.votes) r.catalog (show_requests show) status r.came cause (subst (λ c. HasRoom limit c (show_requests show) disk) (sym same) room)
+          came_complete every (Summary show.votes) r.catalog (show_requests show) status r.came cause (subst (λ c. HasRoom limit c (show_requests show) disk) (sym same) room)
 
-      by : (status : Status) → ShowEnds limit show status w disk → HasStoreCause status w disk → IsDoneOrShort status
+      by : (status : Status) → ShowEnds every limit show status w disk → HasStoreCause status w disk → IsDoneOrShort status
       by Done r cause' = tt
       by NoMemory r cause' = tt
       by WriteFault r cause' = ran WriteFault r cause'

@@ -35,7 +35,7 @@ use Rattle.ss_top.specs.Complete.{HasRoom, IsDoneOrShort}
 use Rattle.ss_top.specs.Stores.{CameTo, RecoveredTo}
 use Rattle.ss_top.specs.Serving.{ComesToShow, RecoversTo, HasStoreCause}
 use Rattle.ss_top.specs.Shows.{ShowEnds}
-use Rattle.ss_top.specs.Top.{Ends, EndsVoter, RunEndsSo, RunEnds, RanInput, HasCause, IsComplete, WritesOnly, DiskHeld}
+use Rattle.ss_top.specs.Top.{Ends, EndsRun, EndsVoter, RunEndsSo, RunEnds, RanInput, HasCause, IsComplete, WritesOnly, DiskHeld}
 use Rattle.ss_top.proofs.Completing.{came_complete, recovered_complete, show_complete}
 
 -- what holds of each holds of one that may be there
@@ -67,16 +67,16 @@ short Limit of started = absurd of
 
 -- ---- the command run
 
-module _ (limit : ℕ) (s : SourceChange) (w : SinkChange) (disk : DiskChange) where
+module _ (every : Option ℕ) (limit : ℕ) (s : SourceChange) (w : SinkChange) (disk : DiskChange) where
   abbrev EndsSo : Status → Type 0
-  EndsSo = RunEndsSo limit s w disk
+  EndsSo = RunEndsSo every limit s w disk
 
   -- ---- the input is refused
 
   module _ (one : HasOneRefusal) (either : StartsOrRefused) (uncalled : disk.uncalled) (e : InputError) (first : IfSome s.before (λ input. IsRefusedBy input e))
       (leaves : LeavesOfRefusedSource e s.faults_before s.faults_now s.before s.now) where
     -- the statuses that a refusal has
-    refused_so : (status : Status) → refusal_status e ≡ status → Writes (refusal_text e) w → RunEnds limit s.before status w disk
+    refused_so : (status : Status) → refusal_status e ≡ status → Writes (refusal_text e) w → RunEnds every limit s.before status w disk
     refused_so Input is reported = record { refused = record { refusal = e; first = first; is = is; reported = reported }; uncalled = uncalled }
     refused_so ReadFault is reported = uncalled
     refused_so NoMemory is reported = inl (record { uncalled = uncalled; written = subst (λ text. Writes text w) (memory_text_is e is) reported })
@@ -160,10 +160,10 @@ module _ (limit : ℕ) (s : SourceChange) (w : SinkChange) (disk : DiskChange) w
     not_refused : (ended : Status) → IfSome s.before (λ input. ExitsAsRefused input ended)
     not_refused ended = IfSome_then s.before starts (λ input start e has. absurd (false≢true (sym has.says ∙ either input catalog requests e start has.first)))
 
-    ran : (status : Status) → CameTo limit InFull catalog requests status w disk → RanInput limit s.before status w disk
+    ran : (status : Status) → CameTo every limit InFull catalog requests status w disk → RanInput every limit s.before status w disk
     ran status came = record { catalog = catalog; requests = requests; starts = starts; accepted = accepted; came = came }
 
-    came_so : (ended : Status) → CameTo limit InFull catalog requests ended w disk → RunEnds limit s.before ended w disk
+    came_so : (ended : Status) → CameTo every limit InFull catalog requests ended w disk → RunEnds every limit s.before ended w disk
     came_so Done came = ran Done came
     came_so WriteFault came = ran WriteFault came
     came_so Disk came = ran Disk came
@@ -176,7 +176,7 @@ module _ (limit : ℕ) (s : SourceChange) (w : SinkChange) (disk : DiskChange) w
     came_so Input came = absurd came
     came_so ReadFault came = absurd came
 
-    left_so : (ended : Status) → CameTo limit InFull catalog requests ended w disk → LeavesOfSource ended s.before s.now
+    left_so : (ended : Status) → CameTo every limit InFull catalog requests ended w disk → LeavesOfSource ended s.before s.now
     left_so Usage came = absurd came
     left_so Differs came = absurd came
     left_so Input came = absurd came
@@ -189,7 +189,7 @@ module _ (limit : ℕ) (s : SourceChange) (w : SinkChange) (disk : DiskChange) w
     left_so OtherCatalog came = left
     left_so Limit came = left
 
-    started_so : (ended : Status) → CameTo limit InFull catalog requests ended w disk → HasCause ended s w disk → SinkHeld w → DiskHeld disk → OfStarted ended
+    started_so : (ended : Status) → CameTo every limit InFull catalog requests ended w disk → HasCause ended s w disk → SinkHeld w → DiskHeld disk → OfStarted ended
     started_so Usage came cause calm still = absurd came
     started_so Differs came cause calm still = absurd came
     started_so Input came cause calm still = absurd came
@@ -202,7 +202,7 @@ module _ (limit : ℕ) (s : SourceChange) (w : SinkChange) (disk : DiskChange) w
     started_so OtherCatalog came cause calm still = tt
     started_so Limit came cause calm still = tt
 
-    cause_ran : (ended : Status) → CameTo limit InFull catalog requests ended w disk → HasStoreCause ended w disk → HasCause ended s w disk
+    cause_ran : (ended : Status) → CameTo every limit InFull catalog requests ended w disk → HasStoreCause ended w disk → HasCause ended s w disk
     cause_ran Usage came cause = absurd came
     cause_ran Differs came cause = absurd came
     cause_ran Input came cause = absurd came
@@ -215,7 +215,7 @@ module _ (limit : ℕ) (s : SourceChange) (w : SinkChange) (disk : DiskChange) w
     cause_ran OtherCatalog came cause = tt
     cause_ran Limit came cause = tt
 
-    only_ran : (ended : Status) → CameTo limit InFull catalog requests ended w disk → WritesOnly ended w
+    only_ran : (ended : Status) → CameTo every limit InFull catalog requests ended w disk → WritesOnly ended w
     only_ran Usage came = absurd came
     only_ran Differs came = absurd came
     only_ran ReadFault came = absurd came
@@ -228,13 +228,13 @@ module _ (limit : ℕ) (s : SourceChange) (w : SinkChange) (disk : DiskChange) w
     only_ran OtherCatalog came = tt
     only_ran Limit came = tt
 
-    complete_so : (ended : Status) → CameTo limit InFull catalog requests ended w disk → HasStoreCause ended w disk → SinkHeld w → DiskHeld disk → IfSome s.before (λ input. IsComplete limit input disk ended)
+    complete_so : (ended : Status) → CameTo every limit InFull catalog requests ended w disk → HasStoreCause ended w disk → SinkHeld w → DiskHeld disk → IfSome s.before (λ input. IsComplete limit input disk ended)
     complete_so ended came cause calm still = IfSome_then s.before starts (λ input start c rs other room.
         let same = one input catalog c requests rs start other in
-        came_complete limit w disk no_fault store_has_none one_catalog calm still InFull catalog requests ended came cause
+        came_complete limit w disk no_fault store_has_none one_catalog calm still every InFull catalog requests ended came cause
         (subst (λ c'. HasRoom limit c' requests disk) (sym same.0) (subst (λ rs'. HasRoom limit c rs' disk) (sym same.1) room)))
 
-    pub run_came : (ended : Status) → CameTo limit InFull catalog requests ended w disk → HasStoreCause ended w disk → EndsSo ended
+    pub run_came : (ended : Status) → CameTo every limit InFull catalog requests ended w disk → HasStoreCause ended w disk → EndsSo ended
     run_came ended came store_cause = let cause = cause_ran ended came store_cause in record {
       ends = record {
         came = came_so ended came;
@@ -245,7 +245,7 @@ module _ (limit : ℕ) (s : SourceChange) (w : SinkChange) (disk : DiskChange) w
       };
       only = only_ran ended came;
       cause = cause;
-      no_usage = λ is. subst (λ status. CameTo limit InFull catalog requests status w disk) is came;
+      no_usage = λ is. subst (λ status. CameTo every limit InFull catalog requests status w disk) is came;
     }
 
 -- ---- the whole call
@@ -276,11 +276,15 @@ module _ (limit : ℕ) (words : List (String Global)) (s : SourceChange) (w : Si
     other_command : (a b : Command) (other : Options) → AsksFor (words_of words) (record { command = a; options = what }) → AsksFor (words_of words) (record { command = b; options = other }) → a ≡ b
     other_command a b other asks more = ap (λ (l : CommandLine). l.command) (asks_for_one (words_of words) (record { command = a; options = what }) (record { command = b; options = other }) asks more)
 
+    -- and ask for the same checkpoints
+    same_every : (command : Command) (other : Options) → AsksFor (words_of words) (record { command = command; options = what }) → AsksFor (words_of words) (record { command = command; options = other }) → what.every ≡ other.every
+    same_every command other asks more = ap (λ (l : CommandLine). l.options.every) (asks_for_one (words_of words) (record { command = command; options = what }) (record { command = command; options = other }) asks more)
+
     pub ends_run : AsksFor (words_of words) (record { command = Run; options = what }) → TakesAtMost (max_input + 1) s.before s.now
-        → (ended : Status) → RunEndsSo limit s w disk ended → Ends limit words s w disk ended
+        → (ended : Status) → RunEndsSo what.every limit s w disk ended → Ends limit words s w disk ended
     ends_run asks taken ended so = record {
       usage = (λ is. absurd (so.no_usage is), λ none. absurd (none (asks_is_command _ _ asks)));
-      run = λ other more. so.ends;
+      run = λ other more. subst (λ (o : Option ℕ). EndsRun o limit s w disk ended) (same_every Run other asks more) so.ends;
       recover = λ other more. let no : Run ≡ Recover = other_command Run Recover other asks more in absurd cc;
       voter = λ other show more. let wrong : Run ≡ Voter show = other_command Run (Voter show) other asks more in absurd cc;
       audit = λ other more. let no : Run ≡ Audit = other_command Run Audit other asks more in absurd cc;
@@ -340,7 +344,7 @@ module _ (limit : ℕ) (words : List (String Global)) (s : SourceChange) (w : Si
     }
 
     -- a show has no status of an input, and none of the words
-    show_so : (show : Show) (ended : Status) → ShowEnds limit show ended w disk → WritesOnly ended w × (ended ≡ Usage → ⊥)
+    show_so : (show : Show) (ended : Status) → ShowEnds what.every limit show ended w disk → WritesOnly ended w × (ended ≡ Usage → ⊥)
     show_so show Usage ends = absurd ends.came
     show_so show Differs ends = absurd ends.came
     show_so show ReadFault ends = absurd ends.came
@@ -353,7 +357,7 @@ module _ (limit : ℕ) (words : List (String Global)) (s : SourceChange) (w : Si
     show_so show OtherCatalog ends = (tt, λ is. let wrong : ⊥ = cc in wrong)
     show_so show Limit ends = (tt, λ is. let wrong : ⊥ = cc in wrong)
 
-    show_cause : (show : Show) (ended : Status) → ShowEnds limit show ended w disk → HasStoreCause ended w disk → HasCause ended s w disk
+    show_cause : (show : Show) (ended : Status) → ShowEnds what.every limit show ended w disk → HasStoreCause ended w disk → HasCause ended s w disk
     show_cause show Usage ends cause = absurd ends.came
     show_cause show Differs ends cause = absurd ends.came
     show_cause show Input ends cause = absurd ends.came
@@ -367,7 +371,7 @@ module _ (limit : ℕ) (words : List (String Global)) (s : SourceChange) (w : Si
     show_cause show Limit ends cause = tt
 
     pub ends_voter : HasOneCatalog → EmptyHasNoFault → StoreHasNoFault → StoreHasOneCatalog → (show : Show) → AsksFor (words_of words) (record { command = Voter show; options = what })
-        → s.now ≡ s.before → s.faults_now ≡ s.faults_before → (ended : Status) → ComesToShow limit show ended w disk → Ends limit words s w disk ended
+        → s.now ≡ s.before → s.faults_now ≡ s.faults_before → (ended : Status) → ComesToShow what.every limit show ended w disk → Ends limit words s w disk ended
     ends_voter one no_fault store_has_none one_catalog show asks same unmoved ended so = let came = so.came in record {
       usage = (λ is. absurd ((show_so show ended came).1 is), λ none. absurd (none (asks_is_command _ _ asks)));
       run = λ other more. let wrong : Voter show ≡ Run = other_command (Voter show) Run other asks more in absurd cc;
@@ -375,11 +379,12 @@ module _ (limit : ℕ) (words : List (String Global)) (s : SourceChange) (w : Si
       voter = λ other another more.
           let is : Voter show ≡ Voter another = other_command (Voter show) (Voter another) other asks more in
           let is_show : show ≡ another = cc in
-          subst (λ (x : Show). EndsVoter limit x s w disk ended) is_show (record {
+          let every = same_every (Voter show) other asks (subst (λ (x : Show). AsksFor (words_of words) (record { command = Voter x; options = other })) (sym is_show) more) in
+          subst (λ (x : Show). EndsVoter other.every limit x s w disk ended) is_show (subst (λ (o : Option ℕ). EndsVoter o limit show s w disk ended) every (record {
             came = came;
-            complete = λ calm still. show_complete limit w disk no_fault store_has_none one_catalog calm still one show ended came so.cause;
+            complete = λ calm still. show_complete limit w disk no_fault store_has_none one_catalog calm still what.every one show ended came so.cause;
             unread = (same, unmoved);
-          });
+          }));
       audit = λ other more. let wrong : Voter show ≡ Audit = other_command (Voter show) Audit other asks more in absurd cc;
       unread = λ is. (same, unmoved);
       untouched = λ is. absurd ((show_so show ended came).1 is);

@@ -40,7 +40,7 @@ use Rattle.ss_headline.specs.Sentences.{room_from}
 use Rattle.ss_headline.specs.Layers.{Opened, Closed, Settled, FewUnreceipted, Receipted}
 use Rattle.ss_headline.specs.Laws.{WholeRuns, StoppedRuns}
 use Rattle.ss_headline.specs.Laws as law
-use Rattle.ss_headline.specs.Runs.{LogEndsWith, LogEndsAsStopped, IsStoppedRun}
+use Rattle.ss_headline.specs.Runs.{BeginsNear, LogEndsAs, LogEndsAsStopped, Logged, IsStoppedRun}
 use Rattle.ss_engine.specs.declared.session.run.Finished.{Finished}
 use Rattle.ss_commitlog.specs.declared.placed.Unlisted as placed
 use Rattle.ss_commitlog.specs.declared.placed.Unlisted.TheVariants as unlisted
@@ -138,8 +138,8 @@ module _ {D : Type 0} (kind : DiskKind D) where
   abbrev change : D → D → DiskChange
   change = disk_of kind
 
-  module _ (limit : ℕ) (printing : Printing) (catalog : Catalog) (db : Model) (first clients : ℕ) (requests : List Request) (old : D) (log : CmdLog D) (ended : Finished D) (few : first ≤ 2 ^ 60) (accepted : Accepted catalog) (in_step : IsInStep catalog db)
-      (opened : Opened catalog db first (change old log.disk)) (e : EndsOnDisk kind catalog db first (room_from limit first) clients requests log ended) (small : e.ends.fault < 2 ^ 64)
+  module _ (every : Option ℕ) (limit : ℕ) (printing : Printing) (catalog : Catalog) (db : Model) (first clients : ℕ) (requests : List Request) (old : D) (log : CmdLog D) (ended : Finished D) (few : first ≤ 2 ^ 60) (accepted : Accepted catalog) (in_step : IsInStep catalog db)
+      (opened : Opened catalog db first (change old log.disk)) (e : EndsOnDisk kind every catalog db first (room_from limit first) clients requests log ended) (small : e.ends.fault < 2 ^ 64)
       (whole_law : WholeRuns change) (stopped_law : StoppedRuns change) (full_law : FullListsHaveAll) where
     abbrev list : List Listed
     list = ended.closed.list
@@ -167,22 +167,21 @@ module _ {D : Type 0} (kind : DiskKind D) where
     -- ---- what the log ends with
 
     -- a log that wasn't halted has a front of the list up to its count
-    front_logged : ended.log.halted ≡ None → kind.tells → LogEndsWith (take (e.ends.count - first) list) (kind.seen new)
+    front_logged : ended.log.halted ≡ None → kind.tells → LogEndsAs every (take (e.ends.count - first) list) (kind.seen new)
     front_logged going told =
         let goes = e.ends.holds.going going in record {
           stood = goes.generation;
           stands = open_stands (kind.seen new) ended.log.file ended.log.gate goes.generation (goes.opened_at.at told);
-          before = goes.earlier;
           ends = goes.ends told;
         }
 
-    goes_as_stopped : ended.log.halted ≡ None → (status : ℕ) → LogEndsAsStopped status first list ended.receipted (change log.disk new)
+    goes_as_stopped : ended.log.halted ≡ None → (status : ℕ) → LogEndsAsStopped every status first list ended.receipted (change log.disk new)
     goes_as_stopped going status told =
         let held = e.ends.holds.within in
         let told_of = e.ends.within in
         inl (record { some = e.ends.count - first; within = omega (arith, held); enough = omega (arith, told_of); logged = front_logged going told })
 
-    failed_as_stopped : is_some ended.log.halted ≡ true → (status : ℕ) → (status ≡ 5) ⊎ (status ≡ 6) → LogEndsAsStopped status first list ended.receipted (change log.disk new)
+    failed_as_stopped : is_some ended.log.halted ≡ true → (status : ℕ) → (status ≡ 5) ⊎ (status ≡ 6) → LogEndsAsStopped every status first list ended.receipted (change log.disk new)
     failed_as_stopped some status is told = inr (record { status_is = is; rose = rose_at (kind.faults log.disk) (kind.faults new) ended.log.halted e.ends.fault e.ends.holds.halt some })
 
     -- ---- all is written
@@ -194,13 +193,31 @@ module _ {D : Type 0} (kind : DiskKind D) where
       whole_front : take (e.ends.count - first) list ≡ list
       whole_front = take_all (e.ends.count - first) list (omega (arith, at_end))
 
-      logged : kind.tells → LogEndsWith list (kind.seen new)
-      logged told = subst (λ (l : List Listed). LogEndsWith l (kind.seen new)) whole_front (front_logged going told)
+      ends : kind.tells → LogEndsAs every list (kind.seen new)
+      ends told = subst (λ (l : List Listed). LogEndsAs every l (kind.seen new)) whole_front (front_logged going told)
+
+      -- with checkpoints, the generation on the disk began near the end
+      began : kind.tells → (k : ℕ) → every ≡ Some k → BeginsNear k (first + length list) (kind.seen new)
+      began told k is =
+          let goes = e.ends.holds.going going in
+          let place = goes.opened_at.first told in
+          let near = e.ends.near ok k is in record {
+            stood = goes.generation;
+            stands = open_stands (kind.seen new) ended.log.file ended.log.gate goes.generation (goes.opened_at.at told);
+            near = omega (arith, place, near);
+          }
+
+      logged : kind.tells → Logged every first list (kind.seen new)
+      logged told = by every refl (ends told)
+        where
+          by : (o : Option ℕ) → every ≡ o → LogEndsAs o list (kind.seen new) → Logged o first list (kind.seen new)
+          by None is ends' = ends'
+          by (Some k) is ends' = (ends', began told k is)
 
       all : (image : Files) → StandsForAll catalog db first list image → StandsForAtLeast catalog (first + length list) image
       all image stands = record { count = first + length list; k = kept catalog (after catalog db list); stands = stands; enough = omega arith }
 
-      settled : Drained catalog (after catalog db list) → Settled catalog db first list (change log.disk new)
+      settled : Drained catalog (after catalog db list) → Settled every catalog db first list (change log.disk new)
       settled drained = record { drained = drained; receipt = λ true' image left. all image (e.ends.all_stands ok true' image left); logged = logged }
 
     -- ---- what is answered
@@ -255,9 +272,9 @@ module _ {D : Type 0} (kind : DiskKind D) where
 
     -- ---- a stopped run
 
-    module _ (status : ℕ) (logged_so : LogEndsAsStopped status first list ended.receipted (change log.disk new)) (told : List (List Answer)) (answered : AreAnswered requests first list (stop_since log.disk status) told) where
-      run_stopped : (missing : Answer) → IsStoppedRun limit catalog requests db first list status ended.receipted (report_text catalog requests (weave missing requests told) first list db (stop_since old status)) (change old new)
-      run_stopped missing = stopped_law limit catalog requests db first list status ended.receipted missing told old log.disk new opened closed receipted logged_so answered e.ends.run.within
+    module _ (status : ℕ) (logged_so : LogEndsAsStopped every status first list ended.receipted (change log.disk new)) (told : List (List Answer)) (answered : AreAnswered requests first list (stop_since log.disk status) told) where
+      run_stopped : (missing : Answer) → IsStoppedRun every limit catalog requests db first list status ended.receipted (report_text catalog requests (weave missing requests told) first list db (stop_since old status)) (change old new)
+      run_stopped missing = stopped_law every limit catalog requests db first list status ended.receipted missing told old log.disk new opened closed receipted logged_so answered e.ends.run.within
 
     -- as it is written
     abbrev stop_end : ℕ → ℕ → report.End
@@ -272,15 +289,15 @@ module _ {D : Type 0} (kind : DiskKind D) where
       faults_after = cond (status == 5) (kind.faults new) 0;
     }
 
-    stopped_run : (status : Status) → LogEndsAsStopped (status_number status) first list ended.receipted (change log.disk new) → AreAnswered requests first list (stop_since log.disk (status_number status)) answers
-        → (n : ℕ) (text : List ℕ) → IsReportOf catalog requests answers first list (stop_end (status_number status) n) text → StoppedRun limit catalog requests status text (change old new)
+    stopped_run : (status : Status) → LogEndsAsStopped every (status_number status) first list ended.receipted (change log.disk new) → AreAnswered requests first list (stop_since log.disk (status_number status)) answers
+        → (n : ℕ) (text : List ℕ) → IsReportOf catalog requests answers first list (stop_end (status_number status) n) text → StoppedRun every limit catalog requests status text (change old new)
     stopped_run status logged_so answered n text is =
         let number = status_number status in record {
           opening = db;
           first = first;
           list = list;
           count = ended.receipted;
-          run = subst (λ t. IsStoppedRun limit catalog requests db first list number ended.receipted t (change old new)) (sym (is db (stop_record number) refl refl))
+          run = subst (λ t. IsStoppedRun every limit catalog requests db first list number ended.receipted t (change old new)) (sym (is db (stop_record number) refl refl))
               (run_stopped number logged_so answers answered (missing_answer (stop_end number n)));
         }
 
@@ -315,7 +332,7 @@ module _ {D : Type 0} (kind : DiskKind D) where
     outside_or (inr ready) = inr ready
 
     full_run : ended.log.halted ≡ None → length list ≡ room_from limit first → (some_say_full answers ≡ true) ⊎ SomeReady catalog (after catalog db list) → (n : ℕ) (text : List ℕ)
-        → IsReportOf catalog requests answers first list (stop_end 9 n) text → FullRun limit catalog requests text (change old new)
+        → IsReportOf catalog requests answers first list (stop_end 9 n) text → FullRun every limit catalog requests text (change old new)
     unfolding stopped_run
     full_run going full more n text is = record {
       stopped = stopped_run Limit (goes_as_stopped going 9) (answered_full log.disk going) n text is;
@@ -333,14 +350,14 @@ module _ {D : Type 0} (kind : DiskKind D) where
     whole_text = report_text catalog requests (weave NoMemoryAnswer requests answers) first list db Whole
 
     whole_run : ended.log.halted ≡ None → some_say_full answers ≡ false → IsOk ended.flushed → Drained catalog (after catalog db list) → (text : List ℕ) → IsPrinted printing list whole_text text
-        → IsReadAgain printing catalog requests db first list whole_text → WholeRun limit printing catalog requests text (change old new)
+        → IsReadAgain printing catalog requests db first list whole_text → WholeRun every limit printing catalog requests text (change old new)
     whole_run going none ok drained text printed read_again =
         record {
           opening = db;
           first = first;
           list = list;
           report = whole_text;
-          run = whole_law limit catalog requests db first list NoMemoryAnswer answers old log.disk new opened closed (settled ok going drained) (answered_calm Whole tt going none) e.ends.run.within;
+          run = whole_law every limit catalog requests db first list NoMemoryAnswer answers old log.disk new opened closed (settled ok going drained) (answered_calm Whole tt going none) e.ends.run.within;
           printed = printed;
           read_again = read_again;
         }
@@ -364,7 +381,7 @@ module _ {D : Type 0} (kind : DiskKind D) where
     IsWritten status n text = IsWrittenReport catalog requests answers first list (end_for status printing ended.closed.database ended.receipted n) text
 
     abbrev Is : Status → List ℕ → Type 0
-    Is status text = RanAs limit printing catalog requests status text (change old new)
+    Is status text = RanAs every limit printing catalog requests status text (change old new)
 
     by_database : ended.log.halted ≡ None → some_say_full answers ≡ false → IsOk ended.flushed → Drained catalog (after catalog db list) → ended.closed.settling ≡ Ok tt
         → (o : Option Database) → ended.closed.database ≡ o → IfNone o (ended.closed.settling ≡ Err unlisted.NoMemory) → IfSome o (IsLeftOver catalog (after catalog db list)) → (n : ℕ) (text : List ℕ)
@@ -391,7 +408,7 @@ module _ {D : Type 0} (kind : DiskKind D) where
 
     -- the status and the report that was written of it
     pub reported : (failed : Bool) → is_some ended.log.halted ≡ failed → (flushed : Bool) → (flushed ≡ true → IsOk ended.flushed) → (status : Status) → status ≡ session_status failed answers ended.closed.settling flushed
-        → (n : ℕ) (text : List ℕ) → IsWritten status n text → Reports limit printing catalog requests status (Some text) (change old new)
+        → (n : ℕ) (text : List ℕ) → IsWritten status n text → Reports every limit printing catalog requests status (Some text) (change old new)
     reported failed is flushed ok status told n text written' = record {
       whole = text;
       ran = subst (λ s. Is s text) (sym told) (by_failed failed is flushed ok n text (subst (λ s. IsWritten s n text) told written'));
@@ -412,7 +429,7 @@ module _ {D : Type 0} (kind : DiskKind D) where
         by_status false none disk = absurd (not_disk (some_say_full answers) flushed ended.closed.settling disk)
 
     -- there was no memory for a report
-    pub unreported : Reports limit printing catalog requests NoMemory None (change old new)
+    pub unreported : Reports every limit printing catalog requests NoMemory None (change old new)
     unreported = record {
       whole = report_text catalog requests (weave NoMemoryAnswer requests told) first list db (stop_since old 6);
       ran = record { opening = db; first = first; list = list; count = ended.receipted; run = run_stopped 6 (logged_at (is_some ended.log.halted) refl) told answered NoMemoryAnswer };
@@ -428,7 +445,7 @@ module _ {D : Type 0} (kind : DiskKind D) where
         answered : AreAnswered requests first list (stop_since log.disk 6) told
         answered = answered_without_memory requests first list (stop_since log.disk 6) answers tt e.ends.run.many e.ends.run.each
 
-        logged_at : (failed : Bool) → is_some ended.log.halted ≡ failed → LogEndsAsStopped 6 first list ended.receipted (change log.disk new)
+        logged_at : (failed : Bool) → is_some ended.log.halted ≡ failed → LogEndsAsStopped every 6 first list ended.receipted (change log.disk new)
         logged_at true is = failed_as_stopped is 6 (inr refl)
         logged_at false is = goes_as_stopped (not_halted ended.log.halted is) 6
 

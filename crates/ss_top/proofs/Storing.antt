@@ -36,14 +36,14 @@ use Rattle.ss_top.specs.Stores.{CameTo, RecoveredTo, Ran, RanAs, WasOf}
 
 -- ---- a session was reported
 
-module _ (limit : ℕ) (printing : Printing) (catalog : Catalog) (requests : List Request) (disk : DiskChange) (was : WasOf catalog disk) (w : SinkChange) where
+module _ (every : Option ℕ) (limit : ℕ) (printing : Printing) (catalog : Catalog) (requests : List Request) (disk : DiskChange) (was : WasOf catalog disk) (w : SinkChange) where
   abbrev Came : Status → Type 0
-  Came ended = ComesTo limit printing catalog requests ended w disk
+  Came ended = ComesTo every limit printing catalog requests ended w disk
 
-  ran : {written : List ℕ → Type 0} (status : Status) (text : List ℕ) → RanAs limit printing catalog requests status text disk → written text → Ran limit printing catalog requests status written disk
+  ran : {written : List ℕ → Type 0} (status : Status) (text : List ℕ) → RanAs every limit printing catalog requests status text disk → written text → Ran every limit printing catalog requests status written disk
   ran status text is wrote = record { was = was; text = text; ran = is; wrote = wrote }
 
-  whole : (ended : Status) (text : List ℕ) → RanAs limit printing catalog requests Done text disk → WritesWhole ended text w → Came ended
+  whole : (ended : Status) (text : List ℕ) → RanAs every limit printing catalog requests Done text disk → WritesWhole ended text w → Came ended
   whole Done text is wrote = record { came = ran Done text is wrote; cause = tt }
   whole WriteFault text is wrote = record { came = ran Done text is wrote.0; cause = wrote.1 }
   whole Usage text is wrote = absurd wrote
@@ -57,7 +57,7 @@ module _ (limit : ℕ) (printing : Printing) (catalog : Catalog) (requests : Lis
   whole Limit text is wrote = absurd wrote
 
   -- by the status of the session
-  told : (status : Status) (text : List ℕ) → RanAs limit printing catalog requests status text disk → (status ≡ Disk → Rose disk.faults_before disk.faults_now) → (ended : Status) → TellsReport status (Some text) ended w → Came ended
+  told : (status : Status) (text : List ℕ) → RanAs every limit printing catalog requests status text disk → (status ≡ Disk → Rose disk.faults_before disk.faults_now) → (ended : Status) → TellsReport status (Some text) ended w → Came ended
   told Done text is rose ended tells = whole ended text is tells
   told Disk text is rose ended tells = subst Came (sym tells.is) (record { came = inr (ran Disk text is tells.reported); cause = rose refl })
   told NoMemory text is rose ended tells = subst Came (sym tells.is) (record { came = inr (inr (ran NoMemory text is (inl tells.reported))); cause = tt })
@@ -70,10 +70,10 @@ module _ (limit : ℕ) (printing : Printing) (catalog : Catalog) (requests : Lis
   told Foreign text is rose ended tells = absurd is
   told OtherCatalog text is rose ended tells = absurd is
 
-  pub session_told : (status : Status) (text : Option (List ℕ)) → Reports limit printing catalog requests status text disk → (ended : Status) → TellsReport status text ended w → Came ended
-  session_told status (Some text) r ended tells = told status text (subst (λ t. RanAs limit printing catalog requests status t disk) (sym r.written) r.ran) r.rose ended tells
+  pub session_told : (status : Status) (text : Option (List ℕ)) → Reports every limit printing catalog requests status text disk → (ended : Status) → TellsReport status text ended w → Came ended
+  session_told status (Some text) r ended tells = told status text (subst (λ t. RanAs every limit printing catalog requests status t disk) (sym r.written) r.ran) r.rose ended tells
   session_told status None r ended tells =
-      subst Came (sym tells.is) (record { came = inr (inr (ran NoMemory r.whole (subst (λ s. RanAs limit printing catalog requests s r.whole disk) r.unwritten r.ran) (inr tells.reported))); cause = tt })
+      subst Came (sym tells.is) (record { came = inr (inr (ran NoMemory r.whole (subst (λ s. RanAs every limit printing catalog requests s r.whole disk) r.unwritten r.ran) (inr tells.reported))); cause = tt })
 
 -- what isn't of another catalogue isn't told as that
 pub told_own : (w : SinkChange) (status : Status) (text : Option (List ℕ)) (ended : Status) → status ≢ OtherCatalog → TellsReport status text ended w → ended ≢ OtherCatalog
@@ -120,7 +120,7 @@ session_own failed answers end flushed status is other = by failed (some_say_ful
 
 -- ---- nothing was recovered
 
-module _ {D : Type 0} (kind : DiskKind D) (limit : ℕ) (printing : Printing) (w : SinkChange) (old new : D) where
+module _ {D : Type 0} (kind : DiskKind D) (every : Option ℕ) (limit : ℕ) (printing : Printing) (w : SinkChange) (old new : D) where
   abbrev change : DiskChange
   change = disk_of kind old new
 
@@ -133,7 +133,7 @@ module _ {D : Type 0} (kind : DiskKind D) (limit : ℕ) (printing : Printing) (w
 
   module _ (catalog : Catalog) (requests : List Request) where
     abbrev CameSo : Status → Type 0
-    CameSo ended = ComesTo limit printing catalog requests ended w change
+    CameSo ended = ComesTo every limit printing catalog requests ended w change
 
     short_of_memory : AsBefore change → Writes no_memory_text w → CameSo NoMemory
     short_of_memory before reported = record { came = inl (record { nothing_ran = as_before_ran_nothing catalog before; written = reported }); cause = tt }
@@ -212,10 +212,10 @@ texts_told kind given old new (recovery.OtherCatalog stored text) refuses own =
 texts_told kind given old new recovery.Nothing refuses own = tt
 
 -- the same where no client started
-pub unstarted : {D : Type 0} (kind : DiskKind D) (limit : ℕ) (printing : Printing) (requests : List Request) (w : SinkChange) (old new : D) (r : Recovered D)
-    → new ≡ r.log.disk → IsOpenedFor kind old r → Writes no_memory_text w → ComesTo limit printing r.catalog requests NoMemory w (disk_of kind old new)
-unstarted kind limit printing requests w old new r same opened reported =
-    subst (λ disk. ComesTo limit printing r.catalog requests NoMemory w (disk_of kind old disk)) (sym same)
+pub unstarted : {D : Type 0} (kind : DiskKind D) (every : Option ℕ) (limit : ℕ) (printing : Printing) (requests : List Request) (w : SinkChange) (old new : D) (r : Recovered D)
+    → new ≡ r.log.disk → IsOpenedFor kind old r → Writes no_memory_text w → ComesTo every limit printing r.catalog requests NoMemory w (disk_of kind old new)
+unstarted kind every limit printing requests w old new r same opened reported =
+    subst (λ disk. ComesTo every limit printing r.catalog requests NoMemory w (disk_of kind old disk)) (sym same)
     (record { came = inr (inl (record { db = recovered_database r; first = r.first; opened = opened.opened; written = reported })); cause = tt })
 
 -- what was recovered is opened
@@ -244,10 +244,10 @@ was_stored kind parts old r is not_empty told = by (is.was told)
 
 -- a recovered store is what a recovery came to
 pub store_recovered : (limit : ℕ) (catalog : Catalog) (disk : DiskChange) (w : SinkChange) → Accepted catalog → (disk.tells → IsStore disk.seen_before catalog) → (ended : Status) → (ended ≡ OtherCatalog → ⊥)
-    → (requests : List Request) → requests ≡ [] → ComesTo limit InFull catalog requests ended w disk → RecoversTo limit ended w disk
-store_recovered limit catalog disk w accepted stored ended own requests none came = record { came = by ended own (subst (λ rs. CameTo limit InFull catalog rs ended w disk) none came.came); cause = came.cause }
+    → (requests : List Request) → requests ≡ [] → ComesTo None limit InFull catalog requests ended w disk → RecoversTo limit ended w disk
+store_recovered limit catalog disk w accepted stored ended own requests none came = record { came = by ended own (subst (λ rs. CameTo None limit InFull catalog rs ended w disk) none came.came); cause = came.cause }
   where
-    by : (s : Status) → (s ≡ OtherCatalog → ⊥) → CameTo limit InFull catalog [] s w disk → RecoveredTo limit s w disk
+    by : (s : Status) → (s ≡ OtherCatalog → ⊥) → CameTo None limit InFull catalog [] s w disk → RecoveredTo limit s w disk
     by Done own came = inr (record { catalog = catalog; accepted = accepted; stored = stored; came = came })
     by WriteFault own came = inr (record { catalog = catalog; accepted = accepted; stored = stored; came = came })
     by Disk own came = inr (record { catalog = catalog; accepted = accepted; stored = stored; came = came })
@@ -261,19 +261,19 @@ store_recovered limit catalog disk w accepted stored ended own requests none cam
     by ReadFault own came = absurd came
 
 -- what was recovered is of the given catalogue
-pub of_given : {limit : ℕ} {printing : Printing} {stored given : Catalog} {requests : List Request} {ended : Status} {w : SinkChange} {disk : DiskChange} → stored ≡ given → ComesTo limit printing stored requests ended w disk → ComesTo limit printing given requests ended w disk
-of_given {limit} {printing} {stored} {given} {requests} {ended} {w} {disk} same came = subst (λ catalog. ComesTo limit printing catalog requests ended w disk) same came
+pub of_given : {every : Option ℕ} {limit : ℕ} {printing : Printing} {stored given : Catalog} {requests : List Request} {ended : Status} {w : SinkChange} {disk : DiskChange} → stored ≡ given → ComesTo every limit printing stored requests ended w disk → ComesTo every limit printing given requests ended w disk
+of_given {every} {limit} {printing} {stored} {given} {requests} {ended} {w} {disk} same came = subst (λ catalog. ComesTo every limit printing catalog requests ended w disk) same came
 
 -- ---- a show ran
 
-pub show_came : (limit : ℕ) (show : Show) (catalog : Catalog) (requests : List Request) (w : SinkChange) (disk : DiskChange) → IsVoter catalog → Accepted catalog → requests ≡ show_requests show → (ended : Status)
-    → ComesTo limit (Summary show.votes) catalog requests ended w disk → ComesToShow limit show ended w disk
-show_came limit show catalog requests w disk voter accepted are ended comes = record { came = by ended comes.came; cause = comes.cause }
+pub show_came : (every : Option ℕ) (limit : ℕ) (show : Show) (catalog : Catalog) (requests : List Request) (w : SinkChange) (disk : DiskChange) → IsVoter catalog → Accepted catalog → requests ≡ show_requests show → (ended : Status)
+    → ComesTo every limit (Summary show.votes) catalog requests ended w disk → ComesToShow every limit show ended w disk
+show_came every limit show catalog requests w disk voter accepted are ended comes = record { came = by ended comes.came; cause = comes.cause }
   where
-    ran : (status : Status) → CameTo limit (Summary show.votes) catalog requests status w disk → RanShow limit show status w disk
-    ran status came = record { catalog = catalog; voter = voter; accepted = accepted; came = subst (λ rs. CameTo limit (Summary show.votes) catalog rs status w disk) are came }
+    ran : (status : Status) → CameTo every limit (Summary show.votes) catalog requests status w disk → RanShow every limit show status w disk
+    ran status came = record { catalog = catalog; voter = voter; accepted = accepted; came = subst (λ rs. CameTo every limit (Summary show.votes) catalog rs status w disk) are came }
 
-    by : (status : Status) → CameTo limit (Summary show.votes) catalog requests status w disk → ShowEnds limit show status w disk
+    by : (status : Status) → CameTo every limit (Summary show.votes) catalog requests status w disk → ShowEnds every limit show status w disk
     by Done came = ran Done came
     by WriteFault came = ran WriteFault came
     by Disk came = ran Disk came

@@ -47,9 +47,9 @@ end_for Done (Summary votes) database count faults = report.Voter votes
 end_for status printing database count faults = report.Stopped (status_number status) count faults
 
 -- a session ended with this status, and this is its report, where there was memory for one; else it stopped for want of memory
-pub record Reports (limit : ℕ) (printing : Printing) (catalog : Catalog) (requests : List Request) (status : Status) (text : Option (List ℕ)) (disk : DiskChange) : Type 0 where
+pub record Reports (every : Option ℕ) (limit : ℕ) (printing : Printing) (catalog : Catalog) (requests : List Request) (status : Status) (text : Option (List ℕ)) (disk : DiskChange) : Type 0 where
   pub whole : List ℕ
-  pub ran : RanAs limit printing catalog requests status whole disk
+  pub ran : RanAs every limit printing catalog requests status whole disk
   pub written : IfSome text (λ some. some ≡ whole)
   pub unwritten : IfNone text (status ≡ NoMemory)
   pub rose : status ≡ Disk → Rose disk.faults_before disk.faults_now
@@ -63,7 +63,7 @@ TellsReport status (Some text) ended w = ExitsAs status ended text w
 -- the report of a finished session, wherever it began: the status and the text are those of its run on the disk that was opened for it
 abbrev pub ReportsFinished : {D : Type 0} → DiskKind D → Printing → List Request → ℕ → Finished D → Reported D → Type 0
 ReportsFinished {D} kind printing requests first finished reported =
-    (limit clients : ℕ) (catalog : Catalog) (db : Model) (old : D) (log : CmdLog D) → first ≤ 2 ^ 60 → Accepted catalog → IsInStep catalog db →
+    (every : Option ℕ) (limit clients : ℕ) (catalog : Catalog) (db : Model) (old : D) (log : CmdLog D) → first ≤ 2 ^ 60 → Accepted catalog → IsInStep catalog db →
     Opened catalog db first (disk_of kind old log.disk) →
-    EndsOnDisk kind catalog db first (room_from limit first) clients requests log finished →
-    Reports limit printing catalog requests reported.status reported.text (disk_of kind old reported.disk)
+    EndsOnDisk kind every catalog db first (room_from limit first) clients requests log finished →
+    Reports every limit printing catalog requests reported.status reported.text (disk_of kind old reported.disk)

@@ -1,5 +1,5 @@
 -- What serving requests on a store comes to, with the causes of its status.
-use Rattle.std.specs.Prelude.{ℕ, List}
+use Rattle.std.specs.Prelude.{ℕ, List, Option}
 use Rattle.ss_disk.specs.Kinds.{DiskKind}
 use Rattle.ss_value.specs.FaultCounts.{Rose}
 use Rattle.ss_model.specs.declared.catalog.Catalog.{Catalog}
@@ -23,8 +23,8 @@ HasStoreCause Disk w disk = Rose disk.faults_before disk.faults_now
 HasStoreCause _ w disk = Unit {0}
 
 -- running these requests of this catalogue
-pub record ComesTo (limit : ℕ) (printing : Printing) (catalog : Catalog) (requests : List Request) (status : Status) (w : SinkChange) (disk : DiskChange) : Type 0 where
-  pub came : CameTo limit printing catalog requests status w disk
+pub record ComesTo (every : Option ℕ) (limit : ℕ) (printing : Printing) (catalog : Catalog) (requests : List Request) (status : Status) (w : SinkChange) (disk : DiskChange) : Type 0 where
+  pub came : CameTo every limit printing catalog requests status w disk
   pub cause : HasStoreCause status w disk
 
 -- a recovery
@@ -33,8 +33,8 @@ pub record RecoversTo (limit : ℕ) (status : Status) (w : SinkChange) (disk : D
   pub cause : HasStoreCause status w disk
 
 -- a show
-pub record ComesToShow (limit : ℕ) (show : Show) (status : Status) (w : SinkChange) (disk : DiskChange) : Type 0 where
-  pub came : ShowEnds limit show status w disk
+pub record ComesToShow (every : Option ℕ) (limit : ℕ) (show : Show) (status : Status) (w : SinkChange) (disk : DiskChange) : Type 0 where
+  pub came : ShowEnds every limit show status w disk
   pub cause : HasStoreCause status w disk
 
 -- the store was opened on this disk, or made on it

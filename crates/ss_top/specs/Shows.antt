@@ -1,5 +1,5 @@
 -- What the command `voter` promises: it runs the script of a show on the benchmark's catalogue, and prints what sums up the list.
-use Rattle.std.specs.Prelude.{◌≡◌, ◌⊎◌, ℕ, List}
+use Rattle.std.specs.Prelude.{◌≡◌, ◌⊎◌, ℕ, List, Option}
 use Rattle.ss_model.specs.declared.catalog.Catalog.{Catalog}
 use Rattle.ss_model.specs.declared.entry.Request.{Request}
 use Rattle.ss_model.specs.Accepted.{Accepted}
@@ -20,16 +20,16 @@ abbrev pub show_requests : Show → List Request
 show_requests show = vote_requests show.seed show.votes show.clients
 
 -- running a show on the benchmark's catalogue has come to this
-pub record RanShow (limit : ℕ) (show : Show) (status : Status) (w : SinkChange) (disk : DiskChange) : Type 0 where
+pub record RanShow (every : Option ℕ) (limit : ℕ) (show : Show) (status : Status) (w : SinkChange) (disk : DiskChange) : Type 0 where
   pub catalog : Catalog
   pub voter : IsVoter catalog
   pub accepted : Accepted catalog
-  pub came : CameTo limit (Summary show.votes) catalog (show_requests show) status w disk
+  pub came : CameTo every limit (Summary show.votes) catalog (show_requests show) status w disk
 
 -- what the command voter has come to
-abbrev pub ShowEnds : ℕ → Show → Status → SinkChange → DiskChange → Type 0
-ShowEnds limit show NoMemory w disk = EndsUncalled no_memory_text w disk ⊎ RanShow limit show NoMemory w disk
-ShowEnds limit show status w disk = RanShow limit show status w disk
+abbrev pub ShowEnds : Option ℕ → ℕ → Show → Status → SinkChange → DiskChange → Type 0
+ShowEnds every limit show NoMemory w disk = EndsUncalled no_memory_text w disk ⊎ RanShow every limit show NoMemory w disk
+ShowEnds every limit show status w disk = RanShow every limit show status w disk
 
 -- where there is room for all that a show owes it is done, or there was no memory
 abbrev pub IsCompleteShow : ℕ → Show → DiskChange → Status → Type 0

@@ -1,5 +1,5 @@
 -- What running requests on a store comes to, by the status with which the program ends.
-use Rattle.std.specs.Prelude.{◌≡◌, ◌≢◌, ◌⊎◌, ◌<◌, ℕ, true, List, [], length}
+use Rattle.std.specs.Prelude.{◌≡◌, ◌≢◌, ◌⊎◌, ◌<◌, ℕ, true, List, [], length, Option, None}
 use Rattle.ss_model.specs.declared.catalog.Catalog.{Catalog}
 use Rattle.ss_model.specs.declared.entry.Answer.{Answer}
 use Rattle.ss_model.specs.declared.entry.Listed.{Listed}
@@ -74,7 +74,7 @@ pub record IsOther (given : List ℕ) (w : SinkChange) (disk : DiskChange) : Typ
 abbrev pub WasOf : Catalog → DiskChange → Type 0
 WasOf catalog disk = disk.tells → IsEmpty disk.seen_before ⊎ IsStore disk.seen_before catalog
 
--- ---- once the clients have started
+-- ---- once the clients have started, with a checkpoint from so many entries on, or with none
 
 -- a whole run is printed in full, by its report, or by the line that sums up its list
 abbrev pub IsPrinted : Printing → List Listed → List ℕ → List ℕ → Type 0
@@ -87,27 +87,27 @@ IsReadAgain InFull catalog requests opening first list report = IsReadableReport
 IsReadAgain (Summary votes) catalog requests opening first list report = Unit {0}
 
 -- a whole run: one list, from a database and a place on, with its report, and what is printed of it
-pub record WholeRun (limit : ℕ) (printing : Printing) (catalog : Catalog) (requests : List Request) (text : List ℕ) (disk : DiskChange) : Type 0 where
+pub record WholeRun (every : Option ℕ) (limit : ℕ) (printing : Printing) (catalog : Catalog) (requests : List Request) (text : List ℕ) (disk : DiskChange) : Type 0 where
   pub opening : Database
   pub first : ℕ
   pub list : List Listed
   pub report : List ℕ
-  pub run : IsWholeRun limit catalog requests opening first list report disk
+  pub run : IsWholeRun every limit catalog requests opening first list report disk
   pub printed : IsPrinted printing list report text
   pub read_again : IsReadAgain printing catalog requests opening first list report
 
 -- a run that stopped with this status, and with a count below which all executions are receipted
-pub record StoppedRun (limit : ℕ) (catalog : Catalog) (requests : List Request) (status : Status) (text : List ℕ) (disk : DiskChange) : Type 0 where
+pub record StoppedRun (every : Option ℕ) (limit : ℕ) (catalog : Catalog) (requests : List Request) (status : Status) (text : List ℕ) (disk : DiskChange) : Type 0 where
   pub opening : Database
   pub first : ℕ
   pub list : List Listed
   pub count : ℕ
-  pub run : IsStoppedRun limit catalog requests opening first list (status_number status) count text disk
+  pub run : IsStoppedRun every limit catalog requests opening first list (status_number status) count text disk
 
 -- a run that stopped where its list has all its room, and a request was answered that the list is full, or a procedure is ready behind it,
 -- so that more was owed than there was room for
-pub record FullRun (limit : ℕ) (catalog : Catalog) (requests : List Request) (text : List ℕ) (disk : DiskChange) : Type 0 where
-  pub stopped : StoppedRun limit catalog requests Limit text disk
+pub record FullRun (every : Option ℕ) (limit : ℕ) (catalog : Catalog) (requests : List Request) (text : List ℕ) (disk : DiskChange) : Type 0 where
+  pub stopped : StoppedRun every limit catalog requests Limit text disk
   pub full : length stopped.list ≡ room_from limit stopped.first
   pub answers : List (List Answer)
   pub told : WereTold catalog requests stopped.opening stopped.first stopped.list
@@ -116,18 +116,18 @@ pub record FullRun (limit : ℕ) (catalog : Catalog) (requests : List Request) (
   pub owed_more : room_from limit stopped.first < owed catalog stopped.opening requests
 
 -- a session that ended with this status has this report
-abbrev pub RanAs : ℕ → Printing → Catalog → List Request → Status → List ℕ → DiskChange → Type 0
-RanAs limit printing catalog requests Done text disk = WholeRun limit printing catalog requests text disk
-RanAs limit printing catalog requests Disk text disk = StoppedRun limit catalog requests Disk text disk
-RanAs limit printing catalog requests NoMemory text disk = StoppedRun limit catalog requests NoMemory text disk
-RanAs limit printing catalog requests Limit text disk = FullRun limit catalog requests text disk
-RanAs limit printing catalog requests _ text disk = ⊥
+abbrev pub RanAs : Option ℕ → ℕ → Printing → Catalog → List Request → Status → List ℕ → DiskChange → Type 0
+RanAs every limit printing catalog requests Done text disk = WholeRun every limit printing catalog requests text disk
+RanAs every limit printing catalog requests Disk text disk = StoppedRun every limit catalog requests Disk text disk
+RanAs every limit printing catalog requests NoMemory text disk = StoppedRun every limit catalog requests NoMemory text disk
+RanAs every limit printing catalog requests Limit text disk = FullRun every limit catalog requests text disk
+RanAs every limit printing catalog requests _ text disk = ⊥
 
 -- a session on an empty disk or a store of this catalogue ended with the first status, of whose report this was written
-pub record Ran (limit : ℕ) (printing : Printing) (catalog : Catalog) (requests : List Request) (status : Status) (written : List ℕ → Type 0) (disk : DiskChange) : Type 0 where
+pub record Ran (every : Option ℕ) (limit : ℕ) (printing : Printing) (catalog : Catalog) (requests : List Request) (status : Status) (written : List ℕ → Type 0) (disk : DiskChange) : Type 0 where
   pub was : WasOf catalog disk
   pub text : List ℕ
-  pub ran : RanAs limit printing catalog requests status text disk
+  pub ran : RanAs every limit printing catalog requests status text disk
   pub wrote : written text
 
 -- a stopped report was written, or, at status 6, that there was no memory for it
@@ -138,16 +138,16 @@ WritesStop _ w text = Writes text w
 -- ---- by status
 
 -- what running these requests of this catalogue has come to
-abbrev pub CameTo : ℕ → Printing → Catalog → List Request → Status → SinkChange → DiskChange → Type 0
-CameTo limit printing catalog requests Done w disk = Ran limit printing catalog requests Done (WritesAll w) disk
-CameTo limit printing catalog requests WriteFault w disk = Ran limit printing catalog requests Done (λ text. WritesPrefix text w) disk
-CameTo limit printing catalog requests Disk w disk = EndsBefore catalog disk_fault_text w disk ⊎ Ran limit printing catalog requests Disk (WritesStop Disk w) disk
-CameTo limit printing catalog requests NoMemory w disk =
-    EndsBefore catalog no_memory_text w disk ⊎ EndsOpened catalog no_memory_text w disk ⊎ Ran limit printing catalog requests NoMemory (WritesStop NoMemory w) disk
-CameTo limit printing catalog requests Limit w disk = Ran limit printing catalog requests Limit (WritesStop Limit w) disk
-CameTo limit printing catalog requests Foreign w disk = IsForeign w disk
-CameTo limit printing catalog requests OtherCatalog w disk = IsOther catalog.text w disk
-CameTo limit printing catalog requests _ w disk = ⊥
+abbrev pub CameTo : Option ℕ → ℕ → Printing → Catalog → List Request → Status → SinkChange → DiskChange → Type 0
+CameTo every limit printing catalog requests Done w disk = Ran every limit printing catalog requests Done (WritesAll w) disk
+CameTo every limit printing catalog requests WriteFault w disk = Ran every limit printing catalog requests Done (λ text. WritesPrefix text w) disk
+CameTo every limit printing catalog requests Disk w disk = EndsBefore catalog disk_fault_text w disk ⊎ Ran every limit printing catalog requests Disk (WritesStop Disk w) disk
+CameTo every limit printing catalog requests NoMemory w disk =
+    EndsBefore catalog no_memory_text w disk ⊎ EndsOpened catalog no_memory_text w disk ⊎ Ran every limit printing catalog requests NoMemory (WritesStop NoMemory w) disk
+CameTo every limit printing catalog requests Limit w disk = Ran every limit printing catalog requests Limit (WritesStop Limit w) disk
+CameTo every limit printing catalog requests Foreign w disk = IsForeign w disk
+CameTo every limit printing catalog requests OtherCatalog w disk = IsOther catalog.text w disk
+CameTo every limit printing catalog requests _ w disk = ⊥
 
 -- an empty disk was recovered: there is no execution, and the disk was read alone
 pub record RecoversNothing (told : List ℕ → Type 0) (disk : DiskChange) : Type 0 where
@@ -155,12 +155,12 @@ pub record RecoversNothing (told : List ℕ → Type 0) (disk : DiskChange) : Ty
   pub only_read : OnlyRead disk
   pub written : told nothing_text
 
--- a store was recovered, whose catalogue is accepted: what was pending ran
+-- a store was recovered, whose catalogue is accepted: what was pending ran, without checkpoints
 pub record RecoversStore (limit : ℕ) (status : Status) (w : SinkChange) (disk : DiskChange) : Type 0 where
   pub catalog : Catalog
   pub accepted : Accepted catalog
   pub stored : disk.tells → IsStore disk.seen_before catalog
-  pub came : CameTo limit InFull catalog [] status w disk
+  pub came : CameTo None limit InFull catalog [] status w disk
 
 -- what a recovery has come to
 abbrev pub RecoveredTo : ℕ → Status → SinkChange → DiskChange → Type 0

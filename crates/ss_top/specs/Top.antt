@@ -48,12 +48,12 @@ WritesOnly _ w = Unit {0}
 
 -- there is a catalogue that is accepted, and requests, which are what the input says where its bytes are known, and running them on the
 -- disk has come to this
-pub record RanInput (limit : ℕ) (input : Option (List ℕ)) (status : Status) (w : SinkChange) (disk : DiskChange) : Type 0 where
+pub record RanInput (every : Option ℕ) (limit : ℕ) (input : Option (List ℕ)) (status : Status) (w : SinkChange) (disk : DiskChange) : Type 0 where
   pub catalog : Catalog
   pub requests : List Request
   pub starts : IfSome input (λ bytes. Starts bytes catalog requests)
   pub accepted : Accepted catalog
-  pub came : CameTo limit InFull catalog requests status w disk
+  pub came : CameTo every limit InFull catalog requests status w disk
 
 -- the input's first refusal was written, and no call has reached the disk
 pub record RefusedInput (input : Option (List ℕ)) (w : SinkChange) (disk : DiskChange) : Type 0 where
@@ -61,22 +61,22 @@ pub record RefusedInput (input : Option (List ℕ)) (w : SinkChange) (disk : Dis
   pub uncalled : disk.uncalled
 
 -- what the command run has come to on this input, whose bytes may not be known
-abbrev pub RunEnds : ℕ → Option (List ℕ) → Status → SinkChange → DiskChange → Type 0
-RunEnds limit input Usage w disk = ⊥
-RunEnds limit input Differs w disk = ⊥
-RunEnds limit input Input w disk = RefusedInput input w disk
-RunEnds limit input ReadFault w disk = disk.uncalled
-RunEnds limit input NoMemory w disk = EndsUncalled no_memory_text w disk ⊎ RanInput limit input NoMemory w disk
-RunEnds limit input status w disk = RanInput limit input status w disk
+abbrev pub RunEnds : Option ℕ → ℕ → Option (List ℕ) → Status → SinkChange → DiskChange → Type 0
+RunEnds every limit input Usage w disk = ⊥
+RunEnds every limit input Differs w disk = ⊥
+RunEnds every limit input Input w disk = RefusedInput input w disk
+RunEnds every limit input ReadFault w disk = disk.uncalled
+RunEnds every limit input NoMemory w disk = EndsUncalled no_memory_text w disk ⊎ RanInput every limit input NoMemory w disk
+RunEnds every limit input status w disk = RanInput every limit input status w disk
 
 -- an input that starts, on a disk with room for all that is owed, ends as done or at out of memory
 abbrev pub IsComplete : ℕ → List ℕ → DiskChange → Status → Type 0
 IsComplete limit input disk ended = (catalog : Catalog) (requests : List Request) → Starts input catalog requests → HasRoom limit catalog requests disk → IsDoneOrShort ended
 
 -- what the command run promises
-pub record EndsRun (limit : ℕ) (s : SourceChange) (w : SinkChange) (disk : DiskChange) (ended : Status) : Type 0 where
+pub record EndsRun (every : Option ℕ) (limit : ℕ) (s : SourceChange) (w : SinkChange) (disk : DiskChange) (ended : Status) : Type 0 where
   -- the headline
-  pub came : RunEnds limit s.before ended w disk
+  pub came : RunEnds every limit s.before ended w disk
   -- how much of the source is left
   pub empties : LeavesOfSource ended s.before s.now
   -- an input has one answer, and gets it, unless a fault was counted or at out of memory
@@ -86,8 +86,8 @@ pub record EndsRun (limit : ℕ) (s : SourceChange) (w : SinkChange) (disk : Dis
   pub complete : SourceHeld s → SinkHeld w → DiskHeld disk → IfSome s.before (λ input. IsComplete limit input disk ended)
 
 -- what a run promises, with the causes of its status and what is written of it alone
-pub record RunEndsSo (limit : ℕ) (s : SourceChange) (w : SinkChange) (disk : DiskChange) (ended : Status) : Type 0 where
-  pub ends : EndsRun limit s w disk ended
+pub record RunEndsSo (every : Option ℕ) (limit : ℕ) (s : SourceChange) (w : SinkChange) (disk : DiskChange) (ended : Status) : Type 0 where
+  pub ends : EndsRun every limit s w disk ended
   pub only : WritesOnly ended w
   pub cause : HasCause ended s w disk
   pub no_usage : ended ≡ Usage → ⊥
@@ -100,8 +100,8 @@ pub record EndsRecover (limit : ℕ) (s : SourceChange) (w : SinkChange) (disk :
 
 -- what the command voter promises: the headline of its script, that it does all of it where there is room for it, and that it reads
 -- nothing
-pub record EndsVoter (limit : ℕ) (show : Show) (s : SourceChange) (w : SinkChange) (disk : DiskChange) (ended : Status) : Type 0 where
-  pub came : ShowEnds limit show ended w disk
+pub record EndsVoter (every : Option ℕ) (limit : ℕ) (show : Show) (s : SourceChange) (w : SinkChange) (disk : DiskChange) (ended : Status) : Type 0 where
+  pub came : ShowEnds every limit show ended w disk
   pub complete : SinkHeld w → DiskHeld disk → IsCompleteShow limit show disk ended
   pub unread : (s.now ≡ s.before) × (s.faults_now ≡ s.faults_before)
 
@@ -117,9 +117,9 @@ pub record EndsAudit (s : SourceChange) (w : SinkChange) (disk : DiskChange) (en
 pub record Ends (limit : ℕ) (words : List (String Global)) (s : SourceChange) (w : SinkChange) (disk : DiskChange) (ended : Status) : Type 0 where
   -- the words alone decide whether they are a command, and which
   pub usage : (ended ≡ Usage) ↔ ¬ (IsCommand (words_of words))
-  pub run : (what : Options) → AsksFor (words_of words) (record { command = Run; options = what }) → EndsRun limit s w disk ended
+  pub run : (what : Options) → AsksFor (words_of words) (record { command = Run; options = what }) → EndsRun what.every limit s w disk ended
   pub recover : (what : Options) → AsksFor (words_of words) (record { command = Recover; options = what }) → EndsRecover limit s w disk ended
-  pub voter : (what : Options) (show : Show) → AsksFor (words_of words) (record { command = Voter show; options = what }) → EndsVoter limit show s w disk ended
+  pub voter : (what : Options) (show : Show) → AsksFor (words_of words) (record { command = Voter show; options = what }) → EndsVoter what.every limit show s w disk ended
   pub audit : (what : Options) → AsksFor (words_of words) (record { command = Audit; options = what }) → EndsAudit s w disk ended
   -- where they are none nothing is read, and no call reaches the disk
   pub unread : ended ≡ Usage → (s.now ≡ s.before) × (s.faults_now ≡ s.faults_before)

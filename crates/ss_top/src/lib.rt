@@ -28,7 +28,8 @@
 //!   of this catalogue (`WasOf`), together `IsOpenedFor`. Where it refuses, `RefusesAsSaid`, it is `OnlyRead`, `AsBefore`
 //!   or `NothingRan`.
 //! - `run_session`, `EndsOnDisk`: this is `Closed`, and with a last flush that went well behind a settling that ended
-//!   well `Settled`, else `Receipted` and `LogEndsAsStopped`.
+//!   well `Settled`, else `Receipted` and `LogEndsAsStopped`. With checkpoints the generation begins near the list's end
+//!   (`near`), which `Settled` has in `logged`.
 //! - The laws `whole_runs` and `stopped_runs` take `Opened` of the disk up to the session, `Closed` with `Settled`, or
 //!   with `Receipted` and `LogEndsAsStopped`, of the disk from there on, and the answers to the clients. So a run
 //!   (`RanAs`) speaks of the disk that the program was given and of the one that it leaves.

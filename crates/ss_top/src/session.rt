@@ -1,6 +1,6 @@
 //! A session on what was recovered of a store: its requests run, and are reported.
 
-ghost use Rattle.std.specs.Prelude.{◌≡◌, ◌≢◌, ◌≤◌, ◌<◌, ◌+◌, ◌^◌, length, IfOk, IfErr, IfSome, OnOk};
+ghost use Rattle.std.specs.Prelude.{◌≡◌, ◌≢◌, ◌≤◌, ◌<◌, ◌+◌, ◌^◌, ℕ, Some, length, IfOk, IfErr, IfSome, OnOk};
 ghost use Rattle.std.specs.List.{AllByRecursion};
 ghost use Rattle.ss_model.specs.declared.entry.Request.{Request};
 ghost use Rattle.ss_model.specs.Accepted.{Accepted};
@@ -244,7 +244,8 @@ fn report_session<D: Disk + Drop>(
     }
 }
 
-/// Runs requests on what was recovered, each client's in a thread of its own, on so many partitions, and makes the report.
+/// Runs requests on what was recovered, each client's in a thread of its own, on so many partitions, and makes the report. A checkpoint
+/// is due from `every` entries behind the last one on, and none is made where that is none.
 /// Hands the disk back where there was no memory to begin.
 pub(crate) fn run_and_report<
     D: Disk + Drop + Send,
@@ -257,6 +258,7 @@ pub(crate) fn run_and_report<
     requests: &Seq<Request>,
     partitions: u8,
     gate: G,
+    every: Option<u64>,
     limit: u64,
     printing: Printing,
 ) -> Result<Reported<D>, D>
@@ -265,9 +267,10 @@ pub(crate) fn run_and_report<
     requires goes_on { GoesOn D.kind partitions recovered db }
     requires fit { AllFit recovered.catalog requests.now }
     requires partitions { (1 ≤ partitions) × (partitions ≤ 8) }
+    requires every { (k : ℕ) → every ≡ Some k → 1 ≤ k }
     ensures reported { IfOk result (λ r. (old : D)
         → Opened recovered.catalog db recovered.first (disk_of D.kind old recovered.log.disk)
-        → Reports limit printing recovered.catalog requests.now r.status r.text (disk_of D.kind old r.disk)) }
+        → Reports every limit printing recovered.catalog requests.now r.status r.text (disk_of D.kind old r.disk)) }
     ensures own { IfOk result (λ r. r.status ≢ Status.OtherCatalog) }
     ensures later { IfOk result (λ r. D.kind.faults recovered.log.disk ≤ D.kind.faults r.disk) }
     ensures unstarted { IfErr result (λ disk. disk ≡ recovered.log.disk) }
@@ -300,6 +303,7 @@ pub(crate) fn run_and_report<
         gate,
         requests,
         opening,
+        every,
     ) {
         Ok(finished) => Ok(report_session(alloc, finished, requests, first, printing)),
         Err((_, log)) => Err(log.into_disk()),

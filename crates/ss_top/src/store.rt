@@ -1,6 +1,6 @@
 //! The store of a run: what is recovered of it serves a session, and else it is told why nothing is.
 
-ghost use Rattle.std.specs.Prelude.{◌≡◌, ◌≢◌, ◌≤◌};
+ghost use Rattle.std.specs.Prelude.{◌≡◌, ◌≢◌, ◌≤◌, ℕ, Some};
 ghost use Rattle.ss_model.specs.Accepted.{Accepted};
 ghost use Rattle.ss_headline.specs.Disks.{disk_of};
 ghost use Rattle.ss_recover.specs.Recovering.{GoesOn, IsOwnCatalog, recovered_database};
@@ -50,6 +50,7 @@ fn serve<K: Sink, D: Disk + Drop + Send, G: Gate + Drop + Sync, R: Threads + Wai
     requests: &Seq<Request>,
     partitions: u8,
     gate: G,
+    every: Option<u64>,
     limit: u64,
     printing: Printing,
 ) -> (Status, D)
@@ -57,15 +58,16 @@ fn serve<K: Sink, D: Disk + Drop + Send, G: Gate + Drop + Sync, R: Threads + Wai
     requires goes_on { GoesOn D.kind partitions recovered (recovered_database recovered) }
     requires fit { AllFit recovered.catalog requests.now }
     requires partitions { (1 ≤ partitions) × (partitions ≤ 8) }
+    requires every { (k : ℕ) → every ≡ Some k → 1 ≤ k }
     ensures served { (old : D) → IsOpenedFor D.kind old recovered
-        → ComesTo limit printing recovered.catalog requests.now result.0
+        → ComesTo every limit printing recovered.catalog requests.now result.0
         (sink_of K.kind sink.old sink.new)
         (disk_of D.kind old result.1) }
     ensures own { result.0 ≢ Status.OtherCatalog }
     ensures counts { (K.kind.faults sink.old ≤ K.kind.faults sink.new) × (D.kind.faults recovered.log.disk ≤ D.kind.faults result.1) }
 {
     match run_and_report(
-        rt, alloc, recovered, requests, partitions, gate, limit, printing,
+        rt, alloc, recovered, requests, partitions, gate, every, limit, printing,
     ) {
         Ok(Reported { status, text, disk }) => (write_report(sink, status, &text), disk),
         Err(disk) => {
@@ -90,20 +92,22 @@ pub(crate) fn run_on_store<
     requests: &Seq<Request>,
     partitions: u8,
     gate: G,
+    every: Option<u64>,
     limit: u64,
     printing: Printing,
 ) -> (Status, D)
     requires own { IsOwnCatalog catalog }
     requires fit { AllFit catalog requests.now }
     requires partitions { (1 ≤ partitions) × (partitions ≤ 8) }
-    ensures came { ComesTo limit printing catalog requests.now result.0
+    requires every { (k : ℕ) → every ≡ Some k → 1 ≤ k }
+    ensures came { ComesTo every limit printing catalog requests.now result.0
         (sink_of K.kind sink.old sink.new)
         (disk_of D.kind disk result.1) }
     ensures counts { (K.kind.faults sink.old ≤ K.kind.faults sink.new) × (D.kind.faults disk ≤ D.kind.faults result.1) }
 {
     match recover(alloc, &PlainRunner, disk, Some(catalog), partitions) {
         Ok(recovered) => serve(
-            rt, alloc, sink, recovered, requests, partitions, gate, limit, printing,
+            rt, alloc, sink, recovered, requests, partitions, gate, every, limit, printing,
         ),
         Err((error, disk)) => (refuse_store(alloc, sink, &error), disk),
     }
@@ -133,6 +137,7 @@ pub(crate) fn recover_store<
             &requests,
             partitions,
             gate,
+            None,
             limit,
             Printing::InFull,
         ),

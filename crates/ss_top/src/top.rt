@@ -1,6 +1,6 @@
 //! The program's one call: from the bytes of a source to the bytes of a sink, on a disk.
 
-ghost use Rattle.std.specs.Prelude.{◌≤◌, ◌+◌};
+ghost use Rattle.std.specs.Prelude.{◌≡◌, ◌≤◌, ◌+◌, ℕ, Some};
 ghost use Rattle.ss_lines.specs.Causes.{TakesAtMost};
 ghost use Rattle.ss_lines.specs.Lines.{max_input};
 ghost use Rattle.ss_headline.specs.Disks.{disk_of};
@@ -20,7 +20,7 @@ use ss_recover::a_disk_has_one_fault;
 use ss_refusals::{
     NO_MEMORY, ParsedInput, Status, USAGE, an_input_has_one_answer, read_input, refuse, write_line,
 };
-use ss_words::{Command, CommandLine, Show, command_line};
+use ss_words::{Command, CommandLine, Options, Show, command_line};
 use std::alloc::Global;
 use std::sync::Wait;
 use std::thread::Threads;
@@ -37,10 +37,12 @@ fn run<S: Source, K: Sink, D: Disk + Drop + Send, G: Gate + Drop + Sync, R: Thre
     disk: D,
     partitions: u8,
     gate: G,
+    every: Option<u64>,
     limit: u64,
 ) -> (Status, D)
     requires partitions { (1 ≤ partitions) × (partitions ≤ 8) }
-    ensures ends { RunEndsSo limit (source_of S.kind source.old source.new)
+    requires every { (k : ℕ) → every ≡ Some k → 1 ≤ k }
+    ensures ends { RunEndsSo every limit (source_of S.kind source.old source.new)
         (sink_of K.kind sink.old sink.new)
         (disk_of D.kind disk result.1) result.0 }
     ensures taken { TakesAtMost (max_input + 1) (S.kind.left source.old) (S.kind.left source.new) }
@@ -60,6 +62,7 @@ fn run<S: Source, K: Sink, D: Disk + Drop + Send, G: Gate + Drop + Sync, R: Thre
             &requests,
             partitions,
             gate,
+            every,
             limit,
             Printing::InFull,
         ),
@@ -76,12 +79,14 @@ fn voter<K: Sink, D: Disk + Drop + Send, G: Gate + Drop + Sync, R: Threads + Wai
     show: &Show,
     partitions: u8,
     gate: G,
+    every: Option<u64>,
     limit: u64,
 ) -> (Status, D)
     requires partitions { (1 ≤ partitions) × (partitions ≤ 8) }
+    requires every { (k : ℕ) → every ≡ Some k → 1 ≤ k }
     requires few { show.now.votes ≤ 200000 }
     requires clients { (1 ≤ show.now.clients) × (show.now.clients ≤ 8) }
-    ensures came { ComesToShow limit show.now result.0 (sink_of K.kind sink.old sink.new)
+    ensures came { ComesToShow every limit show.now result.0 (sink_of K.kind sink.old sink.new)
         (disk_of D.kind disk result.1) }
     ensures counts { (K.kind.faults sink.old ≤ K.kind.faults sink.new) × (D.kind.faults disk ≤ D.kind.faults result.1) }
 {
@@ -91,7 +96,7 @@ fn voter<K: Sink, D: Disk + Drop + Send, G: Gate + Drop + Sync, R: Threads + Wai
     };
     let printing = Printing::Summary { votes: show.votes };
     run_on_store(
-        rt, alloc, sink, disk, catalog, &requests, partitions, gate, limit, printing,
+        rt, alloc, sink, disk, catalog, &requests, partitions, gate, every, limit, printing,
     )
 }
 
@@ -130,12 +135,14 @@ pub fn sstore_limited<
         write_line(sink, USAGE);
         return (Status::Usage, disk);
     };
-    let partitions = options.partitions;
+    let Options { partitions, every } = options;
     match command {
-        Command::Run => run(rt, alloc, source, sink, disk, partitions, gate, limit),
+        Command::Run => run(
+            rt, alloc, source, sink, disk, partitions, gate, every, limit,
+        ),
         Command::Audit => (audit_input(alloc, source, sink), disk),
         Command::Recover => recover_store(rt, alloc, sink, disk, partitions, gate, limit),
-        Command::Voter(show) => voter(rt, alloc, sink, disk, &show, partitions, gate, limit),
+        Command::Voter(show) => voter(rt, alloc, sink, disk, &show, partitions, gate, every, limit),
     }
 }
 

@@ -113,9 +113,14 @@ impl Drop for Streams {
 }
 
 impl Streams {
-    /// A command on an input, and a sink that has room for this many bytes.
-    fn new(alloc: Global, command: &str, input: Vec<u8>, room: usize) -> Result<Streams, NoMemory> {
-        let words = words_of(alloc, &[command])?;
+    /// A command line on an input, and a sink that has room for this many bytes.
+    fn new(
+        alloc: Global,
+        words: &[&str],
+        input: Vec<u8>,
+        room: usize,
+    ) -> Result<Streams, NoMemory> {
+        let words = words_of(alloc, words)?;
         let sink = MemorySink::new(alloc, room)?;
         let source = MemorySource::new(Seq::from_vec(input));
         Ok(Streams {

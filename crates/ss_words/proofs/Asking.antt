@@ -5,7 +5,7 @@ use Rattle.std.specs.Str.Parse.{digits_value}
 use Rattle.std.proofs.lemmas.Bool.{and_parts}
 use Rattle.ss_lemmas.proofs.Bools.{some_same}
 use Rattle.ss_words.specs.declared.names.OptionName.{OptionName}
-use Rattle.ss_words.specs.declared.names.OptionName.TheVariants.{Partitions, Recovery, Seed, Votes, Clients}
+use Rattle.ss_words.specs.declared.names.OptionName.TheVariants.{Partitions, Recovery, Seed, Votes, Clients, Checkpoint}
 use Rattle.ss_words.specs.declared.names.Command.{Command}
 use Rattle.ss_words.specs.declared.names.Command.TheVariants.{Run, Recover, Audit, Voter}
 use Rattle.ss_words.specs.declared.names.Show.{Show}
@@ -61,8 +61,11 @@ asks_for_one words line other h k =
     let first : command_word line.command ≡ command_word other.command = cc in
     let same = one_spelling h.rest k.asks.options h.asks.options (subst (λ w. AreOptions w k.asks.options) behind k.asks.are.are).spelled h.asks.are.are.spelled in
     let partitions : line.options.partitions ≡ other.options.partitions = h.asks.partitions ∙ ap partitions_asked (sym same) ∙ sym k.asks.partitions in
+    let every : line.options.every ≡ other.options.every = h.asks.every ∙ ap (number_asked Checkpoint) (sym same) ∙ sym k.asks.every in
     let command = same_command line.command other.command h.asks.options first h.asks.show (subst (IsMadeFrom other.command) same k.asks.show) in
-    ap₂ (λ (c : Command) (n : ℕ). record { command = c; options = record { partitions = n } }) command partitions
+    let of : Command → ℕ → Option ℕ → CommandLine = λ c n o. record { command = c; options = record { partitions = n; every = o } } in
+    let both : of line.command line.options.partitions ≡ of other.command other.options.partitions = ap₂ of command partitions in
+    ap₂ (λ (f : Option ℕ → CommandLine) (o : Option ℕ). f o) both every
 
 -- ---- within its ranges
 
@@ -86,6 +89,8 @@ fits_too Votes Votes value e fit = fit
 fits_too Votes other value e fit = absurd cc
 fits_too Clients Clients value e fit = fit
 fits_too Clients other value e fit = absurd cc
+fits_too Checkpoint Checkpoint value e fit = fit
+fits_too Checkpoint other value e fit = absurd cc
 
 -- the number of an option, where each fits
 number_fits : (name : OptionName) (least most : ℕ) → ((value : List ℕ) → fits name value ≡ true → is_number_within least most value ≡ true)
@@ -105,6 +110,9 @@ or_one (Some n) h = h n refl
 pub partitions_are_few : (words : List (List ℕ)) (line : CommandLine) → AsksFor words line → (1 ≤ line.options.partitions) × (line.options.partitions ≤ 8)
 partitions_are_few words line h =
     subst (IsWithin 1 8) (sym h.asks.partitions) (or_one (number_asked Partitions h.asks.options) (number_fits Partitions 1 8 (λ value fit. fit) h.asks.options h.asks.are.are.fit))
+
+pub every_is_within : (words : List (List ℕ)) (line : CommandLine) → AsksFor words line → (k : ℕ) → line.options.every ≡ Some k → (1 ≤ k) × (k ≤ 1000000)
+every_is_within words line h k is = number_fits Checkpoint 1 1000000 (λ value fit. fit) h.asks.options h.asks.are.are.fit k (sym h.asks.every ∙ is)
 
 pub show_is_small : (words : List (List ℕ)) (line : CommandLine) (show : Show) → line.command ≡ Voter show → AsksFor words line
     → (show.seed ≤ 9999999) × (1 ≤ show.votes) × (show.votes ≤ 200000) × (1 ≤ show.clients) × (show.clients ≤ 8)

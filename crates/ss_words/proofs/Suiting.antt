@@ -4,9 +4,9 @@ use Rattle.std.proofs.Common.{◌≡◌, ◌∙◌, ◌||◌, String, string_byt
 use Rattle.std.specs.List.{AllByRecursion, list_any}
 use Rattle.std.specs.Str.Parse.{digits_value}
 use Rattle.std.proofs.lemmas.Bool.{or_parts, or_from}
-use Rattle.ss_lemmas.proofs.EachOf.{all_with, all_such, all_three, none_passes}
+use Rattle.ss_lemmas.proofs.EachOf.{all_with, all_such, all_both, all_three, none_passes}
 use Rattle.ss_words.specs.declared.names.OptionName.{OptionName}
-use Rattle.ss_words.specs.declared.names.OptionName.TheVariants.{Partitions, Recovery, Seed, Votes, Clients}
+use Rattle.ss_words.specs.declared.names.OptionName.TheVariants.{Partitions, Recovery, Seed, Votes, Clients, Checkpoint}
 use Rattle.ss_words.specs.declared.names.Command.{Command}
 use Rattle.ss_words.specs.declared.names.Command.TheVariants.{Run, Recover, Audit, Voter}
 use Rattle.ss_words.specs.declared.names.Show.{Show}
@@ -35,7 +35,7 @@ none_any : (test : Asked → Bool) (options : List Asked) → AllByRecursion (λ
 none_any test [] h = refl
 none_any test (option ∷ others) h = or_from _ _ h.0 (none_any test others h.1)
 
--- ---- which options belong to a command. An option more is a line in each of these three
+-- ---- which options belong to a command. An option more is a line in each of these five
 
 abbrev NotOf : OptionName → Asked → Type 0
 NotOf name option = is_named name option ≡ false
@@ -46,6 +46,7 @@ not_of_show Recovery value e = (refl, refl, refl)
 not_of_show Seed value e = absurd cc
 not_of_show Votes value e = absurd cc
 not_of_show Clients value e = absurd cc
+not_of_show Checkpoint value e = (refl, refl, refl)
 
 of_each : (name : OptionName) (value : List ℕ) → NotOf Seed (asked name value) → NotOf Votes (asked name value) → NotOf Clients (asked name value) → belongs Run (asked name value) ≡ true
 of_each Partitions value s v c = refl
@@ -53,6 +54,23 @@ of_each Recovery value s v c = refl
 of_each Seed value s v c = absurd cc
 of_each Votes value s v c = absurd cc
 of_each Clients value s v c = absurd cc
+of_each Checkpoint value s v c = refl
+
+of_recover : (name : OptionName) (value : List ℕ) → NotOf Checkpoint (asked name value) → belongs Run (asked name value) ≡ true → belongs Recover (asked name value) ≡ true
+of_recover Partitions value n e = refl
+of_recover Recovery value n e = refl
+of_recover Seed value n e = absurd cc
+of_recover Votes value n e = absurd cc
+of_recover Clients value n e = absurd cc
+of_recover Checkpoint value n e = absurd cc
+
+of_run : (name : OptionName) (value : List ℕ) → belongs Recover (asked name value) ≡ true → (belongs Run (asked name value) ≡ true) × NotOf Checkpoint (asked name value)
+of_run Partitions value e = (refl, refl)
+of_run Recovery value e = (refl, refl)
+of_run Seed value e = absurd cc
+of_run Votes value e = absurd cc
+of_run Clients value e = absurd cc
+of_run Checkpoint value e = absurd cc
 
 of_voter : (show : Show) (name : OptionName) (value : List ℕ) → belongs (Voter show) (asked name value) ≡ true
 of_voter show Partitions value = refl
@@ -60,6 +78,7 @@ of_voter show Recovery value = refl
 of_voter show Seed value = refl
 of_voter show Votes value = refl
 of_voter show Clients value = refl
+of_voter show Checkpoint value = refl
 
 -- ---- an audit has none. An option more is a line in the first of these
 
@@ -69,6 +88,7 @@ own Recovery value = refl
 own Seed value = refl
 own Votes value = refl
 own Clients value = refl
+own Checkpoint value = refl
 
 none_there : (options : List Asked) → ((name : OptionName) → is_among options name ≡ false) → options ≡ []
 none_there [] h = refl
@@ -98,15 +118,21 @@ module _ (words : List (List ℕ)) (found : Found) (h : HaveFound words found) w
   partitions_is : is_some found.partitions ≡ is_among h.options Partitions
   partitions_is = ap (λ o. is_some o) h.partitions ∙ asked_is Partitions h.options
 
+  every_is : is_some found.every ≡ is_among h.options Checkpoint
+  every_is = ap (λ o. is_some o) h.every ∙ asked_is Checkpoint h.options
+
   -- nothing was found just where there is no option
   nothing_there : is_any found ≡ false → h.options ≡ []
   nothing_there e = none_there h.options each
     where
-      both : (is_some found.partitions || found.recovery ≡ false) × (is_for_show found ≡ false)
-      both = or_parts (is_some found.partitions || found.recovery) (is_for_show found) e
+      both : (is_some found.partitions || found.recovery || is_some found.every ≡ false) × (is_for_show found ≡ false)
+      both = or_parts (is_some found.partitions || found.recovery || is_some found.every) (is_for_show found) e
+
+      three : (is_some found.partitions || found.recovery ≡ false) × (is_some found.every ≡ false)
+      three = or_parts (is_some found.partitions || found.recovery) (is_some found.every) both.0
 
       first : (is_some found.partitions ≡ false) × (found.recovery ≡ false)
-      first = or_parts (is_some found.partitions) found.recovery both.0
+      first = or_parts (is_some found.partitions) found.recovery three.0
 
       show : (is_some found.seed || is_some found.votes ≡ false) × (is_some found.clients ≡ false)
       show = or_parts (is_some found.seed || is_some found.votes) (is_some found.clients) both.1
@@ -120,12 +146,15 @@ module _ (words : List (List ℕ)) (found : Found) (h : HaveFound words found) w
       each Seed = sym seed_is ∙ numbers.0
       each Votes = sym votes_is ∙ numbers.1
       each Clients = sym clients_is ∙ show.1
+      each Checkpoint = sym every_is ∙ three.1
 
   found_nothing : h.options ≡ [] → is_any found ≡ false
   found_nothing e =
       let none : (name : OptionName) → is_among h.options name ≡ false = λ name. ap (λ (options : List Asked). is_among options name) e in
       let show = or_from (is_some found.seed || is_some found.votes) (is_some found.clients) (or_from (is_some found.seed) (is_some found.votes) (seed_is ∙ none Seed) (votes_is ∙ none Votes)) (clients_is ∙ none Clients) in
-      or_from (is_some found.partitions || found.recovery) (is_for_show found) (or_from (is_some found.partitions) found.recovery (partitions_is ∙ none Partitions) (h.recovery ∙ none Recovery)) show
+      let first = or_from (is_some found.partitions) found.recovery (partitions_is ∙ none Partitions) (h.recovery ∙ none Recovery) in
+      let three = or_from (is_some found.partitions || found.recovery) (is_some found.every) first (every_is ∙ none Checkpoint) in
+      or_from (is_some found.partitions || found.recovery || is_some found.every) (is_for_show found) three show
 
   -- nothing of a show was found just where each option belongs to run
   all_belong : is_for_show found ≡ false → Belong Run
@@ -147,9 +176,22 @@ module _ (words : List (List ℕ)) (found : Found) (h : HaveFound words found) w
       let clients : is_some found.clients ≡ false = clients_is ∙ none_named Clients (λ option e. (not_of_show option.name option.value e).2) b in
       or_from (is_some found.seed || is_some found.votes) (is_some found.clients) (or_from (is_some found.seed) (is_some found.votes) seed votes) clients
 
+  -- and no checkpoint too just where each belongs to recover
+  all_recover : (is_some found.every ≡ false) × (is_for_show found ≡ false) → Belong Recover
+  all_recover (none, calm) =
+      let every = none_passes (is_named Checkpoint) h.options (sym every_is ∙ none) in
+      all_with (λ option. NotOf Checkpoint option × (belongs Run option ≡ true)) (λ option. belongs Recover option ≡ true) (λ option e. of_recover option.name option.value e.0 e.1) h.options
+      (all_both (NotOf Checkpoint) (λ option. belongs Run option ≡ true) h.options every (all_belong calm))
+
+  none_to_recover : Belong Recover → (is_some found.every ≡ false) × (is_for_show found ≡ false)
+  none_to_recover b =
+      let each = all_with (λ option. belongs Recover option ≡ true) (NotOf Checkpoint) (λ option e. (of_run option.name option.value e).1) h.options b in
+      let run = all_with (λ option. belongs Recover option ≡ true) (λ option. belongs Run option ≡ true) (λ option e. (of_run option.name option.value e).0) h.options b in
+      (every_is ∙ none_any (is_named Checkpoint) h.options each, none_of_show run)
+
   are_of : (command : Command) → HasWhatItNeeds found command → AreOptionsOf command words h.options
   are_of Run n = record { are = h.are; belong = all_belong n; complete = tt }
-  are_of Recover n = record { are = h.are; belong = all_belong n; complete = tt }
+  are_of Recover n = record { are = h.are; belong = all_recover n; complete = tt }
   are_of Audit n = record { are = h.are; belong = subst (AllByRecursion (λ option. belongs Audit option ≡ true)) (sym (nothing_there n)) tt; complete = tt }
   are_of (Voter show) n = record {
     are = h.are;
@@ -166,7 +208,7 @@ module _ (words : List (List ℕ)) (found : Found) (h : HaveFound words found) w
   -- a command of the same word has what it needs
   has_needs : (command : Command) → AreOptionsOf command words h.options → (other : Command) × (command_word command ≡ command_word other) × HasWhatItNeeds found other
   has_needs Run are = (Run, refl, none_of_show are.belong)
-  has_needs Recover are = (Recover, refl, none_of_show are.belong)
+  has_needs Recover are = (Recover, refl, none_to_recover are.belong)
   has_needs Audit are = (Audit, refl, found_nothing (none_of_audit h.options are.belong))
   has_needs (Voter show) are =
       let seed = the_number found.seed (seed_is ∙ are.complete.0) in
@@ -198,14 +240,15 @@ module _ (all : List (List ℕ)) (word : List ℕ) (rest : List (List ℕ)) (e :
         let has = has_needs rest found h b.0 (subst (AreOptionsOf b.0 rest) same b.3) in
         none has.0 (record { named = b.2 ∙ has.1; needs = has.2 })
 
-    pub suits_asks : (line : CommandLine) → Suits word found line.command → line.options.partitions ≡ unwrap_or found.partitions 1 → AsksFor all line
-    suits_asks line s is = record {
+    pub suits_asks : (line : CommandLine) → Suits word found line.command → line.options.partitions ≡ unwrap_or found.partitions 1 → line.options.every ≡ found.every → AsksFor all line
+    suits_asks line s is every = record {
       rest = rest;
       begins = e ∙ ap (λ (w : List ℕ). w ∷ rest) s.named;
       asks = record {
         options = h.options;
         are = are_of rest found h line.command s.needs;
         partitions = is ∙ ap (λ o. unwrap_or o 1) h.partitions;
+        every = every ∙ h.every;
         show = is_made rest found h line.command s.needs;
       };
     }

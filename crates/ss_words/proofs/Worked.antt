@@ -2,7 +2,7 @@
 use Rattle.std.proofs.Common.{◌≡◌, List, [], ◌∷◌, ℕ, true, true≢false, codes, Some, None, inl, inr, refl, sym, subst, ◌∙◌}
 use Rattle.std.specs.List.{AllByRecursion, IsDistinct}
 use Rattle.ss_lemmas.proofs.Bools.{some_same}
-use Rattle.ss_words.specs.declared.names.OptionName.TheVariants.{Partitions, Recovery, Seed, Votes, Clients}
+use Rattle.ss_words.specs.declared.names.OptionName.TheVariants.{Partitions, Recovery, Seed, Votes, Clients, Checkpoint}
 use Rattle.ss_words.specs.declared.names.Command.{Command}
 use Rattle.ss_words.specs.declared.names.Command.TheVariants.{Run, Recover, Audit, Voter}
 use Rattle.ss_words.specs.declared.command.CommandLine.{CommandLine}
@@ -17,10 +17,10 @@ abbrev voter : List (List ℕ) → List (List ℕ)
 voter words = codes "voter" ∷ words
 
 abbrev on : ℕ → CommandLine
-on partitions = record { command = Run; options = record { partitions = partitions } }
+on partitions = record { command = Run; options = record { partitions = partitions; every = None } }
 
 abbrev show_of : ℕ → ℕ → ℕ → ℕ → CommandLine
-show_of partitions seed votes clients = record { command = Voter (record { seed = seed; votes = votes; clients = clients }); options = record { partitions = partitions } }
+show_of partitions seed votes clients = record { command = Voter (record { seed = seed; votes = votes; clients = clients }); options = record { partitions = partitions; every = None } }
 
 -- ---- commands
 
@@ -29,7 +29,7 @@ unfolding IsDistinct
 alone = record {
   rest = [];
   begins = refl;
-  asks = record { options = []; are = record { are = record { spelled = refl; once = tt; fit = tt }; belong = tt; complete = tt }; partitions = refl; show = tt };
+  asks = record { options = []; are = record { are = record { spelled = refl; once = tt; fit = tt }; belong = tt; complete = tt }; partitions = refl; every = refl; show = tt };
 }
 
 eight : AsksFor (run (codes "--partitions" ∷ codes "8" ∷ [])) (on 8)
@@ -41,6 +41,7 @@ eight = record {
     options = asked Partitions (codes "8") ∷ [];
     are = record { are = record { spelled = ([], inl (refl, refl), refl); once = (tt, tt); fit = (refl, tt) }; belong = (refl, tt); complete = tt };
     partitions = refl;
+    every = refl;
     show = tt;
   };
 }
@@ -54,6 +55,7 @@ seven_digits = record {
     options = asked Partitions (codes "0000007") ∷ [];
     are = record { are = record { spelled = ([], inr refl, refl); once = (tt, tt); fit = (refl, tt) }; belong = (refl, tt); complete = tt };
     partitions = refl;
+    every = refl;
     show = tt;
   };
 }
@@ -71,11 +73,12 @@ strong_first = record {
       complete = tt;
     };
     partitions = refl;
+    every = refl;
     show = tt;
   };
 }
 
-recovery : AsksFor (codes "recover" ∷ codes "--partitions=08" ∷ codes "--recovery" ∷ codes "strong" ∷ []) (record { command = Recover; options = record { partitions = 8 } })
+recovery : AsksFor (codes "recover" ∷ codes "--partitions=08" ∷ codes "--recovery" ∷ codes "strong" ∷ []) (record { command = Recover; options = record { partitions = 8; every = None } })
 unfolding IsDistinct
 recovery = record {
   rest = _;
@@ -88,16 +91,17 @@ recovery = record {
       complete = tt;
     };
     partitions = refl;
+    every = refl;
     show = tt;
   };
 }
 
-an_audit : AsksFor (codes "audit" ∷ []) (record { command = Audit; options = record { partitions = 1 } })
+an_audit : AsksFor (codes "audit" ∷ []) (record { command = Audit; options = record { partitions = 1; every = None } })
 unfolding IsDistinct
 an_audit = record {
   rest = [];
   begins = refl;
-  asks = record { options = []; are = record { are = record { spelled = refl; once = tt; fit = tt }; belong = tt; complete = tt }; partitions = refl; show = tt };
+  asks = record { options = []; are = record { are = record { spelled = refl; once = tt; fit = tt }; belong = tt; complete = tt }; partitions = refl; every = refl; show = tt };
 }
 
 a_show : AsksFor (voter (codes "--seed" ∷ codes "0" ∷ codes "--votes" ∷ codes "200000" ∷ codes "--clients" ∷ codes "8" ∷ [])) (show_of 1 0 200000 8)
@@ -121,6 +125,7 @@ a_show = record {
       complete = (refl, (refl, (refl, tt)));
     };
     partitions = refl;
+    every = refl;
     show = record { seed = refl; votes = refl; clients = refl };
   };
 }
@@ -146,7 +151,22 @@ show_on_two = record {
       complete = (refl, (refl, (refl, tt)));
     };
     partitions = refl;
+    every = refl;
     show = record { seed = refl; votes = refl; clients = refl };
+  };
+}
+
+checkpoints : AsksFor (run (codes "--checkpoint=1000000" ∷ [])) (record { command = Run; options = record { partitions = 1; every = Some 1000000 } })
+unfolding IsDistinct
+checkpoints = record {
+  rest = _;
+  begins = refl;
+  asks = record {
+    options = asked Checkpoint (codes "1000000") ∷ [];
+    are = record { are = record { spelled = ([], inr refl, refl); once = (tt, tt); fit = (refl, tt) }; belong = (refl, tt); complete = tt };
+    partitions = refl;
+    every = refl;
+    show = tt;
   };
 }
 
@@ -236,6 +256,25 @@ seed_of_run = unlike _ _ (asked Seed (codes "1") ∷ []) refl never
     never w = by w.0 w.1 w.2.belong.0
       where
         by : (command : Command) → codes "run" ≡ command_word command → belongs command (asked Seed (codes "1")) ≡ true → ⊥
+        by Run e f = cc
+        by Recover e f = cc
+        by Audit e f = cc
+        by (Voter show) e f = cc
+
+zero_apart : ¬ (IsCommand (run (codes "--checkpoint=0" ∷ [])))
+zero_apart = unlike _ _ (asked Checkpoint (codes "0") ∷ []) refl (λ w. true≢false (sym w.2.are.fit.0))
+
+past_a_million : ¬ (IsCommand (run (codes "--checkpoint=1000001" ∷ [])))
+past_a_million = unlike _ _ (asked Checkpoint (codes "1000001") ∷ []) refl (λ w. true≢false (sym w.2.are.fit.0))
+
+-- a checkpoint behind a recovery
+checkpoint_of_recover : ¬ (IsCommand (codes "recover" ∷ codes "--checkpoint=1" ∷ []))
+checkpoint_of_recover = unlike _ _ (asked Checkpoint (codes "1") ∷ []) refl never
+  where
+    never : ¬ (IsWith (codes "recover") (codes "--checkpoint=1" ∷ []) (asked Checkpoint (codes "1") ∷ []))
+    never w = by w.0 w.1 w.2.belong.0
+      where
+        by : (command : Command) → codes "recover" ≡ command_word command → belongs command (asked Checkpoint (codes "1")) ≡ true → ⊥
         by Run e f = cc
         by Recover e f = cc
         by Audit e f = cc

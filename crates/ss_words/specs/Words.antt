@@ -5,7 +5,7 @@ use Rattle.std.specs.Str.{all_ascii_digits}
 use Rattle.std.specs.Str.Parse.{digits_value, starts_with_minus}
 use Rattle.std.specs.declared.alloc.Global.{Global}
 use Rattle.ss_words.specs.declared.names.OptionName.{OptionName}
-use Rattle.ss_words.specs.declared.names.OptionName.TheVariants.{Partitions, Recovery, Seed, Votes, Clients}
+use Rattle.ss_words.specs.declared.names.OptionName.TheVariants.{Partitions, Recovery, Seed, Votes, Clients, Checkpoint}
 use Rattle.ss_words.specs.declared.names.Command.{Command}
 use Rattle.ss_words.specs.declared.names.Command.TheVariants.{Run, Recover, Audit, Voter}
 use Rattle.ss_words.specs.declared.names.Show.{Show}
@@ -20,6 +20,7 @@ dashed Recovery = codes "--recovery"
 dashed Seed = codes "--seed"
 dashed Votes = codes "--votes"
 dashed Clients = codes "--clients"
+dashed Checkpoint = codes "--checkpoint"
 
 -- whether a value is one digit to seven, and the number that they write from least to most
 abbrev pub is_number_within : ℕ → ℕ → List ℕ → Bool
@@ -33,6 +34,7 @@ fits Recovery value = bytes_eq value (codes "strong")
 fits Seed value = is_number_within 0 9999999 value
 fits Votes value = is_number_within 1 200000 value
 fits Clients value = is_number_within 1 8 value
+fits Checkpoint value = is_number_within 1 1000000 value
 
 -- ---- Their spelling
 
@@ -112,10 +114,10 @@ required (Voter show) = Seed ∷ Votes ∷ Clients ∷ []
 
 -- and those that may
 abbrev pub optional : Command → List OptionName
-optional Run = Partitions ∷ Recovery ∷ []
+optional Run = Partitions ∷ Recovery ∷ Checkpoint ∷ []
 optional Recover = Partitions ∷ Recovery ∷ []
 optional Audit = []
-optional (Voter show) = Partitions ∷ Recovery ∷ []
+optional (Voter show) = Partitions ∷ Recovery ∷ Checkpoint ∷ []
 
 -- a command is made from its options: a voter has the show that they ask for
 abbrev pub IsMadeFrom : Command → List Asked → Type 0
@@ -151,6 +153,7 @@ pub record OptionsAskFor (words : List (List ℕ)) (line : CommandLine) : Type 0
   pub options : List Asked
   pub are : AreOptionsOf line.command words options
   pub partitions : line.options.partitions ≡ partitions_asked options
+  pub every : line.options.every ≡ number_asked Checkpoint options
   pub show : IsMadeFrom line.command options
 
 -- the words are this command, and behind it options that ask for this

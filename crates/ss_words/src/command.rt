@@ -14,6 +14,8 @@ use crate::names::{Command, OptionName, option_named};
 pub struct Options {
     /// Into how many partitions the database is split: 1 to 8, and 1 where no option says it.
     pub partitions: u8,
+    /// From how many entries behind the last checkpoint on the next is due: 1 to 1000000, and none is made where no option says it.
+    pub every: Option<u64>,
 }
 
 /// The option at the front of the words, by its name, its value and the words behind it. Linear in the bytes of its words.
@@ -67,6 +69,7 @@ pub fn command_line(words: &[String]) -> Option<CommandLine>
     let command = found.command(word.as_str())?;
     let options = Options {
         partitions: found.partitions.unwrap_or(1),
+        every: found.every,
     };
     Some(CommandLine { command, options })
 }

@@ -20,6 +20,8 @@ pub(crate) struct Found {
     pub(crate) votes: Option<u64>,
     /// The number of its clients.
     pub(crate) clients: Option<u8>,
+    /// From how many entries on a checkpoint is due.
+    pub(crate) every: Option<u64>,
 }
 
 impl Found {
@@ -33,6 +35,7 @@ impl Found {
             seed: None,
             votes: None,
             clients: None,
+            every: None,
         }
     }
 
@@ -56,6 +59,9 @@ impl Found {
             OptionName::Clients if self.clients.is_none() => {
                 self.clients = Some(number_within(value, 1, 8)? as u8);
             }
+            OptionName::Checkpoint if self.every.is_none() => {
+                self.every = Some(u64::from(number_within(value, 1, 1_000_000)?));
+            }
             _ => return None,
         }
         Some(self)
@@ -72,7 +78,7 @@ impl Found {
     fn is_any(self) -> bool
         ensures { result ≡ is_any self }
     {
-        self.partitions.is_some() || self.recovery || self.is_for_show()
+        self.partitions.is_some() || self.recovery || self.every.is_some() || self.is_for_show()
     }
 
     /// The show of these options, where each was found that a show must have.
@@ -92,7 +98,7 @@ impl Found {
     {
         match word {
             "run" if !self.is_for_show() => Some(Command::Run),
-            "recover" if !self.is_for_show() => Some(Command::Recover),
+            "recover" if self.every.is_none() && !self.is_for_show() => Some(Command::Recover),
             "audit" if !self.is_any() => Some(Command::Audit),
             "voter" => Some(Command::Voter(self.show()?)),
             _ => None,

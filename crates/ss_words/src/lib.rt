@@ -7,6 +7,11 @@
 //! - `--partitions`, a number from 1 to 8: into how many partitions the database is split, 1 where it isn't said
 //! - `--recovery`, the word `strong`: how the state is had again after a crash
 //!
+//! Behind `run` and `voter` may stand one more:
+//!
+//! - `--checkpoint`, a number from 1 to 1000000: from how many entries behind the last checkpoint on the next is due, and
+//!   none is made where it isn't said
+//!
 //! Behind `voter` must stand three more, which no other command has. They say which show of the benchmark is run:
 //!
 //! - `--seed`, a number from 0 to 9999999: what its calls are drawn from
@@ -20,7 +25,7 @@
 //! An option more is a variant of `OptionName`, a line in `option_named`, a field and an arm in `found`, and in `specs/` a line
 //! for its name, its values, what is kept of it, and its place in the lists of the commands.
 //!
-//! Source: S-Store (Meehan et al., PVLDB 8, 2015) for strong recovery, for the partitions of H-Store, on which it stands, and for the
+//! Source: S-Store (Meehan et al., PVLDB 8, 2015) for strong recovery and its checkpoints, for the partitions of H-Store, on which it stands, and for the
 //! benchmark of a voted show.
 //! How the words are written is this project's own rule.
 //!

@@ -43,6 +43,8 @@ pub enum OptionName {
     Votes,
     /// `--clients`: a number from 1 to 8.
     Clients,
+    /// `--checkpoint`: a number from 1 to 1000000.
+    Checkpoint,
 }
 
 /// The option whose name this is, with its two dashes. Constant in time.
@@ -55,6 +57,7 @@ pub(crate) fn option_named(word: &str) -> Option<OptionName>
         "--seed" => Some(OptionName::Seed),
         "--votes" => Some(OptionName::Votes),
         "--clients" => Some(OptionName::Clients),
+        "--checkpoint" => Some(OptionName::Checkpoint),
         _ => None,
     }
 }

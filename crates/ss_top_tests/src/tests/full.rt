@@ -97,7 +97,7 @@ const RUNS: [Run; 7] = [
 /// Whether a run ends so, and writes this.
 fn is_so<R: Threads + Wait + Sync>(rt: &R, alloc: Global, run: &Run) -> Result<bool, NoMemory> {
     let input = with_requests(alloc, run.catalog, run.requests)?;
-    let streams = Streams::new(alloc, "run", input, run.room)?;
+    let streams = Streams::new(alloc, &["run"], input, run.room)?;
     let left = streams.run_on(rt, alloc, empty_disk(alloc), run.limit);
     Ok(left.ended.is(run.status, run.written))
 }

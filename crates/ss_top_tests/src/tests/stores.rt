@@ -6,7 +6,7 @@ ghost use Rattle.ss_disk.specs.Calls.{memory_calls};
 use super::{ACCOUNTS, DIAMOND, Ended, Left, Streams, empty_disk, with_requests};
 use ss_disk::{Disk, FileNo, MemoryDisk, Torn};
 use ss_top::Status;
-use ss_value::{NoMemory, Seq};
+use ss_value::{Failed, NoMemory, Seq};
 use std::alloc::Global;
 use std::sync::Wait;
 use std::test::Fail;
@@ -15,9 +15,20 @@ use std::thread::Threads;
 /// How many bytes a sink has room for.
 const ROOM: usize = 4096;
 
-/// The command `run` on a catalogue and requests.
-fn running(alloc: Global, catalog: &str, requests: &str) -> Result<Streams, NoMemory> {
-    Streams::new(alloc, "run", with_requests(alloc, catalog, requests)?, ROOM)
+/// A run without checkpoints.
+const RUN: [&str; 1] = ["run"];
+
+/// One in which a checkpoint is due behind each entry.
+const RENEWING: [&str; 2] = ["run", "--checkpoint=1"];
+
+/// A run's words on a catalogue and requests.
+fn running(
+    alloc: Global,
+    words: &[&str],
+    catalog: &str,
+    requests: &str,
+) -> Result<Streams, NoMemory> {
+    Streams::new(alloc, words, with_requests(alloc, catalog, requests)?, ROOM)
 }
 
 /// Runs a command on a disk, with a list of at most `limit` entries.
@@ -38,11 +49,12 @@ fn run_limited<R: Threads + Wait + Sync>(
 fn run_on<R: Threads + Wait + Sync>(
     rt: &R,
     alloc: Global,
+    words: &[&str],
     catalog: &str,
     requests: &str,
     disk: MemoryDisk,
 ) -> Result<Left, NoMemory> {
-    let streams = running(alloc, catalog, requests);
+    let streams = running(alloc, words, catalog, requests);
     run_limited(rt, alloc, streams, disk, u16::MAX)
 }
 
@@ -52,7 +64,7 @@ fn recover<R: Threads + Wait + Sync>(
     alloc: Global,
     disk: MemoryDisk,
 ) -> Result<Left, NoMemory> {
-    let streams = Streams::new(alloc, "recover", Vec::new(alloc), ROOM);
+    let streams = Streams::new(alloc, &["recover"], Vec::new(alloc), ROOM);
     run_limited(rt, alloc, streams, disk, u16::MAX)
 }
 
@@ -118,7 +130,7 @@ fn is_prefix(ended: &Ended) -> bool {
 // The list is full behind the push and its first step, so the log has just these.
 #[test]
 fn what_was_pending_runs(rt: HostRuntime) -> Result<(), Fail> {
-    let pushes = running(rt.alloc(), DIAMOND, PUSH);
+    let pushes = running(rt.alloc(), &RUN, DIAMOND, PUSH);
     let full = run_limited(&rt, rt.alloc(), pushes, empty_disk(rt.alloc()), 2)?;
     assert!(rt; full.ended.ends(Status::Limit, "[\"stopped\",9,2]\n"));
     let recovered = recover(&rt, rt.alloc(), full.into_disk())?;
@@ -148,11 +160,18 @@ fn ends_so(left: Result<Left, NoMemory>, status: Status, written: &str) -> Resul
 
 #[test]
 fn disks_that_are_refused(rt: HostRuntime) -> Result<(), Fail> {
-    let foreign = run_on(&rt, rt.alloc(), ACCOUNTS, "", selected(rt.alloc(), 0)?);
+    let foreign = run_on(
+        &rt,
+        rt.alloc(),
+        &RUN,
+        ACCOUNTS,
+        "",
+        selected(rt.alloc(), 0)?,
+    );
     assert!(rt; ends_so(foreign, Status::Foreign, "[\"foreign\",1,0]\n")?);
     let foreign = recover(&rt, rt.alloc(), selected(rt.alloc(), 1)?);
     assert!(rt; ends_so(foreign, Status::Foreign, "[\"foreign\",2,0]\n")?);
-    let broken = run_on(&rt, rt.alloc(), ACCOUNTS, "", failing(rt.alloc(), 0)?);
+    let broken = run_on(&rt, rt.alloc(), &RUN, ACCOUNTS, "", failing(rt.alloc(), 0)?);
     assert!(rt; ends_so(broken, Status::Disk, "[\"disk_fault\"]\n")?);
     Ok(())
 }
@@ -162,9 +181,10 @@ fn disks_that_are_refused(rt: HostRuntime) -> Result<(), Fail> {
 fn leaves_a_prefix<R: Threads + Wait + Sync>(
     rt: &R,
     alloc: Global,
+    words: &[&str],
     call: u64,
 ) -> Result<bool, NoMemory> {
-    let left = run_on(rt, alloc, DIAMOND, PUSHES, failing(alloc, call)?)?;
+    let left = run_on(rt, alloc, words, DIAMOND, PUSHES, failing(alloc, call)?)?;
     if left.disk.faults() == 0 {
         return Ok(is_prefix(&left.ended));
     }
@@ -176,7 +196,21 @@ fn leaves_a_prefix<R: Threads + Wait + Sync>(
 #[test]
 fn a_disk_that_fails_in_each_call(rt: HostRuntime) -> Result<(), Fail> {
     for call in 0..30 {
-        assert!(rt; leaves_a_prefix(&rt, rt.alloc(), call)?, "call {call}");
+        assert!(rt;
+            leaves_a_prefix(&rt, rt.alloc(), &RUN, call)?,
+            "call {call}"
+        );
+    }
+    Ok(())
+}
+
+#[test]
+fn a_disk_that_fails_in_each_call_of_checkpoints(rt: HostRuntime) -> Result<(), Fail> {
+    for call in 0..60 {
+        assert!(rt;
+            leaves_a_prefix(&rt, rt.alloc(), &RENEWING, call)?,
+            "call {call}"
+        );
     }
     Ok(())
 }
@@ -201,10 +235,74 @@ fn recovers<R: Threads + Wait + Sync>(
 
 #[test]
 fn a_crash_in_each_call(rt: HostRuntime) -> Result<(), Fail> {
-    let left = run_on(&rt, rt.alloc(), DIAMOND, PUSHES, empty_disk(rt.alloc()))?;
+    let left = run_on(
+        &rt,
+        rt.alloc(),
+        &RUN,
+        DIAMOND,
+        PUSHES,
+        empty_disk(rt.alloc()),
+    )?;
     assert!(rt; left.ended.ends(Status::Done, "[\"done\",12]\n"));
     for call in 0..left.disk.calls() {
         assert!(rt; recovers(&rt, rt.alloc(), &left.disk, call)?);
     }
+    Ok(())
+}
+
+#[test]
+fn a_crash_in_each_call_of_checkpoints(rt: HostRuntime) -> Result<(), Fail> {
+    let left = run_on(
+        &rt,
+        rt.alloc(),
+        &RENEWING,
+        DIAMOND,
+        PUSHES,
+        empty_disk(rt.alloc()),
+    )?;
+    assert!(rt; left.ended.ends(Status::Done, "[\"done\",12]\n"));
+    for call in 0..left.disk.calls() {
+        assert!(rt; recovers(&rt, rt.alloc(), &left.disk, call)?);
+    }
+    Ok(())
+}
+
+/// A byte of a file, which is there.
+fn byte_at(disk: &mut MemoryDisk, which: FileNo, at: u64) -> Result<u8, Failed> {
+    if disk.len(which)? <= at {
+        return Err(Failed);
+    }
+    let mut byte = [0];
+    disk.read(which, at, &mut byte)?;
+    Ok(byte[0])
+}
+
+/// The least byte of the place at which the generation that counts begins.
+fn first_place(disk: &mut MemoryDisk) -> Result<u8, Failed> {
+    let selector = byte_at(disk, FileNo::Selector, 0)?;
+    let which = if selector % 2 == 0 {
+        FileNo::First
+    } else {
+        FileNo::Second
+    };
+    byte_at(disk, which, 15)
+}
+
+// The last checkpoint of a run is less than so many entries before its end: with one behind each entry it is there.
+#[test]
+fn a_log_begins_anew(rt: HostRuntime) -> Result<(), Fail> {
+    let left = run_on(
+        &rt,
+        rt.alloc(),
+        &RENEWING,
+        DIAMOND,
+        PUSHES,
+        empty_disk(rt.alloc()),
+    )?;
+    let mut disk = left.into_disk();
+    assert!(rt; first_place(&mut disk) == Ok(12));
+    let recovered = recover(&rt, rt.alloc(), disk)?;
+    assert!(rt; recovered.ended.status == Status::Done);
+    assert!(rt; recovered.ended.text().strip_prefix(TABLES[2]) == Some("[\"done\",0]\n"));
     Ok(())
 }

@@ -1,4 +1,4 @@
-use Rattle.std.proofs.Common.{refl}
+use Rattle.std.proofs.Common.{None, refl}
 use Rattle.ss_top.specs.declared.session.Printing.TheVariants.{InFull}
 use Rattle.ss_top.proofs.Storing.{recovery_refused, recovered_opened, store_recovered, was_stored}
 use Rattle.ss_top.proofs.store.recover_store.Goals as goal
@@ -12,5 +12,5 @@ returns-in-Ok-clause-came g c =
 
 pub returns-in-Err-clause-came : goal.returns-in-Err-clause-came
 returns-in-Err-clause-came g c =
-    recovery_refused g.D.Disk.kind c.args.limit InFull _ c.args.disk c.in-Err.disk
+    recovery_refused g.D.Disk.kind None c.args.limit InFull _ c.args.disk c.in-Err.disk
     c.in-Err.error c.in-Err.ensures.refused c.refuse_store.result c.refuse_store.ensures.told

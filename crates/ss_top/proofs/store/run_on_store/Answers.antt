@@ -14,5 +14,5 @@ returns-in-Ok-clause-came g c =
 
 pub returns-in-Err-clause-came : goal.returns-in-Err-clause-came
 returns-in-Err-clause-came g c =
-    run_refused g.D.Disk.kind c.args.limit c.args.printing _ c.args.disk c.in-Err.disk
+    run_refused g.D.Disk.kind c.args.every c.args.limit c.args.printing _ c.args.disk c.in-Err.disk
     c.args.catalog c.args.requests.now c.in-Err.error c.in-Err.ensures.refused c.refuse_store.result c.refuse_store.ensures.told

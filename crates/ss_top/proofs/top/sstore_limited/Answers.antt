@@ -1,7 +1,7 @@
 use Rattle.std.proofs.Common.{refl, subst, arith}
 use Rattle.ss_words.specs.declared.names.Command.{Command}
 use Rattle.ss_words.specs.Words.{AsksFor, words_of}
-use Rattle.ss_words.proofs.CallerLemmas.{partitions_are_few, show_is_small}
+use Rattle.ss_words.proofs.CallerLemmas.{partitions_are_few, every_is_within, show_is_small}
 use Rattle.ss_top.proofs.Ending.{ends_audit, ends_run, ends_recover, ends_voter}
 use Rattle.ss_top.proofs.top.sstore_limited.Goals as goal
 
@@ -10,6 +10,9 @@ run-requires-clause-partitions g c = λ κs within. partitions_are_few (words_of
 
 pub recover_store-requires-clause-partitions : goal.recover_store-requires-clause-partitions
 recover_store-requires-clause-partitions g c = λ κs within. partitions_are_few (words_of c.args.words.now) c.in-Some.field-0 c.in-Some.ensures
+
+pub run-requires-clause-every : goal.run-requires-clause-every
+run-requires-clause-every g c = λ κs within. λ k is. (every_is_within (words_of c.args.words.now) c.in-Some.field-0 c.in-Some.ensures k is).0
 
 pub returns-in-Run : goal.returns-in-Run
 returns-in-Run g c =
@@ -25,6 +28,9 @@ returns-in-Recover g c =
 
 pub voter-requires-clause-partitions : goal.voter-requires-clause-partitions
 voter-requires-clause-partitions g c = λ κs within. partitions_are_few (words_of c.args.words.now) c.in-Some.field-0 c.in-Some.ensures
+
+pub voter-requires-clause-every : goal.voter-requires-clause-every
+voter-requires-clause-every g c = λ κs within. λ k is. (every_is_within (words_of c.args.words.now) c.in-Some.field-0 c.in-Some.ensures k is).0
 
 pub voter-requires-clause-few : goal.voter-requires-clause-few
 voter-requires-clause-few g c = λ κs within. (show_is_small (words_of c.args.words.now) c.in-Some.field-0 c.in-Voter.show c.in-Voter.is c.in-Some.ensures).2
