@@ -1,7 +1,7 @@
 #!/usr/bin/env python3
 """Kills the program in the midst of its runs, recovers its store each time, and goes on.
 
-    python3 bench/kill.py [--kills 100] [--folder FOLDER] [--partitions 2] [--seed 1]
+    python3 bench/kill.py [--kills 100] [--folder FOLDER] [--partitions 2] [--checkpoint K] [--seed 1]
 
 Runs the program that `./sstore` built (build it first), or the one that SSTORE names, on a store in a new folder inside
 FOLDER. In each round eight clients push batches, each from a source of its own: the last ones of the round before again, and
@@ -9,7 +9,8 @@ new ones behind them. While it runs a second process asks for the folder and has
 process gets SIGKILL, until that has been done so often. What its log then has is read here, byte by byte as
 docs/FORMATS.md says, and `sstore FOLDER recover` has to agree with it: each source's pushes are counted and summed once
 each, none that was in the log is missing, and none that was not is there. A round that ends before it is killed has to have
-done all its pushes, those that were there before as duplicates. Last, of two processes that begin at once on one folder,
+done all its pushes, those that were there before as duplicates. With --checkpoint each run makes them, so that most of what
+was there is in an image, which is read here too; a round that ended has fewer than K entries behind it. Last, of two processes that begin at once on one folder,
 twenty times over, one has to be done and the other refused. What was counted is printed at the end.
 """
 
@@ -23,7 +24,8 @@ import sys
 import tempfile
 import time
 
-from store_file import entries_of
+import images
+from store_file import entries_of, generation_of, number
 
 TOP = os.path.dirname(os.path.dirname(os.path.abspath(__file__)))
 PROGRAM = os.environ.get("SSTORE", os.path.join(TOP, "crates/ss_program/out/ss_program"))
@@ -85,13 +87,23 @@ def pushes(numbers, many):
     return "\n".join(lines) + "\n"
 
 
-def accepted(entries):
-    """The next number of each source, where pushes are accepted in their order and once each."""
-    numbers = {}
+def sources_of(image, first):
+    """The next number of each source by an image, where a store has one."""
+    if not image:
+        return {}
+    length, at = number(image, 0, 4)
+    return dict(images.read(image, at + length, CATALOGUE, first)["sources"][0])
+
+
+def there_in(folder):
+    """The next number of each source, where pushes are accepted in their order and once each; the place behind the last entry of
+    the store, and how many entries stand behind its image."""
+    first, image, entries, _ = generation_of(folder)
+    numbers = sources_of(image, first)
     for entry in entries:
         if entry[0] == "push" and entry[2] == numbers.get(entry[1], 0):
             numbers[entry[1]] = entry[2] + 1
-    return [numbers.get(f"s{source}", 0) for source in range(CLIENTS)]
+    return [numbers.get(f"s{source}", 0) for source in range(CLIENTS)], first + len(entries), len(entries)
 
 
 # ---- runs
@@ -168,12 +180,15 @@ def main():
     parser.add_argument("--kills", type=int, default=100)
     parser.add_argument("--folder")
     parser.add_argument("--partitions", type=int, default=2)
+    parser.add_argument("--checkpoint", type=int)
     parser.add_argument("--seed", type=int, default=1)
     given = parser.parse_args()
     if not os.access(PROGRAM, os.X_OK):
         sys.exit("the program isn't built: run ./sstore - run < examples/stored_run.jsonl first")
     chance = random.Random(given.seed)
     run = ["run", "--partitions", str(given.partitions)]
+    if given.checkpoint:
+        run += ["--checkpoint", str(given.checkpoint)]
     recover = ["recover", "--partitions", str(given.partitions)]
     rounds = kills = in_midst = 0
     with tempfile.TemporaryDirectory(dir=given.folder) as folder:
@@ -185,33 +200,34 @@ def main():
             rounds += 1
             many = chance.choice([10, 100, 400])
             text = pushes(numbers, many)
-            before = len(entries_of(folder)[0])
+            _, before, _ = there_in(folder)
             ended = killed(folder, run, text, chance.uniform(0.0, 0.25))
-            entries, _ = entries_of(folder)
-            there = accepted(entries)
+            there, end, behind = there_in(folder)
             if ended is None:
                 kills += 1
-                in_midst += len(entries) > before
+                in_midst += end > before
             else:
                 status, lines = ended
                 assert status == 0, f"status {status}"
+                assert not given.checkpoint or behind < given.checkpoint, f"{behind} entries stand behind the image"
                 assert there == [number + many for number in numbers], "a push was not done"
                 check_tables(lines, there)
             assert all(new >= old for new, old in zip(there, numbers)), "a push that was there is lost"
             status, lines = call(folder, recover)
             assert status == 0, f"recovery ended with {status}: {lines[-1:]}"
             places = [line[1] for line in lines if line[0] == "step"]
-            assert places == list(range(len(entries), len(entries) + len(places))), "steps at other places"
+            assert places == list(range(end, end + len(places))), "steps at other places"
             check_tables(lines, there)
             numbers = there
         for _ in range(RACES):
             race(folder, run, pushes(numbers, 10))
             numbers = [number + 10 for number in numbers]
-        entries, groups = entries_of(folder)
-        assert accepted(entries) == numbers, "a push was lost between two processes"
+        there, end, behind = there_in(folder)
+        assert there == numbers, "a push was lost between two processes"
+        _, groups = entries_of(folder)
     print(f"{rounds} rounds, {kills} killed, {in_midst} of them with entries of theirs in the log")
     print(f"{rounds + RACES} second processes refused, {RACES} of them begun at once")
-    print(f"{sum(numbers)} pushes once each, {len(entries)} entries in {groups} groups")
+    print(f"{sum(numbers)} pushes once each; of {end} entries {behind} behind the image, in {groups} groups")
 
 
 if __name__ == "__main__":

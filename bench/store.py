@@ -1,7 +1,7 @@
 #!/usr/bin/env python3
 """What a log on disk costs a run: what a call costs, how many entries share a sync, and how long a recovery takes.
 
-    python3 bench/store.py [--calls 40000] [--recover 200000] [--runs 5] [--folder FOLDER] [--plain PROGRAM]
+    python3 bench/store.py [--calls 40000] [--recover 200000] [--rows 1000000] [--runs 5] [--folder FOLDER] [--plain PROGRAM]
 
 Runs the program that `./sstore` built (build it first), or the one that SSTORE names, on short calls of one client and of
 eight, each of which changes one row by its key. Each line is a place for the store: in memory (`-`), or in a new folder inside
@@ -15,8 +15,14 @@ With --plain a program that has no log is measured beside it, such as one built 
 started with the word `run`.
 
 The second table makes a store of at least so many entries, a run of --calls at a time, and recovers it behind each.
+
+The third has a table of --rows rows: what recovers it from the log that filled it, and from an image behind a checkpoint, also
+with 10,000 short calls behind either; what a run without requests takes longer with a checkpoint than without one, which is
+how long clients would wait for it; and the most memory of that run. Then come a hundred runs of --calls / 40 calls, each with
+a checkpoint at its end, and how large the store's files were at most.
 """
 
+import json
 import os
 import tempfile
 
@@ -26,6 +32,18 @@ from store_file import entries_of
 
 PROGRAM = measure.PROGRAM
 CLIENTS = (1, 8)
+BATCH = 1000  # rows of a push that fills a table
+BEHIND = 10_000  # calls behind an image
+CHECKPOINTS = 100
+
+FILLED = {
+    "tables": [{"name": "t", "columns": [["id", "int"], ["n", "int"], ["name", "text"]], "key": ["id"], "part": 0}],
+    "streams": [{"name": "s", "columns": [["id", "int"], ["n", "int"], ["name", "text"]]}],
+    "procedures": [
+        {"name": "fill", "kind": "border", "inputs": ["s"], "touch": {"part": 0}, "body": [{"sql": "INSERT INTO t SELECT id, n, name FROM s"}]},
+        {"name": "add", "kind": "call", "args": [["id", "int"]], "touch": {"part": 0}, "body": [{"sql": "UPDATE t SET n = n + 1 WHERE id = :id"}]},
+    ],
+}
 PLACES = {"none": "no log", "memory": "in memory", "folder": "in a folder"}
 
 
@@ -82,16 +100,82 @@ def recoveries(given):
             measure.row([f"{entries:,}", whole, measure.both(took, entries, 2), f"{size:,}"])
 
 
+def lines_of(requests):
+    return [json.dumps(line, separators=(",", ":")).encode() + b"\n" for line in [FILLED, *requests]]
+
+
+def filling(rows):
+    """Pushes that fill the table."""
+    for seq, begin in enumerate(range(0, rows, BATCH)):
+        batch = [[row, 0, f"row {row:010}"] for row in range(begin, min(begin + BATCH, rows))]
+        yield {"push": "s", "source": "a", "seq": seq, "rows": batch}
+
+
+def calls_on(rows, many):
+    return [{"call": "add", "args": [k * 7919 % rows]} for k in range(many)]
+
+
+def size_of(folder):
+    return sum(os.path.getsize(os.path.join(folder, name)) for name in ("gen1", "gen2", "selector"))
+
+
+def images(given):
+    nothing = measure.input_of(lines_of([]))
+    behind = measure.input_of(lines_of(calls_on(given.rows, BEHIND)))
+
+    def recovered(folder):
+        took = measure.least([measure.run([PROGRAM, folder, "recover"])[0] for _ in range(given.runs)])
+        return f"{took.wall:.2f} / {took.processor:.2f}"
+
+    print()
+    measure.head(given.runs, f"; {given.rows:,} rows")
+    measure.top_row(["seconds, wall / processor", "from the log", f"and {BEHIND:,} calls", "from an image", f"and {BEHIND:,} calls"])
+    with tempfile.TemporaryDirectory(dir=given.folder) as folder:
+        measure.run([PROGRAM, folder, "run"], measure.input_of(lines_of(filling(given.rows))))
+        cells = [recovered(folder)]
+        measure.run([PROGRAM, folder, "run"], behind)
+        cells.append(recovered(folder))
+        first, _ = measure.run([PROGRAM, folder, "run", "--checkpoint", "1"], nothing)
+        cells.append(recovered(folder))
+        log = os.path.getsize(os.path.join(folder, "gen1"))
+        # The store has an image now, behind which nothing stands; a call makes the next checkpoint due.
+        one = measure.input_of(lines_of(calls_on(given.rows, 1)))
+        plain = measure.least([measure.run([PROGRAM, folder, "run"], one)[0] for _ in range(given.runs)])
+        renewed = measure.least([measure.run([PROGRAM, folder, "run", "--checkpoint", "1"], one)[0] for _ in range(given.runs)])
+        image = min(os.path.getsize(os.path.join(folder, name)) for name in ("gen1", "gen2"))
+        measure.run([PROGRAM, folder, "run"], behind)
+        cells.append(recovered(folder))
+        measure.row(["a recovery", *cells])
+        print(f"\na checkpoint: {renewed.wall - plain.wall:.2f} s longer than a run without one; the image has {image:,} bytes, and the log had {log:,}")
+        print(f"the most memory: {renewed.held / 1e6:,.0f} MB with a checkpoint, {plain.held / 1e6:,.0f} MB without one, {first.held / 1e6:,.0f} MB from the log")
+
+
+def sizes(given):
+    """How large a store is at most that is renewed again and again."""
+    rows, many = 1000, max(1, given.calls // 40)
+    calls = measure.input_of(lines_of(calls_on(rows, many)))
+    with tempfile.TemporaryDirectory(dir=given.folder) as folder:
+        measure.run([PROGRAM, folder, "run"], measure.input_of(lines_of(filling(rows))))
+        most = 0
+        for _ in range(CHECKPOINTS):
+            measure.run([PROGRAM, folder, "run", "--checkpoint", str(many)], calls)
+            most = max(most, size_of(folder))
+        print(f"\n{rows:,} rows and {CHECKPOINTS} runs of {many:,} calls, with --checkpoint {many}: the files had {most:,} bytes at most")
+
+
 def main():
     parser = measure.parser_of(__doc__)
     parser.add_argument("--calls", type=measure.positive, default=40_000)
     parser.add_argument("--recover", type=measure.positive, default=200_000)
+    parser.add_argument("--rows", type=measure.positive, default=1_000_000)
     parser.add_argument("--folder")
     parser.add_argument("--plain", metavar="PROGRAM")
     given = parser.parse_args()
     measure.want_program()
     runs(given)
     recoveries(given)
+    images(given)
+    sizes(given)
 
 
 if __name__ == "__main__":

@@ -42,15 +42,17 @@ def entry_at(data, at):
     return ("push", source, seq), at
 
 
-def entries_of(folder):
-    """The entries of the generation that counts, and how many groups they are in."""
-    selector = open(os.path.join(folder, "selector"), "rb").read() if os.path.exists(os.path.join(folder, "selector")) else b""
+def generation_of(folder):
+    """The generation that counts: its first place, its image, its entries, and how many groups they are in."""
+    path = os.path.join(folder, "selector")
+    selector = open(path, "rb").read() if os.path.exists(path) else b""
     if not selector:
-        return [], 0
+        return 0, b"", [], 0
     data = open(os.path.join(folder, "gen1" if selector[0] % 2 == 0 else "gen2"), "rb").read()
     assert data[:8] == b"SSTORE1\n", "no store"
-    length, at = number(data, 16, 8)
-    at += length
+    first, at = number(data, 8, 8)
+    length, at = number(data, at, 8)
+    image, at = data[at : at + length], at + length
     entries, groups = [], 0
     while data[at] == 1:
         body, at = number(data, at + 1, 4)
@@ -61,4 +63,10 @@ def entries_of(folder):
             entries.append(entry)
         assert at == end, "a group of another length"
         groups += 1
+    return first, image, entries, groups
+
+
+def entries_of(folder):
+    """The entries of the generation that counts, and how many groups they are in."""
+    _, _, entries, groups = generation_of(folder)
     return entries, groups

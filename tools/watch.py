@@ -34,7 +34,11 @@ class Generation:
 
     def __init__(self, path):
         self.path, self.file = path, opened(path)
-        self.place, self.at, self.groups = 0, None, 0
+        self.place, self.at, self.groups, self.begins = 0, None, 0, b""
+
+    def is_still(self, path):
+        """Whether it is the one with this path. A second checkpoint gives the file back with another head."""
+        return path == self.path and (self.at is None or os.pread(self.file.fileno(), HEAD, 0) == self.begins)
 
     def head(self):
         """Reads the head where all of it is there, and says whether it is."""
@@ -48,7 +52,7 @@ class Generation:
             raise Wrong(f"{self.path}: no generation of a store")
         if len(head) < HEAD:
             return False
-        self.place, self.at = place, HEAD + image
+        self.place, self.at, self.begins = place, HEAD + image, head
         return True
 
     def read_on(self):
@@ -88,7 +92,7 @@ def watch(folder, every, seconds):
     generation, is_store, seen = None, False, False
     while True:
         path, place, groups = current(folder), 0, 0
-        if generation is None or path != generation.path:
+        if generation is None or not generation.is_still(path):
             generation, was_store = Generation(path) if path else None, False
         else:
             place, groups, was_store = generation.place, generation.groups, is_store
