@@ -245,10 +245,10 @@ def input_of(asked):
     return "".join(json.dumps(line, separators=(",", ":")) + "\n" for line in [CATALOGUE, *asked])
 
 
-def soak(asked, seed, partitions):
+def soak(asked, seed, partitions, options):
     """Runs the requests on so many partitions, checks the report, and prints what was counted."""
     begun = time.perf_counter()
-    words = [PROGRAM, "-", "run", "--partitions", str(partitions)]
+    words = [PROGRAM, "-", "run", "--partitions", str(partitions), *options]
     done = subprocess.run(words, input=input_of(asked).encode(), capture_output=True)
     took = time.perf_counter() - begun
     assert done.returncode == 0, f"status {done.returncode}"
@@ -263,6 +263,7 @@ def main():
         parser.add_argument(f"--{name}", type=int, default=value)
     parser.add_argument("--partitions", type=lambda word: [int(part) for part in word.split(",")], default=[8])
     parser.add_argument("--one-door", action="store_true")
+    parser.add_argument("--checkpoint", metavar="K")
     parser.add_argument("--write", metavar="FILE")
     parser.add_argument("--check", nargs=2, metavar=("INPUT", "REPORT"))
     given = parser.parse_args()
@@ -278,7 +279,7 @@ def main():
     for seed in range(given.seed, given.seed + given.runs):
         asked = list(requests_of(given.requests, given.clients, seed, given.one_door))
         for partitions in given.partitions:
-            soak(asked, seed, partitions)
+            soak(asked, seed, partitions, ["--checkpoint", given.checkpoint] if given.checkpoint else [])
 
 
 if __name__ == "__main__":
