@@ -16,10 +16,10 @@ started with the word `run`.
 
 The second table makes a store of at least so many entries, a run of --calls at a time, and recovers it behind each.
 
-The third has a table of --rows rows: what recovers it from the log that filled it, and from an image behind a checkpoint, also
-with 10,000 short calls behind either; what a run without requests takes longer with a checkpoint than without one, which is
-how long clients would wait for it; and the most memory of that run. Then come a hundred runs of --calls / 40 calls, each with
-a checkpoint at its end, and how large the store's files were at most.
+The third has a table of --rows rows, on one part, and split over eight partitions: what recovers it from the log that filled
+it, and from an image behind a checkpoint, also with 10,000 short calls behind either; and what a run of one call takes longer
+with a checkpoint than without one, which is how long clients wait for it. Then come the bytes of image and log, the most memory
+of these runs, and a hundred runs of --calls / 40 calls, each with a checkpoint at its end, with the most bytes of the files.
 """
 
 import json
@@ -36,15 +36,23 @@ BATCH = 1000  # rows of a push that fills a table
 BEHIND = 10_000  # calls behind an image
 CHECKPOINTS = 100
 
-FILLED = {
-    "tables": [{"name": "t", "columns": [["id", "int"], ["n", "int"], ["name", "text"]], "key": ["id"], "part": 0}],
-    "streams": [{"name": "s", "columns": [["id", "int"], ["n", "int"], ["name", "text"]]}],
-    "procedures": [
-        {"name": "fill", "kind": "border", "inputs": ["s"], "touch": {"part": 0}, "body": [{"sql": "INSERT INTO t SELECT id, n, name FROM s"}]},
-        {"name": "add", "kind": "call", "args": [["id", "int"]], "touch": {"part": 0}, "body": [{"sql": "UPDATE t SET n = n + 1 WHERE id = :id"}]},
-    ],
-}
-PLACES = {"none": "no log", "memory": "in memory", "folder": "in a folder"}
+
+
+def filled(placement, fills, adds):
+    """A table that pushes fill, and of which a call changes a row."""
+    columns = [["id", "int"], ["n", "int"], ["name", "text"]]
+    return {
+        "tables": [{"name": "t", "columns": columns, "key": ["id"], **placement}],
+        "streams": [{"name": "s", "columns": columns}],
+        "procedures": [
+            {"name": "fill", "kind": "border", "inputs": ["s"], "touch": fills, "body": [{"sql": "INSERT INTO t SELECT id, n, name FROM s"}]},
+            {"name": "add", "kind": "call", "args": [["id", "int"]], "touch": adds, "body": [{"sql": "UPDATE t SET n = n + 1 WHERE id = :id"}]},
+        ],
+    }
+
+
+ONE_PART = filled({"part": 0}, {"part": 0}, {"part": 0})
+SPLIT = filled({"by": "id"}, "all", {"arg": "id"})
 
 
 def without_folder(words, given, entries):
@@ -100,8 +108,8 @@ def recoveries(given):
             measure.row([f"{entries:,}", whole, measure.both(took, entries, 2), f"{size:,}"])
 
 
-def lines_of(requests):
-    return [json.dumps(line, separators=(",", ":")).encode() + b"\n" for line in [FILLED, *requests]]
+def lines_of(catalogue, requests):
+    return [json.dumps(line, separators=(",", ":")).encode() + b"\n" for line in [catalogue, *requests]]
 
 
 def filling(rows):
@@ -119,43 +127,53 @@ def size_of(folder):
     return sum(os.path.getsize(os.path.join(folder, name)) for name in ("gen1", "gen2", "selector"))
 
 
+def images_of(given, name, catalogue, partitions):
+    """Recoveries of a table, and a checkpoint of it."""
+
+    def took(words, file=None):
+        return measure.least([measure.run([PROGRAM, folder, *words, "--partitions", partitions], file)[0] for _ in range(given.runs)])
+
+    def recovered():
+        found = took(["recover"])
+        return f"{found.wall:.2f} / {found.processor:.2f}"
+
+    def run(*words, requests):
+        return measure.run([PROGRAM, folder, "run", "--partitions", partitions, *words], measure.input_of(lines_of(catalogue, requests)))[0]
+
+    with tempfile.TemporaryDirectory(dir=given.folder) as folder:
+        run(requests=filling(given.rows))
+        cells = [recovered()]
+        behind = calls_on(given.rows, BEHIND)
+        run(requests=behind)
+        cells.append(recovered())
+        log = size_of(folder)
+        run("--checkpoint", "1", requests=[])
+        cells.append(recovered())
+        # Nothing stands behind the image now, and one call makes the next checkpoint due.
+        one = measure.input_of(lines_of(catalogue, calls_on(given.rows, 1)))
+        plain = took(["run"], one)
+        renewed = took(["run", "--checkpoint", "1"], one)
+        image = min(os.path.getsize(os.path.join(folder, generation)) for generation in ("gen1", "gen2"))
+        run(requests=behind)
+        cells.append(recovered())
+    measure.row([name, *cells, f"{renewed.wall - plain.wall:.2f}"])
+    return f"{name}: the image has {image:,} bytes, and the log had {log:,}; a run held {plain.held / 1e6:,.0f} MB, and {renewed.held / 1e6:,.0f} MB with a checkpoint"
+
+
 def images(given):
-    nothing = measure.input_of(lines_of([]))
-    behind = measure.input_of(lines_of(calls_on(given.rows, BEHIND)))
-
-    def recovered(folder):
-        took = measure.least([measure.run([PROGRAM, folder, "recover"])[0] for _ in range(given.runs)])
-        return f"{took.wall:.2f} / {took.processor:.2f}"
-
     print()
     measure.head(given.runs, f"; {given.rows:,} rows")
-    measure.top_row(["seconds, wall / processor", "from the log", f"and {BEHIND:,} calls", "from an image", f"and {BEHIND:,} calls"])
-    with tempfile.TemporaryDirectory(dir=given.folder) as folder:
-        measure.run([PROGRAM, folder, "run"], measure.input_of(lines_of(filling(given.rows))))
-        cells = [recovered(folder)]
-        measure.run([PROGRAM, folder, "run"], behind)
-        cells.append(recovered(folder))
-        first, _ = measure.run([PROGRAM, folder, "run", "--checkpoint", "1"], nothing)
-        cells.append(recovered(folder))
-        log = os.path.getsize(os.path.join(folder, "gen1"))
-        # The store has an image now, behind which nothing stands; a call makes the next checkpoint due.
-        one = measure.input_of(lines_of(calls_on(given.rows, 1)))
-        plain = measure.least([measure.run([PROGRAM, folder, "run"], one)[0] for _ in range(given.runs)])
-        renewed = measure.least([measure.run([PROGRAM, folder, "run", "--checkpoint", "1"], one)[0] for _ in range(given.runs)])
-        image = min(os.path.getsize(os.path.join(folder, name)) for name in ("gen1", "gen2"))
-        measure.run([PROGRAM, folder, "run"], behind)
-        cells.append(recovered(folder))
-        measure.row(["a recovery", *cells])
-        print(f"\na checkpoint: {renewed.wall - plain.wall:.2f} s longer than a run without one; the image has {image:,} bytes, and the log had {log:,}")
-        print(f"the most memory: {renewed.held / 1e6:,.0f} MB with a checkpoint, {plain.held / 1e6:,.0f} MB without one, {first.held / 1e6:,.0f} MB from the log")
+    measure.top_row(["a recovery in seconds, wall / processor", "from the log", f"and {BEHIND:,} calls", "from an image", f"and {BEHIND:,} calls", "a checkpoint, seconds"])
+    told = [images_of(given, "on one part", ONE_PART, "1"), images_of(given, "split over eight partitions", SPLIT, "8")]
+    print("\n" + "\n".join(told))
 
 
 def sizes(given):
     """How large a store is at most that is renewed again and again."""
     rows, many = 1000, max(1, given.calls // 40)
-    calls = measure.input_of(lines_of(calls_on(rows, many)))
+    calls = measure.input_of(lines_of(ONE_PART, calls_on(rows, many)))
     with tempfile.TemporaryDirectory(dir=given.folder) as folder:
-        measure.run([PROGRAM, folder, "run"], measure.input_of(lines_of(filling(rows))))
+        measure.run([PROGRAM, folder, "run"], measure.input_of(lines_of(ONE_PART, filling(rows))))
         most = 0
         for _ in range(CHECKPOINTS):
             measure.run([PROGRAM, folder, "run", "--checkpoint", str(many)], calls)
