@@ -56,8 +56,9 @@
 //! - `ensure_durable` (`AsksForReceipt`): a receipt of all that the lane's answers tell, or all that waits goes on
 //!   waiting, or the lane is told of the disk's faults. By the lane's type all but 16 at most of its client's entries
 //!   stand below the count that it has seen (`IsDue`); `submit` needs that fewer than 16 wait.
-//! - `checkpoint_if` (`AsksForCheckpoint`): the place at which a generation begins that the client's last listed entry stands near,
-//!   or that there was no memory, or the lane is told of the disk's faults; all that waits for a receipt goes on waiting.
+//! - `checkpoint_if` (`AsksForCheckpoint`): a place that the client's last listed entry stands near, or that there was no
+//!   memory, or the lane is told of the disk's faults; all that waits for a receipt goes on waiting. No clause says that a
+//!   generation begins at this place, since the log is behind a lock; of the last one `EndsNear` does.
 //! - `run_session` (`ok`: `EndsOnDisk`), from any whole database that the log's generation stands for (`OpensOn`): a list
 //!   that replays and has its orders, with just the entries of each client that its answers report, how settling ended
 //!   on it, and which of its last entries are the steps of settling, in the model's order (`IsRun`); a crash at any

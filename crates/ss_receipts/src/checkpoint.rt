@@ -96,6 +96,7 @@ fn renewed_at<I: Life, D: Disk + Drop>(
     requires going { keeper.old.log.halted ≡ None }
     requires image { IsImageBehind I.catalog I.opening I.first (listed_of keeper.old.note.list) keeper.old.count image.now }
     ensures answer { IsCheckpointed keeper.old.count keeper.new.note.faults result }
+    ensures began { IfOk result (λ place. keeper.new.log.first ≡ place) }
 {
     let done = renew_log::<I, D>(&mut keeper.log, keeper.count, image);
     commits.post(&mut keeper.note, keeper.count, done.faults);
@@ -154,6 +155,7 @@ fn imaged<I: Life, D: Disk + Drop>(
     requires end { (keeper.old.count ≡ I.first + length keeper.old.note.list) × (keeper.old.count ≤ 2 ^ 60) }
     requires stand { IsOfDatabase I.catalog (after I.catalog I.opening (listed_of keeper.old.note.list)) whole.now streams.now.streams }
     ensures answer { IsCheckpointed keeper.old.count keeper.new.note.faults result }
+    ensures began { IfOk result (λ place. keeper.new.log.first ≡ place) }
 {
     whole_databases_stay();
     let Ok(image) = write_image(alloc, catalog, whole, streams) else {
@@ -181,6 +183,7 @@ fn flushed_and_imaged<I: Life, D: Disk + Drop>(
     requires rest { rest.now ≡ listed_entries (drop (keeper.old.count - I.first) (listed_of keeper.old.note.list)) }
     requires stand { IsOfDatabase I.catalog (after I.catalog I.opening (listed_of keeper.old.note.list)) whole.now streams.now.streams }
     ensures answer { IsCheckpointed (I.first + length keeper.old.note.list) keeper.new.note.faults result }
+    ensures began { IfOk result (λ place. keeper.new.log.first ≡ place) }
 {
     match flushed(commits, keeper, rest) {
         Err(refused) => Err(refused),
@@ -210,6 +213,7 @@ pub(crate) fn made_checkpoint<I: Life, D: Disk + Drop, R: Wait>(
     ensures marks { MeetAll I.catalog I.parts I.limit marks.old marks.new }
     ensures seen { AllSeeAs keeper.new.note marks.new }
     ensures answer { (list : List Item) → AllAt list marks.old → IsCheckpointed (I.first + length list) keeper.new.note.faults result }
+    ensures began { IfOk result (λ place. keeper.new.log.first ≡ place) }
 {
     if let Some(faults) = keeper.log.halted() {
         shown_to_all(rt, commits, keeper, marks);

@@ -36,8 +36,10 @@
 //! - `ensure_durable` (`answer`, `IsDurable`): a receipt of all places below the wanted one, or that there was no
 //!   memory, or that the disk has failed; whatever it is, the mark has then seen the receipted count and the faults
 //!   (`mark`).
-//! - `checkpointed` (`answer`, `IsCheckpointed`): the generation begins at the end of the list, or there was no memory, or the
-//!   disk has failed; whatever it is, all marks have then seen the receipted count and the faults (`seen`, `marks`).
+//! - `checkpointed` (`answer`, `IsCheckpointed`): the end of the list is answered, or there was no memory, or the disk has
+//!   failed; whatever it is, all marks have then seen the receipted count and the faults (`seen`, `marks`). That the log's
+//!   generation begins at what is answered only the call behind the lock says (`began` of `made_checkpoint`): no clause
+//!   outside sees what a lock has.
 //! - `finish` (`Finishes`): as `ensure_durable`, of a list that is whole, for all of it.
 //! - `trim` (`Trims`): the log holds what it held, and fewer entries than are due stand behind the current generation's first
 //!   place, or there was no memory, or the disk has failed.

@@ -9,5 +9,5 @@ pub imaged-requires-clause-stand : goal.imaged-requires-clause-stand
 imaged-requires-clause-stand g c =
     subst (λ (l : List Item). IsOfDatabase g.I.Life.catalog (after g.I.Life.catalog g.I.Life.opening (listed_of l)) c.args.whole.now c.args.streams.now.streams) (sym c.flushed.ensures.list) c.requires.stand
 
-pub returns-in-Ok : goal.returns-in-Ok
-returns-in-Ok g c = record { answer = subst (λ (n : ℕ). IsCheckpointed n c.imaged.new.keeper.note.faults c.imaged.result) c.in-Ok.ensures.all.1 c.imaged.ensures.answer }
+pub returns-in-Ok-clause-answer : goal.returns-in-Ok-clause-answer
+returns-in-Ok-clause-answer g c = subst (λ (n : ℕ). IsCheckpointed n c.imaged.new.keeper.note.faults c.imaged.result) c.in-Ok.ensures.all.1 c.imaged.ensures.answer
