@@ -1,5 +1,5 @@
 -- When a disk may answer that it failed.
-use Rattle.std.specs.Prelude.{◌≡◌, ℕ, ◌≤◌, Result, IsErrOf}
+use Rattle.std.specs.Prelude.{◌≡◌, ℕ, ◌≤◌, Result, OnOk, IsErrOf}
 use Rattle.ss_value.specs.FaultCounts.{Rose}
 use Rattle.ss_disk.specs.declared.disk.DiskError.{DiskError}
 use Rattle.ss_disk.specs.declared.disk.DiskError.TheVariants.{Failed, NoMemory}
@@ -9,3 +9,4 @@ pub record HasDiskCause {T : Type 0} (before now : ℕ) (result : Result T DiskE
   pub later : before ≤ now
   pub failed : IsErrOf result Failed → Rose before now
   pub no_memory : IsErrOf result NoMemory → now ≡ before
+  pub done : OnOk result (now ≡ before)

@@ -38,7 +38,7 @@ pub enum DiskError {
 /// nothing of it; it owes the count of its faults alone.
 ///
 /// A call's `crash` says which images come of which, `time` that earlier moments keep theirs, `cause` that a failure was
-/// counted. `runs_compose` puts calls together.
+/// counted, and nothing else. `runs_compose` puts calls together.
 pub trait Disk {
     /// What it tells, and what a crash leaves of it.
     ghost kind: { DiskKind Self };

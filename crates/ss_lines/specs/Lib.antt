@@ -7,3 +7,4 @@ pub mod Json
 pub mod Refusals
 pub mod Memory
 pub mod StdIo
+pub mod Failing

@@ -1,6 +1,6 @@
 //! The lines of a source.
 
-ghost use Rattle.std.specs.Prelude.{◌≡◌, ◌<◌, ◌≤◌, ◌+◌, length, IfOk, OnOk, IfErr, IfSome};
+ghost use Rattle.std.specs.Prelude.{◌≡◌, ◌⊎◌, ◌<◌, ◌≤◌, ◌+◌, length, IfOk, OnOk, IfErr, IfSome};
 ghost use Rattle.std.specs.Io.KnownBytes.{IsAtEnd};
 ghost use Rattle.ss_value.specs.FaultCounts.{Rose};
 ghost use Rattle.ss_lines.specs.Causes.{TakesAtMost};
@@ -21,7 +21,7 @@ const PIECE: usize = 16_384;
 /// A line ends at a line feed, which is not part of it, or at the end of input. Lines are numbered
 /// from 1. A line of nothing but spaces, tabs and carriage returns is counted and left out.
 ///
-/// `ReadFault` comes only where the source counted a fault, and `InputTooLong` exactly where the
+/// `ReadFault` comes exactly where the source counted a fault, and `InputTooLong` exactly where the
 /// input has more than `MAX_INPUT` bytes, unless memory runs out or the source fails before that
 /// is seen. No other refusal comes but `NoMemory`. At most `MAX_INPUT` bytes and one more are taken
 /// from any source.
@@ -36,6 +36,7 @@ pub fn read_lines<S: Source>(alloc: Global, source: &mut S) -> Result<Seq<Line>,
     ensures too_long { result ≡ Err LineError.InputTooLong → IfSome (S.kind.left source.old) (λ input. max_input < length input) }
     ensures cause { S.kind.faults source.old ≤ S.kind.faults source.new }
     ensures fault { result ≡ Err LineError.ReadFault → Rose (S.kind.faults source.old) (S.kind.faults source.new) }
+    ensures told { (result ≡ Err LineError.ReadFault) ⊎ (S.kind.faults source.new ≡ S.kind.faults source.old) }
     ensures others { IfErr result IsReadRefusal }
 {
     let mut splitter = Splitter::new(alloc);

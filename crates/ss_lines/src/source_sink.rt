@@ -15,8 +15,8 @@ pub trait Source {
 
     /// Puts the next bytes at the front of the buffer, which is not empty, and answers how many.
     ///
-    /// 0 comes only at the end of input, where nothing is left. `Failed` comes only where the
-    /// count of faults rose, and then nothing was taken. The count never falls.
+    /// 0 comes only at the end of input, where nothing is left. At `Failed` the count of faults
+    /// rose, and nothing was taken; else the count stays.
     fn pull(&mut self, buf: &mut [u8]) -> Result<usize, Failed>
         requires { 0 < length buf.old }
         ensures bound { ReadsAtMost result buf.new }
@@ -32,8 +32,7 @@ pub trait Sink {
     /// Takes bytes from the front of the piece, which is not empty, and answers how many: at
     /// least one.
     ///
-    /// `Failed` comes only where the count of faults rose, and then no byte was taken. The count
-    /// never falls.
+    /// At `Failed` the count of faults rose, and no byte was taken; else the count stays.
     fn push(&mut self, piece: &[u8]) -> Result<usize, Failed>
         requires { 0 < length piece.now }
         ensures bound { IfOk result (λ n. (0 < n) × (n ≤ length piece.now)) }

@@ -1,4 +1,4 @@
-use Rattle.std.proofs.Common.{◌++◌, ◌+◌, ◌≤◌, rules, arith, length, length-append}
+use Rattle.std.proofs.Common.{◌∙◌, ◌++◌, ◌+◌, ◌≤◌, rules, arith, length, length-append}
 use Rattle.std.proofs.lemmas.List.{length-take}
 use Rattle.std.proofs.KnownBytes.{Consumes-trans}
 use Rattle.ss_lines.proofs.SoFar.{read_more}
@@ -34,5 +34,5 @@ loop-taken-preserved g c =
           (search rules);
       few = omega (arith, c.in-Ok.ensures.bound.0, c.pull.auto.buf, length-take c.min-room.result c.loop-taken.buf, c.min-room.ensures, c.loop-taken-test.true);
       number = omega (arith, number, c.split_at.ensures.front_len, c.loop-taken.invariant.number);
-      later = omega (arith, c.in-Ok.ensures.cause.later, c.loop-taken.invariant.later);
+      still = c.in-Ok.ensures.cause.done ∙ c.loop-taken.invariant.still;
     }
