@@ -9,22 +9,22 @@ use Rattle.ss_audit.specs.declared.verdict.Verdict.TheVariants.{Yes, No}
 use Rattle.ss_refusals.specs.declared.input.InputError.{InputError}
 use Rattle.ss_refusals.specs.declared.status.Status.{Status}
 use Rattle.ss_refusals.specs.declared.status.Status.TheVariants.{Done, Usage, Input, ReadFault, WriteFault, Disk, NoMemory, Foreign, OtherCatalog, Limit, Differs}
-use Rattle.ss_refusals.specs.Sinks.{ExitsRefused, LeavesOfRefusedSource, SinkChange, SinkHeld, SourceChange, SourceHeld, Writes, WritesAll, WritesPrefix}
+use Rattle.ss_refusals.specs.Sinks.{ExitsRefused, LeavesOfRefusedSource, SinkChange, SinkHeld, SourceChange, SourceHeld, TellsSourceFault, Writes, WritesAll, WritesPrefix}
 use Rattle.ss_refusals.specs.Statuses.{no_memory_text, refusal_status, refusal_text}
-use Rattle.ss_refusals.proofs.CallerLemmas.{InputLaws, fault_rose, leaves_so, memory_text_is, never, read_fault_text_is, silent_ends}
+use Rattle.ss_refusals.proofs.CallerLemmas.{InputLaws, OfRefusal, ends_refused, fault_rose, refusal_told, leaves_so, memory_text_is, never, read_fault_text_is, silent_ends}
 use Rattle.ss_audit_input.specs.Refused.{IsRefusedAudit}
-use Rattle.ss_audit_input.specs.Told.{AuditComes, AuditEnds, EndsWithVerdict, HasAuditCause, HasVerdict, TellsVerdict, verdict_status, verdict_text}
+use Rattle.ss_audit_input.specs.Told.{AuditComes, AuditEnds, EndsWithVerdict, HasAuditCause, HasVerdict, TellsAuditFaults, TellsVerdict, verdict_status, verdict_text}
 use Rattle.ss_audit_input.proofs.OneAudit.{audits_or_refused}
 
 -- ---- a verdict
 
 -- one that was written whole is told with its status
-told_whole : (v : Verdict) (w : SinkChange) → WritesAll w (verdict_text v) → TellsVerdict v (verdict_status v) w
-told_whole (Yes n) w wrote = (refl, wrote)
-told_whole (No check line) w wrote = (refl, wrote)
+told_whole : (v : Verdict) (w : SinkChange) → w.faults_now ≡ w.faults_before → WritesAll w (verdict_text v) → TellsVerdict v (verdict_status v) w
+told_whole (Yes n) w still wrote = (refl, wrote, still)
+told_whole (No check line) w still wrote = (refl, wrote, still)
 
-pub told_with : (v : Verdict) (w : SinkChange) (status : Status) (text : List ℕ) → status ≡ verdict_status v → text ≡ verdict_text v → WritesAll w text → TellsVerdict v status w
-told_with v w status text is same wrote = subst (λ (s : Status). TellsVerdict v s w) (sym is) (told_whole v w (subst (λ (t : List ℕ). WritesAll w t) same wrote))
+pub told_with : (v : Verdict) (w : SinkChange) (status : Status) (text : List ℕ) → status ≡ verdict_status v → text ≡ verdict_text v → w.faults_now ≡ w.faults_before → WritesAll w text → TellsVerdict v status w
+told_with v w status text is same still wrote = subst (λ (s : Status). TellsVerdict v s w) (sym is) (told_whole v w still (subst (λ (t : List ℕ). WritesAll w t) same wrote))
 
 -- a front of it was, where the sink failed
 pub told_part : (v : Verdict) (w : SinkChange) (text : List ℕ) → text ≡ verdict_text v → (n : ℕ) × (n ≤ length text) × Appends w.before w.now (take n text) → Rose w.faults_before w.faults_now → TellsVerdict v WriteFault w
@@ -108,3 +108,20 @@ module _ (s : SourceChange) (w : SinkChange) where
     pub refused_comes : (ended : Status) → ExitsRefused e ended w → AuditComes s w ended
     refused_comes ended (inl exits) = subst (AuditComes s w) (sym exits.is) (refusal_comes exits.reported)
     refused_comes ended (inr exits) = subst (AuditComes s w) (sym exits.is) (memory_comes exits.reported)
+
+  -- ---- faults are told
+
+  verdict_sink : (v : Verdict) (ended : Status) → TellsVerdict v ended w → (ended ≡ Done) ⊎ (ended ≡ Differs) → w.faults_now ≡ w.faults_before
+  verdict_sink v ended told (inl is) = (subst (λ (e : Status). TellsVerdict v e w) is told).2
+  verdict_sink v ended told (inr is) = (subst (λ (e : Status). TellsVerdict v e w) is told).2
+
+  pub verdict_tells : (v : Verdict) (ended : Status) → s.faults_now ≡ s.faults_before → TellsVerdict v ended w → TellsAuditFaults ended s w
+  verdict_tells v ended held told = record { source = inr held; sink = verdict_sink v ended told }
+
+  -- a refusal is no verdict
+  refusal_sink : (ended : Status) → OfRefusal ended → (ended ≡ Done) ⊎ (ended ≡ Differs) → w.faults_now ≡ w.faults_before
+  refusal_sink ended of (inl is) = absurd (subst OfRefusal is of)
+  refusal_sink ended of (inr is) = absurd (subst OfRefusal is of)
+
+  pub refusal_tells : (e : InputError) (ended : Status) → (refusal_status e ≡ ReadFault → ended ≡ ReadFault) → TellsSourceFault (refusal_status e) s.faults_before s.faults_now → ExitsRefused e ended w → TellsAuditFaults ended s w
+  refusal_tells e ended so told exits = record { source = refusal_told e ended s.faults_before s.faults_now so told; sink = refusal_sink ended (ends_refused e ended w exits) }

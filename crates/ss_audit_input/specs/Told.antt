@@ -17,7 +17,7 @@ use Rattle.ss_refusals.specs.declared.input.InputError.{InputError}
 use Rattle.ss_refusals.specs.declared.status.Status.{Status}
 use Rattle.ss_refusals.specs.declared.status.Status.TheVariants.{Done, Input, ReadFault, WriteFault, NoMemory, Differs}
 use Rattle.ss_refusals.specs.Inputs.{LeavesOfSource}
-use Rattle.ss_refusals.specs.Sinks.{SinkChange, SinkHeld, SourceChange, SourceHeld, Writes, WritesAll, WritesPrefix}
+use Rattle.ss_refusals.specs.Sinks.{SinkChange, SinkHeld, SourceChange, SourceHeld, TellsSourceFault, Writes, WritesAll, WritesPrefix}
 use Rattle.ss_refusals.specs.Statuses.{no_memory_text, read_fault_text, refusal_status, refusal_text}
 use Rattle.ss_value.specs.FaultCounts.{Rose}
 use Rattle.ss_audit_input.specs.Audits.{AuditLines, Audits, number_behind}
@@ -93,8 +93,8 @@ EndsWithVerdict input ended = (catalog : Catalog) (requests : List Request) (rep
 
 -- how a verdict is told: whole with its status; or a front of it, where the sink failed; or that there was no memory for its text
 abbrev pub TellsVerdict : Verdict → Status → SinkChange → Type 0
-TellsVerdict v Done w = (verdict_status v ≡ Done) × WritesAll w (verdict_text v)
-TellsVerdict v Differs w = (verdict_status v ≡ Differs) × WritesAll w (verdict_text v)
+TellsVerdict v Done w = (verdict_status v ≡ Done) × WritesAll w (verdict_text v) × (w.faults_now ≡ w.faults_before)
+TellsVerdict v Differs w = (verdict_status v ≡ Differs) × WritesAll w (verdict_text v) × (w.faults_now ≡ w.faults_before)
 TellsVerdict v WriteFault w = WritesPrefix (verdict_text v) w × Rose w.faults_before w.faults_now
 TellsVerdict v NoMemory w = Writes no_memory_text w
 TellsVerdict v _ w = ⊥
@@ -104,6 +104,11 @@ abbrev pub HasAuditCause : Status → SourceChange → SinkChange → Type 0
 HasAuditCause ReadFault s w = Rose s.faults_before s.faults_now
 HasAuditCause WriteFault s w = Rose w.faults_before w.faults_now
 HasAuditCause _ s w = Unit {0}
+
+-- that a device failed is told: the source's count of faults rose where the status says so, and there alone, and with a verdict the sink's didn't
+pub record TellsAuditFaults (ended : Status) (s : SourceChange) (w : SinkChange) : Type 0 where
+  pub source : TellsSourceFault ended s.faults_before s.faults_now
+  pub sink : (ended ≡ Done) ⊎ (ended ≡ Differs) → w.faults_now ≡ w.faults_before
 
 -- what an audit comes to, what it leaves of its source, that it ends with a verdict where it can, and why where it doesn't
 pub record AuditComes (s : SourceChange) (w : SinkChange) (ended : Status) : Type 0 where

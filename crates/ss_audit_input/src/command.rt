@@ -4,9 +4,9 @@ ghost use Rattle.std.specs.Prelude.{◌≤◌, ◌+◌, IfErr, IfOk, IfSome, OnO
 ghost use Rattle.std.specs.Io.KnownBytes.{IsAtEnd};
 ghost use Rattle.ss_lines.specs.Causes.{TakesAtMost};
 ghost use Rattle.ss_lines.specs.Lines.{max_input};
-ghost use Rattle.ss_refusals.specs.Sinks.{LeavesOfRefusedSource, sink_of, source_of};
+ghost use Rattle.ss_refusals.specs.Sinks.{LeavesOfRefusedSource, TellsReading, sink_of, source_of};
 ghost use Rattle.ss_audit_input.specs.Refused.{IsRefusedAudit};
-ghost use Rattle.ss_audit_input.specs.Told.{AuditComes, HasVerdict};
+ghost use Rattle.ss_audit_input.specs.Told.{AuditComes, HasVerdict, TellsAuditFaults};
 
 use crate::input::audit_lines;
 use crate::verdict::tell_verdict;
@@ -20,6 +20,7 @@ use std::alloc::Global;
 fn audit_source<S: Source>(alloc: Global, source: &mut S) -> Result<Verdict, InputError>
     ensures taken { TakesAtMost (max_input + 1) (S.kind.left source.old) (S.kind.left source.new) }
     ensures counts { S.kind.faults source.old ≤ S.kind.faults source.new }
+    ensures told { TellsReading result (S.kind.faults source.old) (S.kind.faults source.new) }
     ensures end { OnOk result (IsAtEnd (S.kind.left source.new)) }
     ensures ok { IfOk result (HasVerdict (S.kind.left source.old)) }
     ensures refused { IfErr result (λ e. IfSome (S.kind.left source.old) (λ input. IsRefusedAudit input e)) }
@@ -39,6 +40,7 @@ fn audit_source<S: Source>(alloc: Global, source: &mut S) -> Result<Verdict, Inp
 pub fn audit_input<S: Source, K: Sink>(alloc: Global, source: &mut S, sink: &mut K) -> Status
     ensures comes { AuditComes (source_of S.kind source.old source.new)
         (sink_of K.kind sink.old sink.new) result }
+    ensures told { TellsAuditFaults result (source_of S.kind source.old source.new) (sink_of K.kind sink.old sink.new) }
     ensures taken { TakesAtMost (max_input + 1) (S.kind.left source.old) (S.kind.left source.new) }
     ensures counts { (S.kind.faults source.old ≤ S.kind.faults source.new) × (K.kind.faults sink.old ≤ K.kind.faults sink.new) }
 {

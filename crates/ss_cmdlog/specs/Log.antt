@@ -70,17 +70,19 @@ pub record AddsEntries {D : Type 0} (kind : DiskKind D) (old new : CmdLog D) (ok
 abbrev pub KeepsReceipts : {D : Type 0} → (D → ℕ) → (D → ℕ → Files → Type 0) → ℕ → D → D → Type 0
 KeepsReceipts moment images n old new = LeavesOnly moment images old new (HasAtLeast n)
 
--- a fault is answered only where the disk's count rose, and is kept; nothing else halts the log
+-- a fault is answered where the disk's count rose and there alone, and is kept; nothing else halts the log
 pub record HasLogCause {T : Type 0} (before now : ℕ) (old new : Option ℕ) (result : Result T LogError) : Type 0 where
   pub later : before ≤ now
   pub rose : IsErrOf result DiskFault → Rose before now
+  pub told : (IsErrOf result DiskFault → ⊥) → now ≡ before
   pub keeps : IsErrOf result DiskFault → new ≡ Some now
   pub goes_on : (IsErrOf result DiskFault → ⊥) → new ≡ old
 
--- a fault is answered only where the disk's count rose
+-- a fault is answered where the disk's count rose, and there alone
 pub record HasCallCause (before now : ℕ) (refused : LogError) : Type 0 where
   pub later : before ≤ now
   pub rose : refused ≡ DiskFault → Rose before now
+  pub told : (refused ≡ DiskFault → ⊥) → now ≡ before
 
 -- what a log that goes on may refuse
 abbrev pub IsAddRefusal : LogError → Type 0

@@ -69,7 +69,7 @@ impl<D: Disk> CmdLog<D> {
 
     /// Makes a store of an image on an empty disk of which nothing is unsynced, at place 0.
     ///
-    /// A crash at any moment leaves something (`some`): a disk that is still empty, or one that stands for the image. `DiskFault` comes only
+    /// A crash at any moment leaves something (`some`): a disk that is still empty, or one that stands for the image. `DiskFault` comes exactly
     /// where the disk counted a fault. There are seven calls of the disk. Time is linear in the image, of which there is one copy.
     pub fn format(alloc: Global, mut disk: D, image: &[u8]) -> Result<CmdLog<D>, (LogError, D)>
         requires empty { D.kind.tells → IsEmpty (D.kind.seen disk) }
@@ -80,9 +80,10 @@ impl<D: Disk> CmdLog<D> {
         ensures moments { D.kind.honest → MatchResult result
             (λ log. LeavesOnly D.kind.moment D.kind.images disk log.disk (λ crashed. IsEmpty crashed ⊎ StandsFor crashed (fresh image.now)))
             (λ refused. LeavesOnly D.kind.moment D.kind.images disk refused.1 (λ crashed. IsEmpty crashed ⊎ StandsFor crashed (fresh image.now))) }
-        ensures some { D.kind.honest → IfOk result (λ log. LeavesSome D.kind.moment D.kind.images (D.kind.moment disk) log.disk) }
+        ensures some { D.kind.honest → MatchResult result
+            (λ log. LeavesSome D.kind.moment D.kind.images (D.kind.moment disk) log.disk) (λ refused. LeavesSome D.kind.moment D.kind.images (D.kind.moment disk) refused.1) }
         ensures cause { IfErr result (λ refused. HasCallCause (D.kind.faults disk) (D.kind.faults refused.1) refused.0) }
-        ensures later { IfOk result (λ log. D.kind.faults disk ≤ D.kind.faults log.disk) }
+        ensures still { IfOk result (λ log. D.kind.faults log.disk ≡ D.kind.faults disk) }
         ensures refusals { IfErr result (λ refused. IsAddRefusal refused.0) }
     {
         let Ok(bytes) = generation(alloc, 0, image) else {

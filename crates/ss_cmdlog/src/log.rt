@@ -138,7 +138,7 @@ impl<D: Disk> CmdLog<D> {
     /// Each group takes as many entries as fit 8,388,608 bytes of records, so entries whose records fit are one group. A
     /// crash at any moment leaves the entries of the first of the groups: none of them, some or all; and what a crash at one
     /// moment could not take, a crash at no later moment takes (`stays`). After `NoMemory` the log goes on behind the groups
-    /// that are on the disk. `DiskFault` comes only where the disk counted a fault; the log answers `Halted` with that count
+    /// that are on the disk. `DiskFault` comes exactly where the disk counted a fault; the log answers `Halted` with that count
     /// from then on, and touches the disk no more.
     ///
     /// No entries are a receipt of what is there, without a call on the disk. Else there are four calls of the disk for

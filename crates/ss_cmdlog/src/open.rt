@@ -1,6 +1,6 @@
 //! An old store.
 
-ghost use Rattle.std.specs.Prelude.{◌≡◌, ◌≤◌, ◌≢◌, ℕ, [], IfOk, IfErr, Ok, Err};
+ghost use Rattle.std.specs.Prelude.{◌≡◌, ◌≢◌, ℕ, [], IfOk, OnOk, IfErr, Ok, Err};
 ghost use Rattle.ss_disk.specs.Files.{file};
 ghost use Rattle.ss_cmdlog.specs.Generation.{Stood, IsStood};
 ghost use Rattle.ss_cmdlog.specs.Store.{current_file};
@@ -59,7 +59,7 @@ fn generation_of<D: Disk>(
     ensures halted { (faults : ℕ) → result ≡ Err (LogError.Halted faults) → ⊥ }
     ensures reads { OnlyReads D.kind disk.old disk.new }
     ensures cause { IfErr result (λ refused. HasCallCause (D.kind.faults disk.old) (D.kind.faults disk.new) refused) }
-    ensures later { D.kind.faults disk.old ≤ D.kind.faults disk.new }
+    ensures still { OnOk result (D.kind.faults disk.new ≡ D.kind.faults disk.old) }
 {
     let bytes = bytes_of(alloc, disk, which)?;
     match generation_in(alloc, bytes.as_slice()) {
@@ -87,7 +87,7 @@ fn current_of<D: Disk>(alloc: Global, disk: &mut D) -> Result<Current, LogError>
     ensures halted { (faults : ℕ) → result ≡ Err (LogError.Halted faults) → ⊥ }
     ensures reads { OnlyReads D.kind disk.old disk.new }
     ensures cause { IfErr result (λ refused. HasCallCause (D.kind.faults disk.old) (D.kind.faults disk.new) refused) }
-    ensures later { D.kind.faults disk.old ≤ D.kind.faults disk.new }
+    ensures still { OnOk result (D.kind.faults disk.new ≡ D.kind.faults disk.old) }
 {
     let byte = selector_of(disk)?;
     let file = named(byte);
@@ -106,7 +106,7 @@ impl<D: Disk> CmdLog<D> {
     ///
     /// It begins with a sync, and then reads: there are five calls of the disk, none of which changes it. A read gives what it
     /// gave, and a crash at any moment leaves what it could leave before, and no more than at the moments between. `Foreign` tells the first byte that can't be, where the image is taken as
-    /// bytes; `DiskFault` comes only where the disk counted a fault. Time is linear in the current file, which is read whole
+    /// bytes; `DiskFault` comes exactly where the disk counted a fault. Time is linear in the current file, which is read whole
     /// into one buffer; the image is copied out of it, and each entry.
     pub fn open(alloc: Global, mut disk: D) -> Result<(CmdLog<D>, Loaded), (LogError, D)>
         requires stored { D.kind.tells → (D.kind.seen disk).selector ≢ [] }
@@ -123,7 +123,7 @@ impl<D: Disk> CmdLog<D> {
             (λ r. LeavesFewer D.kind.moment D.kind.images (D.kind.moment disk) r.0.disk) (λ refused. LeavesFewer D.kind.moment D.kind.images (D.kind.moment disk) refused.1) }
         ensures stands { D.kind.honest → IfOk result (λ r. StandForLoaded (present D.kind r.0.disk) r.1) }
         ensures cause { IfErr result (λ refused. HasCallCause (D.kind.faults disk) (D.kind.faults refused.1) refused.0) }
-        ensures later { IfOk result (λ r. D.kind.faults disk ≤ D.kind.faults r.0.disk) }
+        ensures still { IfOk result (λ r. D.kind.faults r.0.disk ≡ D.kind.faults disk) }
         ensures refusals { IfErr result (λ refused. IsOpenRefusal refused.0) }
     {
         if disk.sync().is_err() {

@@ -151,7 +151,7 @@ impl<D: Disk> CmdLog<D> {
     ///
     /// The new generation is written into the other file and synced; then the selector names that file, and is synced. A
     /// crash at any moment leaves the generation that there was, with all its groups, or the new one, whatever byte the
-    /// selector holds. After `NoMemory` the log goes on with the generation that there was. `DiskFault` comes only where the
+    /// selector holds. After `NoMemory` the log goes on with the generation that there was. `DiskFault` comes exactly where the
     /// disk counted a fault; the log answers `Halted` with that count from then on, and touches the disk no more.
     ///
     /// There are seven calls of the disk. Time is linear in the image, which is written from where it is: no copy is made.

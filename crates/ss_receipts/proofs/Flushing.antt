@@ -27,7 +27,7 @@ use Rattle.ss_standing.specs.Laws.{GenerationsGoOn}
 use Rattle.ss_standing.specs.Keeping.{Keeps, KeepsOverFlush, LogReceiptsTell, KeptCountsStandOn}
 use Rattle.ss_standing.proofs.CallerLemmas.{end_with_more, entries_count, front_replays, rest_replays}
 use Rattle.ss_receipts.specs.Past.{LeavesSince}
-use Rattle.ss_receipts.specs.Holding.{Holds, AreRest}
+use Rattle.ss_receipts.specs.Holding.{HaltedAt, Holds, AreRest}
 use Rattle.ss_receipts.proofs.Since.{since_run, since_now, nothing_since}
 
 -- groups behind those of a generation
@@ -43,6 +43,11 @@ at_least catalog db first list image f = record { count = first + f.some; k = ke
 -- a count that rose from a later one rose from an earlier one, and is not 0
 pub rose_from : (before then now : ℕ) → before ≤ then → Rose then now → Rose before now
 rose_from before then now le rose = omega (arith, rose)
+
+-- while a log goes on its disk has counted no fault
+pub calm_since : (before now : ℕ) (halted : Option ℕ) (fault : ℕ) → HaltedAt before now halted fault → halted ≡ None → now ≡ before
+calm_since before now halted fault (inl going) none = going.2
+calm_since before now halted fault (inr stopped) none = absurd (cc)
 
 -- as many entries are left as the list has places behind the count
 pub rest_count : (catalog : Catalog) (db : Database) (first : ℕ) (list : List Listed) (count : ℕ) (entries : List Entry) → AreRest catalog db first list count entries → first ≤ count → count ≤ first + length list
@@ -105,7 +110,7 @@ module _ {D : Type 0} (every : Option ℕ) (catalog : Catalog) (db : Database) (
 
     module _ (later : kind.faults old.disk ≤ kind.faults new.disk) where
       -- the first entries of the rest are there
-      module _ (going : new.halted ≡ None) (k : ℕ) (few : k ≤ length left) (groups : List (List Entry)) (are : flat_map (λ (es : List Entry). es) groups ≡ listed_entries (take k left))
+      module _ (going : new.halted ≡ None) (still : kind.faults new.disk ≡ kind.faults old.disk) (k : ℕ) (few : k ≤ length left) (groups : List (List Entry)) (are : flat_map (λ (es : List Entry). es) groups ≡ listed_entries (take k left))
           (open' : IsOpen kind new (with_groups s groups)) (low : count ≤ new.count) (high : new.count ≤ count + length entries) where
         counted : kind.tells → new.count ≡ count + k
         counted known = omega (
@@ -146,7 +151,7 @@ module _ {D : Type 0} (every : Option ℕ) (catalog : Catalog) (db : Database) (
           within = omega (arith, high, rest_count catalog db first list count entries rest h.begun h.within);
           counted = λ _. refl;
           later = omega (arith, h.later, later);
-          halt = inl (going, refl);
+          halt = inl (going, refl, still ∙ calm_since before (kind.faults old.disk) old.halted fault h.halt none);
           going = λ _. record { generation = with_groups s groups; opened_at = open'; replayed = replayed; ends = ends };
           crashes = crashes;
           receipt = λ honestly. told new.count honestly (open_receipted kind new (with_groups s groups) open' (honest_tells honestly) honestly new.count refl);
@@ -154,20 +159,20 @@ module _ {D : Type 0} (every : Option ℕ) (catalog : Catalog) (db : Database) (
         }
 
       -- all of it is written
-      pub holds_all : ((es : List Entry) → flat_map (λ (e : List Entry). e) (groups_of es) ≡ es) → new.halted ≡ None → new.count ≡ count + length entries
+      pub holds_all : ((es : List Entry) → flat_map (λ (e : List Entry). e) (groups_of es) ≡ es) → new.halted ≡ None → kind.faults new.disk ≡ kind.faults old.disk → new.count ≡ count + length entries
           → IsOpen kind new (with_groups s (groups_of entries))
           → Holds every catalog db first opened before past kind list new new.count 0
-      holds_all groups going counts open' =
-          holds_first going (length left) (omega arith) (groups_of entries) (groups entries ∙ (rest.entries_are ∙ ap listed_entries (sym (take_all (length left) left (omega arith))))) open' (omega (arith, counts)) (omega (arith, counts))
+      holds_all groups going still counts open' =
+          holds_first going still (length left) (omega arith) (groups_of entries) (groups entries ∙ (rest.entries_are ∙ ap listed_entries (sym (take_all (length left) left (omega arith))))) open' (omega (arith, counts)) (omega (arith, counts))
 
       -- the first groups are
-      pub holds_some : ((es : List Entry) (j : ℕ) → (n : ℕ) × (n ≤ length es) × (flat_map (λ (e : List Entry). e) (take j (groups_of es)) ≡ take n es)) → new.halted ≡ None
+      pub holds_some : ((es : List Entry) (j : ℕ) → (n : ℕ) × (n ≤ length es) × (flat_map (λ (e : List Entry). e) (take j (groups_of es)) ≡ take n es)) → new.halted ≡ None → kind.faults new.disk ≡ kind.faults old.disk
           → count ≤ new.count → new.count ≤ count + length entries
           → (j : ℕ) × (j ≤ length (groups_of entries)) × IsOpen kind new (with_groups s (take j (groups_of entries)))
           → Holds every catalog db first opened before past kind list new new.count 0
-      holds_some firsts going low high part =
+      holds_some firsts going still low high part =
           let n = firsts entries part.0 in
-          holds_first going n.0 (omega (arith, n.1, ap length rest.entries_are, entries_count left)) (take part.0 (groups_of entries))
+          holds_first going still n.0 (omega (arith, n.1, ap length rest.entries_are, entries_count left)) (take part.0 (groups_of entries))
           (n.2 ∙ (ap (take n.0) rest.entries_are ∙ take-map (λ (l : Listed). l.entry) n.0 left)) part.2 low high
 
       -- the disk failed

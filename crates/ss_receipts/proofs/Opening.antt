@@ -34,7 +34,7 @@ module _ {D : Type 0} (every : Option ℕ) (catalog : Catalog) (db : Database) (
     within = omega arith;
     counted = λ none. counted;
     later = omega arith;
-    halt = inl (open'.going, refl);
+    halt = inl (open'.going, refl, refl);
     going = λ none. record {
       generation = s;
       opened_at = open';

@@ -28,7 +28,7 @@ use Rattle.ss_standing.proofs.CallerLemmas.{end_anew}
 use Rattle.ss_receipts.specs.Past.{LeavesSince}
 use Rattle.ss_receipts.specs.Holding.{Holds}
 use Rattle.ss_receipts.specs.Checkpointing.{IsImageBehind}
-use Rattle.ss_receipts.proofs.Flushing.{at_least, rose_from}
+use Rattle.ss_receipts.proofs.Flushing.{at_least, calm_since, rose_from}
 use Rattle.ss_receipts.proofs.Since.{since_run, since_now, nothing_since}
 
 module _ {D : Type 0} (every : Option ℕ) (catalog : Catalog) (db : Database) (first opened before : ℕ) (past : ℕ → List (List ℕ) → Type 0) (kind : DiskKind D) (honest_tells : kind.honest → kind.tells)
@@ -100,14 +100,14 @@ module _ {D : Type 0} (every : Option ℕ) (catalog : Catalog) (db : Database) (
 
     module _ (later : kind.faults old.disk ≤ kind.faults new.disk) where
       -- the log goes on, on a generation that stands for the same
-      holds_on_one : (g : Stood) → new.halted ≡ None → new.count ≡ old.count → IsOpen kind new g → (kind.tells → Replayed catalog g count (kept catalog database)) → (kind.tells → EndAs every (entries_of g) (listed_entries (take held list)))
+      holds_on_one : (g : Stood) → new.halted ≡ None → kind.faults new.disk ≡ kind.faults old.disk → new.count ≡ old.count → IsOpen kind new g → (kind.tells → Replayed catalog g count (kept catalog database)) → (kind.tells → EndAs every (entries_of g) (listed_entries (take held list)))
           → Holds every catalog db first opened before past kind list new count 0
-      holds_on_one g going same open' stands ends = record {
+      holds_on_one g going still same open' stands ends = record {
         begun = h.begun;
         within = h.within;
         counted = λ _. same ∙ h.counted none;
         later = omega (arith, h.later, later);
-        halt = inl (going, refl);
+        halt = inl (going, refl, still ∙ calm_since before (kind.faults old.disk) old.halted fault h.halt none);
         going = λ _. record { generation = g; opened_at = open'; replayed = stands; ends = ends };
         crashes = crashes;
         receipt = λ honestly. told honestly (open_receipted kind new g open' (honest_tells honestly) honestly count (sym (same ∙ h.counted none)));
@@ -115,12 +115,12 @@ module _ {D : Type 0} (every : Option ℕ) (catalog : Catalog) (db : Database) (
       }
 
       -- on the new one
-      pub holds_renewed : new.halted ≡ None → new.count ≡ old.count → IsOpen kind new next → Holds every catalog db first opened before past kind list new count 0
-      holds_renewed going same open' = holds_on_one next going same open' (λ told. replayed) (λ told. end_anew every (listed_entries (take held list)) asked)
+      pub holds_renewed : new.halted ≡ None → kind.faults new.disk ≡ kind.faults old.disk → new.count ≡ old.count → IsOpen kind new next → Holds every catalog db first opened before past kind list new count 0
+      holds_renewed going still same open' = holds_on_one next going still same open' (λ told. replayed) (λ told. end_anew every (listed_entries (take held list)) asked)
 
       -- on the one that there was
-      pub holds_kept : new.halted ≡ None → new.count ≡ old.count → IsOpen kind new s → Holds every catalog db first opened before past kind list new count 0
-      holds_kept going same open' = holds_on_one s going same open' (h.going none).replayed (h.going none).ends
+      pub holds_kept : new.halted ≡ None → kind.faults new.disk ≡ kind.faults old.disk → new.count ≡ old.count → IsOpen kind new s → Holds every catalog db first opened before past kind list new count 0
+      holds_kept going still same open' = holds_on_one s going still same open' (h.going none).replayed (h.going none).ends
 
       -- the disk failed
       pub holds_failed : (n : ℕ) → new.halted ≡ Some n → n ≡ kind.faults new.disk → Rose (kind.faults old.disk) (kind.faults new.disk)

@@ -17,10 +17,10 @@ use Rattle.ss_standing.specs.Ends.{EndAs}
 use Rattle.ss_standing.specs.Standing.{listed_entries, Replayed, Prefix, Receipt, StandsOn}
 use Rattle.ss_receipts.specs.Past.{LeavesSince}
 
--- by the disk's count of faults at the opening and now: the log goes on, and no faults are told; or it was halted at this count,
--- to which the disk's rose
+-- by the disk's count of faults at the opening and now: the log goes on, no faults are told, and there were none; or it was halted at this
+-- count, to which the disk's rose
 abbrev pub HaltedAt : ℕ → ℕ → Option ℕ → ℕ → Type 0
-HaltedAt before now halted fault = ((halted ≡ None) × (fault ≡ 0)) ⊎ ((halted ≡ Some fault) × Rose before fault × (fault ≤ now))
+HaltedAt before now halted fault = ((halted ≡ None) × (fault ≡ 0) × (now ≡ before)) ⊎ ((halted ≡ Some fault) × Rose before fault × (fault ≤ now))
 
 -- the log is open on a generation that stands for this count and for what is kept behind a front of the list, and whose entries end
 -- as those of the front, as far as the disk tells what it has

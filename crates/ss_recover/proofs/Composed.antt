@@ -1,5 +1,5 @@
 -- What holds behind a run that only reads holds from its beginning.
-use Rattle.std.proofs.Common.{◌⊎◌, ℕ, ◌≤◌, Option, subst}
+use Rattle.std.proofs.Common.{◌≡◌, ◌∙◌, ◌⊎◌, ℕ, ◌≤◌, Option, Result, Ok, Err, subst}
 use Rattle.ss_disk.specs.Kinds.{DiskKind}
 use Rattle.ss_model.specs.declared.catalog.Catalog.{Catalog}
 use Rattle.ss_model.specs.Database.{Database as Model}
@@ -14,7 +14,7 @@ use Rattle.ss_recover.specs.declared.recovered.Recovered.{Recovered}
 use Rattle.ss_recover.specs.declared.error.RecoverError.{RecoverError}
 use Rattle.ss_recover.specs.declared.error.RecoverError.TheVariants.{NoMemory, DiskFault, Foreign, OtherCatalog, Nothing}
 use Rattle.ss_recover.specs.Faults.{HasFaultAt, IsStore}
-use Rattle.ss_recover.specs.Recovering.{IsRecovered, RefusesAsSaid}
+use Rattle.ss_recover.specs.Recovering.{IsRecovered, RefusesAsSaid, TellsFaults}
 use Rattle.ss_recover.proofs.Moments.{only_that, since, forms_since, rose_since}
 
 module _ {D : Type 0} (kind : DiskKind D) (told_by : kind.honest → kind.tells) (given : Option Catalog) (old mid : D)
@@ -57,3 +57,8 @@ module _ {D : Type 0} (kind : DiskKind D) (told_by : kind.honest → kind.tells)
           },
         )
     refused_since Nothing is = (reads_join kind old mid new reads is.0, is.1, λ told. subst IsEmpty (reads.same told) (is.2 told))
+
+-- that the disk failed is told from the beginning
+pub told_since : {D : Type 0} (kind : DiskKind D) (old mid : D) (result : Result (Recovered D) (RecoverError × D)) → kind.faults mid ≡ kind.faults old → TellsFaults kind mid result → TellsFaults kind old result
+told_since kind old mid (Ok r) still told = told ∙ still
+told_since kind old mid (Err refused) still told = λ other. told other ∙ still

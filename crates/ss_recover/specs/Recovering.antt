@@ -1,5 +1,5 @@
 -- What recovery gives, and what it leaves of the disk.
-use Rattle.std.specs.Prelude.{◌≡◌, ◌≢◌, ◌⊎◌, ◌≤◌, ◌+◌, ◌-◌, ◌^◌, ◌++◌, ℕ, List, [], length, map, replicate, Option, Some, None}
+use Rattle.std.specs.Prelude.{◌≡◌, ◌≢◌, ◌⊎◌, ◌≤◌, ◌+◌, ◌-◌, ◌^◌, ◌++◌, ℕ, List, [], length, map, replicate, Option, Some, None, Result, MatchResult}
 use Rattle.ss_disk.specs.Kinds.{DiskKind, present}
 use Rattle.ss_value.specs.FaultCounts.{Rose}
 use Rattle.ss_value.specs.Rows.{Rows}
@@ -125,6 +125,10 @@ pub record DiffersFrom (stored : Catalog) (given : Option Catalog) (e : RecoverE
   pub is_given : given ≡ Some ours
   pub another : stored.text ≢ ours.text
   pub told : e ≡ OtherCatalog stored.text ours.text
+
+-- that the disk's count of faults rose is told: it stays, but where the answer is a fault of the disk
+abbrev pub TellsFaults : {D : Type 0} → DiskKind D → D → Result (Recovered D) (RecoverError × D) → Type 0
+TellsFaults kind old result = MatchResult result (λ r. kind.faults r.log.disk ≡ kind.faults old) (λ refused. (refused.0 ≡ DiskFault → ⊥) → kind.faults refused.1 ≡ kind.faults old)
 
 -- a refusal, and what it leaves of the disk
 abbrev pub RefusesAsSaid : {D : Type 0} → DiskKind D → Option Catalog →

@@ -5,7 +5,7 @@ ghost use Rattle.ss_model.specs.Database.{empty_database};
 ghost use Rattle.ss_cmdlog.specs.Log.{IsSettled};
 ghost use Rattle.ss_cmdlog.specs.Store.{IsEmpty};
 ghost use Rattle.ss_recover.specs.Errors.{forming_refusal};
-ghost use Rattle.ss_recover.specs.Recovering.{IsOwnCatalog, IsRecovered, RefusesAsSaid};
+ghost use Rattle.ss_recover.specs.Recovering.{IsOwnCatalog, IsRecovered, RefusesAsSaid, TellsFaults};
 
 use crate::error::RecoverError;
 use crate::recovered::Recovered;
@@ -43,6 +43,7 @@ pub(crate) fn form<D: Disk>(
     ensures recovered { IfOk result (λ r. IsRecovered D.kind (Some catalog) partitions disk r (empty_database catalog)) }
     ensures refused { IfErr result (λ refused. RefusesAsSaid D.kind (Some catalog) disk refused.1 refused.0) }
     ensures later { MatchResult result (λ r. D.kind.faults disk ≤ D.kind.faults r.log.disk) (λ refused. D.kind.faults disk ≤ D.kind.faults refused.1) }
+    ensures told { TellsFaults D.kind disk result }
 {
     forming_stands();
     one_thing_stands_on::<D>();

@@ -5,7 +5,7 @@ ghost use Rattle.ss_value.specs.FaultCounts.{HasCause};
 ghost use Rattle.ss_cmdlog.specs.Log.{IsSettled};
 ghost use Rattle.ss_cmdlog.specs.Opening.{OnlyReads};
 ghost use Rattle.ss_cmdlog.specs.Store.{IsEmpty};
-ghost use Rattle.ss_recover.specs.Recovering.{IsOwnCatalog, IsRecovered, RefusesAsSaid, recovered_database};
+ghost use Rattle.ss_recover.specs.Recovering.{IsOwnCatalog, IsRecovered, RefusesAsSaid, TellsFaults, recovered_database};
 
 use crate::error::RecoverError;
 use crate::forming::form;
@@ -43,7 +43,7 @@ fn is_empty<D: Disk>(disk: &mut D) -> Result<bool, Failed>
 ///
 /// Refuses `Nothing` where the disk is empty and no catalogue is given, unless a call fails, and `OtherCatalog` where the store is of
 /// another one than is given, by their texts. `Foreign` tells the first byte that can't be in a disk that is neither empty nor a
-/// store: of the generation, else of its image, else the record of the first entry that doesn't replay. `DiskFault` comes only
+/// store: of the generation, else of its image, else the record of the first entry that doesn't replay. `DiskFault` comes exactly
 /// where the disk counted a fault.
 ///
 /// A crash at any moment leaves what it could leave before, or what stands for what is recovered. Behind `Foreign`,
@@ -66,6 +66,7 @@ pub fn recover<N: Runner, D: Disk>(
     ensures recovered { IfOk result (λ r. IsRecovered D.kind catalog partitions disk r (recovered_database r)) }
     ensures refused { IfErr result (λ refused. RefusesAsSaid D.kind catalog disk refused.1 refused.0) }
     ensures later { MatchResult result (λ r. D.kind.faults disk ≤ D.kind.faults r.log.disk) (λ refused. D.kind.faults disk ≤ D.kind.faults refused.1) }
+    ensures told { TellsFaults D.kind disk result }
     ensures nothing { D.kind.tells → IsEmpty (D.kind.seen disk) → catalog ≡ None
         → IfErr result (λ refused. (refused.0 ≡ RecoverError.Nothing) ⊎ (refused.0 ≡ RecoverError.DiskFault)) × OnOk result ⊥ }
 {

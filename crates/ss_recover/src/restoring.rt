@@ -3,7 +3,7 @@
 ghost use Rattle.std.specs.Prelude.{◌≡◌, ◌≢◌, ◌≤◌, [], OnOk, IfOk, IfErr, IfSome, MatchResult};
 ghost use Rattle.ss_model.specs.declared.catalog.Catalog.{Catalog as CatalogValue};
 ghost use Rattle.ss_recover.specs.Errors.{opening_refusal, stored_refusal};
-ghost use Rattle.ss_recover.specs.Recovering.{DiffersFrom, IsOwnCatalog, RefusesAsSaid, WasRecovered};
+ghost use Rattle.ss_recover.specs.Recovering.{DiffersFrom, IsOwnCatalog, RefusesAsSaid, TellsFaults, WasRecovered};
 
 use crate::error::RecoverError;
 use crate::recovered::Recovered;
@@ -69,6 +69,7 @@ pub(crate) fn restore<N: Runner, D: Disk>(
     ensures recovered { IfOk result (WasRecovered D.kind given partitions disk) }
     ensures refused { IfErr result (λ refused. RefusesAsSaid D.kind given disk refused.1 refused.0) }
     ensures later { MatchResult result (λ r. D.kind.faults disk ≤ D.kind.faults r.log.disk) (λ refused. D.kind.faults disk ≤ D.kind.faults refused.1) }
+    ensures told { TellsFaults D.kind disk result }
 {
     a_value_has_one_answer();
     let (log, loaded) = match CmdLog::open(alloc, disk) {

@@ -5,4 +5,5 @@ pub mod InputRequests
 pub mod OneInput
 pub mod InputPremises
 pub mod RefusalStatuses
+pub mod SourceTold
 pub mod RefusedEnds

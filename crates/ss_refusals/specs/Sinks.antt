@@ -1,5 +1,5 @@
 -- What a call has written to its sink, and taken of its source.
-use Rattle.std.specs.Prelude.{◌≡◌, ◌≤◌, ◌<◌, ◌⊎◌, ℕ, List, length, take, Option, IfSome}
+use Rattle.std.specs.Prelude.{◌≡◌, ◌≤◌, ◌<◌, ◌⊎◌, ℕ, List, length, take, Option, IfSome, Result, MatchResult}
 use Rattle.std.specs.Io.KnownBytes.{Appends, IsAtEnd}
 use Rattle.ss_value.specs.FaultCounts.{Rose}
 use Rattle.ss_lines.specs.Kinds.{SourceKind, SinkKind}
@@ -8,7 +8,7 @@ use Rattle.ss_lines.specs.Lines.{max_input}
 use Rattle.ss_refusals.specs.declared.input.InputError.{InputError}
 use Rattle.ss_refusals.specs.declared.input.InputError.TheVariants.{Line as OfLine}
 use Rattle.ss_refusals.specs.declared.status.Status.{Status}
-use Rattle.ss_refusals.specs.declared.status.Status.TheVariants.{NoMemory}
+use Rattle.ss_refusals.specs.declared.status.Status.TheVariants.{ReadFault, NoMemory}
 use Rattle.ss_refusals.specs.Inputs.{DidNotRise}
 use Rattle.ss_refusals.specs.Refused.{IsRefusedBy}
 use Rattle.ss_refusals.specs.Statuses.{refusal_status, refusal_text, no_memory_text}
@@ -58,6 +58,14 @@ LeavesOfRefusedSource (OfLine cause.NoMemory) faults_before faults_now before no
 LeavesOfRefusedSource (OfLine cause.ReadFault) faults_before faults_now before now = Rose faults_before faults_now
 LeavesOfRefusedSource (OfLine cause.InputTooLong) faults_before faults_now before now = IfSome before (λ input. max_input < length input)
 LeavesOfRefusedSource _ faults_before faults_now before now = IsAtEnd now
+
+-- that the source failed is told: its count of faults rose where the status says so, and there alone
+abbrev pub TellsSourceFault : Status → ℕ → ℕ → Type 0
+TellsSourceFault ended before now = (ended ≡ ReadFault) ⊎ (now ≡ before)
+
+-- the same where reading an input gives this
+abbrev pub TellsReading : {T : Type 0} → Result T InputError → ℕ → ℕ → Type 0
+TellsReading result before now = MatchResult result (λ _. now ≡ before) (λ refusal. TellsSourceFault (refusal_status refusal) before now)
 
 -- the input is refused with this status, by its first refusal where its bytes are known, and the refusal was reported
 pub record IsRefused (input : Option (List ℕ)) (status : Status) (w : SinkChange) : Type 0 where

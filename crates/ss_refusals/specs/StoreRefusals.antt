@@ -1,5 +1,5 @@
 -- What is written of a disk that isn't the store of a run, and how the program then ends.
-use Rattle.std.specs.Prelude.{◌⊎◌, ℕ, List, IsUtf8}
+use Rattle.std.specs.Prelude.{◌≡◌, ◌⊎◌, ℕ, List, IsUtf8}
 use Rattle.ss_value.specs.FaultCounts.{Rose}
 use Rattle.ss_recover.specs.declared.error.RecoverError.{RecoverError}
 use Rattle.ss_recover.specs.declared.error.RecoverError.TheVariants as recovery
@@ -13,9 +13,9 @@ abbrev pub HasTexts : RecoverError → Type 0
 HasTexts (recovery.OtherCatalog stored given) = IsUtf8 stored × IsUtf8 given
 HasTexts _ = Unit {0}
 
--- all of a text was written, or, where the sink failed, a front of it
+-- all of a text was written and the sink didn't fail, or, where it failed, a front of the text was
 abbrev pub WritesWhole : Status → List ℕ → SinkChange → Type 0
-WritesWhole Done text w = WritesAll w text
+WritesWhole Done text w = WritesAll w text × (w.faults_now ≡ w.faults_before)
 WritesWhole WriteFault text w = WritesPrefix text w × Rose w.faults_before w.faults_now
 WritesWhole _ text w = ⊥
 

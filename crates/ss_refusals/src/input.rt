@@ -10,7 +10,7 @@ ghost use Rattle.ss_model.specs.Report.{asked_entries, asked_entry};
 ghost use Rattle.ss_recover.specs.Recovering.{IsOwnCatalog};
 ghost use Rattle.ss_refusals.specs.Starts.{SaysCatalog, AsksFor, AskInOrder, StartLines, Starts};
 ghost use Rattle.ss_refusals.specs.Refused.{RefusesFirst, RefusesLater, RefusesAmong, RefusesLines, ComesOfLines, IsRefusedBy};
-ghost use Rattle.ss_refusals.specs.Sinks.{LeavesOfRefusedSource};
+ghost use Rattle.ss_refusals.specs.Sinks.{LeavesOfRefusedSource, TellsReading};
 
 use ss_catalog::{CatalogError, read_catalog};
 use ss_catalog_requests::{RequestError, request_of};
@@ -123,6 +123,7 @@ fn parse_input(alloc: Global, lines: &[Line]) -> Result<ParsedInput, InputError>
 pub fn read_input<S: Source>(alloc: Global, source: &mut S) -> Result<ParsedInput, InputError>
     ensures taken { TakesAtMost (max_input + 1) (S.kind.left source.old) (S.kind.left source.new) }
     ensures counts { S.kind.faults source.old ≤ S.kind.faults source.new }
+    ensures told { TellsReading result (S.kind.faults source.old) (S.kind.faults source.new) }
     ensures end { OnOk result (IsAtEnd (S.kind.left source.new)) }
     ensures ok { IfOk result (λ p. IfSome (S.kind.left source.old) (λ input. Starts input p.catalog p.requests)) }
     ensures own { IfOk result (λ p. IsOwnCatalog p.catalog) }

@@ -258,6 +258,7 @@ fn refuse_line<K: Sink>(alloc: Global, sink: &mut K, error: &InputError) -> Stat
 /// Writes why nothing ran, and answers the status.
 pub fn refuse<K: Sink>(alloc: Global, sink: &mut K, error: &InputError) -> Status
     ensures refused { ExitsRefused error.now result (sink_of K.kind sink.old sink.new) }
+    ensures read_fault { refusal_status error.now ≡ Status.ReadFault → result ≡ Status.ReadFault }
     ensures counts { K.kind.faults sink.old ≤ K.kind.faults sink.new }
 {
     // Out of memory and a fault of the source are written by constant texts, which take no memory.

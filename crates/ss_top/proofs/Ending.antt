@@ -1,5 +1,5 @@
 -- What the program promises, met at each of its ends.
-use Rattle.std.proofs.Common.{◌≡◌, ◌≤◌, ◌+◌, ◌∙◌, inl, inr, ℕ, List, [], length, refl, sym, ap, subst, Some, None, arith}
+use Rattle.std.proofs.Common.{◌≡◌, ◌⊎◌, ◌≤◌, ◌+◌, ◌∙◌, inl, inr, ℕ, List, [], refl, sym, ap, subst, Some, None, arith}
 use Rattle.std.specs.Prelude.{Option, IfSome, String}
 use Rattle.std.specs.declared.alloc.Global.{Global}
 use Rattle.std.specs.Io.KnownBytes.{IsAtEnd}
@@ -11,7 +11,7 @@ use Rattle.ss_model.specs.declared.catalog.Catalog.{Catalog}
 use Rattle.ss_model.specs.declared.entry.Request.{Request}
 use Rattle.ss_model.specs.Accepted.{Accepted}
 use Rattle.ss_catalog.specs.Answers.{HasOneCatalog}
-use Rattle.ss_audit_input.specs.Told.{AuditComes, AuditEnds, HasAuditCause}
+use Rattle.ss_audit_input.specs.Told.{AuditComes, AuditEnds, HasAuditCause, TellsAuditFaults}
 use Rattle.ss_words.specs.declared.names.Command.{Command}
 use Rattle.ss_words.specs.declared.names.Command.TheVariants.{Run, Recover, Audit, Voter}
 use Rattle.ss_words.specs.declared.names.Show.{Show}
@@ -27,15 +27,15 @@ use Rattle.ss_refusals.specs.declared.status.Status.TheVariants.{Done, Usage, In
 use Rattle.ss_refusals.specs.Inputs.{LeavesOfSource, HasOneStart, StartsOrRefused, HasOneRefusal, ExitsAsRefused, ExitsAsStarted, DidNotRise, OfStarted}
 use Rattle.ss_refusals.specs.Refused.{IsRefusedBy}
 use Rattle.ss_refusals.proofs.CallerLemmas.{OfRefusal, refusals_have, never, memory_text_is, read_fault_text_is, fault_rose, leaves_so, refused_ends_refused, refused_ends_started}
-use Rattle.ss_refusals.specs.Sinks.{SourceChange, SinkChange, Writes, ExitsRefused, LeavesOfRefusedSource, SinkHeld}
+use Rattle.ss_refusals.specs.Sinks.{SourceChange, SinkChange, TellsSourceFault, Writes, ExitsRefused, LeavesOfRefusedSource, SinkHeld}
 use Rattle.ss_refusals.specs.Starts.{Starts}
 use Rattle.ss_refusals.specs.Statuses.{refusal_status, refusal_text, usage_text, no_memory_text}
-use Rattle.ss_top.specs.declared.session.Printing.TheVariants.{InFull, Summary}
+use Rattle.ss_top.specs.declared.session.Printing.TheVariants.{InFull}
 use Rattle.ss_top.specs.Complete.{HasRoom, IsDoneOrShort}
 use Rattle.ss_top.specs.Stores.{CameTo, RecoveredTo}
-use Rattle.ss_top.specs.Serving.{ComesToShow, RecoversTo, HasStoreCause}
+use Rattle.ss_top.specs.Serving.{ComesToShow, RecoversTo, HasStoreCause, TellsStoreFaults}
 use Rattle.ss_top.specs.Shows.{ShowEnds}
-use Rattle.ss_top.specs.Top.{Ends, EndsRun, EndsVoter, RunEndsSo, RunEnds, RanInput, HasCause, IsComplete, WritesOnly, DiskHeld}
+use Rattle.ss_top.specs.Top.{Ends, EndsRun, EndsVoter, RunEndsSo, RunEnds, RanInput, HasCause, IsComplete, TellsFaults, WritesOnly, DiskHeld}
 use Rattle.ss_top.proofs.Completing.{came_complete, recovered_complete, show_complete}
 
 -- what holds of each holds of one that may be there
@@ -256,8 +256,8 @@ module _ (limit : ℕ) (words : List (String Global)) (s : SourceChange) (w : Si
   Counts = (s.faults_before ≤ s.faults_now) × (w.faults_before ≤ w.faults_now) × (disk.faults_before ≤ disk.faults_now)
 
   -- the words are no command, nothing is read, and no call reaches the disk
-  pub ends_usage : ¬ (IsCommand (words_of words)) → s.now ≡ s.before → s.faults_now ≡ s.faults_before → Counts → disk.uncalled → Writes usage_text w → Ends limit words s w disk Usage
-  ends_usage none same unmoved counts uncalled reported = record {
+  pub ends_usage : ¬ (IsCommand (words_of words)) → s.now ≡ s.before → s.faults_now ≡ s.faults_before → Counts → disk.uncalled → disk.faults_now ≡ disk.faults_before → Writes usage_text w → Ends limit words s w disk Usage
+  ends_usage none same unmoved counts uncalled still reported = record {
     usage = (λ is. none, λ _. refl);
     run = λ what asks. absurd (none (asks_is_command _ _ asks));
     recover = λ what asks. absurd (none (asks_is_command _ _ asks));
@@ -268,8 +268,21 @@ module _ (limit : ℕ) (words : List (String Global)) (s : SourceChange) (w : Si
     only = reported;
     counts = counts;
     cause = tt;
+    told = record { source = inr unmoved; store = inr (inr still); sink = λ either. by either };
     taken = takes_nothing (max_input + 1) s.before s.now same;
   }
+    where
+      by : (Usage ≡ Done) ⊎ (Usage ≡ Differs) → w.faults_now ≡ w.faults_before
+      by (inl is) = absurd (cc)
+      by (inr is) = absurd (cc)
+
+  -- a call that gives no verdict tells what its store tells
+  tells_so : (ended : Status) → (ended ≡ Differs → ⊥) → TellsSourceFault ended s.faults_before s.faults_now → TellsStoreFaults ended w disk → TellsFaults ended s w disk
+  tells_so ended no_verdict source told = record { source = source; store = told.store; sink = by }
+    where
+      by : (ended ≡ Done) ⊎ (ended ≡ Differs) → w.faults_now ≡ w.faults_before
+      by (inl is) = told.sink is
+      by (inr is) = absurd (no_verdict is)
 
   module _ (what : Options) (counts : Counts) where
     -- the words are a command alone
@@ -281,8 +294,8 @@ module _ (limit : ℕ) (words : List (String Global)) (s : SourceChange) (w : Si
     same_every command other asks more = ap (λ (l : CommandLine). l.options.every) (asks_for_one (words_of words) (record { command = command; options = what }) (record { command = command; options = other }) asks more)
 
     pub ends_run : AsksFor (words_of words) (record { command = Run; options = what }) → TakesAtMost (max_input + 1) s.before s.now
-        → (ended : Status) → RunEndsSo what.every limit s w disk ended → Ends limit words s w disk ended
-    ends_run asks taken ended so = record {
+        → (ended : Status) → RunEndsSo what.every limit s w disk ended → TellsSourceFault ended s.faults_before s.faults_now → TellsStoreFaults ended w disk → Ends limit words s w disk ended
+    ends_run asks taken ended so source told = record {
       usage = (λ is. absurd (so.no_usage is), λ none. absurd (none (asks_is_command _ _ asks)));
       run = λ other more. subst (λ (o : Option ℕ). EndsRun o limit s w disk ended) (same_every Run other asks more) so.ends;
       recover = λ other more. let no : Run ≡ Recover = other_command Run Recover other asks more in absurd cc;
@@ -293,6 +306,7 @@ module _ (limit : ℕ) (words : List (String Global)) (s : SourceChange) (w : Si
       only = so.only;
       counts = counts;
       cause = so.cause;
+      told = tells_so ended (λ is. subst (λ status. RunEnds what.every limit s.before status w disk) is so.ends.came) source told;
       taken = taken;
     }
 
@@ -324,8 +338,8 @@ module _ (limit : ℕ) (words : List (String Global)) (s : SourceChange) (w : Si
     recovered_cause Limit came cause = tt
 
     pub ends_recover : EmptyHasNoFault → StoreHasNoFault → StoreHasOneCatalog → AsksFor (words_of words) (record { command = Recover; options = what }) → s.now ≡ s.before → s.faults_now ≡ s.faults_before
-        → (ended : Status) → RecoversTo limit ended w disk → Ends limit words s w disk ended
-    ends_recover no_fault store_has_none one_catalog asks same unmoved ended so = let came = so.came in record {
+        → (ended : Status) → RecoversTo limit ended w disk → TellsStoreFaults ended w disk → Ends limit words s w disk ended
+    ends_recover no_fault store_has_none one_catalog asks same unmoved ended so told = let came = so.came in record {
       usage = (λ is. absurd (subst (λ status. RecoveredTo limit status w disk) is came), λ none. absurd (none (asks_is_command _ _ asks)));
       run = λ other more. let no : Recover ≡ Run = other_command Recover Run other asks more in absurd cc;
       recover = λ other more. record {
@@ -340,6 +354,7 @@ module _ (limit : ℕ) (words : List (String Global)) (s : SourceChange) (w : Si
       only = recovered_so ended came;
       counts = counts;
       cause = recovered_cause ended came so.cause;
+      told = tells_so ended (λ is. subst (λ status. RecoveredTo limit status w disk) is came) (inr unmoved) told;
       taken = takes_nothing (max_input + 1) s.before s.now same;
     }
 
@@ -371,8 +386,8 @@ module _ (limit : ℕ) (words : List (String Global)) (s : SourceChange) (w : Si
     show_cause show Limit ends cause = tt
 
     pub ends_voter : HasOneCatalog → EmptyHasNoFault → StoreHasNoFault → StoreHasOneCatalog → (show : Show) → AsksFor (words_of words) (record { command = Voter show; options = what })
-        → s.now ≡ s.before → s.faults_now ≡ s.faults_before → (ended : Status) → ComesToShow what.every limit show ended w disk → Ends limit words s w disk ended
-    ends_voter one no_fault store_has_none one_catalog show asks same unmoved ended so = let came = so.came in record {
+        → s.now ≡ s.before → s.faults_now ≡ s.faults_before → (ended : Status) → ComesToShow what.every limit show ended w disk → TellsStoreFaults ended w disk → Ends limit words s w disk ended
+    ends_voter one no_fault store_has_none one_catalog show asks same unmoved ended so told = let came = so.came in record {
       usage = (λ is. absurd ((show_so show ended came).1 is), λ none. absurd (none (asks_is_command _ _ asks)));
       run = λ other more. let wrong : Voter show ≡ Run = other_command (Voter show) Run other asks more in absurd cc;
       recover = λ other more. let wrong : Voter show ≡ Recover = other_command (Voter show) Recover other asks more in absurd cc;
@@ -391,6 +406,7 @@ module _ (limit : ℕ) (words : List (String Global)) (s : SourceChange) (w : Si
       only = (show_so show ended came).0;
       counts = counts;
       cause = show_cause show ended came so.cause;
+      told = tells_so ended (λ is. (subst (λ status. ShowEnds what.every limit show status w disk) is came).came) (inr unmoved) told;
       taken = takes_nothing (max_input + 1) s.before s.now same;
     }
 
@@ -421,8 +437,8 @@ module _ (limit : ℕ) (words : List (String Global)) (s : SourceChange) (w : Si
     audit_cause Limit came cause = tt
     audit_cause Differs came cause = tt
 
-    pub ends_audit : AsksFor (words_of words) (record { command = Audit; options = what }) → TakesAtMost (max_input + 1) s.before s.now → disk.uncalled → (ended : Status) → AuditComes s w ended → Ends limit words s w disk ended
-    ends_audit asks taken uncalled ended comes =
+    pub ends_audit : AsksFor (words_of words) (record { command = Audit; options = what }) → TakesAtMost (max_input + 1) s.before s.now → disk.uncalled → disk.faults_now ≡ disk.faults_before → (ended : Status) → AuditComes s w ended → TellsAuditFaults ended s w → Ends limit words s w disk ended
+    ends_audit asks taken uncalled still ended comes told =
         let no_usage : ended ≡ Usage → ⊥ = λ is. subst (λ status. AuditEnds s.before status w) is comes.ends in
         record {
           usage = (λ is. absurd (no_usage is), λ none. absurd (none (asks_is_command _ _ asks)));
@@ -435,5 +451,6 @@ module _ (limit : ℕ) (words : List (String Global)) (s : SourceChange) (w : Si
           only = audit_only ended comes.ends;
           counts = counts;
           cause = audit_cause ended comes.ends comes.cause;
+          told = record { source = told.source; store = inr (inr still); sink = told.sink };
           taken = taken;
         }

@@ -53,7 +53,7 @@ use Rattle.ss_refusals.specs.declared.status.Status.TheVariants.{Done, Usage, In
 use Rattle.ss_refusals.specs.Statuses.{status_number}
 use Rattle.ss_top.specs.declared.session.Printing.{Printing}
 use Rattle.ss_top.specs.declared.session.Printing.TheVariants.{InFull, Summary}
-use Rattle.ss_top.specs.Runs.{settled_status, session_status, end_for, Reports}
+use Rattle.ss_top.specs.Runs.{TellsDiskFault, settled_status, session_status, end_for, Reports}
 use Rattle.ss_top.specs.Told.{say_full, some_say_full}
 use Rattle.ss_top.specs.Stores.{IsPrinted, IsReadAgain, WholeRun, StoppedRun, FullRun, RanAs}
 use Rattle.ss_top.proofs.Outside.{outside_by_one}
@@ -106,6 +106,12 @@ not_halted (Some fault) is = absurd (false≢true (sym is))
 rose_at : (before now : ℕ) (halted : Option ℕ) (fault : ℕ) → HaltedAt before now halted fault → is_some halted ≡ true → Rose before now
 rose_at before now halted fault (inl calm) some = absurd (false≢true (sym (ap is_some calm.0) ∙ some))
 rose_at before now halted fault (inr failed) some = omega (arith, failed.1, failed.2)
+
+-- so the status tells it
+pub disk_told : (before now : ℕ) (halted : Option ℕ) (fault : ℕ) → HaltedAt before now halted fault → (failed : Bool) → is_some halted ≡ failed → (rest : Status) → TellsDiskFault (cond failed Disk rest) before now
+disk_told before now halted fault (inl calm) failed is rest = inr (inr calm.2)
+disk_told before now halted fault (inr stopped) true is rest = inl refl
+disk_told before now halted fault (inr stopped) false is rest = absurd (false≢true (sym is ∙ ap is_some stopped.0))
 
 -- which explains an answer that carries it
 explained_at : (before now : ℕ) (halted : Option ℕ) (fault n : ℕ) → HaltedAt before now halted fault → fault < 2 ^ 64 → n ≡ fault → n ≢ 0 → ((before < n) ⊎ (n ≡ 2 ^ 64 - 1)) × (n ≤ now)

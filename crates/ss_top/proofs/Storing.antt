@@ -26,12 +26,12 @@ use Rattle.ss_top.specs.declared.session.Printing.{Printing}
 use Rattle.ss_top.specs.declared.session.Printing.TheVariants.{InFull, Summary}
 use Rattle.ss_commitlog.specs.declared.placed.Unlisted as placed
 use Rattle.ss_commitlog.specs.declared.placed.Unlisted.TheVariants as unlisted
-use Rattle.ss_top.specs.Runs.{settled_status, session_status, Reports, TellsReport}
+use Rattle.ss_top.specs.Runs.{settled_status, session_status, Reports, TellsDiskFault, TellsReport}
 use Rattle.ss_top.specs.Told.{some_say_full}
 use Rattle.ss_voter.specs.VoterCatalog.{IsVoter}
 use Rattle.ss_words.specs.declared.names.Show.{Show}
 use Rattle.ss_top.specs.Shows.{RanShow, ShowEnds, show_requests}
-use Rattle.ss_top.specs.Serving.{ComesTo, ComesToShow, RecoversTo, IsOpenedFor}
+use Rattle.ss_top.specs.Serving.{ComesTo, ComesToShow, RecoversTo, IsOpenedFor, TellsStoreFaults}
 use Rattle.ss_top.specs.Stores.{CameTo, RecoveredTo, Ran, RanAs, WasOf}
 
 -- ---- a session was reported
@@ -44,7 +44,7 @@ module _ (every : Option ℕ) (limit : ℕ) (printing : Printing) (catalog : Cat
   ran status text is wrote = record { was = was; text = text; ran = is; wrote = wrote }
 
   whole : (ended : Status) (text : List ℕ) → RanAs every limit printing catalog requests Done text disk → WritesWhole ended text w → Came ended
-  whole Done text is wrote = record { came = ran Done text is wrote; cause = tt }
+  whole Done text is wrote = record { came = ran Done text is wrote.0; cause = tt }
   whole WriteFault text is wrote = record { came = ran Done text is wrote.0; cause = wrote.1 }
   whole Usage text is wrote = absurd wrote
   whole Differs text is wrote = absurd wrote
@@ -74,6 +74,64 @@ module _ (every : Option ℕ) (limit : ℕ) (printing : Printing) (catalog : Cat
   session_told status (Some text) r ended tells = told status text (subst (λ t. RanAs every limit printing catalog requests status t disk) (sym r.written) r.ran) r.rose ended tells
   session_told status None r ended tells =
       subst Came (sym tells.is) (record { came = inr (inr (ran NoMemory r.whole (subst (λ s. RanAs every limit printing catalog requests s r.whole disk) r.unwritten r.ran) (inr tells.reported))); cause = tt })
+
+-- ---- faults are told
+
+module _ (w : SinkChange) (text : List ℕ) (ended : Status) where
+  -- a status other than that of a whole run is told as it is
+  told_as : (status : Status) → ended ≡ status → (before now : ℕ) → TellsDiskFault status before now → TellsDiskFault ended before now
+  told_as status is before now told = subst (λ e. TellsDiskFault e before now) (sym is) told
+
+  store_by_text : (status : Status) → TellsReport status (Some text) ended w → (before now : ℕ) → TellsDiskFault status before now → TellsDiskFault ended before now
+  store_by_text Done tells before now (inl is) = let no : Done ≡ Disk = is in absurd (cc)
+  store_by_text Done tells before now (inr (inl is)) = let no : Done ≡ NoMemory = is in absurd (cc)
+  store_by_text Done tells before now (inr (inr same)) = inr (inr same)
+  store_by_text Disk tells before now told = told_as Disk tells.is before now told
+  store_by_text NoMemory tells before now told = told_as NoMemory tells.is before now told
+  store_by_text Usage tells before now told = told_as Usage tells.is before now told
+  store_by_text Differs tells before now told = told_as Differs tells.is before now told
+  store_by_text Input tells before now told = told_as Input tells.is before now told
+  store_by_text ReadFault tells before now told = told_as ReadFault tells.is before now told
+  store_by_text WriteFault tells before now told = told_as WriteFault tells.is before now told
+  store_by_text Foreign tells before now told = told_as Foreign tells.is before now told
+  store_by_text OtherCatalog tells before now told = told_as OtherCatalog tells.is before now told
+  store_by_text Limit tells before now told = told_as Limit tells.is before now told
+
+  sink_by_text : (status : Status) → TellsReport status (Some text) ended w → ended ≡ Done → w.faults_now ≡ w.faults_before
+  sink_by_text Done tells is = (subst (λ e. WritesWhole e text w) is tells).1
+  sink_by_text Disk tells is = let no : Disk ≡ Done = sym tells.is ∙ is in absurd (cc)
+  sink_by_text NoMemory tells is = let no : NoMemory ≡ Done = sym tells.is ∙ is in absurd (cc)
+  sink_by_text Usage tells is = let no : Usage ≡ Done = sym tells.is ∙ is in absurd (cc)
+  sink_by_text Differs tells is = let no : Differs ≡ Done = sym tells.is ∙ is in absurd (cc)
+  sink_by_text Input tells is = let no : Input ≡ Done = sym tells.is ∙ is in absurd (cc)
+  sink_by_text ReadFault tells is = let no : ReadFault ≡ Done = sym tells.is ∙ is in absurd (cc)
+  sink_by_text WriteFault tells is = let no : WriteFault ≡ Done = sym tells.is ∙ is in absurd (cc)
+  sink_by_text Foreign tells is = let no : Foreign ≡ Done = sym tells.is ∙ is in absurd (cc)
+  sink_by_text OtherCatalog tells is = let no : OtherCatalog ≡ Done = sym tells.is ∙ is in absurd (cc)
+  sink_by_text Limit tells is = let no : Limit ≡ Done = sym tells.is ∙ is in absurd (cc)
+
+-- by how a session is told
+pub session_tells : (w : SinkChange) (disk : DiskChange) (status : Status) (text : Option (List ℕ)) (ended : Status) → TellsReport status text ended w → TellsDiskFault status disk.faults_before disk.faults_now → TellsStoreFaults ended w disk
+session_tells w disk status (Some text) ended tells told = record { store = store_by_text w text ended status tells disk.faults_before disk.faults_now told; sink = sink_by_text w text ended status tells }
+session_tells w disk status None ended tells told = record { store = inr (inl tells.is); sink = λ is. let no : NoMemory ≡ Done = sym tells.is ∙ is in absurd (cc) }
+
+-- by how a refusal is
+module _ (w : SinkChange) (disk : DiskChange) (ended : Status) where
+  held_at : (status : Status) → ended ≡ status → (status ≡ Done → ⊥) → disk.faults_now ≡ disk.faults_before → TellsStoreFaults ended w disk
+  held_at status is not_done still = record { store = inr (inr still); sink = λ done. absurd (not_done (sym is ∙ done)) }
+
+  pub refusal_tells : (error : RecoverError) → TellsRefusal error ended w → ((error ≡ recovery.DiskFault → ⊥) → disk.faults_now ≡ disk.faults_before) → TellsStoreFaults ended w disk
+  refusal_tells recovery.NoMemory t still = held_at NoMemory t.is (λ no. cc) (still (λ no. cc))
+  refusal_tells recovery.DiskFault t still = record { store = inl t.is; sink = λ done. let no : Disk ≡ Done = sym t.is ∙ done in absurd (cc) }
+  refusal_tells (recovery.Foreign file at) (inl t) still = held_at Foreign t.is (λ no. cc) (still (λ no. cc))
+  refusal_tells (recovery.Foreign file at) (inr t) still = held_at NoMemory t.is (λ no. cc) (still (λ no. cc))
+  refusal_tells (recovery.OtherCatalog stored given) (inl t) still = held_at OtherCatalog t.is (λ no. cc) (still (λ no. cc))
+  refusal_tells (recovery.OtherCatalog stored given) (inr t) still = held_at NoMemory t.is (λ no. cc) (still (λ no. cc))
+  refusal_tells recovery.Nothing t still = record { store = inr (inr (still (λ no. cc))); sink = λ done. (subst (λ e. WritesWhole e nothing_text w) done t).1 }
+
+-- from an earlier disk with as many faults
+pub tells_since : {D : Type 0} (kind : DiskKind D) (w : SinkChange) (old mid new : D) (ended : Status) → kind.faults mid ≡ kind.faults old → TellsStoreFaults ended w (disk_of kind mid new) → TellsStoreFaults ended w (disk_of kind old new)
+tells_since kind w old mid new ended same told = record { store = subst (λ (n : ℕ). TellsDiskFault ended n (kind.faults new)) same told.store; sink = told.sink }
 
 -- what isn't of another catalogue isn't told as that
 pub told_own : (w : SinkChange) (status : Status) (text : Option (List ℕ)) (ended : Status) → status ≢ OtherCatalog → TellsReport status text ended w → ended ≢ OtherCatalog
@@ -178,7 +236,7 @@ module _ {D : Type 0} (kind : DiskKind D) (every : Option ℕ) (limit : ℕ) (pr
       by image (inr made) = absurd made
 
   nothing_told : (ended : Status) → (kind.tells → IsEmpty (kind.seen old)) → OnlyRead change → WritesWhole ended nothing_text w → RecoveredSo ended
-  nothing_told Done empty before wrote = record { came = inl (record { empty = empty; only_read = before; written = wrote }); cause = tt }
+  nothing_told Done empty before wrote = record { came = inl (record { empty = empty; only_read = before; written = wrote.0 }); cause = tt }
   nothing_told WriteFault empty before wrote = record { came = inl (record { empty = empty; only_read = before; written = wrote.0 }); cause = wrote.1 }
   nothing_told Usage empty before wrote = absurd wrote
   nothing_told Differs empty before wrote = absurd wrote

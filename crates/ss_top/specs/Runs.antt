@@ -1,5 +1,5 @@
 -- How a session ended, by the answers and the ways in which settling and the last flush ended; its report, and how that is told.
-use Rattle.std.specs.Prelude.{◌≡◌, ◌≤◌, ◌^◌, ℕ, Bool, cond, List, Option, Some, None, Result, Ok, Err, IfSome, IfNone}
+use Rattle.std.specs.Prelude.{◌≡◌, ◌⊎◌, ◌≤◌, ◌^◌, ℕ, Bool, cond, List, Option, Some, None, Result, Ok, Err, IfSome, IfNone}
 use Rattle.ss_disk.specs.Kinds.{DiskKind}
 use Rattle.ss_value.specs.FaultCounts.{Rose}
 use Rattle.ss_model.specs.declared.catalog.Catalog.{Catalog}
@@ -54,6 +54,10 @@ pub record Reports (every : Option ℕ) (limit : ℕ) (printing : Printing) (cat
   pub unwritten : IfNone text (status ≡ NoMemory)
   pub rose : status ≡ Disk → Rose disk.faults_before disk.faults_now
 
+-- that the disk failed is told: its count of faults rose where the status says so, or where there was no memory, and there alone
+abbrev pub TellsDiskFault : Status → ℕ → ℕ → Type 0
+TellsDiskFault status before now = (status ≡ Disk) ⊎ (status ≡ NoMemory) ⊎ (now ≡ before)
+
 -- how a session with this status is told, by its report, or by a line where there was no memory for one
 abbrev pub TellsReport : Status → Option (List ℕ) → Status → SinkChange → Type 0
 TellsReport status None ended w = ExitsAs NoMemory ended no_memory_text w
@@ -67,3 +71,9 @@ ReportsFinished {D} kind printing requests first finished reported =
     Opened catalog db first (disk_of kind old log.disk) →
     EndsOnDisk kind every catalog db first (room_from limit first) clients requests log finished →
     Reports every limit printing catalog requests reported.status reported.text (disk_of kind old reported.disk)
+
+-- and it tells whether the disk has failed since then
+abbrev pub TellsFinished : {D : Type 0} → DiskKind D → List Request → ℕ → Finished D → Reported D → Type 0
+TellsFinished {D} kind requests first finished reported =
+    (every : Option ℕ) (limit clients : ℕ) (catalog : Catalog) (db : Model) (log : CmdLog D) → EndsOnDisk kind every catalog db first limit clients requests log finished →
+    TellsDiskFault reported.status (kind.faults log.disk) (kind.faults reported.disk)

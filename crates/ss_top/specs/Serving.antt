@@ -1,5 +1,5 @@
 -- What serving requests on a store comes to, with the causes of its status.
-use Rattle.std.specs.Prelude.{ℕ, List, Option}
+use Rattle.std.specs.Prelude.{◌≡◌, ℕ, List, Option}
 use Rattle.ss_disk.specs.Kinds.{DiskKind}
 use Rattle.ss_value.specs.FaultCounts.{Rose}
 use Rattle.ss_model.specs.declared.catalog.Catalog.{Catalog}
@@ -10,9 +10,10 @@ use Rattle.ss_recover.specs.declared.recovered.Recovered.{Recovered}
 use Rattle.ss_recover.specs.Recovering.{recovered_database}
 use Rattle.ss_words.specs.declared.names.Show.{Show}
 use Rattle.ss_refusals.specs.declared.status.Status.{Status}
-use Rattle.ss_refusals.specs.declared.status.Status.TheVariants.{WriteFault, Disk}
+use Rattle.ss_refusals.specs.declared.status.Status.TheVariants.{Done, WriteFault, Disk}
 use Rattle.ss_refusals.specs.Sinks.{SinkChange}
 use Rattle.ss_top.specs.declared.session.Printing.{Printing}
+use Rattle.ss_top.specs.Runs.{TellsDiskFault}
 use Rattle.ss_top.specs.Shows.{ShowEnds}
 use Rattle.ss_top.specs.Stores.{CameTo, RecoveredTo, WasOf}
 
@@ -21,6 +22,11 @@ abbrev pub HasStoreCause : Status → SinkChange → DiskChange → Type 0
 HasStoreCause WriteFault w disk = Rose w.faults_before w.faults_now
 HasStoreCause Disk w disk = Rose disk.faults_before disk.faults_now
 HasStoreCause _ w disk = Unit {0}
+
+-- that the disk failed is told, and where all is done the sink didn't fail
+pub record TellsStoreFaults (status : Status) (w : SinkChange) (disk : DiskChange) : Type 0 where
+  pub store : TellsDiskFault status disk.faults_before disk.faults_now
+  pub sink : status ≡ Done → w.faults_now ≡ w.faults_before
 
 -- running these requests of this catalogue
 pub record ComesTo (every : Option ℕ) (limit : ℕ) (printing : Printing) (catalog : Catalog) (requests : List Request) (status : Status) (w : SinkChange) (disk : DiskChange) : Type 0 where

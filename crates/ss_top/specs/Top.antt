@@ -1,7 +1,6 @@
 -- What the top call promises.
-use Rattle.std.specs.Prelude.{◌≡◌, ◌≤◌, ◌⊎◌, ℕ, List, [], length, Option, IfSome, ◌+◌, ◌↔◌, String}
+use Rattle.std.specs.Prelude.{◌≡◌, ◌≤◌, ◌⊎◌, ℕ, List, [], Option, IfSome, ◌+◌, ◌↔◌, String}
 use Rattle.std.specs.declared.alloc.Global.{Global}
-use Rattle.std.specs.Io.KnownBytes.{IsAtEnd}
 use Rattle.ss_value.specs.FaultCounts.{Rose}
 use Rattle.ss_lines.specs.Causes.{TakesAtMost}
 use Rattle.ss_lines.specs.Lines.{max_input}
@@ -10,13 +9,14 @@ use Rattle.ss_model.specs.declared.entry.Request.{Request}
 use Rattle.ss_model.specs.Accepted.{Accepted}
 use Rattle.ss_headline.specs.Disks.{DiskChange}
 use Rattle.ss_refusals.specs.declared.status.Status.{Status}
-use Rattle.ss_refusals.specs.declared.status.Status.TheVariants.{Usage, Input, ReadFault, WriteFault, Disk, NoMemory, Differs}
+use Rattle.ss_refusals.specs.declared.status.Status.TheVariants.{Done, Usage, Input, ReadFault, WriteFault, Disk, NoMemory, Differs}
 use Rattle.ss_refusals.specs.Inputs.{LeavesOfSource, ExitsAsRefused, ExitsAsStarted, DidNotRise}
-use Rattle.ss_refusals.specs.Sinks.{SinkChange, SinkHeld, SourceChange, SourceHeld, Writes, IsRefused}
+use Rattle.ss_refusals.specs.Sinks.{SinkChange, SinkHeld, SourceChange, SourceHeld, TellsSourceFault, Writes, IsRefused}
 use Rattle.ss_refusals.specs.Starts.{Starts}
 use Rattle.ss_refusals.specs.Statuses.{usage_text, read_fault_text, no_memory_text}
 use Rattle.ss_top.specs.declared.session.Printing.TheVariants.{InFull}
 use Rattle.ss_top.specs.Complete.{HasRoom, IsDoneOrShort}
+use Rattle.ss_top.specs.Runs.{TellsDiskFault}
 use Rattle.ss_top.specs.Shows.{ShowEnds, IsCompleteShow}
 use Rattle.ss_top.specs.Stores.{CameTo, EndsUncalled, RecoveredTo}
 use Rattle.ss_audit_input.specs.Told.{AuditEnds, EndsWithVerdict}
@@ -35,6 +35,13 @@ HasCause ReadFault s w disk = Rose s.faults_before s.faults_now
 HasCause WriteFault s w disk = Rose w.faults_before w.faults_now
 HasCause Disk s w disk = Rose disk.faults_before disk.faults_now
 HasCause _ s w disk = Unit {0}
+
+-- that a device failed is told. The source's count of faults rose where the status says so, and there alone; the disk's where the status
+-- says so, or where there was no memory, and there alone; and the sink's rose neither where all is done nor with a verdict
+pub record TellsFaults (ended : Status) (s : SourceChange) (w : SinkChange) (disk : DiskChange) : Type 0 where
+  pub source : TellsSourceFault ended s.faults_before s.faults_now
+  pub store : TellsDiskFault ended disk.faults_before disk.faults_now
+  pub sink : (ended ≡ Done) ⊎ (ended ≡ Differs) → w.faults_now ≡ w.faults_before
 
 -- no fault of the disk was counted
 abbrev pub DiskHeld : DiskChange → Type 0
@@ -128,5 +135,7 @@ pub record Ends (limit : ℕ) (words : List (String Global)) (s : SourceChange) 
   -- a fault is answered only where it was counted, and counts never fall
   pub counts : (s.faults_before ≤ s.faults_now) × (w.faults_before ≤ w.faults_now) × (disk.faults_before ≤ disk.faults_now)
   pub cause : HasCause ended s w disk
+  -- and each that was counted is told
+  pub told : TellsFaults ended s w disk
   -- how much of the source is taken
   pub taken : TakesAtMost (max_input + 1) s.before s.now

@@ -13,7 +13,7 @@ ghost use Rattle.ss_report.specs.Readable.{HasReadableLines};
 ghost use Rattle.ss_report.specs.Reported.{IsReportOf};
 ghost use Rattle.ss_engine.specs.Clients.{AllFit};
 ghost use Rattle.ss_engine.specs.Sessions.{AreOfClients, IsLeftOver};
-ghost use Rattle.ss_top.specs.Runs.{settled_status, session_status, end_for, Reports, ReportsFinished};
+ghost use Rattle.ss_top.specs.Runs.{settled_status, session_status, end_for, Reports, ReportsFinished, TellsDiskFault, TellsFinished};
 ghost use Rattle.ss_top.specs.Told.{says_full, say_full, some_say_full};
 
 use ss_commitlog::{Opening, Unlisted};
@@ -200,6 +200,7 @@ fn report_session<D: Disk + Drop>(
     requires places { first + length finished.closed.list < 2 ^ 64 }
     requires left { (d : Model) × IfSome finished.closed.database (IsLeftOver finished.closed.catalog d) }
     ensures finished { ReportsFinished D.kind printing requests.now first finished result }
+    ensures told { TellsFinished D.kind requests.now first finished result }
     ensures own { result.status ≢ Status.OtherCatalog }
     ensures disk { result.disk ≡ finished.log.disk }
 {
@@ -271,6 +272,7 @@ pub(crate) fn run_and_report<
     ensures reported { IfOk result (λ r. (old : D)
         → Opened recovered.catalog db recovered.first (disk_of D.kind old recovered.log.disk)
         → Reports every limit printing recovered.catalog requests.now r.status r.text (disk_of D.kind old r.disk)) }
+    ensures told { IfOk result (λ r. TellsDiskFault r.status (D.kind.faults recovered.log.disk) (D.kind.faults r.disk)) }
     ensures own { IfOk result (λ r. r.status ≢ Status.OtherCatalog) }
     ensures later { IfOk result (λ r. D.kind.faults recovered.log.disk ≤ D.kind.faults r.disk) }
     ensures unstarted { IfErr result (λ disk. disk ≡ recovered.log.disk) }

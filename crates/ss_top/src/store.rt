@@ -7,7 +7,7 @@ ghost use Rattle.ss_recover.specs.Recovering.{GoesOn, IsOwnCatalog, recovered_da
 ghost use Rattle.ss_engine.specs.Clients.{AllFit};
 ghost use Rattle.ss_refusals.specs.Sinks.{sink_of};
 ghost use Rattle.ss_top.specs.Runs.{TellsReport};
-ghost use Rattle.ss_top.specs.Serving.{ComesTo, RecoversTo, IsOpenedFor};
+ghost use Rattle.ss_top.specs.Serving.{ComesTo, RecoversTo, IsOpenedFor, TellsStoreFaults};
 
 use crate::session::{Printing, Reported, run_and_report};
 use ss_disk::Disk;
@@ -63,6 +63,7 @@ fn serve<K: Sink, D: Disk + Drop + Send, G: Gate + Drop + Sync, R: Threads + Wai
         → ComesTo every limit printing recovered.catalog requests.now result.0
         (sink_of K.kind sink.old sink.new)
         (disk_of D.kind old result.1) }
+    ensures told { TellsStoreFaults result.0 (sink_of K.kind sink.old sink.new) (disk_of D.kind recovered.log.disk result.1) }
     ensures own { result.0 ≢ Status.OtherCatalog }
     ensures counts { (K.kind.faults sink.old ≤ K.kind.faults sink.new) × (D.kind.faults recovered.log.disk ≤ D.kind.faults result.1) }
 {
@@ -103,6 +104,7 @@ pub(crate) fn run_on_store<
     ensures came { ComesTo every limit printing catalog requests.now result.0
         (sink_of K.kind sink.old sink.new)
         (disk_of D.kind disk result.1) }
+    ensures told { TellsStoreFaults result.0 (sink_of K.kind sink.old sink.new) (disk_of D.kind disk result.1) }
     ensures counts { (K.kind.faults sink.old ≤ K.kind.faults sink.new) × (D.kind.faults disk ≤ D.kind.faults result.1) }
 {
     match recover(alloc, &PlainRunner, disk, Some(catalog), partitions) {
@@ -125,6 +127,7 @@ pub(crate) fn recover_store<
     ensures came { RecoversTo limit result.0
         (sink_of K.kind sink.old sink.new)
         (disk_of D.kind disk result.1) }
+    ensures told { TellsStoreFaults result.0 (sink_of K.kind sink.old sink.new) (disk_of D.kind disk result.1) }
     ensures counts { (K.kind.faults sink.old ≤ K.kind.faults sink.new) × (D.kind.faults disk ≤ D.kind.faults result.1) }
 {
     let requests = Seq::new(alloc);

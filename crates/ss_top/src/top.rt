@@ -4,8 +4,8 @@ ghost use Rattle.std.specs.Prelude.{◌≡◌, ◌≤◌, ◌+◌, ℕ, Some};
 ghost use Rattle.ss_lines.specs.Causes.{TakesAtMost};
 ghost use Rattle.ss_lines.specs.Lines.{max_input};
 ghost use Rattle.ss_headline.specs.Disks.{disk_of};
-ghost use Rattle.ss_refusals.specs.Sinks.{source_of, sink_of};
-ghost use Rattle.ss_top.specs.Serving.{ComesToShow};
+ghost use Rattle.ss_refusals.specs.Sinks.{source_of, sink_of, TellsSourceFault};
+ghost use Rattle.ss_top.specs.Serving.{ComesToShow, TellsStoreFaults};
 ghost use Rattle.ss_top.specs.Top.{Ends, RunEndsSo, most_entries};
 
 use crate::session::Printing;
@@ -45,6 +45,8 @@ fn run<S: Source, K: Sink, D: Disk + Drop + Send, G: Gate + Drop + Sync, R: Thre
     ensures ends { RunEndsSo every limit (source_of S.kind source.old source.new)
         (sink_of K.kind sink.old sink.new)
         (disk_of D.kind disk result.1) result.0 }
+    ensures source { TellsSourceFault result.0 (S.kind.faults source.old) (S.kind.faults source.new) }
+    ensures told { TellsStoreFaults result.0 (sink_of K.kind sink.old sink.new) (disk_of D.kind disk result.1) }
     ensures taken { TakesAtMost (max_input + 1) (S.kind.left source.old) (S.kind.left source.new) }
     ensures counts { (S.kind.faults source.old ≤ S.kind.faults source.new) × (K.kind.faults sink.old ≤ K.kind.faults sink.new)
         × (D.kind.faults disk ≤ D.kind.faults result.1) }
@@ -88,6 +90,7 @@ fn voter<K: Sink, D: Disk + Drop + Send, G: Gate + Drop + Sync, R: Threads + Wai
     requires clients { (1 ≤ show.now.clients) × (show.now.clients ≤ 8) }
     ensures came { ComesToShow every limit show.now result.0 (sink_of K.kind sink.old sink.new)
         (disk_of D.kind disk result.1) }
+    ensures told { TellsStoreFaults result.0 (sink_of K.kind sink.old sink.new) (disk_of D.kind disk result.1) }
     ensures counts { (K.kind.faults sink.old ≤ K.kind.faults sink.new) × (D.kind.faults disk ≤ D.kind.faults result.1) }
 {
     let Ok(ParsedInput { catalog, requests }) = show_input(alloc, show) else {

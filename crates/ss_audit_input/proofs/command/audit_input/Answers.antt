@@ -1,4 +1,4 @@
-use Rattle.ss_audit_input.proofs.Ends.{refused_comes, verdict_comes}
+use Rattle.ss_audit_input.proofs.Ends.{refusal_tells, refused_comes, verdict_comes, verdict_tells}
 use Rattle.ss_audit_input.proofs.command.audit_input.Goals as goal
 
 pub returns-in-Ok-clause-comes : goal.returns-in-Ok-clause-comes
@@ -8,3 +8,9 @@ pub returns-in-Err-clause-comes : goal.returns-in-Err-clause-comes
 returns-in-Err-clause-comes g c =
     let said = c.a_value_has_one_answer.ensures in
     refused_comes _ _ (record { reading = said.catalog; either = said.either; refusal = said.refusal }) c.in-Err.error c.in-Err.ensures.refused c.in-Err.ensures.leaves c.refuse.result c.refuse.ensures.refused
+
+pub returns-in-Ok-clause-told : goal.returns-in-Ok-clause-told
+returns-in-Ok-clause-told g c = verdict_tells _ _ c.in-Ok.verdict c.tell_verdict.result c.in-Ok.ensures.told c.tell_verdict.ensures.told
+
+pub returns-in-Err-clause-told : goal.returns-in-Err-clause-told
+returns-in-Err-clause-told g c = refusal_tells _ _ c.in-Err.error c.refuse.result c.refuse.ensures.read_fault c.in-Err.ensures.told c.refuse.ensures.refused

@@ -1,4 +1,4 @@
-use Rattle.std.proofs.Common.{◌≡◌, ◌∙◌, ◌+◌, ◌<◌, ℕ, sym, ap, subst, arith}
+use Rattle.std.proofs.Common.{◌∙◌, ◌<◌, ℕ, sym, ap, subst, arith}
 use Rattle.std.specs.Option.{SomeIff}
 use Rattle.ss_audit_input.specs.Audits.{number_behind}
 use Rattle.ss_audit_input.proofs.Reports.{behind_last, behind_none}

@@ -12,7 +12,7 @@ returns-in-Ok-clause-holds g c = λ list fault is h.
     holds_renewed g.I.Life.every g.I.Life.catalog g.I.Life.opening g.I.Life.first g.I.Life.moment g.I.Life.faults g.I.Life.past g.D.Disk.kind
     g.met.D.Disk.honest_tells c.requires.asked c.requires.accepted c.requires.opening.0 c.requires.opening.1 c.checkpoints_stand.ensures.fronts c.lists_stand_over_checkpoints.ensures c.log_receipts_tell.ensures c.kept_counts_stand_on.ensures
     list c.args.log.now c.renew.new.self c.args.count fault c.args.image.now is h c.requires.going
-    renews.moments e.stays e.cause.later (e.cause.goes_on (λ failed. cc) ∙ c.requires.going) e.count renews.done
+    renews.moments e.stays e.cause.later (e.cause.goes_on (λ failed. cc) ∙ c.requires.going) (e.cause.told (λ failed. cc)) e.count renews.done
 
 pub returns-in-Err-NoMemory-clause-holds : goal.returns-in-Err-NoMemory-clause-holds
 returns-in-Err-NoMemory-clause-holds g c = λ list fault is h.
@@ -22,7 +22,7 @@ returns-in-Err-NoMemory-clause-holds g c = λ list fault is h.
     holds_kept g.I.Life.every g.I.Life.catalog g.I.Life.opening g.I.Life.first g.I.Life.moment g.I.Life.faults g.I.Life.past g.D.Disk.kind
     g.met.D.Disk.honest_tells c.requires.asked c.requires.accepted c.requires.opening.0 c.requires.opening.1 c.checkpoints_stand.ensures.fronts c.lists_stand_over_checkpoints.ensures c.log_receipts_tell.ensures c.kept_counts_stand_on.ensures
     list c.args.log.now c.renew.new.self c.args.count fault c.args.image.now is h c.requires.going
-    renews.moments e.stays e.cause.later (e.cause.goes_on (λ failed. cc) ∙ c.requires.going) e.count (renews.kept (ap Err c.in-Err-NoMemory.field-0-is))
+    renews.moments e.stays e.cause.later (e.cause.goes_on (λ failed. cc) ∙ c.requires.going) (e.cause.told (λ failed. cc)) e.count (renews.kept (ap Err c.in-Err-NoMemory.field-0-is))
 
 pub returns-in-Some-clause-holds : goal.returns-in-Some-clause-holds
 returns-in-Some-clause-holds g c = λ list fault is h.

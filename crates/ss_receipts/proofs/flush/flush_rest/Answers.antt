@@ -27,7 +27,7 @@ returns-in-Ok-clause-holds g c = λ list fault rest h.
     subst (λ (n : ℕ). Holds g.I.Life.every g.I.Life.catalog g.I.Life.opening g.I.Life.first g.I.Life.moment g.I.Life.faults g.I.Life.past g.D.Disk.kind list c.flush.new.self n 0) e.count.1
     (holds_all g.I.Life.every g.I.Life.catalog g.I.Life.opening g.I.Life.first g.I.Life.moment g.I.Life.faults g.I.Life.past g.D.Disk.kind
     g.met.D.Disk.honest_tells goes_on c.generations_go_on.ensures c.prefixes_go_on.ensures.over_flush c.log_receipts_tell.ensures c.kept_counts_stand_on.ensures list c.args.log.now c.flush.new.self c.args.count fault c.args.entries.now rest h c.requires.going
-    adds.moments e.stays e.cause.later c.groups_hold_the_entries.ensures (e.cause.goes_on (λ failed. cc) ∙ c.requires.going) (omega (arith, e.count.0, e.count.1, h.counted c.requires.going)) (adds.done refl))
+    adds.moments e.stays e.cause.later c.groups_hold_the_entries.ensures (e.cause.goes_on (λ failed. cc) ∙ c.requires.going) (e.cause.told (λ failed. cc)) (omega (arith, e.count.0, e.count.1, h.counted c.requires.going)) (adds.done refl))
 
 pub returns-in-Ok-clause-going : goal.returns-in-Ok-clause-going
 returns-in-Ok-clause-going g c = c.in-Ok.ensures.cause.goes_on (λ failed. cc) ∙ c.requires.going
@@ -41,7 +41,7 @@ returns-in-Err-NoMemory-clause-holds g c = λ list fault rest h.
     subst (λ (n : ℕ). Holds g.I.Life.every g.I.Life.catalog g.I.Life.opening g.I.Life.first g.I.Life.moment g.I.Life.faults g.I.Life.past g.D.Disk.kind list c.flush.new.self n 0) (sym c.count.ensures)
     (holds_some g.I.Life.every g.I.Life.catalog g.I.Life.opening g.I.Life.first g.I.Life.moment g.I.Life.faults g.I.Life.past g.D.Disk.kind
     g.met.D.Disk.honest_tells goes_on c.generations_go_on.ensures c.prefixes_go_on.ensures.over_flush c.log_receipts_tell.ensures c.kept_counts_stand_on.ensures list c.args.log.now c.flush.new.self c.args.count fault c.args.entries.now rest h c.requires.going
-    adds.moments e.stays e.cause.later c.first_groups_hold_the_first_entries.ensures (e.cause.goes_on (λ failed. cc) ∙ c.requires.going) (omega (arith, e.between.0, same)) (omega (arith, e.between.1, same)) (adds.kept (ap Err c.in-Err-NoMemory.field-0-is)))
+    adds.moments e.stays e.cause.later c.first_groups_hold_the_first_entries.ensures (e.cause.goes_on (λ failed. cc) ∙ c.requires.going) (e.cause.told (λ failed. cc)) (omega (arith, e.between.0, same)) (omega (arith, e.between.1, same)) (adds.kept (ap Err c.in-Err-NoMemory.field-0-is)))
 
 pub returns-in-Some-clause-holds : goal.returns-in-Some-clause-holds
 returns-in-Some-clause-holds g c = λ list fault rest h.

@@ -1,4 +1,5 @@
-use Rattle.std.proofs.Common.{◌∙◌}
+use Rattle.std.proofs.Common.{◌∙◌, ap}
+use Rattle.ss_recover.specs.Errors.{forming_refusal}
 use Rattle.ss_recover.proofs.Formed.{formed, unformed}
 use Rattle.ss_recover.proofs.forming.form.Goals as goal
 
@@ -15,3 +16,6 @@ returns-in-Err-clause-refused g c =
     rw c.refusal.ensures (
     unformed g.D.Disk.kind g.met.D.Disk.honest_tells c.args.catalog c.requires.own c.forming_stands.ensures c.as_slice.result.now spelled c.args.disk c.requires.empty
     c.in-Err.disk c.in-Err.refused c.in-Err.ensures.refusals c.in-Err.ensures.cause c.in-Err.ensures.moments)
+
+pub returns-in-Err-clause-told : goal.returns-in-Err-clause-told
+returns-in-Err-clause-told g c = λ other. c.in-Err.ensures.cause.told (λ is. other (c.refusal.ensures ∙ ap forming_refusal is))

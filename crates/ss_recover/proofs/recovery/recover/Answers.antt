@@ -2,7 +2,7 @@ use Rattle.std.proofs.Common.{Some}
 use Rattle.std.proofs.lemmas.Result.{IfErr-weaker, IfOk-weaker}
 use Rattle.ss_model.specs.Database.{empty_database}
 use Rattle.ss_recover.proofs.Alike.{recovered_told}
-use Rattle.ss_recover.proofs.Composed.{recovered_since, refused_since}
+use Rattle.ss_recover.proofs.Composed.{recovered_since, refused_since, told_since}
 use Rattle.ss_recover.proofs.recovery.recover.Goals as goal
 
 pub returns-then-not-empty-clause-recovered : goal.returns-then-not-empty-clause-recovered
@@ -34,3 +34,9 @@ returns-in-Some-clause-refused g c =
     IfErr-weaker c.form.result _ _
     (λ refused said. refused_since g.D.Disk.kind g.met.D.Disk.honest_tells (Some c.in-Some.catalog) c.args.disk c.is_empty.new.disk c.is_empty.ensures.reads refused.1 c.is_empty.ensures.cause.later refused.0 said)
     c.form.ensures.refused)
+
+pub returns-then-not-empty-clause-told : goal.returns-then-not-empty-clause-told
+returns-then-not-empty-clause-told g c = told_since g.D.Disk.kind c.args.disk c.is_empty.new.disk c.restore.result c.in-Ok.ensures.cause.done c.restore.ensures.told
+
+pub returns-in-Some-clause-told : goal.returns-in-Some-clause-told
+returns-in-Some-clause-told g c = told_since g.D.Disk.kind c.args.disk c.is_empty.new.disk c.form.result c.in-Ok.ensures.cause.done c.form.ensures.told

@@ -1,6 +1,7 @@
-use Rattle.std.proofs.Common.{List, All, subst, sym}
+use Rattle.std.proofs.Common.{◌∙◌, List, All, ap, refl, subst, sym}
 use Rattle.ss_model.specs.declared.entry.Entry.{Entry}
 use Rattle.ss_record.specs.Bounds.{IsRecordable}
+use Rattle.ss_recover.specs.Errors.{opening_refusal}
 use Rattle.ss_recover.proofs.Restored.{another, entries_recordable, reached, restored, unopened, unstored}
 use Rattle.ss_recover.proofs.restoring.restore.Goals as goal
 
@@ -38,3 +39,6 @@ returns-in-Err-agreed-clause-refused g c =
     rw c.into_disk-in-Err-agreed.ensures (
     another g.D.Disk.kind g.met.D.Disk.honest_tells c.args.disk c.in-Ok.opened.0 c.in-Ok.opened.1 s read is_open is_loaded (record { same = c.in-Ok.ensures.same; moments = c.in-Ok.ensures.moments; fewer = c.in-Ok.ensures.fewer })
     c.args.partitions c.in-Ok-stored_in.stored c.in-Ok-stored_in.ensures.ok c.args.given c.in-Err-agreed.refused c.in-Err-agreed.ensures.other)
+
+pub returns-in-Err-clause-told : goal.returns-in-Err-clause-told
+returns-in-Err-clause-told g c = λ other. c.in-Err.ensures.cause.told (λ is. other (c.unopened.ensures ∙ ap opening_refusal is))

@@ -1,10 +1,12 @@
-use Rattle.std.proofs.Common.{◌≡◌, ◌∙◌, List, Some, None, is_some, unwrap_or, sym, ap, subst}
+use Rattle.std.proofs.Common.{◌≡◌, ◌∙◌, inl, inr, refl, List, cond, Some, None, is_some, unwrap_or, sym, ap, subst}
 use Rattle.ss_model.specs.declared.catalog.Catalog.{Catalog}
 use Rattle.ss_model.specs.declared.entry.Answer.{Answer}
 use Rattle.ss_headline.specs.Disks.{disk_of}
-use Rattle.ss_refusals.specs.declared.status.Status.TheVariants.{NoMemory}
-use Rattle.ss_top.specs.Runs.{session_status, end_for, Reports}
-use Rattle.ss_top.proofs.Running.{IsWrittenReport, reported, unreported, small_at}
+use Rattle.ss_refusals.specs.declared.status.Status.{Status}
+use Rattle.ss_refusals.specs.declared.status.Status.TheVariants.{Limit, NoMemory}
+use Rattle.ss_top.specs.Runs.{session_status, end_for, settled_status, Reports, TellsDiskFault}
+use Rattle.ss_top.proofs.Running.{IsWrittenReport, disk_told, reported, unreported, small_at}
+use Rattle.ss_top.specs.Told.{some_say_full}
 use Rattle.ss_top.proofs.Storing.{session_own}
 use Rattle.ss_top.proofs.session.report_session.Goals as goal
 
@@ -35,3 +37,17 @@ returns-in-Err-clause-finished g c = λ every limit clients catalog db old log f
     let report = unreported g.D.Disk.kind every limit c.args.printing catalog db c.args.first clients c.args.requests.now old log finished few accepted in_step opened ends small
     c.whole_runs.ensures c.stopped_runs.ensures c.full_lists_have_all.ensures in
     subst (λ (disk : g.row.D.Denot). Reports every limit c.args.printing catalog c.args.requests.now NoMemory None (disk_of g.D.Disk.kind old disk)) (sym c.into_disk-disk.ensures) report
+
+pub returns-in-Ok-clause-told : goal.returns-in-Ok-clause-told
+returns-in-Ok-clause-told g c = λ every limit clients catalog db log ends.
+    let finished = c.args.finished in
+    let failed = c.is_some.result in
+    let halted_is : is_some finished.log.halted ≡ failed = ap is_some (sym c.halted-halted.ensures) ∙ sym c.is_some.ensures in
+    let rest = cond (some_say_full c.as_slice.result.now) Limit (settled_status finished.closed.settling c.is_ok.result) in
+    let before = g.D.Disk.kind.faults log.disk in
+    let told = disk_told before (g.D.Disk.kind.faults finished.log.disk) finished.log.halted ends.ends.fault ends.ends.holds.halt failed halted_is rest in
+    subst (λ (disk : g.row.D.Denot). TellsDiskFault c.session_status-status.result before (g.D.Disk.kind.faults disk)) (sym c.into_disk-disk.ensures)
+    (subst (λ (status : Status). TellsDiskFault status before (g.D.Disk.kind.faults finished.log.disk)) (sym c.session_status-status.ensures) told)
+
+pub returns-in-Err-clause-told : goal.returns-in-Err-clause-told
+returns-in-Err-clause-told g c = λ every limit clients catalog db log ends. inr (inl refl)

@@ -40,3 +40,7 @@ returns-in-Ok-clause-reported g c = λ old opened.
 pub returns-in-Ok-clause-later : goal.returns-in-Ok-clause-later
 returns-in-Ok-clause-later g c =
     subst (λ (disk : g.row.D.Denot). g.D.Disk.kind.faults c.args.recovered.log.disk ≤ g.D.Disk.kind.faults disk) (sym c.report_session.ensures.disk) c.in-Ok.ensures.ok.ends.holds.later
+
+pub returns-in-Ok-clause-told : goal.returns-in-Ok-clause-told
+returns-in-Ok-clause-told g c =
+    c.report_session.ensures.told c.args.every c.room_from.result c.client_count-clients.result c.args.recovered.catalog g.db c.args.recovered.log c.in-Ok.ensures.ok

@@ -1,4 +1,5 @@
-use Rattle.std.proofs.Common.{refl}
+use Rattle.std.proofs.Common.{inr, refl, subst}
+use Rattle.ss_refusals.proofs.CallerLemmas.{OfRefusal, ends_refused, refusal_told}
 use Rattle.ss_top.proofs.Ending.{run_refused, run_came}
 use Rattle.ss_top.proofs.top.run.Goals as goal
 
@@ -11,3 +12,12 @@ pub returns-in-Err-clause-ends : goal.returns-in-Err-clause-ends
 returns-in-Err-clause-ends g c =
     run_refused c.args.every c.args.limit _ _ _ c.an_input_has_one_answer.ensures.refusal c.an_input_has_one_answer.ensures.either refl c.in-Err.error c.in-Err.ensures.refused c.in-Err.ensures.leaves
     c.refuse.result c.refuse.ensures.refused
+
+pub returns-in-Ok-clause-source : goal.returns-in-Ok-clause-source
+returns-in-Ok-clause-source g c = inr c.in-Ok.ensures.told
+
+pub returns-in-Err-clause-source : goal.returns-in-Err-clause-source
+returns-in-Err-clause-source g c = refusal_told c.in-Err.error c.refuse.result _ _ c.refuse.ensures.read_fault c.in-Err.ensures.told
+
+pub returns-in-Err-clause-told : goal.returns-in-Err-clause-told
+returns-in-Err-clause-told g c = record { store = inr (inr refl); sink = λ done. absurd (subst OfRefusal done (ends_refused c.in-Err.error c.refuse.result _ c.refuse.ensures.refused)) }

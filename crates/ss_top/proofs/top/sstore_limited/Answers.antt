@@ -17,14 +17,14 @@ run-requires-clause-every g c = λ κs within. λ k is. (every_is_within (words_
 pub returns-in-Run : goal.returns-in-Run
 returns-in-Run g c =
     let asks = subst (λ (command : Command). AsksFor (words_of c.args.words.now) (record { command = command; options = c.in-Some.field-0.options })) c.in-Run.is c.in-Some.ensures in
-    ends_run c.args.limit c.args.words.now _ _ _ c.in-Some.field-0.options (c.run.ensures.counts.0, c.run.ensures.counts.1, c.run.ensures.counts.2) asks c.run.ensures.taken c.run.result.0 c.run.ensures.ends
+    ends_run c.args.limit c.args.words.now _ _ _ c.in-Some.field-0.options (c.run.ensures.counts.0, c.run.ensures.counts.1, c.run.ensures.counts.2) asks c.run.ensures.taken c.run.result.0 c.run.ensures.ends c.run.ensures.source c.run.ensures.told
 
 pub returns-in-Recover : goal.returns-in-Recover
 returns-in-Recover g c =
     let asks = subst (λ (command : Command). AsksFor (words_of c.args.words.now) (record { command = command; options = c.in-Some.field-0.options })) c.in-Recover.is c.in-Some.ensures in
     let fault = c.a_disk_has_one_fault.ensures in
     ends_recover c.args.limit c.args.words.now _ _ _ c.in-Some.field-0.options (omega arith, c.recover_store.ensures.counts.0, c.recover_store.ensures.counts.1) fault.empty fault.store fault.catalog asks refl refl
-    c.recover_store.result.0 c.recover_store.ensures.came
+    c.recover_store.result.0 c.recover_store.ensures.came c.recover_store.ensures.told
 
 pub voter-requires-clause-partitions : goal.voter-requires-clause-partitions
 voter-requires-clause-partitions g c = λ κs within. partitions_are_few (words_of c.args.words.now) c.in-Some.field-0 c.in-Some.ensures
@@ -43,10 +43,10 @@ returns-in-Voter g c =
     let asks = subst (λ (command : Command). AsksFor (words_of c.args.words.now) (record { command = command; options = c.in-Some.field-0.options })) c.in-Voter.is c.in-Some.ensures in
     let fault = c.a_disk_has_one_fault.ensures in
     ends_voter c.args.limit c.args.words.now _ _ _ c.in-Some.field-0.options (omega arith, c.voter.ensures.counts.0, c.voter.ensures.counts.1) c.a_value_has_one_answer.ensures.catalog fault.empty fault.store fault.catalog c.in-Voter.show asks
-    refl refl c.voter.result.0 c.voter.ensures.came
+    refl refl c.voter.result.0 c.voter.ensures.came c.voter.ensures.told
 
 pub returns-in-Audit : goal.returns-in-Audit
 returns-in-Audit g c =
     let asks = subst (λ (command : Command). AsksFor (words_of c.args.words.now) (record { command = command; options = c.in-Some.field-0.options })) c.in-Audit.is c.in-Some.ensures in
     let told = c.audit_input.ensures in
-    ends_audit c.args.limit c.args.words.now _ _ _ c.in-Some.field-0.options (told.counts.0, told.counts.1, omega arith) asks told.taken refl c.audit_input.result told.comes
+    ends_audit c.args.limit c.args.words.now _ _ _ c.in-Some.field-0.options (told.counts.0, told.counts.1, omega arith) asks told.taken refl refl c.audit_input.result told.comes told.told

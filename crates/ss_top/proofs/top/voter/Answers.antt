@@ -1,4 +1,4 @@
-use Rattle.std.proofs.Common.{inl, refl}
+use Rattle.std.proofs.Common.{inl, inr, refl}
 use Rattle.ss_top.proofs.Storing.{show_came}
 use Rattle.ss_top.proofs.top.voter.Goals as goal
 
@@ -8,3 +8,6 @@ returns-clause-came g c =
 
 pub returns-in_default-clause-came : goal.returns-in_default-clause-came
 returns-in_default-clause-came g c = record { came = inl (record { uncalled = refl; written = c.write_line.ensures.written }); cause = tt }
+
+pub returns-in_default-clause-told : goal.returns-in_default-clause-told
+returns-in_default-clause-told g c = record { store = inr (inr refl); sink = λ no. absurd (cc) }

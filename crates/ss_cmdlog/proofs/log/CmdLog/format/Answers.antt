@@ -1,4 +1,5 @@
-use Rattle.std.proofs.Common.{◌≡◌, ◌∙◌, ◌-◌, length, refl, arith}
+use Rattle.std.proofs.Common.{◌≡◌, ◌∙◌, ◌+◌, ◌-◌, length, refl, arith}
+use Rattle.ss_disk.proofs.CallerLemmas.{fewer_none}
 use Rattle.ss_cmdlog.proofs.Formatted.{formatted, fresh_open}
 use Rattle.ss_cmdlog.proofs.LeftSome.{some_fewer, some_join}
 use Rattle.ss_cmdlog.proofs.log.CmdLog.format.Goals as goal
@@ -34,3 +35,15 @@ returns-clause-some g c = λ honest.
     let run = c.write_synced.ensures.moments honest in
     some_join g.D.Disk.kind.moment g.D.Disk.kind.images (g.D.Disk.kind.moment c.args.disk) c.fill_both.new.disk c.write_synced.new.disk (c.fill_both.ensures.some honest) run.keeps
     (some_fewer g.D.Disk.kind.honest g.D.Disk.kind.seen g.D.Disk.kind.moment g.D.Disk.kind.images g.met.D.Disk.sees_an_image honest c.fill_both.new.disk c.write_synced.new.disk run.keeps (c.write_synced.ensures.fewer honest))
+
+pub returns-in-Err-write_synced-clause-some : goal.returns-in-Err-write_synced-clause-some
+returns-in-Err-write_synced-clause-some g c = λ honest.
+    let run = c.write_synced.ensures.moments honest in
+    some_join g.D.Disk.kind.moment g.D.Disk.kind.images (g.D.Disk.kind.moment c.args.disk) c.fill_both.new.disk c.write_synced.new.disk (c.fill_both.ensures.some honest) run.keeps
+    (some_fewer g.D.Disk.kind.honest g.D.Disk.kind.seen g.D.Disk.kind.moment g.D.Disk.kind.images g.met.D.Disk.sees_an_image honest c.fill_both.new.disk c.write_synced.new.disk run.keeps (c.write_synced.ensures.fewer honest))
+
+-- no call was made
+pub returns-in_default-clause-some : goal.returns-in_default-clause-some
+returns-in_default-clause-some g c = λ honest.
+    some_fewer g.D.Disk.kind.honest g.D.Disk.kind.seen g.D.Disk.kind.moment g.D.Disk.kind.images g.met.D.Disk.sees_an_image honest c.args.disk c.args.disk (λ t image within left. left)
+    (fewer_none g.D.Disk.kind.moment g.D.Disk.kind.images (g.D.Disk.kind.moment c.args.disk + 1) c.args.disk (omega arith))
