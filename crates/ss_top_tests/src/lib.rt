@@ -3,10 +3,11 @@
 //!
 //! The crate has tests alone, since a crate with tests is proved twice:
 //!
-//! - `faults`: a source that fails, and sinks that are full
+//! - `scripts`: what the tables of faults and of crashes run, and when a prefix of it was recovered
+//! - `faults`: a source, a sink and a disk that fail, one call of a run after another; sinks that are full
 //! - `edges`: an input at its limit of bytes, and one of a byte more
 //! - `full`: lists that have as many entries as they may
-//! - `stores`: runs that go on from a store, recoveries, and disks that fail or crash in each call
+//! - `stores`: runs that go on from a store, what a crash leaves in each call of a run, stores that are damaged
 //! - `gates`: an execution that is held until another one is over, which only threads can do
 #![tactic(auto)]
 

@@ -4,11 +4,12 @@ mod edges;
 mod faults;
 mod full;
 mod gates;
+mod scripts;
 mod stores;
 
 use ss_disk::MemoryDisk;
 use ss_engine::{Gate, NoGate};
-use ss_lines::{MemorySink, MemorySource, Source};
+use ss_lines::{MemorySink, MemorySource, Sink, Source};
 use ss_top::{MOST_ENTRIES, Status, sstore, sstore_limited};
 use ss_value::{NoMemory, Seq};
 use std::alloc::{AllocError, Global};
@@ -59,6 +60,10 @@ impl Ended {
     }
 }
 
+/// Three calls on accounts, of which the third finds the row of the first.
+const PUTS: &str =
+    "{\"call\":\"put\",\"args\":[1,5]}\n{\"call\":\"all\",\"args\":[]}\n{\"call\":\"put\",\"args\":[1,9]}\n";
+
 /// An empty disk that never fails.
 fn empty_disk(alloc: Global) -> MemoryDisk {
     MemoryDisk::new(alloc, Seq::new(alloc))
@@ -87,10 +92,15 @@ impl Drop for Left {
 }
 
 impl Left {
+    /// Both.
+    fn into_parts(self) -> (Ended, MemoryDisk) {
+        let Left { ended, disk } = self;
+        (ended, disk)
+    }
+
     /// The disk.
     fn into_disk(self) -> MemoryDisk {
-        let Left { ended: _, disk } = self;
-        disk
+        self.into_parts().1
     }
 }
 
@@ -161,6 +171,29 @@ impl Streams {
     }
 }
 
+/// Just this number.
+fn one(alloc: Global, number: u64) -> Result<Seq<u64>, NoMemory> {
+    let mut numbers = Seq::new(alloc);
+    match numbers.push(number) {
+        Ok(()) => Ok(numbers),
+        Err(_) => Err(NoMemory),
+    }
+}
+
+/// Runs a command line between a source and a sink, with a gate, on an empty disk.
+fn run_between<S: Source, K: Sink, G: Gate + Drop + Sync, R: Threads + Wait + Sync>(
+    rt: &R,
+    alloc: Global,
+    words: &[&str],
+    source: &mut S,
+    sink: &mut K,
+    gate: G,
+) -> Result<Status, NoMemory> {
+    let words = words_of(alloc, words)?;
+    let (status, _) = sstore(rt, alloc, &words, source, sink, empty_disk(alloc), gate);
+    Ok(status)
+}
+
 /// Runs a command line on a source, with a gate, and with a sink that has room for this many bytes.
 fn run_from<S: Source, G: Gate + Drop + Sync, R: Threads + Wait + Sync>(
     rt: &R,
@@ -170,17 +203,8 @@ fn run_from<S: Source, G: Gate + Drop + Sync, R: Threads + Wait + Sync>(
     room: usize,
     gate: G,
 ) -> Result<Ended, NoMemory> {
-    let words = words_of(alloc, words)?;
     let mut sink = MemorySink::new(alloc, room)?;
-    let (status, _) = sstore(
-        rt,
-        alloc,
-        &words,
-        source,
-        &mut sink,
-        empty_disk(alloc),
-        gate,
-    );
+    let status = run_between(rt, alloc, words, source, &mut sink, gate)?;
     Ok(Ended { status, sink })
 }
 

@@ -7,40 +7,45 @@ use ss_top::Status;
 use ss_value::Failed;
 use std::test::Fail;
 
-/// The most that a source of letters gives at a time.
+/// The most that a source of letters, or of blanks, gives at a time.
 static LETTERS: [u8; 4096] = [b'x'; 4096];
 
-/// A source of this many letters, so that a long input takes no memory.
+static BLANKS: [u8; 4096] = [b' '; 4096];
+
+/// A source of this many bytes of one kind, so that a long input takes no memory.
 #[derive(Drop)]
-struct Letters {
+struct Repeated {
+    bytes: &'static [u8],
     left: usize,
 }
 
-impl Source for Letters {
+impl Source for Repeated {
     ghost use Rattle.std.specs.Prelude.{None};
 
     ghost kind = { record { left = λ _. None; faults = λ _. 0 } };
 
     fn pull(&mut self, buf: &mut [u8]) -> Result<usize, Failed> {
-        let count = self.left.min(buf.len()).min(LETTERS.len());
+        let count = self.left.min(buf.len()).min(self.bytes.len());
         let (front, _) = buf.split_at_mut(count);
-        let (given, _) = LETTERS.split_at(count);
+        let (given, _) = self.bytes.split_at(count);
         front.copy_from_slice(given);
         self.left -= count;
         Ok(count)
     }
 }
 
-// An input of one line that is within the limit of an input is refused for the length of that line.
+// An input of one line that is within the limit of an input is refused for the length of that line; and one beyond it for its own
+// length, though its only line is blank.
 #[test]
 fn long_inputs(rt: HostRuntime) -> Result<(), Fail> {
-    let mut within = Letters { left: MAX_INPUT };
-    let ended = run_from(&rt, rt.alloc(), &["run"], &mut within, 64, NoGate)?;
-    assert!(rt; ended.is(Status::Input, "[\"input\",1,\"L2\"]\n"));
-    let mut beyond = Letters {
-        left: MAX_INPUT + 1,
-    };
-    let ended = run_from(&rt, rt.alloc(), &["run"], &mut beyond, 64, NoGate)?;
-    assert!(rt; ended.is(Status::Input, "[\"input\",0,\"L3\"]\n"));
+    let refusals = [
+        (&LETTERS, MAX_INPUT, "[\"input\",1,\"L2\"]\n"),
+        (&BLANKS, MAX_INPUT + 1, "[\"input\",0,\"L3\"]\n"),
+    ];
+    for (bytes, left, told) in refusals {
+        let mut source = Repeated { bytes, left };
+        let ended = run_from(&rt, rt.alloc(), &["run"], &mut source, 64, NoGate)?;
+        assert!(rt; ended.is(Status::Input, told));
+    }
     Ok(())
 }

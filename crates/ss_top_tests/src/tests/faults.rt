@@ -1,37 +1,174 @@
-//! A source that fails, and sinks that are full.
+//! A source, a sink and a disk that fail, one call of a run after another, and sinks that are full.
 
-use super::{ACCOUNTS, Ended, run_from};
+use super::scripts::{ROOM, SCRIPTS, Script, is_prefix, recover, run_script};
+use super::{ACCOUNTS, Ended, empty_disk, one, run_between, run_from, with_requests};
+use ss_disk::{Disk, MemoryDisk};
 use ss_engine::NoGate;
-use ss_lines::{MemorySource, Source};
+use ss_lines::{FailingSink, FailingSource, MemorySource};
 use ss_top::Status;
-use ss_value::{Failed, NoMemory, Seq};
-use std::alloc::Global;
+use ss_value::{NoMemory, Seq};
+use std::alloc::{AllocError, Global};
 use std::sync::Wait;
 use std::test::Fail;
 use std::thread::Threads;
 
-/// A source that fails at each call.
-#[derive(Drop)]
-struct Broken {
-    faults: u64,
-}
-
-impl Source for Broken {
-    ghost use Rattle.std.specs.Prelude.{None};
-
-    ghost kind = { record { left = λ _. None; faults = λ s. s.faults } };
-
-    fn pull(&mut self, _buf: &mut [u8]) -> Result<usize, Failed> {
-        self.faults = self.faults.saturating_add(1);
-        Err(Failed)
-    }
+/// How a run of a script ends whose source fails in these calls, and how many calls there were.
+fn run_pulling<R: Threads + Wait + Sync>(
+    rt: &R,
+    alloc: Global,
+    script: &Script,
+    fails: Seq<u64>,
+) -> Result<(Ended, u64), NoMemory> {
+    let input = with_requests(alloc, script.catalog, script.requests)?;
+    let mut source = FailingSource::new(Seq::from_vec(input), fails);
+    let ended = run_from(rt, alloc, &script.words, &mut source, ROOM, NoGate)?;
+    Ok((ended, source.calls()))
 }
 
 #[test]
-fn a_source_that_fails(rt: HostRuntime) -> Result<(), Fail> {
-    let mut source = Broken { faults: 0 };
-    let ended = run_from(&rt, rt.alloc(), &["run"], &mut source, 64, NoGate)?;
-    assert!(rt; ended.is(Status::ReadFault, "[\"read_fault\"]\n"));
+fn a_source_that_fails_in_each_call(rt: HostRuntime) -> Result<(), Fail> {
+    for script in &SCRIPTS {
+        let (whole, calls) = run_pulling(&rt, rt.alloc(), script, Seq::new(rt.alloc()))?;
+        assert!(rt; whole.ends(Status::Done, script.last) && calls > 1);
+        for call in 0..calls {
+            let (ended, _) = run_pulling(&rt, rt.alloc(), script, one(rt.alloc(), call)?)?;
+            assert!(rt; ended.is(Status::ReadFault, "[\"read_fault\"]\n"));
+        }
+    }
+    Ok(())
+}
+
+/// How a run of a script ends whose sink fails in these calls, with the sink.
+fn run_pushing<R: Threads + Wait + Sync>(
+    rt: &R,
+    alloc: Global,
+    script: &Script,
+    fails: Seq<u64>,
+) -> Result<(Status, FailingSink), NoMemory> {
+    let input = with_requests(alloc, script.catalog, script.requests)?;
+    let mut source = MemorySource::new(Seq::from_vec(input));
+    let mut sink = FailingSink::new(alloc, ROOM, fails)?;
+    let status = run_between(rt, alloc, &script.words, &mut source, &mut sink, NoGate)?;
+    Ok((status, sink))
+}
+
+#[test]
+fn a_sink_that_fails_in_each_call(rt: HostRuntime) -> Result<(), Fail> {
+    for script in &SCRIPTS {
+        let (status, whole) = run_pushing(&rt, rt.alloc(), script, Seq::new(rt.alloc()))?;
+        assert!(rt; status == Status::Done && whole.calls() > 0);
+        for call in 0..whole.calls() {
+            let (status, sink) = run_pushing(&rt, rt.alloc(), script, one(rt.alloc(), call)?)?;
+            assert!(rt; status == Status::WriteFault);
+            assert!(rt; whole.as_bytes().starts_with(sink.as_bytes()));
+        }
+    }
+    Ok(())
+}
+
+/// How many calls of the disk open the store of a script: a run without requests has no others.
+fn opening_calls<R: Threads + Wait + Sync>(
+    rt: &R,
+    alloc: Global,
+    script: &Script,
+) -> Result<u64, NoMemory> {
+    let left = run_script(rt, alloc, &script.without_requests(), empty_disk(alloc))?;
+    Ok(left.disk.calls())
+}
+
+/// A line of a report that was stopped by the disk, in two parts, as an audit may read it: of a request that came too late it knows
+/// only that there was no memory, and in place of where it stopped the tables have to stand.
+fn audited_line<'x>(script: &Script, line: &'x str) -> (&'x str, &'static str) {
+    if let Some((front, _)) = line.split_once("\"halted\",") {
+        return (front, "\"no_memory\"]\n");
+    }
+    if line.starts_with("[\"stopped\",5,") {
+        return ("", script.empty);
+    }
+    (line, "\n")
+}
+
+/// A script, and behind it a report that was stopped, to be audited as one without rows.
+fn audited_input(alloc: Global, script: &Script, report: &str) -> Result<Vec<u8>, AllocError> {
+    let mut input = with_requests(alloc, script.catalog, script.requests)?;
+    for line in report.split('\n') {
+        let (front, end) = audited_line(script, line);
+        input.extend_from_slice(front.as_bytes())?;
+        input.extend_from_slice(end.as_bytes())?;
+    }
+    Ok(input)
+}
+
+/// Whether the list of a report replays that a fault of the disk has stopped: then an audit looks at the tables, and at what was
+/// pending, which stand behind the list.
+fn replays<R: Threads + Wait + Sync>(
+    rt: &R,
+    alloc: Global,
+    script: &Script,
+    report: &str,
+) -> Result<bool, NoMemory> {
+    let input = audited_input(alloc, script, report)?;
+    let mut source = MemorySource::new(Seq::from_vec(input));
+    let verdict = run_from(rt, alloc, &["audit"], &mut source, 64, NoGate)?;
+    let text = verdict.text();
+    Ok(
+        text == "[\"audit\",\"yes\",0]\n"
+            || text.starts_with("[\"audit\",\"no\",4,")
+            || text.starts_with("[\"audit\",\"no\",5,"),
+    )
+}
+
+/// Whether a run whose disk fails in a call ends with that, with a report of what ran where the store was open, and leaves a
+/// prefix of that list; nothing where it makes no such call. How many it makes depends on which entries share a flush.
+fn stops_at<R: Threads + Wait + Sync>(
+    rt: &R,
+    alloc: Global,
+    script: &Script,
+    opening: u64,
+    call: u64,
+) -> Result<Option<bool>, NoMemory> {
+    let failing = MemoryDisk::new(alloc, one(alloc, call)?);
+    let (ended, disk) = run_script(rt, alloc, script, failing)?.into_parts();
+    if disk.faults() == 0 {
+        return Ok(None);
+    }
+    let is_told = if call < opening {
+        ended.is(Status::Disk, "[\"disk_fault\"]\n")
+    } else {
+        ended.status == Status::Disk && replays(rt, alloc, script, ended.text())?
+    };
+    let recovered = recover(rt, alloc, disk)?;
+    Ok(Some(is_told && is_prefix(ended.text(), &recovered.ended)))
+}
+
+/// The first call of the disk whose failure does not end a run of a script as it has to, up to the first one that it does not make.
+fn first_wrong<R: Threads + Wait + Sync>(
+    rt: &R,
+    alloc: Global,
+    script: &Script,
+) -> Result<Option<u64>, NoMemory> {
+    let whole = run_script(rt, alloc, script, empty_disk(alloc))?;
+    let opening = opening_calls(rt, alloc, script)?;
+    if !whole.ended.ends(Status::Done, script.last) {
+        return Ok(Some(0));
+    }
+    for call in 0..u64::from(u16::MAX) {
+        match stops_at(rt, alloc, script, opening, call)? {
+            Some(true) => {}
+            Some(false) => return Ok(Some(call)),
+            None if opening < call => return Ok(None),
+            None => return Ok(Some(call)),
+        }
+    }
+    Ok(None)
+}
+
+#[test]
+fn a_disk_that_fails_in_each_call(rt: HostRuntime) -> Result<(), Fail> {
+    for (number, script) in SCRIPTS.iter().enumerate() {
+        let wrong = first_wrong(&rt, rt.alloc(), script)?;
+        assert!(rt; wrong.is_none(), "script {number}: {wrong:?}");
+    }
     Ok(())
 }
 

@@ -1,16 +1,12 @@
 //! Lists that have as many entries as they may.
 
-use super::{ACCOUNTS, DIAMOND, Streams, empty_disk, with_requests};
+use super::{ACCOUNTS, DIAMOND, PUTS, Streams, empty_disk, with_requests};
 use ss_top::Status;
 use ss_value::NoMemory;
 use std::alloc::Global;
 use std::sync::Wait;
 use std::test::Fail;
 use std::thread::Threads;
-
-/// Three calls, of which the third finds the row of the first.
-const PUTS: &str =
-    "{\"call\":\"put\",\"args\":[1,5]}\n{\"call\":\"all\",\"args\":[]}\n{\"call\":\"put\",\"args\":[1,9]}\n";
 
 /// One push to the workflow.
 const PUSH: &str = "{\"push\":\"s\",\"source\":\"a\",\"seq\":0,\"rows\":[[1]]}\n";

@@ -1,0 +1,229 @@
+//! The scripts of the tables of faults and crashes, and what may be left of one that was cut short.
+
+use super::{DIAMOND, Ended, Left, Streams, with_requests};
+use ss_disk::MemoryDisk;
+use ss_top::Status;
+use ss_value::NoMemory;
+use std::alloc::Global;
+use std::sync::Wait;
+use std::thread::Threads;
+
+/// How many bytes a sink has room for.
+pub(super) const ROOM: usize = 4096;
+
+/// A command line, and an input.
+#[derive(Clone, Copy)]
+pub(super) struct Script {
+    pub(super) words: [&'static str; 2],
+    pub(super) catalog: &'static str,
+    pub(super) requests: &'static str,
+    /// How the report of a run without faults ends.
+    pub(super) last: &'static str,
+    /// Its tables without rows, as a report ends that says so.
+    pub(super) empty: &'static str,
+}
+
+impl Script {
+    /// The same without its requests.
+    pub(super) fn without_requests(&self) -> Script {
+        Script {
+            words: self.words,
+            catalog: self.catalog,
+            requests: "",
+            last: self.last,
+            empty: self.empty,
+        }
+    }
+}
+
+/// Two batches, one of them pushed twice, and one too early.
+const PUSHES: &str =
+    "{\"push\":\"s\",\"source\":\"a\",\"seq\":0,\"rows\":[[1]]}\n{\"push\":\"s\",\"source\":\"a\",\"seq\":0,\"rows\":[[1]]}\n{\"push\":\"s\",\"source\":\"a\",\"seq\":2,\"rows\":[[2]]}\n{\"push\":\"s\",\"source\":\"a\",\"seq\":1,\"rows\":[[2]]}\n";
+
+/// A workflow whose steps have four partitions, and a call of its argument's.
+const SPREAD: &str =
+    r#"{"tables":[{"name":"acct","columns":[["id","int"],["side","int"]],"key":["id","side"],"by":"id"},{"name":"joined","columns":[["x","int"],["side","int"]],"key":["x"],"part":7}],"streams":[{"name":"s","columns":[["x","int"]]},{"name":"l","columns":[["x","int"]]},{"name":"r","columns":[["x","int"]]},{"name":"pl","columns":[["x","int"]]},{"name":"qr","columns":[["x","int"]]}],"procedures":[{"name":"put","kind":"call","args":[["id","int"]],"touch":{"arg":"id"},"body":[{"insert":"acct","values":[{"arg":"id"},1]},{"insert":"acct","values":[{"arg":"id"},2]}]},{"name":"a","kind":"border","inputs":["s"],"touch":{"part":0},"body":[{"emit":"l","sql":"SELECT x FROM s"},{"emit":"r","sql":"SELECT x FROM s"}]},{"name":"p","kind":"interior","inputs":["l"],"touch":{"part":3},"body":[{"emit":"pl","sql":"SELECT x + 10 FROM l"}]},{"name":"q","kind":"interior","inputs":["r"],"touch":{"part":5},"body":[{"emit":"qr","sql":"SELECT x + 20 FROM r"}]},{"name":"j","kind":"interior","inputs":["pl","qr"],"touch":{"part":7},"body":[{"sql":"INSERT INTO joined SELECT x, 1 FROM pl"},{"sql":"INSERT INTO joined SELECT x, 2 FROM qr"}]}]}"#;
+
+/// A push and a call of each of eight clients.
+const OF_EIGHT: &str =
+    "{\"push\":\"s\",\"source\":\"a\",\"seq\":0,\"rows\":[[1]]}\n{\"client\":1,\"push\":\"s\",\"source\":\"b\",\"seq\":0,\"rows\":[[3]]}\n{\"client\":2,\"push\":\"s\",\"source\":\"c\",\"seq\":0,\"rows\":[[4]]}\n{\"client\":3,\"push\":\"s\",\"source\":\"d\",\"seq\":0,\"rows\":[[5]]}\n{\"client\":4,\"push\":\"s\",\"source\":\"e\",\"seq\":0,\"rows\":[[6]]}\n{\"client\":5,\"push\":\"s\",\"source\":\"f\",\"seq\":0,\"rows\":[[7]]}\n{\"client\":6,\"push\":\"s\",\"source\":\"g\",\"seq\":0,\"rows\":[[8]]}\n{\"client\":7,\"push\":\"s\",\"source\":\"h\",\"seq\":0,\"rows\":[[9]]}\n{\"call\":\"put\",\"args\":[0]}\n{\"client\":1,\"call\":\"put\",\"args\":[1]}\n{\"client\":2,\"call\":\"put\",\"args\":[2]}\n{\"client\":3,\"call\":\"put\",\"args\":[3]}\n{\"client\":4,\"call\":\"put\",\"args\":[4]}\n{\"client\":5,\"call\":\"put\",\"args\":[5]}\n{\"client\":6,\"call\":\"put\",\"args\":[6]}\n{\"client\":7,\"call\":\"put\",\"args\":[7]}\n";
+
+/// One client, the same with a checkpoint due behind each entry, and eight clients on as many partitions.
+pub(super) const SCRIPTS: [Script; 3] = [
+    Script {
+        words: ["run", "--partitions=1"],
+        catalog: DIAMOND,
+        requests: PUSHES,
+        last: "[\"done\",12]\n",
+        empty: "[\"table\",\"joined\",0]\n[\"done\",0]\n",
+    },
+    Script {
+        words: ["run", "--checkpoint=1"],
+        catalog: DIAMOND,
+        requests: PUSHES,
+        last: "[\"done\",12]\n",
+        empty: "[\"table\",\"joined\",0]\n[\"done\",0]\n",
+    },
+    Script {
+        words: ["run", "--partitions=8"],
+        catalog: SPREAD,
+        requests: OF_EIGHT,
+        last: "[\"done\",48]\n",
+        empty: "[\"table\",\"acct\",0]\n[\"table\",\"joined\",0]\n[\"done\",0]\n",
+    },
+];
+
+/// The two rows that a request leaves once its steps have run, by how its line of the list ends.
+const ROWS: [(&str, &str, &str); 17] = [
+    (
+        ",0,0,[\"done\",[]]]",
+        "[\"row\",\"joined\",[11,1]]",
+        "[\"row\",\"joined\",[21,2]]",
+    ),
+    (
+        ",0,3,[\"done\",[]]]",
+        "[\"row\",\"joined\",[12,1]]",
+        "[\"row\",\"joined\",[22,2]]",
+    ),
+    (
+        ",1,0,[\"done\",[]]]",
+        "[\"row\",\"joined\",[13,1]]",
+        "[\"row\",\"joined\",[23,2]]",
+    ),
+    (
+        ",2,0,[\"done\",[]]]",
+        "[\"row\",\"joined\",[14,1]]",
+        "[\"row\",\"joined\",[24,2]]",
+    ),
+    (
+        ",3,0,[\"done\",[]]]",
+        "[\"row\",\"joined\",[15,1]]",
+        "[\"row\",\"joined\",[25,2]]",
+    ),
+    (
+        ",4,0,[\"done\",[]]]",
+        "[\"row\",\"joined\",[16,1]]",
+        "[\"row\",\"joined\",[26,2]]",
+    ),
+    (
+        ",5,0,[\"done\",[]]]",
+        "[\"row\",\"joined\",[17,1]]",
+        "[\"row\",\"joined\",[27,2]]",
+    ),
+    (
+        ",6,0,[\"done\",[]]]",
+        "[\"row\",\"joined\",[18,1]]",
+        "[\"row\",\"joined\",[28,2]]",
+    ),
+    (
+        ",7,0,[\"done\",[]]]",
+        "[\"row\",\"joined\",[19,1]]",
+        "[\"row\",\"joined\",[29,2]]",
+    ),
+    (
+        ",0,1,[\"done\",[]]]",
+        "[\"row\",\"acct\",[0,1]]",
+        "[\"row\",\"acct\",[0,2]]",
+    ),
+    (
+        ",1,1,[\"done\",[]]]",
+        "[\"row\",\"acct\",[1,1]]",
+        "[\"row\",\"acct\",[1,2]]",
+    ),
+    (
+        ",2,1,[\"done\",[]]]",
+        "[\"row\",\"acct\",[2,1]]",
+        "[\"row\",\"acct\",[2,2]]",
+    ),
+    (
+        ",3,1,[\"done\",[]]]",
+        "[\"row\",\"acct\",[3,1]]",
+        "[\"row\",\"acct\",[3,2]]",
+    ),
+    (
+        ",4,1,[\"done\",[]]]",
+        "[\"row\",\"acct\",[4,1]]",
+        "[\"row\",\"acct\",[4,2]]",
+    ),
+    (
+        ",5,1,[\"done\",[]]]",
+        "[\"row\",\"acct\",[5,1]]",
+        "[\"row\",\"acct\",[5,2]]",
+    ),
+    (
+        ",6,1,[\"done\",[]]]",
+        "[\"row\",\"acct\",[6,1]]",
+        "[\"row\",\"acct\",[6,2]]",
+    ),
+    (
+        ",7,1,[\"done\",[]]]",
+        "[\"row\",\"acct\",[7,1]]",
+        "[\"row\",\"acct\",[7,2]]",
+    ),
+];
+
+/// Runs a script on a disk.
+pub(super) fn run_script<R: Threads + Wait + Sync>(
+    rt: &R,
+    alloc: Global,
+    script: &Script,
+    disk: MemoryDisk,
+) -> Result<Left, NoMemory> {
+    let input = with_requests(alloc, script.catalog, script.requests)?;
+    let streams = Streams::new(alloc, &script.words, input, ROOM)?;
+    Ok(streams.run_on(rt, alloc, disk, u16::MAX))
+}
+
+/// Recovers a disk, and runs nothing on it but what was pending.
+pub(super) fn recover<R: Threads + Wait + Sync>(
+    rt: &R,
+    alloc: Global,
+    disk: MemoryDisk,
+) -> Result<Left, NoMemory> {
+    let streams = Streams::new(alloc, &["recover"], Vec::new(alloc), ROOM)?;
+    Ok(streams.run_on(rt, alloc, disk, u16::MAX))
+}
+
+/// Which of the two rows are there that the request of a line of a list leaves, where the line is of one that is done.
+fn rows_of(line: &str, report: &str) -> Option<(bool, bool)> {
+    if line.starts_with("[\"reply\",") {
+        return None;
+    }
+    for (end, first, second) in &ROWS {
+        if line.ends_with(*end) {
+            return Some((report.contains(*first), report.contains(*second)));
+        }
+    }
+    None
+}
+
+/// How many rows a report has.
+fn row_count(report: &str) -> usize {
+    let mut count = 0usize;
+    for line in report.split('\n') {
+        if line.starts_with("[\"row\",") {
+            count = count.saturating_add(1);
+        }
+    }
+    count
+}
+
+/// Whether a report has the rows of the first requests of a list, and no others.
+fn has_first_rows(list: &str, report: &str) -> bool {
+    let (mut count, mut behind) = (0usize, false);
+    for line in list.split('\n') {
+        match rows_of(line, report) {
+            Some((true, true)) if !behind => count = count.saturating_add(2),
+            Some((false, false)) => behind = true,
+            Some(_) => return false,
+            None => {}
+        }
+    }
+    row_count(report) == count
+}
+
+/// Whether a recovery did all that was pending, and found a prefix of the list of this report; of an empty disk it tells that nothing
+/// was done.
+pub(super) fn is_prefix(list: &str, recovered: &Ended) -> bool {
+    recovered.status == Status::Done && has_first_rows(list, recovered.text())
+}
