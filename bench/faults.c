@@ -4,14 +4,16 @@
        KIND=malloc AT=17 COUNT=calls LD_PRELOAD=./faults.so PROGRAM ...
 
    KIND is `malloc` for allocations, or the name of a call on a file that lies in the folder STORE: `open`, `read`, `write`,
-   `sync`, `cut`, `seek`, `lock`. The call with the number AT, counted from 0, answers as HOW says: `fails`, with no memory or
-   with EIO; `interrupted`, with EINTR; or `short`, where a read or write does one byte alone. The file COUNT has eight bytes,
-   in which it is counted how many such calls there were. */
+   `sync`, `cut`, `seek`, `lock`, or `any` of them. The call with the number AT, counted from 0, or `each` of them, answers as HOW
+   says: `fails`, with no memory or with EIO; `interrupted`, with EINTR; `short`, where a read or write does one byte alone;
+   `nothing`, where it does none; or `stopped`, where the process stops before the call until it is told to go on, so that
+   another one can come between. The file COUNT has eight bytes, in which it is counted how many such calls there were. */
 
 #define _GNU_SOURCE
 #include <dlfcn.h>
 #include <errno.h>
 #include <fcntl.h>
+#include <signal.h>
 #include <stdarg.h>
 #include <stdatomic.h>
 #include <stdlib.h>
@@ -21,16 +23,24 @@
 #include <sys/types.h>
 #include <unistd.h>
 
-enum how { FAILS, INTERRUPTED, SHORT };
+enum how { FAILS, INTERRUPTED, SHORT, NOTHING, STOPPED };
+enum { NONE = -1, EACH = -2 };
 
 static const char *kind = "", *store;
-static long at = -1;
+static long at = NONE;
 static enum how how;
 static atomic_long *count, none;
 static _Atomic char of_store[1024];
 
 static int hits(const char *this_kind) {
-    return !strcmp(kind, this_kind) && atomic_fetch_add(count, 1) == at;
+    int is_any = !strcmp(kind, "any") && strcmp(this_kind, "malloc");
+    if (!is_any && strcmp(kind, this_kind))
+        return 0;
+    int is_due = atomic_fetch_add(count, 1) == at || at == EACH;
+    if (!is_due || how != STOPPED)
+        return is_due;
+    raise(SIGSTOP);
+    return 0;
 }
 
 static int on_store(int fd, const char *this_kind) {
@@ -40,6 +50,23 @@ static int on_store(int fd, const char *this_kind) {
 static int error_of(void) {
     errno = how == INTERRUPTED ? EINTR : EIO;
     return -1;
+}
+
+/* How many of these bytes a read or write does. */
+static size_t part_of(size_t size) {
+    return how == SHORT && size ? 1 : 0;
+}
+
+static int is_partial(void) {
+    return how == SHORT || how == NOTHING;
+}
+
+static enum how how_of(const char *word) {
+    static const char *words[] = {"fails", "interrupted", "short", "nothing", "stopped"};
+    for (int number = FAILS; number <= STOPPED; number++)
+        if (word && !strcmp(word, words[number]))
+            return number;
+    return FAILS;
 }
 
 __attribute__((constructor)) static void begin(void) {
@@ -53,9 +80,9 @@ __attribute__((constructor)) static void begin(void) {
         count = mapped;
         close(fd);
     }
-    how = as && !strcmp(as, "interrupted") ? INTERRUPTED : as && !strcmp(as, "short") ? SHORT : FAILS;
+    how = how_of(as);
     store = getenv("STORE");
-    at = number ? atol(number) : -1;
+    at = !number ? NONE : !strcmp(number, "each") ? EACH : atol(number);
     if (getenv("KIND"))
         kind = getenv("KIND");
 }
@@ -90,14 +117,14 @@ int open(const char *path, int flags, ...) {
 ssize_t read(int fd, void *bytes, size_t size) {
     __typeof__(&read) real = REAL(read);
     if (on_store(fd, "read"))
-        return how == SHORT ? real(fd, bytes, size ? 1 : 0) : error_of();
+        return is_partial() ? real(fd, bytes, part_of(size)) : error_of();
     return real(fd, bytes, size);
 }
 
 ssize_t write(int fd, const void *bytes, size_t size) {
     __typeof__(&write) real = REAL(write);
     if (on_store(fd, "write"))
-        return how == SHORT ? real(fd, bytes, size ? 1 : 0) : error_of();
+        return is_partial() ? real(fd, bytes, part_of(size)) : error_of();
     return real(fd, bytes, size);
 }
 
