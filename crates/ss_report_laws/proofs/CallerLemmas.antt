@@ -16,3 +16,5 @@ pub use Rattle.ss_report_laws.proofs.SameIndices.{HaveTheSame, indices, same_ind
 pub use Rattle.ss_report_laws.proofs.Weaving.{answer_asked, answered_report}
 -- An entry with an outcome has a value.
 pub use Rattle.ss_report_laws.proofs.AnsweredEntries.{applied_of}
+-- A client's entries in two lists that follow each other, and that they stand below the end of a list.
+pub use Rattle.ss_report_laws.proofs.Resuming.{mine_below, mine_join}

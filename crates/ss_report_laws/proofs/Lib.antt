@@ -6,7 +6,9 @@ pub mod OneMore
 pub mod SameIndices
 pub mod Premises
 pub mod Replies
+pub mod Resuming
 pub mod RepliesPremises
+pub mod ResumingPremises
 pub mod AnswersInOrder
 pub mod AnsweredEntries
 pub mod Weaving

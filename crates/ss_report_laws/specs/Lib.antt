@@ -1,3 +1,4 @@
 pub mod OneList
 pub mod PartOf
 pub mod Replies
+pub mod Resuming
