@@ -1,4 +1,5 @@
-//! Inputs through sources and sinks, and reports.
+//! Inputs through sources and sinks, backups, and reports.
 
 mod lines;
 mod report;
+mod upstream;
