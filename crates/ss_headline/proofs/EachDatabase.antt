@@ -27,7 +27,7 @@ module _ (carries : KeptCarries) (catalog : Catalog) (x y : Database) (same : ke
   same_end list Whole = ap (λ ls. ls ++ done_line (length list) ∷ []) (same_tables list)
   same_end list (Stopped stop) = refl
 
-  replies_carried : (requests : List Request) (first : ℕ) (list : List Listed) (end : End) (text : List ℕ) → RepliesAndTables catalog requests x first list end text
+  pub replies_carried : (requests : List Request) (first : ℕ) (list : List Listed) (end : End) (text : List ℕ) → RepliesAndTables catalog requests x first list end text
       → RepliesAndTables catalog requests y first list end text
   replies_carried requests first list end text r = record {
     one_by_one = (carries catalog x y same list).replays r.one_by_one;

@@ -59,7 +59,7 @@ module _ {D : Type 0} (kind : DiskKind D) where
       }
 
   -- a disk that failed since the opening has failed since before it
-  failed_since : (every : Option ℕ) (status first : ℕ) (list : List Listed) (count : ℕ) (old mid new : D) → kind.faults old ≤ kind.faults mid → LogEndsAsStopped every status first list count (change mid new)
+  pub failed_since : (every : Option ℕ) (status first : ℕ) (list : List Listed) (count : ℕ) (old mid new : D) → kind.faults old ≤ kind.faults mid → LogEndsAsStopped every status first list count (change mid new)
       → LogEndsAsStopped every status first list count (change old new)
   failed_since every status first list count old mid new le logged told = elim (logged told) [
     | inl front ↦ inl front

@@ -15,7 +15,7 @@ use Rattle.ss_headline.specs.Layers.{Closed}
 use Rattle.ss_headline.proofs.Untouched.{crashes_join, receipts_join}
 
 -- a front that ends at the end is all
-front_is_all : (catalog : Catalog) (db : Database) (first : ℕ) (list : List Listed) (image : Files) → StandsForFront catalog db first list (first + length list) image → StandsForAll catalog db first list image
+pub front_is_all : (catalog : Catalog) (db : Database) (first : ℕ) (list : List Listed) (image : Files) → StandsForFront catalog db first list (first + length list) image → StandsForAll catalog db first list image
 front_is_all catalog db first list image f =
     let some_is : f.some ≡ length list = omega (arith, f.within, f.enough) in
     let whole : take f.some list ≡ list = take_all f.some list (omega (arith, some_is)) in

@@ -17,7 +17,7 @@ use Rattle.ss_headline.specs.Layers.{Opened, Closed}
 use Rattle.ss_headline.proofs.Disks.{less_at_each, calls_join}
 
 -- where an empty disk stands for a database, this is the empty one
-stands_as_empty : StandsForOne → (catalog : Catalog) (db : Database) (first : ℕ) (seen image : Files) → Stands catalog seen first (kept catalog db) → IsEmpty seen
+pub stands_as_empty : StandsForOne → (catalog : Catalog) (db : Database) (first : ℕ) (seen image : Files) → Stands catalog seen first (kept catalog db) → IsEmpty seen
     → Stands catalog image 0 (kept catalog (empty_database catalog)) → Stands catalog image first (kept catalog db)
 stands_as_empty one catalog db first seen image stood empty stands =
     let same = one catalog seen 0 first (kept catalog (empty_database catalog)) (kept catalog db) (inl (record { empty = empty; none = refl; nothing = refl })) stood in

@@ -51,7 +51,7 @@ push = Push 0 0 0 (codes "a") 0 ((Int (pos 7) ∷ []) ∷ [])
 abbrev pushed_entry : Listed
 pushed_entry = record { entry = push; outcome = Done [] }
 
-abbrev start : Database
+abbrev pub start : Database
 start = empty_database workflow
 
 -- ---- the disk: empty, with a new store, and with the batch behind its image
@@ -59,7 +59,7 @@ start = empty_database workflow
 abbrev new_store : Stood
 new_store = fresh (empty_image_of workflow)
 
-new_files : Files
+pub new_files : Files
 new_files = record { selector = 0 ∷ []; first = front_bytes new_store ++ 0 ∷ []; second = [] }
 
 new_files_stand : StandsFor new_files new_store
@@ -77,7 +77,7 @@ new_files_stand = record {
 }
 
 -- what a read gives of the disk after so many calls
-abbrev seen : ℕ → Files
+abbrev pub seen : ℕ → Files
 seen zero = record { selector = []; first = []; second = [] }
 seen (suc zero) = new_files
 seen (suc (suc n)) = batch_files
@@ -86,7 +86,7 @@ seen (suc (suc n)) = batch_files
 abbrev images : ℕ → ℕ → Files → Type 0
 images disk t image = image ≡ seen t
 
-abbrev kind : DiskKind ℕ
+abbrev pub kind : DiskKind ℕ
 kind = record { tells = Unit {0}; honest = Unit {0}; seen = seen; moment = λ disk. disk; images = images; faults = λ disk. 0 }
 
 abbrev change : ℕ → ℕ → DiskChange
@@ -134,10 +134,10 @@ empty_has_none n has = of has.count has.enough has.k has.stands
 
 -- ---- the store is made
 
-new_stands : Stands workflow new_files 0 (kept workflow start)
+pub new_stands : Stands workflow new_files 0 (kept workflow start)
 new_stands = forming_stands workflow new_files (empty_whole workflow accepted) (inr new_files_stand)
 
-opened : Opened workflow start 0 (change 0 1)
+pub opened : Opened workflow start 0 (change 0 1)
 opened = record {
   whole = empty_whole workflow accepted;
   stood = λ t. nothing_stands;
@@ -173,7 +173,7 @@ begins_near ends law = law 6 0 whole_batch batch_store batch_files (behind_new (
 matches : MatchesCounts workflow start
 matches = (matching_stays workflow accepted.structure.streams.wired).starts
 
-closed : Closed workflow start 0 whole_batch (change 1 2)
+pub closed : Closed workflow start 0 whole_batch (change 1 2)
 closed = record {
   replays = whole_batch_replays;
   orders = replays_orders workflow accepted.structure.streams.wired start whole_batch matches whole_batch_replays;
@@ -201,18 +201,18 @@ few client = record {
   few = omega arith;
 }
 
-receipted : Receipted workflow 0 whole_batch 5 (change 1 2)
+pub receipted : Receipted workflow 0 whole_batch 5 (change 1 2)
 receipted = record { from_first = omega arith; within = omega arith; receipt = λ q image is. all_receipted image is; few = few }
 
 -- ---- what the client was told
 
-abbrev request : Request
+abbrev pub request : Request
 request = record { line = 2; client = 0; what = PushAsked 0 (codes "a") 0 ((Int (pos 7) ∷ []) ∷ []) }
 
 abbrev nothing_told : List (List Answer)
 nothing_told = replicate 8 []
 
-abbrev told : List (List Answer)
+abbrev pub told : List (List Answer)
 told = (ListedAnswer 0 (Done []) ∷ []) ∷ replicate 7 []
 
 pushed : (end : End) → AreAnswered (request ∷ []) 0 (take 1 whole_batch) end told
@@ -220,7 +220,7 @@ pushed end =
     answered_request [] 0 [] end nothing_told told request pushed_entry refl
     (pushed_one 0 (ListedAnswer 0 (Done [])) nothing_told told (omega arith) refl) (answered_nothing 0 end 8)
 
-answered : (end : End) → AreAnswered (request ∷ []) 0 whole_batch end told
+pub answered : (end : End) → AreAnswered (request ∷ []) 0 whole_batch end told
 answered end =
     answered_step (request ∷ []) 0 (take 4 whole_batch) end told 3 0 (record { entry = StepEntry 3 0; outcome = Done [] }) refl
     (answered_step (request ∷ []) 0 (take 3 whole_batch) end told 2 0 (record { entry = StepEntry 2 0; outcome = Done [] }) refl
@@ -270,7 +270,7 @@ from_empty law every opening first run = (law.whole every 5 workflow (request �
 
 -- ---- a second run, of no request, behind the first
 
-abbrev behind : Database
+abbrev pub behind : Database
 behind = after workflow start whole_batch
 
 stood_behind : Stands workflow batch_files 5 (kept workflow behind)
@@ -283,7 +283,7 @@ matches_behind = (matching_stays workflow accepted.structure.streams.wired).stay
 stays_so : (P : Files → Type 0) → P batch_files → LeavesOnly (λ disk. disk) images 2 2 P
 stays_so P has = no_call (λ disk. disk) images 2 P (λ image is. subst P (sym is) has)
 
-opened_again : Opened workflow behind 5 (change 2 2)
+pub opened_again : Opened workflow behind 5 (change 2 2)
 opened_again = record {
   whole = whole_after workflow accepted start whole_batch (empty_whole workflow accepted);
   stood = λ t. stood_behind;
@@ -293,7 +293,7 @@ opened_again = record {
   faults = omega arith;
 }
 
-closed_again : Closed workflow behind 5 [] (change 2 2)
+pub closed_again : Closed workflow behind 5 [] (change 2 2)
 closed_again = record {
   replays = tt;
   orders = replays_orders workflow accepted.structure.streams.wired behind [] matches_behind tt;
@@ -322,7 +322,7 @@ goes_on_behind_front : WholeRuns change → StoppedRuns change → CallsGoOn cha
 goes_on_behind_front runs stops law = law.stopped (Some 6) None 5 workflow (request ∷ []) [] start behind 0 5 whole_batch [] 9 5 (report full_end) 0 2 2 tt (stopped_run (Some 6) stops) (second None tt runs)
 
 -- while the store is made nothing has run
-nothing : NothingRan workflow (change 0 1)
+pub nothing : NothingRan workflow (change 0 1)
 nothing = next_call_anew 0 (λ image. IsEmpty (seen 0) × Stands workflow image 0 (kept workflow start)) (refl, new_stands)
 
 stands_still : NothingRanStands kind → AtEachMoment (change 0 1) (λ image. Stands workflow image 0 (kept workflow start))

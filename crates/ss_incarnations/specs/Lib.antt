@@ -1,0 +1,5 @@
+pub mod Incarnations
+pub mod Openings
+pub mod Reopening
+pub mod Runs
+pub mod Pushes
