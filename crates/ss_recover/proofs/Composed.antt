@@ -1,5 +1,5 @@
 -- What holds behind a run that only reads holds from its beginning.
-use Rattle.std.proofs.Common.{◌≡◌, ◌∙◌, ◌⊎◌, ℕ, ◌≤◌, Option, Result, Ok, Err, subst}
+use Rattle.std.proofs.Common.{◌≡◌, ◌∙◌, ◌⊎◌, inl, inr, ℕ, ◌≤◌, Option, Result, Ok, Err, subst}
 use Rattle.ss_disk.specs.Kinds.{DiskKind}
 use Rattle.ss_model.specs.declared.catalog.Catalog.{Catalog}
 use Rattle.ss_model.specs.Database.{Database as Model}
@@ -14,7 +14,7 @@ use Rattle.ss_recover.specs.declared.recovered.Recovered.{Recovered}
 use Rattle.ss_recover.specs.declared.error.RecoverError.{RecoverError}
 use Rattle.ss_recover.specs.declared.error.RecoverError.TheVariants.{NoMemory, DiskFault, Foreign, OtherCatalog, Nothing}
 use Rattle.ss_recover.specs.Faults.{HasFaultAt, IsStore}
-use Rattle.ss_recover.specs.Recovering.{IsRecovered, RefusesAsSaid, TellsFaults}
+use Rattle.ss_recover.specs.Recovering.{IsRecovered, MayForm, MayHaveFormed, RefusesAsSaid, TellsFaults}
 use Rattle.ss_recover.proofs.Moments.{only_that, since, forms_since, rose_since}
 
 module _ {D : Type 0} (kind : DiskKind D) (told_by : kind.honest → kind.tells) (given : Option Catalog) (old mid : D)
@@ -34,11 +34,26 @@ module _ {D : Type 0} (kind : DiskKind D) (told_by : kind.honest → kind.tells)
         quiet = λ true' only. only_that kind old r.log.disk (kind.seen old) _ only (stood (told_by true')) (moments true');
       }
 
+  -- a store that may have been made behind it
+  formed_since : (new : D) → kind.honest → MayHaveFormed kind given mid new → MayHaveFormed kind given old new
+  formed_since new true' is = record {
+    moments = since kind old mid new _ _ (reads.moments true') (λ image. forms_since given (kind.seen old) (kind.seen mid) image same) is.moments;
+    reads = by is.reads;
+    stands_on = λ catalog given_is n. stays_join kind.moment kind.images (StandsForAtLeast catalog n) (kind.moment old) mid new _ (stays_fewer kind.moment kind.images (StandsForAtLeast catalog n) (kind.moment old) mid (reads.fewer true')) is.moments (is.stands_on catalog given_is n);
+  }
+    where
+      same : kind.seen mid ≡ kind.seen old
+      same = reads.same (told_by true')
+
+      by : (kind.seen new ≡ kind.seen mid) ⊎ MayForm given (kind.seen mid) (kind.seen new) → (kind.seen new ≡ kind.seen old) ⊎ MayForm given (kind.seen old) (kind.seen new)
+      by (inl stays) = inl (stays ∙ same)
+      by (inr forms) = inr (forms_since given (kind.seen old) (kind.seen mid) (kind.seen new) same forms)
+
   module _ (new : D) (later : kind.faults old ≤ kind.faults mid) where
     pub refused_since : (e : RecoverError) → RefusesAsSaid kind given mid new e → RefusesAsSaid kind given old new e
-    refused_since NoMemory is = λ true'. since kind old mid new _ _ (reads.moments true') (λ image. forms_since given (kind.seen old) (kind.seen mid) image (reads.same (told_by true'))) (is true')
+    refused_since NoMemory is = λ true'. formed_since new true' (is true')
     refused_since DiskFault is =
-        (λ true'. since kind old mid new _ _ (reads.moments true') (λ image. forms_since given (kind.seen old) (kind.seen mid) image (reads.same (told_by true'))) (is.0 true'), rose_since (kind.faults old) (kind.faults mid) (kind.faults new) later is.1)
+        (λ true'. formed_since new true' (is.0 true'), rose_since (kind.faults old) (kind.faults mid) (kind.faults new) later is.1)
     refused_since (Foreign which at) is =
         (reads_join kind old mid new reads is.0, λ told. subst (λ (d : Files). HasFaultAt d which at) (reads.same told) (is.1 told))
     refused_since (OtherCatalog stored text) is =

@@ -7,7 +7,7 @@ use Rattle.ss_model.specs.Settling.{kept}
 use Rattle.ss_model_laws.proofs.CallerLemmas.{empty_whole}
 use Rattle.ss_disk.specs.Files.{Files}
 use Rattle.ss_disk.specs.Moments.{LeavesOnly}
-use Rattle.ss_disk.proofs.CallerLemmas.{no_call, leaves_less}
+use Rattle.ss_disk.proofs.CallerLemmas.{no_call, leaves_less, stays_none}
 use Rattle.ss_shard.specs.declared.database.Database.{Database}
 use Rattle.ss_shard.specs.Databases.{StandsFor as HoldsModel}
 use Rattle.ss_shard.specs.Parts.{IsWholeShard}
@@ -20,9 +20,9 @@ use Rattle.ss_cmdlog.specs.Store.{IsEmpty, StandsFor}
 use Rattle.ss_standing.specs.Image.{empty_image_of}
 use Rattle.ss_standing.specs.Keeping.{OneThingStandsOn}
 use Rattle.ss_standing.specs.Laws.{FormingStands}
-use Rattle.ss_standing.specs.Standing.{Stands}
+use Rattle.ss_standing.specs.Standing.{Stands, StandsForAtLeast, StandsOn}
 use Rattle.ss_recover.specs.Errors.{forming_refusal}
-use Rattle.ss_recover.specs.Recovering.{IsOwnCatalog, IsRecovered, LeadsTo, MayForm, RefusesAsSaid}
+use Rattle.ss_recover.specs.Recovering.{IsOwnCatalog, IsRecovered, LeadsTo, MayForm, MayHaveFormed, RefusesAsSaid}
 use Rattle.ss_recover.proofs.Images.{empty_image_at, leads_replayed}
 use Rattle.ss_replay.proofs.CallerLemmas.{empty_had}
 
@@ -72,14 +72,33 @@ module _ {D : Type 0} (kind : DiskKind D) (told_by : kind.honest → kind.tells)
       → LeavesOnly kind.moment kind.images old new (λ crashed. present kind old crashed ⊎ MayForm (Some catalog) (kind.seen old) crashed)
   may_form new run told = leaves_less kind.moment kind.images old new _ _ run (λ crashed either. inr (empty told, stands crashed either))
 
+  -- a crash, reads and receipts find an empty disk, or the new store
+  may_have_formed : (new : D) → (kind.honest → LeavesOnly kind.moment kind.images old new (λ crashed. IsEmpty crashed ⊎ StandsFor crashed (fresh image))) → (kind.honest → LeavesSome kind.moment kind.images (kind.moment old) new)
+      → OneThingStandsOn D kind.moment kind.images → ((disk : D) → kind.honest → kind.images disk (kind.moment disk) (kind.seen disk)) → kind.honest → MayHaveFormed kind (Some catalog) old new
+  may_have_formed new run some one sees true' =
+      let left = run true' in
+      record {
+        moments = may_form new left (told_by true');
+        reads = inr (empty (told_by true'), stands (kind.seen new) (left.each (kind.moment new) (kind.seen new) left.later (omega arith) (sees new true')));
+        stands_on = λ other is.
+            let same : catalog ≡ other = cc in
+            subst (λ (c : Catalog). StandsOn c kind.moment kind.images (kind.moment old) new) same
+            (one catalog 0 (kept catalog (empty_database catalog)) (kind.moment old) new (some true') (λ t crashed from to there. stands crashed (left.each t crashed from to there)));
+      }
+
   pub unformed : (new : D) (e : LogError) → IsAddRefusal e → HasCallCause (kind.faults old) (kind.faults new) e → (kind.honest → LeavesOnly kind.moment kind.images old new (λ crashed. IsEmpty crashed ⊎ StandsFor crashed (fresh image)))
+      → (kind.honest → LeavesSome kind.moment kind.images (kind.moment old) new) → OneThingStandsOn D kind.moment kind.images → ((disk : D) → kind.honest → kind.images disk (kind.moment disk) (kind.seen disk))
       → RefusesAsSaid kind (Some catalog) old new (forming_refusal e)
-  unformed new log.NoMemory may cause run = λ true'. may_form new (run true') (told_by true')
-  unformed new log.DiskFault may cause run = (λ true'. may_form new (run true') (told_by true'), cause.rose refl)
-  unformed new (log.Foreign which at) may cause run = absurd may
-  unformed new (log.Halted n) may cause run = absurd may
+  unformed new log.NoMemory may cause run some one sees = may_have_formed new run some one sees
+  unformed new log.DiskFault may cause run some one sees = (may_have_formed new run some one sees, cause.rose refl)
+  unformed new (log.Foreign which at) may cause run some one sees = absurd may
+  unformed new (log.Halted n) may cause run some one sees = absurd may
 
 -- before the disk is called nothing has changed
 pub uncalled : {D : Type 0} (kind : DiskKind D) (given : Option Catalog) (disk : D)
-    → kind.honest → LeavesOnly kind.moment kind.images disk disk (λ image. present kind disk image ⊎ MayForm given (kind.seen disk) image)
-uncalled kind given disk = λ true'. no_call kind.moment kind.images disk _ (λ image left. inl left)
+    → kind.honest → MayHaveFormed kind given disk disk
+uncalled kind given disk = λ true'. record {
+  moments = no_call kind.moment kind.images disk _ (λ image left. inl left);
+  reads = inl refl;
+  stands_on = λ catalog is n. stays_none kind.moment kind.images (StandsForAtLeast catalog n) (kind.moment disk) disk (omega arith);
+}

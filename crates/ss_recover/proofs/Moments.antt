@@ -6,8 +6,10 @@ use Rattle.ss_model.specs.declared.catalog.Catalog.{Catalog}
 use Rattle.ss_disk.specs.Files.{Files}
 use Rattle.ss_disk.specs.Crash.{Only}
 use Rattle.ss_disk.specs.Moments.{LeavesOnly}
-use Rattle.ss_disk.proofs.CallerLemmas.{runs_join, leaves_less}
-use Rattle.ss_recover.specs.Recovering.{LeavesOldOr, MayForm}
+use Rattle.ss_disk.proofs.CallerLemmas.{runs_join, leaves_less, stays_fewer}
+use Rattle.ss_cmdlog.specs.Opening.{OnlyReads}
+use Rattle.ss_standing.specs.Standing.{StandsForAtLeast}
+use Rattle.ss_recover.specs.Recovering.{LeavesOldOr, MayForm, MayHaveFormed}
 
 -- a count that rose since a later moment rose since an earlier one
 pub rose_since : (before mid now : ℕ) → before ≤ mid → Rose mid now → Rose before now
@@ -22,6 +24,14 @@ module _ {D : Type 0} (kind : DiskKind D) where
   pub only_that : (old new : D) (files : Files) (P : Files → Type 0) → Only files (present kind old) → P files → LeavesOldOr kind old new P → LeavesOnly kind.moment kind.images old new P
   only_that old new files P only has run =
       leaves_less kind.moment kind.images old new _ _ run (λ image either. ⊎_elim (λ (left : present kind old image). subst P (sym (only image left)) has) (λ (p : P image). p) either)
+
+  -- nothing was made by a run that only read
+  pub read_formed : (told_by : kind.honest → kind.tells) (given : Option Catalog) (old new : D) → OnlyReads kind old new → kind.honest → MayHaveFormed kind given old new
+  read_formed told_by given old new reads true' = record {
+    moments = old_or old new _ (reads.moments true');
+    reads = inl (reads.same (told_by true'));
+    stands_on = λ catalog is n. stays_fewer kind.moment kind.images (StandsForAtLeast catalog n) (kind.moment old) new (reads.fewer true');
+  }
 
   -- what a run left at its end it left at some moment
   at_end : (old new : D) (P : Files → Type 0) → LeavesOnly kind.moment kind.images old new P → (image : Files) → present kind new image → P image

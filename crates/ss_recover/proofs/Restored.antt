@@ -38,7 +38,7 @@ use Rattle.ss_recover.specs.Loading.{IsStored, RefusesLoaded}
 use Rattle.ss_recover.specs.Recovering.{DiffersFrom, GoesOn, IsOwnCatalog, IsRecovered, LeadsTo, RefusesAsSaid}
 use Rattle.ss_recover.proofs.Images.{leads_replayed}
 use Rattle.ss_recover.proofs.Places.{placed_so}
-use Rattle.ss_recover.proofs.Moments.{old_or, only_that}
+use Rattle.ss_recover.proofs.Moments.{old_or, only_that, read_formed}
 
 -- what a generation's groups hold has records
 entries_of_groups : (groups : List (List Entry)) → All IsGroup groups → All IsRecordable (flat_map (λ (es : List Entry). es) groups)
@@ -57,8 +57,8 @@ module _ {D : Type 0} (kind : DiskKind D) (told_by : kind.honest → kind.tells)
 
   pub unopened : (given : Option Catalog) (new : D) (e : LogError) → IsOpenRefusal e → HasCallCause (kind.faults old) (kind.faults new) e → (kind.tells → (kind.seen old).selector ≢ []) → (kind.tells → IsForeignStore (kind.seen old) e)
       → OnlyReads kind old new → RefusesAsSaid kind given old new (opening_refusal e)
-  unopened given new log.NoMemory may cause some foreign reads = λ true'. old_or kind old new _ (reads.moments true')
-  unopened given new log.DiskFault may cause some foreign reads = (λ true'. old_or kind old new _ (reads.moments true'), cause.rose refl)
+  unopened given new log.NoMemory may cause some foreign reads = read_formed kind told_by given old new reads
+  unopened given new log.DiskFault may cause some foreign reads = (read_formed kind told_by given old new reads, cause.rose refl)
   unopened given new (log.Foreign which at) may cause some foreign reads = (reads, λ told. inl (some told, foreign told which at refl))
   unopened given new (log.Halted n) may cause some foreign reads = absurd may
 
@@ -82,7 +82,7 @@ module _ {D : Type 0} (kind : DiskKind D) (told_by : kind.honest → kind.tells)
         }
 
     pub unstored : (given : Option Catalog) (e : StoredError) → RefusesLoaded loaded e → RefusesAsSaid kind given old log.disk (stored_refusal (number_of log.file) e)
-    unstored given stored.NoMemory why = λ true'. old_or kind old log.disk _ (reads.moments true')
+    unstored given stored.NoMemory why = read_formed kind told_by given old log.disk reads
     unstored given (stored.Foreign at) (inl odd) =
         (reads, λ told. inr (inl (record { s = s; reads = read_so told; offset = odd.offset; foreign = rw (sym is_loaded.image, sym is_loaded.first) odd.foreign; place = odd.place })))
     unstored given (stored.Foreign at) (inr odd) = (

@@ -107,6 +107,13 @@ abbrev pub MayForm : Option Catalog → Files → Files → Type 0
 MayForm None disk image = ⊥
 MayForm (Some catalog) disk image = IsEmpty disk × Stands catalog image 0 (kept catalog (empty_database catalog))
 
+-- nothing was recovered, and on an empty disk a store of the given catalogue may have been made: what that leaves to a crash, what reads
+-- give, and that what stood for so many executions does so on
+pub record MayHaveFormed {D : Type 0} (kind : DiskKind D) (given : Option Catalog) (old new : D) : Type 0 where
+  pub moments : LeavesOldOr kind old new (MayForm given (kind.seen old))
+  pub reads : (kind.seen new ≡ kind.seen old) ⊎ MayForm given (kind.seen old) (kind.seen new)
+  pub stands_on : (catalog : Catalog) → given ≡ Some catalog → StandsOn catalog kind.moment kind.images (kind.moment old) new
+
 -- so many executions were recovered of a catalogue with this text, which is another than the given one's
 pub record HasOtherText (tells : Type 0) (disk : Files) (given : Option Catalog) (stored text : List ℕ) : Type 0 where
   pub ours : Catalog
@@ -133,9 +140,9 @@ TellsFaults kind old result = MatchResult result (λ r. kind.faults r.log.disk �
 -- a refusal, and what it leaves of the disk
 abbrev pub RefusesAsSaid : {D : Type 0} → DiskKind D → Option Catalog →
     D → D → RecoverError → Type 0
-RefusesAsSaid kind given old new NoMemory = kind.honest → LeavesOldOr kind old new (MayForm given (kind.seen old))
+RefusesAsSaid kind given old new NoMemory = kind.honest → MayHaveFormed kind given old new
 RefusesAsSaid kind given old new DiskFault =
-    (kind.honest → LeavesOldOr kind old new (MayForm given (kind.seen old))) × Rose (kind.faults old) (kind.faults new)
+    (kind.honest → MayHaveFormed kind given old new) × Rose (kind.faults old) (kind.faults new)
 RefusesAsSaid kind given old new (Foreign which at) =
     OnlyReads kind old new × (kind.tells → HasFaultAt (kind.seen old) which at)
 RefusesAsSaid kind given old new (OtherCatalog stored text) =

@@ -198,8 +198,8 @@ module _ {D : Type 0} (kind : DiskKind D) (every : Option ℕ) (limit : ℕ) (pr
 
     -- a refusal of a run on this catalogue
     pub run_refused : (error : RecoverError) → RefusesAsSaid kind (Some catalog) old new error → (ended : Status) → TellsRefusal error ended w → CameSo ended
-    run_refused recovery.NoMemory refuses ended t = subst CameSo (sym t.is) (record { came = inl (record { nothing_ran = refuses; written = t.reported }); cause = tt })
-    run_refused recovery.DiskFault refuses ended t = subst CameSo (sym t.is) (record { came = inl (record { nothing_ran = refuses.0; written = t.reported }); cause = refuses.1 })
+    run_refused recovery.NoMemory refuses ended t = subst CameSo (sym t.is) (record { came = inl (record { nothing_ran = λ true'. (refuses true').moments; written = t.reported }); cause = tt })
+    run_refused recovery.DiskFault refuses ended t = subst CameSo (sym t.is) (record { came = inl (record { nothing_ran = λ true'. (refuses.0 true').moments; written = t.reported }); cause = refuses.1 })
     run_refused (recovery.Foreign file at) refuses ended (inl t) =
         subst CameSo (sym t.is) (record { came = record { file = file; place = at; fault = refuses.1; ends = record { only_read = was_read refuses.0; written = t.reported } }; cause = tt })
     run_refused (recovery.Foreign file at) refuses ended (inr t) = subst CameSo (sym t.is) (short_of_memory refuses.0.moments t.reported)
@@ -249,8 +249,8 @@ module _ {D : Type 0} (kind : DiskKind D) (every : Option ℕ) (limit : ℕ) (pr
   nothing_told Limit empty before wrote = absurd wrote
 
   pub recovery_refused : (error : RecoverError) → RefusesAsSaid kind None old new error → (ended : Status) → TellsRefusal error ended w → RecoveredSo ended
-  recovery_refused recovery.NoMemory refuses ended t = subst RecoveredSo (sym t.is) (record { came = inl (record { as_before = as_before_read refuses; written = t.reported }); cause = tt })
-  recovery_refused recovery.DiskFault refuses ended t = subst RecoveredSo (sym t.is) (record { came = inl (record { as_before = as_before_read refuses.0; written = t.reported }); cause = refuses.1 })
+  recovery_refused recovery.NoMemory refuses ended t = subst RecoveredSo (sym t.is) (record { came = inl (record { as_before = as_before_read (λ true'. (refuses true').moments); written = t.reported }); cause = tt })
+  recovery_refused recovery.DiskFault refuses ended t = subst RecoveredSo (sym t.is) (record { came = inl (record { as_before = as_before_read (λ true'. (refuses.0 true').moments); written = t.reported }); cause = refuses.1 })
   recovery_refused (recovery.Foreign file at) refuses ended (inl t) =
       subst RecoveredSo (sym t.is) (record { came = record { file = file; place = at; fault = refuses.1; ends = record { only_read = was_read refuses.0; written = t.reported } }; cause = tt })
   recovery_refused (recovery.Foreign file at) refuses ended (inr t) = subst RecoveredSo (sym t.is) (record { came = inl (record { as_before = refuses.0.moments; written = t.reported }); cause = tt })

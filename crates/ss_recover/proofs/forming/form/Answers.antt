@@ -15,7 +15,7 @@ returns-in-Err-clause-refused g c =
     let spelled = c.as_slice.ensures ∙ c.in-Ok.ensures.ok in
     rw c.refusal.ensures (
     unformed g.D.Disk.kind g.met.D.Disk.honest_tells c.args.catalog c.requires.own c.forming_stands.ensures c.as_slice.result.now spelled c.args.disk c.requires.empty
-    c.in-Err.disk c.in-Err.refused c.in-Err.ensures.refusals c.in-Err.ensures.cause c.in-Err.ensures.moments)
+    c.in-Err.disk c.in-Err.refused c.in-Err.ensures.refusals c.in-Err.ensures.cause c.in-Err.ensures.moments c.in-Err.ensures.some c.one_thing_stands_on.ensures g.met.D.Disk.sees_an_image)
 
 pub returns-in-Err-clause-told : goal.returns-in-Err-clause-told
 returns-in-Err-clause-told g c = λ other. c.in-Err.ensures.cause.told (λ is. other (c.refusal.ensures ∙ ap forming_refusal is))

@@ -3,6 +3,7 @@ use Rattle.std.proofs.lemmas.Result.{IfErr-weaker, IfOk-weaker}
 use Rattle.ss_model.specs.Database.{empty_database}
 use Rattle.ss_recover.proofs.Alike.{recovered_told}
 use Rattle.ss_recover.proofs.Composed.{recovered_since, refused_since, told_since}
+use Rattle.ss_recover.proofs.Moments.{read_formed}
 use Rattle.ss_recover.proofs.recovery.recover.Goals as goal
 
 pub returns-then-not-empty-clause-recovered : goal.returns-then-not-empty-clause-recovered
@@ -40,3 +41,7 @@ returns-then-not-empty-clause-told g c = told_since g.D.Disk.kind c.args.disk c.
 
 pub returns-in-Some-clause-told : goal.returns-in-Some-clause-told
 returns-in-Some-clause-told g c = told_since g.D.Disk.kind c.args.disk c.is_empty.new.disk c.form.result c.in-Ok.ensures.cause.done c.form.ensures.told
+
+pub returns-in_default-clause-refused : goal.returns-in_default-clause-refused
+returns-in_default-clause-refused g c =
+    (read_formed g.D.Disk.kind g.met.D.Disk.honest_tells c.args.catalog c.args.disk c.is_empty.new.disk c.is_empty.ensures.reads, c.in_default.ensures.cause.failed)

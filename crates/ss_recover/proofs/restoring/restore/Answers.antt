@@ -1,4 +1,4 @@
-use Rattle.std.proofs.Common.{◌∙◌, List, All, ap, refl, subst, sym}
+use Rattle.std.proofs.Common.{◌∙◌, List, All, ap, subst, sym}
 use Rattle.ss_model.specs.declared.entry.Entry.{Entry}
 use Rattle.ss_record.specs.Bounds.{IsRecordable}
 use Rattle.ss_recover.specs.Errors.{opening_refusal}
