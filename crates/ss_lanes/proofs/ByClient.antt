@@ -1,11 +1,11 @@
 -- Clients in a list, each with its lane.
-use Rattle.std.proofs.Common.{◌≡◌, ℕ, zero, suc, ◌<◌, ◌≤◌, List, [], ◌∷◌, ◌++◌, length, map, get_or, take, drop, slice_get, Option, Some, IfSome, refl, sym, ap, subst, ◌∙◌, arith}
-use Rattle.std.proofs.lemmas.List.{length_push, take_at}
+use Rattle.std.proofs.Common.{◌≡◌, ℕ, zero, suc, ◌-◌, ◌<◌, ◌≤◌, List, [], ◌∷◌, ◌++◌, length, map, get_or, take, drop, slice_get, Option, Some, IfSome, refl, sym, ap, subst, ◌∙◌, arith}
+use Rattle.std.proofs.lemmas.List.{length-drop, length_push, take_at}
 use Rattle.ss_model.specs.declared.entry.Request.{Request}
 use Rattle.ss_report_laws.specs.Replies.{requests_of}
 use Rattle.ss_lanes.specs.declared.client.Client.{Client}
 use Rattle.ss_lanes.specs.Clients.{AllThere, EachAt, EachHasLane, HasLane, MayBegin, lane_of, some_lane}
-use Rattle.ss_lanes.specs.Lanes.{LaneView, IsFresh}
+use Rattle.ss_lanes.specs.Lanes.{LaneView, IsFresh, start_of}
 
 -- what holds at each number holds at one number more
 pub each_more : {A : Type 0} (P : ℕ → A → Type 0) (xs : List A) (x : A) → ((k : ℕ) (d : A) → k < length xs → P k (get_or xs k d)) → P (length xs) x
@@ -66,19 +66,21 @@ module _ {I : Type 0} where
   many_lanes many P lanes cs same has = as_many lanes cs same ∙ has.many_are
 
   -- one lane more has become a client
-  pub one_begins : (first : ℕ) (requests : List Request) (lanes rest : List LaneView) (cs news : List (Client I)) (lane new : LaneView) (room : ℕ)
-      → EachAt (IsFresh first) lanes → lane ∷ rest ≡ drop (length cs) lanes → new ≡ record { client = lane.client; list = lane.list; count = lane.count; due = lane.due; answers = lane.answers; spare = new.spare }
-      → room ≡ length (requests_of (length cs) requests) → room ≤ new.spare → news ≡ cs ++ record { lane = Some new } ∷ [] → EachHasLane (length cs) (MayBegin first requests) cs
-      → (rest ≡ drop (length news) lanes) × EachHasLane (length news) (MayBegin first requests) news
-  one_begins first requests lanes rest cs news lane new room fresh left same counted enough more begin =
+  pub one_begins : (first : ℕ) (starts : List ℕ) (requests : List Request) (lanes rest : List LaneView) (cs news : List (Client I)) (lane new : LaneView) (room : ℕ)
+      → EachAt (λ k. IsFresh first k (start_of starts k)) lanes → lane ∷ rest ≡ drop (length cs) lanes
+      → new ≡ record { client = lane.client; start = lane.start; list = lane.list; count = lane.count; due = lane.due; answers = lane.answers; spare = new.spare }
+      → room ≡ length (requests_of (length cs) requests) - start_of starts (length cs) → room ≤ new.spare → news ≡ cs ++ record { lane = Some new } ∷ [] → EachHasLane (length cs) (MayBegin first starts requests) cs
+      → (rest ≡ drop (length news) lanes) × EachHasLane (length news) (MayBegin first starts requests) news
+  one_begins first starts requests lanes rest cs news lane new room fresh left same counted enough more begin =
       let here = at_rest (length cs) lanes lane rest left in
       let f = fresh (length cs) lane here.0 in
-      let begins : MayBegin first requests (length cs) new = record {
-        fresh = subst (IsFresh first (length cs)) (sym same) (record { client_is = f.client_is; list_is = f.list_is; seen = f.seen; nothing_due = f.nothing_due; none = f.none });
-        room = subst (λ n. n ≤ new.spare) counted enough;
+      let begins : MayBegin first starts requests (length cs) new = record {
+        fresh = subst (IsFresh first (length cs) (start_of starts (length cs))) (sym same)
+            (record { client_is = f.client_is; start_is = f.start_is; list_is = f.list_is; seen = f.seen; nothing_due = f.nothing_due; none = f.none });
+        room = subst (λ n. n ≤ new.spare) (counted ∙ sym (length-drop (start_of starts (length cs)) (requests_of (length cs) requests))) enough;
       } in
       let c : Client I = record { lane = Some new } in
       let long : length news ≡ suc (length cs) = ap (λ (l : List (Client I)). length l) more ∙ (length_push cs c ∙ (omega arith)) in (
         here.1 ∙ ap (λ n. drop n lanes) (sym long),
-        subst (λ (l : List (Client I)). EachHasLane (length l) (MayBegin first requests) l) (sym more) (one_client (MayBegin first requests) cs c begin (record { there = refl; lane_is = begins })),
+        subst (λ (l : List (Client I)). EachHasLane (length l) (MayBegin first starts requests) l) (sym more) (one_client (MayBegin first starts requests) cs c begin (record { there = refl; lane_is = begins })),
       )

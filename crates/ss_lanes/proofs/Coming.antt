@@ -1,5 +1,6 @@
 -- A lane whose mark came back with a reply of its own, and met the lane's note.
-use Rattle.std.proofs.Common.{◌≡◌, ◌≢◌, inl, ℕ, ◌+◌, ◌<◌, ◌≤◌, List, [], ◌∷◌, ◌++◌, length, refl, sym, ap, ◌∙◌, subst, arith, append-nil, Result, Ok, Err}
+use Rattle.std.proofs.Common.{◌≡◌, ◌≢◌, inl, ℕ, ◌+◌, ◌-◌, ◌<◌, ◌≤◌, List, [], ◌∷◌, ◌++◌, length, refl, sym, ap, ◌∙◌, subst, arith, append-nil, Result, Ok, Err}
+use Rattle.std.proofs.lemmas.List.{length_push}
 use Rattle.ss_value.specs.Reserved.{ReservedList}
 use Rattle.ss_model.specs.declared.catalog.Catalog.{Catalog}
 use Rattle.ss_model.specs.declared.entry.Answer.{Answer}
@@ -21,7 +22,7 @@ use Rattle.ss_lanes.specs.declared.ticket.Ticket.{Ticket}
 use Rattle.ss_lanes.specs.Mines.{Mine, mine_in}
 use Rattle.ss_lanes.specs.Answered.{answer_of, IsAfter, IsAnswered}
 use Rattle.ss_lanes.specs.Dues.{due_after}
-use Rattle.ss_lanes.specs.Lanes.{LaneView, lane_view, IsLane, IsRightAnswer, IsSubmitted}
+use Rattle.ss_lanes.specs.Lanes.{LaneView, lane_view, next_ticket, IsLane, IsRightAnswer, IsSubmitted}
 use Rattle.ss_lanes.specs.Owning.{IsOwnSaid, IsOwn}
 use Rattle.ss_lanes.specs.Replies.{ReplyView, IsSaid, IsReply}
 use Rattle.ss_lanes.proofs.Dues.{due_on}
@@ -29,14 +30,15 @@ use Rattle.ss_lanes.proofs.Mines.{mine_own, no_more, just_one}
 use Rattle.ss_lanes.proofs.Telling.{few_more}
 
 -- the client's entries in a list that went on, by what was said of what the mark had known
-said_after : (first limit : ℕ) (t : Ticket) (due : Due) (what : Asked) (note : Known) (as' : ReservedList Answer) (own new rest : List Item) (count : ℕ) (said : Result Placed Unlisted) → t.index ≡ length as'.items
+said_after : (first limit : ℕ) (t : Ticket) (due : Due) (what : Asked) (note : Known) (as' : ReservedList Answer) (own new rest : List Item) (count : ℕ) (said : Result Placed Unlisted) → length as'.items ≤ t.index
     → new ≡ note.list ++ rest → length own ≤ length new → length new ≤ limit → mine_in t.client first new ≡ mine_in t.client first own
     → t.count ≡ length (mine_in t.client first note.list) → count ≡ length (mine_in t.client first own) → IsSaid first limit t.client own said → IsOwnSaid t what count said
     → IsAfter (mine_in t.client first note.list) (mine_in t.client first new) said × IsRightAnswer first limit (lane_view t due note as') what new (answer_of said)
 said_after first limit t due what note as' own new rest count (Ok p) index is longer short same counted count_is said own_said =
     let many : length (mine_in t.client first new) ≡ length (mine_in t.client first note.list) + 1 = (let a = ap (λ (x : List Mine). length x) same in let b = own_said.0 in omega arith) in
     let o = just_one t.client first new note.list rest is said.0 (p.place, p.listed) many (same ∙ said.1) in
-    ((o.0, said.2), (o.0 ∙ ap (λ (e : Entry). mine_in t.client first note.list ++ listed_at p.place p.listed.outcome e ∷ []) (own_said.1 ∙ ap (λ n. asked_entry t.client n what) index), o.1))
+    let number : t.index ≡ t.index - length as'.items + length as'.items = omega (arith, index) in
+    ((o.0, said.2), (o.0 ∙ ap (λ (e : Entry). mine_in t.client first note.list ++ listed_at p.place p.listed.outcome e ∷ []) (own_said.1 ∙ ap (λ n. asked_entry t.client n what) number), o.1))
 said_after first limit t due what note as' own new rest count (Err NoMemory) index is longer short same counted count_is said own_said =
     let many : length (mine_in t.client first new) ≡ length (mine_in t.client first note.list) = (let a = ap (λ (x : List Mine). length x) same in omega arith) in
     let o = no_more t.client first new note.list rest is many in
@@ -104,12 +106,13 @@ as_before clients first t due mark note as' lane = record {
 
 -- the lane with one answer more, as its caller sees it
 pub submitted : (catalog : Catalog) (parts first limit : ℕ) (t : Ticket) (due : Due) (what : Asked) (as' : ReservedList Answer) (note y : Known) (old new : LaneView) (said : Result Placed Unlisted)
-    → lane_view t due note as' ≡ old → due.faults ≡ 0 → new.client ≡ t.client → (new.list ≡ y.list) × (new.count ≡ y.count) → new.due ≡ due_after due (answer_of said)
+    → lane_view t due note as' ≡ old → due.faults ≡ 0 → new.client ≡ t.client → new.start ≡ t.index - length as'.items → (new.list ≡ y.list) × (new.count ≡ y.count) → new.due ≡ due_after due (answer_of said)
     → new.answers ≡ as'.items ++ answer_of said ∷ [] → new.spare + 1 ≡ as'.spare → GoesOn catalog parts note y → IsRightAnswer first limit (lane_view t due note as') what y.list (answer_of said)
     → IsSubmitted first limit old what new
-submitted catalog parts first limit t due what as' note y old new said was going client now later answers spare on right =
+submitted catalog parts first limit t due what as' note y old new said was going client start now later answers spare on right =
     subst (λ (o : LaneView). IsSubmitted first limit o what new) was (record {
       client_is = client;
+      start_is = start;
       rest = on.on.rest;
       begins = now.0 ∙ on.on.is;
       seen = (let a = now.1 in let b = on.sees.count in omega arith);
@@ -123,12 +126,16 @@ submitted catalog parts first limit t due what as' note y old new said was going
 
 -- the lane that is told again that the disk has failed
 pub halted_again : (first limit : ℕ) (t next : Ticket) (due : Due) (what : Asked) (as' more : ReservedList Answer) (note : Known) (old new : LaneView)
-    → lane_view t due note as' ≡ old → old.due.faults ≢ 0 → more.items ≡ as'.items ++ variants.Halted due.faults ∷ [] → more.spare + 1 ≡ as'.spare → next.client ≡ t.client → new ≡ lane_view next due note more
+    → lane_view t due note as' ≡ old → old.due.faults ≢ 0 → more.items ≡ as'.items ++ variants.Halted due.faults ∷ [] → more.spare + 1 ≡ as'.spare → next ≡ next_ticket t 0 → new ≡ lane_view next due note more
     → IsSubmitted first limit old what new
-halted_again first limit t next due what as' more note old new was some answers spare client is =
+halted_again first limit t next due what as' more note old new was some answers spare numbers is =
     let failed : due.faults ≢ 0 = subst (λ (o : LaneView). o.due.faults ≢ 0) (sym was) some in
+    let index = ap (λ (n : Ticket). n.index) numbers in
+    let long = ap (λ (l : List Answer). length l) answers in
+    let push = length_push as'.items (variants.Halted due.faults) in
     let submitted : IsSubmitted first limit (lane_view t due note as') what (lane_view next due note more) = record {
-      client_is = client;
+      client_is = ap (λ (n : Ticket). n.client) numbers;
+      start_is = omega (arith, index, long, push);
       rest = [];
       begins = sym (append-nil note.list);
       seen = omega arith;

@@ -6,7 +6,7 @@ use Rattle.ss_lemmas.proofs.Ends.{ends_alike}
 use Rattle.ss_commitlog.specs.declared.role.Role.TheVariants.{Reader, Client}
 use Rattle.ss_commitlog.specs.Rule.{numbered, reader}
 use Rattle.ss_commitlog.specs.Tokens.{Known, known, at_opening}
-use Rattle.ss_lanes.specs.Lanes.{LaneView, AreFresh, IsFresh}
+use Rattle.ss_lanes.specs.Lanes.{LaneView, AreFresh, IsFresh, start_of}
 use Rattle.ss_lanes.proofs.ByClient.{each_more}
 
 -- the marks of the clients from one on, and a note for each of them behind those of the partitions
@@ -64,16 +64,17 @@ module _ (first parts clients client : ℕ) (low : client < clients) where
   next_left olds old_notes mark note marks notes left a b = next_of left.more mark note marks notes left.many (sym a ∙ left.marks_are) (sym b ∙ left.notes_are)
 
 -- one lane more
-pub fresh_more : (first client : ℕ) (lanes : List LaneView) (lane : LaneView) → AreFresh first client lanes → IsFresh first client lane → AreFresh first (client + 1) (lanes ++ lane ∷ [])
-fresh_more first client lanes lane are is = record {
+pub fresh_more : (first client : ℕ) (starts : List ℕ) (lanes : List LaneView) (lane : LaneView) → AreFresh first client starts lanes → IsFresh first client (start_of starts client) lane
+    → AreFresh first (client + 1) starts (lanes ++ lane ∷ [])
+fresh_more first client starts lanes lane are is = record {
   many = length_push lanes lane ∙ ap (λ k. k + 1) are.many;
-  each = λ k one at. subst (IsFresh first k) (get_or_from_slice_get (lanes ++ lane ∷ []) k one one at)
-      (each_more (IsFresh first) lanes lane (λ n d low. are.each n (get_or lanes n d) (slice_get-get_or lanes n d low)) (subst (λ n. IsFresh first n lane) (sym are.many) is) k one
-      (slice_get_within (lanes ++ lane ∷ []) k one at));
+  each = λ k one at. subst (IsFresh first k (start_of starts k)) (get_or_from_slice_get (lanes ++ lane ∷ []) k one one at)
+      (each_more (λ n. IsFresh first n (start_of starts n)) lanes lane (λ n d low. are.each n (get_or lanes n d) (slice_get-get_or lanes n d low))
+      (subst (λ n. IsFresh first n (start_of starts n) lane) (sym are.many) is) k one (slice_get_within (lanes ++ lane ∷ []) k one at));
 }
 
-pub none_fresh : (first : ℕ) → AreFresh first 0 []
-none_fresh first = record { many = refl; each = λ k lane is. absurd (cc) }
+pub none_fresh : (first : ℕ) (starts : List ℕ) → AreFresh first 0 starts []
+none_fresh first starts = record { many = refl; each = λ k lane is. absurd (cc) }
 
 -- no client is left
 pub notes_stay : (first parts clients : ℕ) (marks notes : List Known) → AreLeft first parts clients clients marks notes → notes ≡ at_opening first (numbered reader 0 parts [])

@@ -4,6 +4,7 @@ pub mod Telling
 pub mod Coming
 pub mod Same
 pub mod ServedLanes
+pub mod Stopping
 pub mod Meeting
 pub mod Making
 pub mod ByClient

@@ -1,6 +1,7 @@
 -- A client that makes one request after another.
-use Rattle.std.proofs.Common.{◌≡◌, ◌⊎◌, inr, ⊎_elim, refl, ℕ, zero, suc, ◌+◌, ◌<◌, ◌≤◌, ◌==◌, true, false, cond, List, [], ◌∷◌, ◌++◌, length, take, drop, get_or, slice_get, Some, sym, ap, subst, ◌∙◌, arith, append-nil, length-append}
+use Rattle.std.proofs.Common.{◌≡◌, ◌≢◌, ◌⊎◌, inr, ⊎_elim, refl, ℕ, zero, suc, ◌+◌, ◌-◌, ◌<◌, ◌≤◌, ◌==◌, true, false, cond, List, [], ◌∷◌, ◌++◌, length, take, drop, get_or, slice_get, Some, sym, ap, subst, ◌∙◌, arith, append-nil, length-append}
 use Rattle.std.specs.List.{list_all}
+use Rattle.std.proofs.lemmas.List.{length-drop, nil_from_length}
 use Rattle.std.proofs.lemmas.List.Elements.{filter_more}
 use Rattle.std.proofs.lemmas.Option.{slice_get-get_or}
 use Rattle.ss_lemmas.proofs.Bools.{first_of_two, second_of_two}
@@ -18,12 +19,13 @@ use Rattle.ss_report_laws.specs.Replies.{expected_entries, requests_of, IsListed
 use Rattle.ss_commitlog.specs.declared.rule.Item.{Item}
 use Rattle.ss_lanes.specs.declared.due.Due.{Due}
 use Rattle.ss_lanes.specs.Between.{HasRequested, KeepsAnswers}
-use Rattle.ss_lanes.specs.Clients.{AllFit, AreListedOr, HasMade, IsUnlisted, MayBegin}
-use Rattle.ss_lanes.specs.Lanes.{LaneView, IsRightAnswer, IsSubmitted}
+use Rattle.ss_lanes.specs.Clients.{AllFit, AreListedOr, HasMade, IsUnlisted, MayBegin, StopsBeyond, requests_from}
+use Rattle.ss_lanes.specs.Lanes.{LaneView, IsRightAnswer, IsSubmitted, start_of}
 use Rattle.ss_lanes.specs.Mines.{mine_in}
 use Rattle.ss_lanes.specs.Served.{IsServed}
 use Rattle.ss_lanes.proofs.Dues.{last_too}
 use Rattle.ss_lanes.proofs.ServedLanes.{lanes_serve}
+use Rattle.ss_lanes.proofs.Stopping.{MayFollow, stops_more}
 use Rattle.ss_lanes.proofs.Telling.{same_faults}
 
 -- ---- requests that fit
@@ -70,6 +72,36 @@ module _ (client : ℕ) (rs : List Request) (n : ℕ) (r : Request) (below : n <
   pub other_left : (r.client == client) ≡ false → requests_of client (drop n rs) ≡ requests_of client (drop (n + 1) rs)
   other_left other = left ∙ ap (λ b. cond b (r ∷ requests_of client (drop (n + 1) rs)) (requests_of client (drop (n + 1) rs))) other
 
+-- ---- which of its requests a client makes here
+
+push_from : (n : ℕ) (rs : List Request) (r : Request) → n ≤ length rs → drop n (rs ++ r ∷ []) ≡ drop n rs ++ r ∷ []
+push_from zero rs r there = refl
+push_from (suc n) [] r there = absurd (omega (arith, there))
+push_from (suc n) (x ∷ rs) r there = push_from n rs r (omega (arith, there))
+
+none_from : (n : ℕ) (rs : List Request) → length rs ≤ n → drop n rs ≡ []
+none_from n rs short = let left = length-drop n rs in nil_from_length (drop n rs) (omega (arith, left, short))
+
+module _ (starts : List ℕ) (client : ℕ) (before after : List Request) (r : Request) (one : requests_of client after ≡ requests_of client before ++ r ∷ []) where
+  -- one more, behind those that it passes over
+  pub own_from : start_of starts client ≤ length (requests_of client before) → requests_from starts client after ≡ requests_from starts client before ++ r ∷ []
+  own_from there = ap (drop (start_of starts client)) one ∙ push_from (start_of starts client) (requests_of client before) r there
+
+  -- one that it passes over
+  pub own_passed : length (requests_of client before) < start_of starts client → requests_from starts client after ≡ requests_from starts client before
+  own_passed few =
+      let more = ap (λ (l : List Request). length l) one in
+      let push = length-append (requests_of client before) (r ∷ []) in
+      none_from (start_of starts client) (requests_of client after) (omega (arith, few, more, push)) ∙ sym (none_from (start_of starts client) (requests_of client before) (omega (arith, few)))
+
+-- another client's
+pub other_from : (starts : List ℕ) (client : ℕ) (before after : List Request) → requests_of client after ≡ requests_of client before → requests_from starts client after ≡ requests_from starts client before
+other_from starts client before after same = ap (drop (start_of starts client)) same
+
+-- how many a client makes here
+pub many_from : (starts : List ℕ) (client : ℕ) (requests : List Request) → length (requests_from starts client requests) ≡ length (requests_of client requests) - start_of starts client
+many_from starts client requests = length-drop (start_of starts client) (requests_of client requests)
+
 -- ---- answers to requests that are not listed
 
 longer : (limit m n e f : ℕ) → m ≤ n → (e ≡ 0) ⊎ (e ≡ f) → (a : Answer) → IsListedOr (IsUnlisted limit m e) a → IsListedOr (IsUnlisted limit n f) a
@@ -90,20 +122,35 @@ right_unlisted first limit old what new (Halted faults) right = (right.1, right.
 
 -- ---- the requests of a client
 
+right_follows : (first limit : ℕ) (old : LaneView) (what : Asked) (new : List Item) (a : Answer) → IsRightAnswer first limit old what new a → (old.due.faults ≢ 0 → a ≡ Halted old.due.faults) → MayFollow (first + length old.list) old.due.faults a
+right_follows first limit old what new (ListedAnswer place outcome) right halts = (right.1, not_told old.due.faults halts)
+  where
+    not_told : (faults : ℕ) → (faults ≢ 0 → ListedAnswer place outcome ≡ Halted faults) → faults ≡ 0
+    not_told zero told = refl
+    not_told (suc n) told = absurd (let other = told (λ none. omega (arith, none)) in cc)
+right_follows first limit old what new NoMemory right halts = tt
+right_follows first limit old what new (ListFull count) right halts = tt
+right_follows first limit old what new (Halted faults) right halts = tt
+
 -- none yet
-pub made_none : (first limit : ℕ) (requests : List Request) (client : ℕ) (lane : LaneView) → MayBegin first requests client lane → HasMade first limit [] client lane
-made_none first limit requests client lane begins = record {
+pub made_none : (first limit : ℕ) (starts : List ℕ) (requests : List Request) (client : ℕ) (lane : LaneView) → MayBegin first starts requests client lane → HasMade first limit starts [] client lane
+made_none first limit starts requests client lane begins = record {
   client_is = begins.fresh.client_is;
-  served = lanes_serve.starts first client lane begins.fresh;
+  start_is = begins.fresh.start_is;
+  served = subst (λ (rs : List Request). IsServed first rs lane) (sym (none_from (start_of starts client) [] (omega arith))) (lanes_serve.starts first client (start_of starts client) lane begins.fresh);
+  beyond = subst (StopsBeyond first limit) (sym begins.fresh.none) tt;
   others = subst (AreListedOr limit (length lane.list) lane.due.faults) (sym begins.fresh.none) tt;
 }
 
 -- one more
-pub made_more : (first limit client : ℕ) (before after : List Request) (r : Request) (old new : LaneView) → requests_of client after ≡ requests_of client before ++ r ∷ []
-    → HasMade first limit before client old → IsSubmitted first limit old r.what new → HasMade first limit after client new
-made_more first limit client before after r old new one made more = record {
+pub made_more : (first limit : ℕ) (starts : List ℕ) (client : ℕ) (before after : List Request) (r : Request) (old new : LaneView) → requests_from starts client after ≡ requests_from starts client before ++ r ∷ []
+    → HasMade first limit starts before client old → IsSubmitted first limit old r.what new → HasMade first limit starts after client new
+made_more first limit starts client before after r old new one made more = record {
   client_is = more.client_is ∙ made.client_is;
-  served = subst (λ rs. IsServed first rs new) (sym one) (lanes_serve.goes_on first limit (requests_of client before) r old new made.served more);
+  start_is = more.start_is ∙ made.start_is;
+  served = subst (λ rs. IsServed first rs new) (sym one) (lanes_serve.goes_on first limit (requests_from starts client before) r old new made.served more);
+  beyond = subst (StopsBeyond first limit) (sym more.answers)
+      (stops_more first limit (length old.list) old.due.faults old.answers more.answer made.others (right_follows first limit old r.what new.list more.answer more.right more.halts) made.beyond);
   others =
       (let grown : length old.list ≤ length new.list = (let e = ap (λ (l : List Item). length l) more.begins in let s = length-append old.list more.rest in omega arith) in
       let same : new.due.faults ≡ old.due.faults = ap (λ (d : Due). d.faults) more.due_is ∙ same_faults old.due more.answer in
@@ -114,15 +161,18 @@ made_more first limit client before after r old new one made more = record {
 }
 
 -- behind a receipt, or where there is none
-pub made_kept : (first limit client : ℕ) (requests : List Request) (old new : LaneView) → HasMade first limit requests client old → KeepsAnswers first old new → HasMade first limit requests client new
-made_kept first limit client requests old new made keeps = record {
+pub made_kept : (first limit : ℕ) (starts : List ℕ) (client : ℕ) (requests : List Request) (old new : LaneView) → HasMade first limit starts requests client old → KeepsAnswers first old new → HasMade first limit starts requests client new
+made_kept first limit starts client requests old new made keeps = record {
   client_is = keeps.client_is ∙ made.client_is;
+  start_is = keeps.start_is ∙ made.start_is;
   served = record {
     many = ap (λ (l : List Answer). length l) keeps.answers_are ∙ made.served.many;
     entries = ap (λ c. mine_in c first new.list) keeps.client_is
-        ∙ (keeps.own ∙ (made.served.entries ∙ (ap (λ (l : List Answer). expected_entries old.client 0 (requests_of client requests) l) (sym keeps.answers_are)
-        ∙ ap (λ c. expected_entries c 0 (requests_of client requests) new.answers) (sym keeps.client_is))));
+        ∙ (keeps.own ∙ (made.served.entries ∙ (ap (λ (l : List Answer). expected_entries old.client old.start (requests_from starts client requests) l) (sym keeps.answers_are)
+        ∙ (ap (λ c. expected_entries c old.start (requests_from starts client requests) new.answers) (sym keeps.client_is)
+        ∙ ap (λ s. expected_entries new.client s (requests_from starts client requests) new.answers) (sym keeps.start_is)))));
   };
+  beyond = subst (StopsBeyond first limit) (sym keeps.answers_are) made.beyond;
   others =
       (let grown : length old.list ≤ length new.list = (let e = ap (λ (l : List Item). length l) keeps.begins in let s = length-append old.list keeps.rest in omega arith) in
       subst (AreListedOr limit (length new.list) new.due.faults) (sym keeps.answers_are)
@@ -130,18 +180,31 @@ made_kept first limit client requests old new made keeps = record {
 }
 
 -- one more, before which a receipt may have been asked for
-pub made_requested : (first limit client : ℕ) (before after : List Request) (r : Request) (old new : LaneView) → requests_of client after ≡ requests_of client before ++ r ∷ []
-    → HasMade first limit before client old → HasRequested first limit old r.what new → HasMade first limit after client new
-made_requested first limit client before after r old new one made more = made_more first limit client before after r more.between new one (made_kept first limit client before old more.between made more.keeps) more.submitted
+pub made_requested : (first limit : ℕ) (starts : List ℕ) (client : ℕ) (before after : List Request) (r : Request) (old new : LaneView) → requests_from starts client after ≡ requests_from starts client before ++ r ∷ []
+    → HasMade first limit starts before client old → HasRequested first limit old r.what new → HasMade first limit starts after client new
+made_requested first limit starts client before after r old new one made more =
+    made_more first limit starts client before after r more.between new one (made_kept first limit starts client before old more.between made more.keeps) more.submitted
 
 -- it takes the room of one answer
 pub room_requested : (first limit : ℕ) (old new : LaneView) (what : Asked) → HasRequested first limit old what new → new.spare + 1 ≡ old.spare
 room_requested first limit old new what more = let a = more.submitted.spare_is in let b = more.keeps.spare_is in omega arith
 
--- another client's
-pub made_same : (first limit client : ℕ) (before after : List Request) (lane : LaneView) → requests_of client after ≡ requests_of client before → HasMade first limit before client lane → HasMade first limit after client lane
-made_same first limit client before after lane same made = record {
+-- another client's, or one that is passed over
+pub made_same : (first limit : ℕ) (starts : List ℕ) (client : ℕ) (before after : List Request) (lane : LaneView) → requests_from starts client after ≡ requests_from starts client before
+    → HasMade first limit starts before client lane → HasMade first limit starts after client lane
+made_same first limit starts client before after lane same made = record {
   client_is = made.client_is;
+  start_is = made.start_is;
   served = subst (λ rs. IsServed first rs lane) (sym same) made.served;
+  beyond = made.beyond;
   others = made.others;
 }
+
+-- the number of the next request, once those that are passed over are behind
+pub made_number : (first limit : ℕ) (starts : List ℕ) (client : ℕ) (requests : List Request) (lane : LaneView) → HasMade first limit starts requests client lane → start_of starts client ≤ length (requests_of client requests)
+    → lane.start + length lane.answers ≡ length (requests_of client requests)
+made_number first limit starts client requests lane made there =
+    let start = made.start_is in
+    let many = made.served.many in
+    let left = many_from starts client requests in
+    omega (arith, start, many, left, there)

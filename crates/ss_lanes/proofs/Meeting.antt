@@ -27,6 +27,7 @@ use Rattle.ss_lanes.proofs.Mines.{mine_own}
 pub keeps_itself : (first : ℕ) (lane : LaneView) → KeepsAnswers first lane lane
 keeps_itself first lane = record {
   client_is = refl;
+  start_is = refl;
   rest = [];
   begins = sym (append-nil lane.list);
   own = refl;
@@ -105,6 +106,7 @@ module _ (catalog : Catalog) (parts clients first limit : ℕ) (t : Ticket) (due
   pub keeps_met : (later : Due) (old : LaneView) → lane_view t due note as' ≡ old → KeepsAnswers first old (lane_view t later n as')
   keeps_met later old was = subst (λ (o : LaneView). KeepsAnswers first o (lane_view t later n as')) was (record {
     client_is = refl;
+    start_is = refl;
     rest = note_on.on.rest;
     begins = note_on.on.is;
     own = own;
@@ -114,10 +116,16 @@ module _ (catalog : Catalog) (parts clients first limit : ℕ) (t : Ticket) (due
     spare_is = refl;
   })
 
+-- the next request has the same number, once the lane has asked for a receipt
+pub same_number : (first : ℕ) (old new : LaneView) → KeepsAnswers first old new → new.start + length new.answers ≡ old.start + length old.answers
+same_number first old new keeps = let start = keeps.start_is in let many = ap (λ (l : List Answer). length l) keeps.answers_are in omega (arith, start, many)
+
 -- what a request needs, once the lane has asked for a receipt
-pub fits_on : (catalog : Catalog) (first : ℕ) (old new : LaneView) (what : Asked) → KeepsAnswers first old new → fits_entry catalog (asked_entry old.client (length old.answers) what) ≡ true → fits_entry catalog (asked_entry new.client (length new.answers) what) ≡ true
+pub fits_on : (catalog : Catalog) (first : ℕ) (old new : LaneView) (what : Asked) → KeepsAnswers first old new → fits_entry catalog (asked_entry old.client (old.start + length old.answers) what) ≡ true
+    → fits_entry catalog (asked_entry new.client (new.start + length new.answers) what) ≡ true
 fits_on catalog first old new what keeps fits =
-    ap (λ c. fits_entry catalog (asked_entry c (length new.answers) what)) keeps.client_is ∙ (ap (λ (l : List Answer). fits_entry catalog (asked_entry old.client (length l) what)) keeps.answers_are ∙ fits)
+    ap (λ c. fits_entry catalog (asked_entry c (new.start + length new.answers) what)) keeps.client_is
+    ∙ (ap (λ n. fits_entry catalog (asked_entry old.client n what)) (same_number first old new keeps) ∙ fits)
 
 -- the lane that is told at which faults the disk has failed
 pub lane_failed : (clients first : ℕ) (t : Ticket) (due : Due) (mark note saw : Known) (as' : List Answer) (count faults : ℕ) → IsLane clients first t due mark note as' → due.faults ≡ 0 → mark.faults ≢ 0

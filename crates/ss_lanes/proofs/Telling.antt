@@ -1,6 +1,7 @@
 -- A lane with one answer more.
 use Rattle.std.proofs.Common.{◌≡◌, ◌≢◌, ◌⊎◌, ℕ, suc, ◌+◌, ◌<◌, ◌≤◌, ◌^◌, List, [], ◌∷◌, ◌++◌, length, refl, sym, ap, subst, ◌∙◌, arith, IfSome, Result, Ok, Err}
 use Rattle.std.proofs.lemmas.List.{map-append, length_push}
+use Rattle.ss_value.specs.Reserved.{ReservedList}
 use Rattle.ss_model.specs.declared.entry.Answer.{Answer}
 use Rattle.ss_model.specs.declared.entry.Answer.TheVariants as variants
 use Rattle.ss_model.specs.declared.entry.Outcome.{Outcome}
@@ -17,7 +18,7 @@ use Rattle.ss_lanes.specs.Mines.{Mine, mine_in}
 use Rattle.ss_lanes.specs.Told.{told, outcomes, outcome_at}
 use Rattle.ss_lanes.specs.Answered.{answer_of, IsAfter, IsAnswered}
 use Rattle.ss_lanes.specs.Dues.{IsDue, due_after, place_of}
-use Rattle.ss_lanes.specs.Lanes.{IsLane, next_ticket}
+use Rattle.ss_lanes.specs.Lanes.{LaneView, IsLane, lane_view, next_ticket}
 use Rattle.ss_lanes.specs.Replies.{more_entries}
 use Rattle.ss_lanes.proofs.Dues.{due_halted, due_more, told_same, told_with}
 use Rattle.ss_lanes.proofs.Mines.{mine_below}
@@ -52,6 +53,13 @@ listed_few count entries as' counted all =
     let many = length-outcomes entries in
     omega arith
 
+-- the number of a lane's next request, as its caller sees it
+pub next_number : (t : Ticket) (due : Due) (note : Known) (as' : ReservedList Answer) (lane : LaneView) → lane_view t due note as' ≡ lane → length as'.items ≤ t.index → t.index ≡ lane.start + length lane.answers
+next_number t due note as' lane view within =
+    let start = ap (λ (l : LaneView). l.start) view in
+    let many = ap (λ (l : LaneView). length l.answers) view in
+    omega (arith, start, many, within)
+
 -- the client's entries, and the answers that tell of them
 pub record Tells (olds news : List Mine) (as' : List Answer) (said : Result Placed Unlisted) : Type 0 where
   pub told_is : outcomes news ≡ told (as' ++ answer_of said ∷ [])
@@ -71,10 +79,13 @@ tells olds news as' (Err (ListFull count)) all after = record {
   many = (let e = ap (λ (x : List Mine). length x) after in omega arith);
 }
 
+longer_by_one : (t : Ticket) (as' news : List Answer) (a : Answer) → news ≡ as' ++ a ∷ [] → length as' ≤ t.index → length news ≤ t.index + 1
+longer_by_one t as' news a is within = let long = ap (λ (l : List Answer). length l) is in let push = length_push as' a in omega (arith, long, push, within)
+
 -- the lane with one answer more, whose ticket has the numbers of the next request
 pub lane_more : (clients first : ℕ) (t : Ticket) (due : Due) (mark note : Known) (as' : List Answer) (said : Result Placed Unlisted) (more : ℕ) (news : List Answer) → IsAnswered clients first t due mark note as' said
     → more ≡ more_entries said → news ≡ as' ++ answer_of said ∷ []
-    → IsLane clients first (next_ticket t.client (t.count + more) news) (due_after due (answer_of said)) mark note news
+    → IsLane clients first (next_ticket t more) (due_after due (answer_of said)) mark note news
 lane_more clients first t due mark note as' said more news a more_is news_is =
     let mine = mine_in t.client first note.list in
     let u = tells a.olds mine as' said a.all_told a.after in
@@ -88,7 +99,7 @@ lane_more clients first t due mark note as' said more news a more_is news_is =
       seen = record { count_is = a.seen.count_is; faults_are = subst (λ (f : ℕ). (f ≡ 0) ⊎ (f ≡ mark.faults)) (sym (same_faults due (answer_of said))) a.seen.faults_are };
       all_told = u.told_is ∙ ap told (sym news_is);
       counted = (let m = u.many in let n = a.counted in omega arith);
-      index_is = refl;
+      index_is = longer_by_one t as' news (answer_of said) news_is a.index_is;
       due_is = subst (λ (l : List Answer). IsDue mine end note.count (due_after due (answer_of said)) l) (sym news_is) (due_more a.olds mine end note.count due as' said a.due_is a.after a.room within);
     }
 
@@ -100,7 +111,7 @@ small_place clients first t due mark note as' (Err (ListFull count)) a = tt
 
 -- the lane that is told again that the disk has failed
 pub lane_halted : (clients first : ℕ) (t : Ticket) (due : Due) (mark note : Known) (as' news : List Answer) → IsLane clients first t due mark note as' → due.faults ≢ 0 → news ≡ as' ++ variants.Halted due.faults ∷ []
-    → IsLane clients first (next_ticket t.client (t.count + 0) news) due mark note news
+    → IsLane clients first (next_ticket t 0) due mark note news
 lane_halted clients first t due mark note as' news lane some news_is = record {
   client_is = lane.client_is;
   mark_is = lane.mark_is;
@@ -109,6 +120,6 @@ lane_halted clients first t due mark note as' news lane some news_is = record {
   seen = lane.seen;
   all_told = lane.all_told ∙ (sym (told_same as' (variants.Halted due.faults) refl) ∙ ap told (sym news_is));
   counted = (let n = lane.counted in omega arith);
-  index_is = refl;
+  index_is = longer_by_one t as' news (variants.Halted due.faults) news_is lane.index_is;
   due_is = due_halted (mine_in t.client first note.list) (first + length note.list) note.count due as' news some news_is lane.due_is;
 }

@@ -39,6 +39,6 @@ pub record IsAnswered (clients first : ℕ) (ticket : Ticket) (due : Due) (mark 
   pub all_told : outcomes olds ≡ told answers
   pub counted : ticket.count ≡ length olds
   pub after : IsAfter olds (mine_in ticket.client first note.list) said
-  pub index_is : ticket.index ≡ length answers
+  pub index_is : length answers ≤ ticket.index
   pub due_is : IsDue olds (first + length note.list) note.count due answers
   pub room : due.pending + more_entries said ≤ 16

@@ -9,6 +9,7 @@ use Rattle.ss_lanes.specs.Mines.{mine_in}
 -- it was told of are still those
 pub record KeepsAnswers (first : ℕ) (old new : LaneView) : Type 0 where
   pub client_is : new.client ≡ old.client
+  pub start_is : new.start ≡ old.start
   pub rest : List Item
   pub begins : new.list ≡ old.list ++ rest
   pub own : mine_in old.client first new.list ≡ mine_in old.client first old.list

@@ -1,15 +1,18 @@
 -- Clients that make their requests at the same time.
-use Rattle.std.specs.Prelude.{◌≡◌, ◌≢◌, ◌≤◌, ◌<◌, ℕ, true, List, length, slice_get, slice_index_or, Option, Some, IsSome, IfSome}
+use Rattle.std.specs.Prelude.{◌≡◌, ◌≢◌, ◌+◌, ◌≤◌, ◌<◌, ℕ, true, List, [], ◌∷◌, drop, length, slice_get, slice_index_or, Option, Some, IsSome, IfSome}
 use Rattle.std.specs.List.{AllByRecursion, list_all}
 use Rattle.ss_model.specs.declared.catalog.Catalog.{Catalog}
 use Rattle.ss_model.specs.declared.entry.Answer.{Answer}
 use Rattle.ss_model.specs.declared.entry.Answer.TheVariants.{Listed as ListedAnswer, NoMemory, ListFull, Halted}
+use Rattle.ss_model.specs.declared.entry.Outcome.{Outcome}
 use Rattle.ss_model.specs.declared.entry.Request.{Request}
 use Rattle.ss_model.specs.Database.{fits_entry}
 use Rattle.ss_model.specs.Report.{asked_entries}
 use Rattle.ss_report_laws.specs.Replies.{requests_of, IsListedOr}
-use Rattle.ss_lanes.specs.Lanes.{LaneView, IsFresh}
+use Rattle.ss_report_laws.specs.Resuming.{TellsNone}
+use Rattle.ss_lanes.specs.Lanes.{LaneView, IsFresh, start_of}
 use Rattle.ss_lanes.specs.Served.{IsServed}
+use Rattle.ss_lanes.specs.Told.{told}
 use Rattle.ss_lanes.specs.declared.client.Client.{Client}
 
 -- whether each request names what the catalogue has, with arguments or rows that fit it
@@ -32,16 +35,38 @@ IsUnlisted limit entries faults (Halted n) = (n ≡ faults) × (n ≢ 0)
 abbrev pub AreListedOr : ℕ → ℕ → ℕ → List Answer → Type 0
 AreListedOr limit entries faults answers = AllByRecursion (IsListedOr (IsUnlisted limit entries faults)) answers
 
--- the lane of a client that made all of these requests that are its own, in order, and has an answer to each
-pub record HasMade (first limit : ℕ) (requests : List Request) (client : ℕ) (lane : LaneView) : Type 0 where
+-- each of these places is no less than a number
+abbrev pub AllFrom : ℕ → List (ℕ × Outcome) → Type 0
+AllFrom place places = AllByRecursion (λ (p : ℕ × Outcome). place ≤ p.0) places
+
+-- behind an answer that the list is full no listed place is within the limit, and behind one that the disk has failed none is listed
+abbrev pub StopsBeyond : ℕ → ℕ → List Answer → Type 0
+StopsBeyond first limit [] = Unit {0}
+StopsBeyond first limit (ListedAnswer place outcome ∷ answers) = StopsBeyond first limit answers
+StopsBeyond first limit (NoMemory ∷ answers) = StopsBeyond first limit answers
+StopsBeyond first limit (ListFull count ∷ answers) = AllFrom (first + limit) (told answers) × StopsBeyond first limit answers
+StopsBeyond first limit (Halted faults ∷ answers) = AllByRecursion TellsNone answers × StopsBeyond first limit answers
+
+-- of these requests those that a client makes here: its own, from its first one here on
+abbrev pub requests_from : List ℕ → ℕ → List Request → List Request
+requests_from starts client requests = drop (start_of starts client) (requests_of client requests)
+
+-- each client has as many of these requests as it passes over
+abbrev pub StartWithin : List ℕ → List Request → Type 0
+StartWithin starts requests = (client : ℕ) → start_of starts client ≤ length (requests_of client requests)
+
+-- the lane of a client that made all of these requests that are its own, from its first one here on, in order, and has an answer to each
+pub record HasMade (first limit : ℕ) (starts : List ℕ) (requests : List Request) (client : ℕ) (lane : LaneView) : Type 0 where
   pub client_is : lane.client ≡ client
-  pub served : IsServed first (requests_of client requests) lane
+  pub start_is : lane.start ≡ start_of starts client
+  pub served : IsServed first (requests_from starts client requests) lane
+  pub beyond : StopsBeyond first limit lane.answers
   pub others : AreListedOr limit (length lane.list) lane.due.faults lane.answers
 
--- the lane of a client that made no request yet, with room for the answers to all of these that are its own
-pub record MayBegin (first : ℕ) (requests : List Request) (client : ℕ) (lane : LaneView) : Type 0 where
-  pub fresh : IsFresh first client lane
-  pub room : length (requests_of client requests) ≤ lane.spare
+-- the lane of a client that made no request here yet, with room for the answers to all of these that it is to make
+pub record MayBegin (first : ℕ) (starts : List ℕ) (requests : List Request) (client : ℕ) (lane : LaneView) : Type 0 where
+  pub fresh : IsFresh first client (start_of starts client) lane
+  pub room : length (requests_from starts client requests) ≤ lane.spare
 
 -- ---- in threads
 

@@ -3,9 +3,10 @@
 
 ghost use Rattle.std.specs.Prelude.{◌≡◌, ◌≤◌, [], map, length, vec_capacity, IfOk};
 ghost use Rattle.ss_report_laws.specs.Replies.{requests_of};
-ghost use Rattle.ss_lanes.specs.Clients.{AllThere, EachAt, EachHasLane, MayBegin, lane_of, some_lane};
-ghost use Rattle.ss_lanes.specs.Lanes.{IsFresh};
+ghost use Rattle.ss_lanes.specs.Clients.{AllThere, EachAt, EachHasLane, MayBegin, StartWithin, lane_of, some_lane};
+ghost use Rattle.ss_lanes.specs.Lanes.{IsFresh, start_of};
 
+use crate::fresh::start_of;
 use crate::lane::Lane;
 use ss_model::{Life, Request};
 use ss_value::NoMemory;
@@ -35,19 +36,22 @@ fn count_requests(requests: &[Request], client: usize) -> usize
     count
 }
 
-/// A client for each lane, with room for the answers to all its requests, because an answer may not be lost once its
-/// entry is listed. Looks at each request once for each client.
+/// A client for each lane, with room for the answers to all requests that it makes here, which are its own from the number in
+/// `starts` on, because an answer may not be lost once its entry is listed. Looks at each request once for each client.
 fn clients_of<I: Life>(
     alloc: Global,
     lanes: Vec<Lane<I>>,
     requests: &[Request],
+    starts: &[u64],
 ) -> Result<Vec<Client<I>>, NoMemory>
-    requires { EachAt (IsFresh I.first) lanes.items }
-    ensures { IfOk result (λ clients. EachHasLane (length lanes.items) (MayBegin I.first requests.now) clients.items) }
+    requires fresh { EachAt (λ k. IsFresh I.first k (start_of starts.now k)) lanes.items }
+    requires starts { StartWithin starts.now requests.now }
+    ensures { IfOk result (λ clients. EachHasLane (length lanes.items) (MayBegin I.first starts.now requests.now) clients.items) }
 {
     let mut clients = Vec::with_capacity(alloc, lanes.len())?;
     for mut lane in lanes {
-        lane.reserve(count_requests(requests, clients.len()))?;
+        let number = clients.len();
+        lane.reserve(count_requests(requests, number) - start_of(starts, number) as usize)?;
         clients.push_reserved(Client { lane: Some(lane) });
     }
     Ok(clients)
@@ -70,7 +74,7 @@ pub fn lanes_of<I: Life>(clients: Vec<Client<I>>, mut lanes: Vec<Lane<I>>) -> Ve
 /// The clients before their first request, with a list that has room for their lanes.
 #[derive(Drop)]
 pub struct Ready<I: Life> {
-    /// Each with room for the answers to all its requests.
+    /// Each with room for the answers to all requests that it makes here.
     pub clients: Vec<Client<I>>,
     /// Room for as many lanes.
     pub again: Vec<Lane<I>>,
@@ -78,17 +82,19 @@ pub struct Ready<I: Life> {
     pub ghost room: { length clients.items ≤ vec_capacity again },
 }
 
-/// Makes room for all that the clients' requests take on their side, before the first of them. NoMemory is its one error. Looks
-/// at each request once for each client.
+/// Makes room for all that the clients' requests take on their side, before the first of them, which has its number in `starts`.
+/// NoMemory is its one error. Looks at each request once for each client.
 pub fn with_room<I: Life>(
     alloc: Global,
     lanes: Vec<Lane<I>>,
     requests: &[Request],
+    starts: &[u64],
 ) -> Result<Ready<I>, NoMemory>
-    requires { EachAt (IsFresh I.first) lanes.items }
-    ensures { IfOk result (λ ready. EachHasLane (length lanes.items) (MayBegin I.first requests.now) ready.clients.items) }
+    requires fresh { EachAt (λ k. IsFresh I.first k (start_of starts.now k)) lanes.items }
+    requires starts { StartWithin starts.now requests.now }
+    ensures { IfOk result (λ ready. EachHasLane (length lanes.items) (MayBegin I.first starts.now requests.now) ready.clients.items) }
 {
     let again = Vec::with_capacity(alloc, lanes.len())?;
-    let clients = clients_of(alloc, lanes, requests)?;
+    let clients = clients_of(alloc, lanes, requests, starts)?;
     Ok(Ready { clients, again })
 }

@@ -1,7 +1,7 @@
 //! A client's side of the engine: a value that the client's thread alone has, with what becomes of it at each answer. It touches
 //! no lock.
 
-ghost use Rattle.std.specs.Prelude.{◌≡◌, ◌≢◌, ℕ, ◌+◌, ◌<◌, ◌≤◌, [], ◌∷◌, ◌++◌, length, OnOk};
+ghost use Rattle.std.specs.Prelude.{◌≡◌, ◌≢◌, ℕ, ◌+◌, ◌-◌, ◌<◌, ◌≤◌, ◌^◌, [], ◌∷◌, ◌++◌, length, OnOk};
 ghost use Rattle.ss_model.specs.declared.entry.Asked.{Asked};
 ghost use Rattle.ss_commitlog.specs.declared.role.Role.TheVariants.{Reader, Client};
 ghost use Rattle.ss_commitlog.specs.Tokens.{known};
@@ -48,17 +48,18 @@ impl<I: Life> Model for Lane<I> {
 }
 
 impl<I: Life> Lane<I> {
-    /// The lane of a client that asked for nothing yet. Takes no memory.
-    pub fn new(alloc: Global, client: u8, mark: Mark<I>, note: Note<I>) -> Lane<I>
+    /// The lane of a client that asked for nothing here yet, and whose next request has this number: 0, or how many of its
+    /// requests were answered for good before. Takes no memory.
+    pub fn new(alloc: Global, client: u8, start: u64, mark: Mark<I>, note: Note<I>) -> Lane<I>
         requires client { client < I.clients }
         requires mark { mark ≡ known (Client client) [] I.first 0 }
         requires note { note ≡ known Reader [] I.first 0 }
-        ensures { IsFresh I.first client result }
+        ensures { IsFresh I.first client start result }
     {
         Lane {
             ticket: Ticket {
                 client,
-                index: 0,
+                index: start,
                 count: 0,
             },
             due: Due::none(),
@@ -66,6 +67,13 @@ impl<I: Life> Lane<I> {
             note,
             answers: Reserved::new(alloc),
         }
+    }
+
+    /// The number of the client's next request. Takes no memory.
+    pub fn next_index(&self) -> u64
+        ensures { result ≡ self.now.start + length self.now.answers }
+    {
+        self.ticket.index
     }
 
     /// The answers so far, in the order of the requests. Takes no memory.
@@ -94,6 +102,7 @@ impl<I: Life> Lane<I> {
     pub fn reserve(&mut self, more: usize) -> Result<(), NoMemory>
         ensures unchanged { self.new ≡ record {
           client = self.old.client;
+          start = self.old.start;
           list = self.old.list;
           count = self.old.count;
           due = self.old.due;
@@ -152,7 +161,9 @@ pub fn answered<I: Life>(
 ) -> Lane<I>
     requires answered { IsAnswered I.clients I.first ticket due mark note answers.items said }
     requires spare { 1 ≤ answers.spare }
+    requires numbered { ticket.index + 1 < 2 ^ 64 }
     ensures client { result.client ≡ ticket.client }
+    ensures start { result.start ≡ ticket.index - length answers.items }
     ensures note { (result.list ≡ note.list) × (result.count ≡ note.count) }
     ensures due { result.due ≡ due_after due (answer_of said) }
     ensures answers { result.answers ≡ answers.items ++ answer_of said ∷ [] }
@@ -162,7 +173,7 @@ pub fn answered<I: Life>(
     let answer = answer_of(said);
     let due = due.after(&answer);
     answers.add(answer);
-    let next = next_ticket(ticket, more, &answers);
+    let next = next_ticket(ticket, more);
     lane_of(next, due, mark, note, answers)
 }
 
@@ -170,6 +181,7 @@ pub fn answered<I: Life>(
 pub fn unsent<I: Life>(lane: Lane<I>) -> Lane<I>
     requires spare { 1 ≤ lane.spare }
     requires going { lane.due.faults ≡ 0 }
+    requires numbered { lane.start + length lane.answers + 1 < 2 ^ 64 }
     ensures { (limit : ℕ) (what : Asked) → IsSubmitted I.first limit lane what result }
 {
     let Lane {
@@ -186,6 +198,7 @@ pub fn unsent<I: Life>(lane: Lane<I>) -> Lane<I>
 pub fn halted<I: Life>(lane: Lane<I>) -> Lane<I>
     requires spare { 1 ≤ lane.spare }
     requires halted { lane.due.faults ≢ 0 }
+    requires numbered { lane.start + length lane.answers + 1 < 2 ^ 64 }
     ensures { (limit : ℕ) (what : Asked) → IsSubmitted I.first limit lane what result }
 {
     let Lane {
@@ -196,18 +209,19 @@ pub fn halted<I: Life>(lane: Lane<I>) -> Lane<I>
         mut answers,
     } = lane;
     answers.add(Answer::Halted { faults: due.faults });
-    let next = next_ticket(ticket, 0, &answers);
+    let next = next_ticket(ticket, 0);
     lane_of(next, due, mark, note, answers)
 }
 
-/// The ticket of a client's next request, which stands behind these answers, with so many more entries.
-fn next_ticket(ticket: Ticket, more: u64, answers: &Reserved<Answer>) -> Ticket
-    requires { ticket.count + more ≤ length answers.now.items }
-    ensures { result ≡ next_ticket ticket.client (ticket.count + more) answers.now.items }
+/// The ticket of a client's next request, with so many more entries.
+fn next_ticket(ticket: Ticket, more: u64) -> Ticket
+    requires index { ticket.index + 1 < 2 ^ 64 }
+    requires count { ticket.count + more ≤ ticket.index + 1 }
+    ensures { result ≡ next_ticket ticket more }
 {
     Ticket {
         client: ticket.client,
-        index: answers.len() as u64,
+        index: ticket.index + 1,
         count: ticket.count + more,
     }
 }

@@ -37,10 +37,12 @@
 //! - `ReplySlot::take` gives a reply exactly where it is the client's own (`IsOwn`); `reply_of` makes one of what may be said
 //!   (`MaySay`).
 //! - `Hub::take_reply` promises the same of all slots, and `put_job` gives a job back as it was where it has no room for it.
-//! - `fresh_lanes` gives each client its lane (`AreFresh`), and `take_apart` takes them apart: each mark knows its lane's list
-//!   (`AreMarksOf`), and the answers are those of the lanes.
+//! - `fresh_lanes` gives each client its lane, whose first request has the number that is given (`AreFresh`), and `take_apart` takes
+//!   them apart: each mark knows its lane's list (`AreMarksOf`), and the answers are those of the lanes.
 //! - From a fresh lane on, with each request that is submitted, the list that it knows has of its client just the entries that its
 //!   answers report (law `lanes_serve`).
+//! - A client that made its requests (`HasMade`) made those that are its own from its first one here on, and none of its answers is
+//!   listed behind one that the list is full or that the disk has failed (`StopsBeyond`).
 //!
 //! No clause says that an answer ever comes: what stands behind a lock is in sight of none.
 #![tactic(auto)]
@@ -67,7 +69,7 @@ mod told;
 pub use apart::{take_apart, with_parts};
 pub use client::{Client, Ready, lanes_of, with_room};
 pub use due::{Due, MOST_PENDING};
-pub use fresh::fresh_lanes;
+pub use fresh::{fresh_lanes, start_of};
 pub use hub::Hub;
 pub use job::Job;
 pub use lane::{Lane, answered, halted, lane_of, unsent};

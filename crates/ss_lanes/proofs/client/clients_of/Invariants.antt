@@ -7,6 +7,6 @@ abbrev pub invariant-loop-lane : goal.invariant-loop-lane
 invariant-loop-lane g l = record {
   rest : l.lane-iterator.rest.items ≡ drop (length l.clients.items) l.fn.lanes.items;
   many : length l.clients.items + length l.lane-iterator.rest.items ≡ length l.fn.lanes.items;
-  begin : EachHasLane (length l.clients.items) (MayBegin g.I.Life.first l.requests) l.clients.items;
+  begin : EachHasLane (length l.clients.items) (MayBegin g.I.Life.first l.starts l.requests) l.clients.items;
   room : length l.lane-iterator.rest.items + vec_len l.clients ≤ vec_capacity l.clients;
 }

@@ -1,6 +1,6 @@
-use Rattle.std.proofs.Common.{◌<◌, ◌+◌, ℕ, List, [], ◌∷◌, ◌++◌, sym, subst, arith}
+use Rattle.std.proofs.Common.{◌<◌, ◌+◌, ℕ, List, [], ◌∷◌, ◌++◌, sym, ap, subst, ◌∙◌, arith}
 use Rattle.std.proofs.lemmas.List.{nil_from_length}
-use Rattle.ss_lanes.specs.Lanes.{LaneView, AreFresh}
+use Rattle.ss_lanes.specs.Lanes.{LaneView, AreFresh, IsFresh, start_of}
 use Rattle.ss_lanes.proofs.FreshLanes.{mark_left, note_left, next_left, fresh_more}
 use Rattle.ss_lanes.proofs.fresh.fresh_lanes.Goals as goal
 
@@ -36,7 +36,8 @@ loop-client-preserved g c =
     c.loop-client.invariant.left c.in-Some.ensures.items c.in-Some-pop.ensures.some in
     record {
       left = next.left;
-      fresh = subst (λ (lanes : List LaneView). AreFresh g.I.Life.first (c.loop-client.client + 1) lanes) (sym {A = List LaneView} {a = c.push_reserved.new.self.items} {b = c.loop-client.lanes.items ++ c.new.result ∷ []} c.push_reserved.ensures.items)
-          (fresh_more g.I.Life.first c.loop-client.client c.loop-client.lanes.items c.new.result c.loop-client.invariant.fresh c.new.ensures);
+      fresh = subst (λ (lanes : List LaneView). AreFresh g.I.Life.first (c.loop-client.client + 1) c.args.starts.now lanes) (sym {A = List LaneView} {a = c.push_reserved.new.self.items} {b = c.loop-client.lanes.items ++ c.new.result ∷ []} c.push_reserved.ensures.items)
+          (fresh_more g.I.Life.first c.loop-client.client c.args.starts.now c.loop-client.lanes.items c.new.result c.loop-client.invariant.fresh
+          (subst (λ (s : ℕ). IsFresh g.I.Life.first c.loop-client.client s c.new.result) (c.start_of-start.ensures ∙ ap (start_of c.args.starts.now) c.from-in-loop-client.ensures) c.new.ensures));
       room = (let e = c.push_reserved.ensures.capacity in let r = c.loop-client.invariant.room in omega arith);
     }

@@ -7,6 +7,6 @@ use Rattle.ss_lanes.proofs.fresh.fresh_lanes.Given as goal
 abbrev pub invariant-loop-client : goal.invariant-loop-client
 invariant-loop-client g l = record {
   left : AreLeft g.I.Life.first g.I.Life.parts g.I.Life.clients l.client l.left.rest.items l.notes;
-  fresh : AreFresh g.I.Life.first l.client l.lanes.items;
+  fresh : AreFresh g.I.Life.first l.client l.starts l.lanes.items;
   room : l.clients ≤ vec_capacity l.lanes;
 }
