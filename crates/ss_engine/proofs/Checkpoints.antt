@@ -131,6 +131,7 @@ none_made first old new = record { end = first + length old.list; fault = 0; beh
 keeps_twice : (first : ℕ) (a b c : LaneView) → KeepsAnswers first a b → KeepsAnswers first b c → KeepsAnswers first a c
 keeps_twice first a b c f g = record {
   client_is = g.client_is ∙ f.client_is;
+  start_is = g.start_is ∙ f.start_is;
   rest = f.rest ++ g.rest;
   begins = g.begins ∙ (ap (λ (l : List Item). l ++ g.rest) f.begins ∙ append_assoc a.list f.rest g.rest);
   own = subst (λ (k : ℕ). mine_in k first c.list ≡ mine_in k first b.list) f.client_is g.own ∙ f.own;

@@ -2,7 +2,7 @@
 use denote.Builtin as builtin
 use denote.Param.{param}
 use denote.Ref.{NamedLft}
-use denote.Struct.Field.{shr_ref_field, shr_slice_field, u8-field}
+use denote.Struct.Field.{shr_ref_field, shr_slice_field, u64-field, u8-field}
 use denote.Struct.Tuple.{TupleAt, type_at}
 use denote.RattleType.{RattleType}
 use denote.Param.Send.{IsSend, IsSync, sendable, shr_send, shr_slice_sync, shr_sync, view_sync}
@@ -87,10 +87,10 @@ module _ (I N G R : RattleType) (life : Ghosts I.Denot) (r e : NamedLft) where
     abbrev shared_receipts : RattleType
     shared_receipts = receipts.the_row (param 0 I) (param 4 D) life disk
 
-    -- the clients': the runtime, the heap, the engine, the receipts, the requests
-    abbrev pub clients_hold : NamedLft → NamedLft → NamedLft → List RattleType
-    clients_hold a p q =
-        (shr_ref_field r (param 3 R) tt).row ∷ (shr_ref_field a global.the_row tt).row ∷ (shr_ref_field e shared_engine tt).row ∷ (shr_ref_field p shared_receipts tt).row ∷ (shr_slice_field q request.the_row tt).row ∷ []
+    -- the clients': the runtime, the heap, the engine, the receipts, the requests, and where each client begins
+    abbrev pub clients_hold : NamedLft → NamedLft → NamedLft → NamedLft → List RattleType
+    clients_hold a p q b =
+        (shr_ref_field r (param 3 R) tt).row ∷ (shr_ref_field a global.the_row tt).row ∷ (shr_ref_field e shared_engine tt).row ∷ (shr_ref_field p shared_receipts tt).row ∷ (shr_slice_field q request.the_row tt).row ∷ (shr_slice_field b u64-field.row tt).row ∷ []
 
   module _ (s : IsSend (param 0 I)) (y : IsSync (param 0 I)) (n : IsSync (param 1 N)) (g : IsSync (param 2 G)) (t : IsSync (param 3 R)) where
     pub executor_send : (f : NamedLft) → IsSend (TupleAt [] (executor_holds f))
@@ -99,8 +99,9 @@ module _ (I N G R : RattleType) (life : Ghosts I.Denot) (r e : NamedLft) where
         let m = note_send (param 0 I) life s in
         declared_send (type_at [] (executor_holds f)) (shr_send _ _ _ t, (search (crosses, sendable) depth 20, (shr_send _ _ _ k, (m, (search sendable, (search (crosses, sendable) depth 20, tt))))))
 
-    pub clients_sync : (D : RattleType) (disk : DiskGhosts D.Denot) → IsSend (param 4 D) → (a p q : NamedLft) → IsSync (TupleAt [] (clients_hold D disk a p q))
-    clients_sync D disk d a p q =
+    pub clients_sync : (D : RattleType) (disk : DiskGhosts D.Denot) → IsSend (param 4 D) → (a p q b : NamedLft) → IsSync (TupleAt [] (clients_hold D disk a p q b))
+    clients_sync D disk d a p q b =
         let k = engine_sync (param 0 I) life (param 1 N) (param 2 G) s y n g in
         let l = receipts_sync (param 0 I) (param 4 D) life disk s d in
-        declared_sync (type_at [] (clients_hold D disk a p q)) (shr_sync _ _ _ t, (search (crosses, sendable) depth 20, (shr_sync _ _ _ k, (shr_sync _ _ _ l, (shr_slice_sync _ _ _ request_sync, tt)))))
+        let w : IsSync u64-field.row = search (crosses, sendable) depth 20 in
+        declared_sync (type_at [] (clients_hold D disk a p q b)) (shr_sync _ _ _ t, (search (crosses, sendable) depth 20, (shr_sync _ _ _ k, (shr_sync _ _ _ l, (shr_slice_sync _ _ _ request_sync, (shr_slice_sync _ _ _ w, tt))))))

@@ -29,15 +29,15 @@ use Rattle.ss_lanes.proofs.CallerLemmas.{few_open_on}
 use Rattle.ss_lanes.proofs.CallerLemmas.{few_from, still_unlisted}
 
 -- more may have receipts, and faults that were told go on being those that were
-pub run_on : (catalog : Catalog) (db : Database) (first limit clients : ℕ) (requests : List Request) (count more faults later : ℕ) (closed : Closed) → count ≤ more → (faults ≡ 0) ⊎ (faults ≡ later)
-    → IsRun catalog db first limit clients requests count faults closed → IsRun catalog db first limit clients requests more later closed
-run_on catalog db first limit clients requests count more faults later closed up or run = record {
+pub run_on : (catalog : Catalog) (db : Database) (first limit clients : ℕ) (requests : List Request) (starts : List ℕ) (count more faults later : ℕ) (closed : Closed) → count ≤ more → (faults ≡ 0) ⊎ (faults ≡ later)
+    → IsRun catalog db first limit clients requests starts count faults closed → IsRun catalog db first limit clients requests starts more later closed
+run_on catalog db first limit clients requests starts count more faults later closed up or run = record {
   replays = run.replays;
   orders = run.orders;
   of_clients = run.of_clients;
   within = run.within;
-  many = run.many;
-  each = run.each;
+  told = run.told;
+  stops = run.stops;
   others = λ k. still_unlisted limit (length closed.list) (length closed.list) faults later (omega arith) or (answers_of closed.answers k) (run.others k);
   few_behind = λ k. few_open_on (mine k first closed.list) count more 16 16 up (omega arith) (run.few_behind k);
   left = run.left;
@@ -133,16 +133,16 @@ module _ {D : Type 0} (kind : DiskKind D) (every : Option ℕ) (catalog : Catalo
     }
 
   -- the run that was flushed
-  pub run_ends : (limit clients : ℕ) (requests : List Request) (closed : Closed) (old_count old_fault : ℕ) (ended : Finished D) → ended.closed ≡ closed → first ≤ old_count
-      → IsRun catalog db first limit clients requests old_count old_fault closed
+  pub run_ends : (limit clients : ℕ) (requests : List Request) (starts : List ℕ) (closed : Closed) (old_count old_fault : ℕ) (ended : Finished D) → ended.closed ≡ closed → first ≤ old_count
+      → IsRun catalog db first limit clients requests starts old_count old_fault closed
       → IsFlushed kind every catalog db first opened before past old_count old_fault ended
       → HeldFrontsStand D every catalog db first opened before past kind → AllStands D every catalog db first opened before past kind
-      → Ends kind every catalog db first limit clients opened before past requests ended
-  run_ends limit clients requests closed old_count old_fault ended same begun run flushed held all_held = record {
+      → Ends kind every catalog db first limit clients opened before past requests starts ended
+  run_ends limit clients requests starts closed old_count old_fault ended same begun run flushed held all_held = record {
     count = flushed.count;
     fault = flushed.fault;
-    run = run_on catalog db first limit clients requests old_count ended.receipted old_fault flushed.fault ended.closed flushed.more flushed.told
-        (subst (IsRun catalog db first limit clients requests old_count old_fault) (sym same) run);
+    run = run_on catalog db first limit clients requests starts old_count ended.receipted old_fault flushed.fault ended.closed flushed.more flushed.told
+        (subst (IsRun catalog db first limit clients requests starts old_count old_fault) (sym same) run);
     holds = flushed.holds;
     begun = (let m = flushed.more in omega arith);
     within = flushed.within;
@@ -154,10 +154,10 @@ module _ {D : Type 0} (kind : DiskKind D) (every : Option ℕ) (catalog : Catalo
   }
 
 -- the same, where the past is that of the disk at the opening
-pub ends_on_disk : {D : Type 0} (kind : DiskKind D) (every : Option ℕ) (catalog : Catalog) (db : Database) (first limit clients : ℕ) (requests : List Request)
-    (old : CmdLog D) (ended : Finished D) → Ends kind every catalog db first limit clients (kind.moment old.disk) (kind.faults old.disk) (past_of kind.images old.disk) requests ended
-    → EndsOnDisk kind every catalog db first limit clients requests old ended
-ends_on_disk kind every catalog db first limit clients requests old ended ends = record {
+pub ends_on_disk : {D : Type 0} (kind : DiskKind D) (every : Option ℕ) (catalog : Catalog) (db : Database) (first limit clients : ℕ) (requests : List Request) (starts : List ℕ)
+    (old : CmdLog D) (ended : Finished D) → Ends kind every catalog db first limit clients (kind.moment old.disk) (kind.faults old.disk) (past_of kind.images old.disk) requests starts ended
+    → EndsOnDisk kind every catalog db first limit clients requests starts old ended
+ends_on_disk kind every catalog db first limit clients requests starts old ended ends = record {
   ends = ends;
   crashes = λ good. disk_since kind.moment kind.images old.disk ended.log.disk _ (ends.holds.crashes good);
   stands_on = λ good. ends.holds.stands_on good;
@@ -168,21 +168,21 @@ ends_on_disk kind every catalog db first limit clients requests old ended ends =
     fewer : {image : Files} → StandsForAtLeast catalog ends.count image → StandsForAtLeast catalog ended.receipted image
     fewer s = record { count = s.count; k = s.k; stands = s.stands; enough = (let e = s.enough in let w = ends.within in omega arith) }
 
-pub ends_if_ok : {D E : Type 0} (kind : DiskKind D) (every : Option ℕ) (catalog : Catalog) (db : Database) (first limit clients : ℕ) (requests : List Request)
-    (old : CmdLog D) (result : Result (Finished D) E) → IfOk result (Ends kind every catalog db first limit clients (kind.moment old.disk) (kind.faults old.disk) (past_of kind.images old.disk) requests)
-    → IfOk result (EndsOnDisk kind every catalog db first limit clients requests old)
-ends_if_ok kind every catalog db first limit clients requests old (Ok ended) ends = ends_on_disk kind every catalog db first limit clients requests old ended ends
-ends_if_ok kind every catalog db first limit clients requests old (Err e) ends = tt
+pub ends_if_ok : {D E : Type 0} (kind : DiskKind D) (every : Option ℕ) (catalog : Catalog) (db : Database) (first limit clients : ℕ) (requests : List Request) (starts : List ℕ)
+    (old : CmdLog D) (result : Result (Finished D) E) → IfOk result (Ends kind every catalog db first limit clients (kind.moment old.disk) (kind.faults old.disk) (past_of kind.images old.disk) requests starts)
+    → IfOk result (EndsOnDisk kind every catalog db first limit clients requests starts old)
+ends_if_ok kind every catalog db first limit clients requests starts old (Ok ended) ends = ends_on_disk kind every catalog db first limit clients requests starts old ended ends
+ends_if_ok kind every catalog db first limit clients requests starts old (Err e) ends = tt
 
 -- ---- the disk's note, as it came back from behind the lock, and as it was looked at
 
 module _ (disk looked : Known) (count posted : ℕ) (is : looked ≡ known disk.role disk.list count posted) (same : (count ≡ disk.count) × (posted ≡ disk.faults)) where
   -- the run's numbers are those that the log's part has
-  pub run_looked : (catalog : Catalog) (db : Database) (first limit clients : ℕ) (requests : List Request) (closed : Closed)
-      → IsRun catalog db first limit clients requests looked.count looked.faults closed → IsRun catalog db first limit clients requests count disk.faults closed
-  run_looked catalog db first limit clients requests closed run =
-      subst (λ (n : ℕ). IsRun catalog db first limit clients requests n disk.faults closed) (ap (λ (k : Known). k.count) is)
-      (subst (λ (f : ℕ). IsRun catalog db first limit clients requests looked.count f closed) (ap (λ (k : Known). k.faults) is ∙ same.1) run)
+  pub run_looked : (catalog : Catalog) (db : Database) (first limit clients : ℕ) (requests : List Request) (starts : List ℕ) (closed : Closed)
+      → IsRun catalog db first limit clients requests starts looked.count looked.faults closed → IsRun catalog db first limit clients requests starts count disk.faults closed
+  run_looked catalog db first limit clients requests starts closed run =
+      subst (λ (n : ℕ). IsRun catalog db first limit clients requests starts n disk.faults closed) (ap (λ (k : Known). k.count) is)
+      (subst (λ (f : ℕ). IsRun catalog db first limit clients requests starts looked.count f closed) (ap (λ (k : Known). k.faults) is ∙ same.1) run)
 
   -- and the log holds the run's list up to there
   pub holds_looked : {D : Type 0} (kind : DiskKind D) (every : Option ℕ) (catalog : Catalog) (db : Database) (first opened before : ℕ) (past : ℕ → List (List ℕ) → Type 0)

@@ -6,6 +6,7 @@ pub mod OwnEntries
 pub mod Trying
 pub mod SmallSets
 pub mod Serves
+pub mod Requesting
 pub mod Sessions
 pub mod Flushes
 pub mod HandedOver

@@ -9,7 +9,8 @@ use Rattle.ss_model.specs.Database.{Database}
 use Rattle.ss_model.specs.Orders.{Orders}
 use Rattle.ss_model.specs.Replays.{Replays, after}
 use Rattle.ss_model.specs.Settling.{kept}
-use Rattle.ss_report_laws.specs.Replies.{mine, requests_of, answers_of, expected_entries}
+use Rattle.ss_report_laws.specs.Replies.{mine, answers_of}
+use Rattle.ss_report_laws.specs.Resuming.{AreToldTo, NoneBehindStop}
 use Rattle.ss_disk.specs.Files.{Files}
 use Rattle.ss_disk.specs.Moments.{LeavesOnly}
 use Rattle.ss_shard.specs.Databases.{StandsFor}
@@ -28,9 +29,10 @@ use Rattle.ss_receipts.specs.Holding.{Holds}
 use Rattle.ss_receipts.specs.Past.{past_of}
 use Rattle.ss_engine.specs.declared.session.close.Closed.{Closed}
 use Rattle.ss_engine.specs.declared.session.run.Finished.{Finished}
-use Rattle.ss_lanes.specs.Clients.{AreListedOr}
+use Rattle.ss_lanes.specs.Clients.{AreListedOr, requests_from}
 use Rattle.ss_settle.specs.Settlings.{EndedWith, SettledInOrder}
 use Rattle.ss_lanes.specs.Dues.{FewOpen, entries_from}
+use Rattle.ss_lanes.specs.Lanes.{start_of}
 
 -- each request is of one of so many clients
 abbrev pub AreOfClients : ℕ → List Request → Type 0
@@ -40,17 +42,18 @@ AreOfClients clients requests = AllByRecursion (λ (r : Request). r.client < cli
 abbrev pub IsLeftOver : Catalog → Database → shard.Database → Type 0
 IsLeftOver catalog d left = StandsFor catalog left d × IsCommitted catalog left.whole
 
--- the run of these requests, whose list begins at this database and this place, where all places below a count have receipts, and the
--- disk failed at these faults, if at any
-pub record IsRun (catalog : Catalog) (db : Database) (first limit clients : ℕ) (requests : List Request) (count faults : ℕ) (closed : Closed) : Type 0 where
+-- the run of these requests, of each client from its first one here on, whose list begins at this database and this place, where all
+-- places below a count have receipts, and the disk failed at these faults, if at any
+pub record IsRun (catalog : Catalog) (db : Database) (first limit clients : ℕ) (requests : List Request) (starts : List ℕ) (count faults : ℕ) (closed : Closed) : Type 0 where
   -- one list that replays, each of its entries a step or of one of the clients
   pub replays : Replays catalog db closed.list
   pub orders : Orders catalog db closed.list
   pub of_clients : HaveClientsBelow clients closed.list
   pub within : length closed.list ≤ limit
   -- each request has an answer, and the list has of each client just the entries that its answers report, at their places
-  pub many : (client : ℕ) → length (answers_of closed.answers client) ≡ length (requests_of client requests)
-  pub each : (client : ℕ) → mine client first closed.list ≡ expected_entries client 0 (requests_of client requests) (answers_of closed.answers client)
+  pub told : (client : ℕ) → AreToldTo client (start_of starts client) first closed.list (requests_from starts client requests) (answers_of closed.answers client)
+  -- none is listed behind an answer that the list is full, or that the disk has failed
+  pub stops : (client : ℕ) → NoneBehindStop (answers_of closed.answers client)
   -- the other answers say that there was no memory, or that the list is full, which it then is, or that the disk has failed
   pub others : (client : ℕ) → AreListedOr limit (length closed.list) faults (answers_of closed.answers client)
   -- of each client at most 16 entries stand behind those that have a receipt
@@ -107,10 +110,10 @@ module _ {D : Type 0} (kind : DiskKind D) where
 
     -- what a run on a log leaves: what the log holds of the run's list, and how the last flush ended; a crash now leaves a front of the
     -- list that ends at the count that is told at least, and where the last flush went well, all of it
-    pub record Ends (limit clients opened before : ℕ) (past : ℕ → List (List ℕ) → Type 0) (requests : List Request) (ended : Finished D) : Type 0 where
+    pub record Ends (limit clients opened before : ℕ) (past : ℕ → List (List ℕ) → Type 0) (requests : List Request) (starts : List ℕ) (ended : Finished D) : Type 0 where
       pub count : ℕ
       pub fault : ℕ
-      pub run : IsRun catalog db first limit clients requests ended.receipted fault ended.closed
+      pub run : IsRun catalog db first limit clients requests starts ended.receipted fault ended.closed
       pub holds : Holds every catalog db first opened before past kind ended.closed.list ended.log count fault
       pub begun : first ≤ ended.receipted
       pub within : ended.receipted ≤ count
@@ -121,8 +124,8 @@ module _ {D : Type 0} (kind : DiskKind D) where
 
     -- the same with the log at the opening: a crash at any moment since then leaves a front of the list, and takes nothing that one at an
     -- earlier moment could not take; what is below the count that is told stands for good, and of each client at most 16 entries stand from there on
-    pub record EndsOnDisk (limit clients : ℕ) (requests : List Request) (old : CmdLog D) (ended : Finished D) : Type 0 where
-      pub ends : Ends limit clients (kind.moment old.disk) (kind.faults old.disk) (past_of kind.images old.disk) requests ended
+    pub record EndsOnDisk (limit clients : ℕ) (requests : List Request) (starts : List ℕ) (old : CmdLog D) (ended : Finished D) : Type 0 where
+      pub ends : Ends limit clients (kind.moment old.disk) (kind.faults old.disk) (past_of kind.images old.disk) requests starts ended
       pub crashes : kind.honest → LeavesOnly kind.moment kind.images old.disk ended.log.disk (Prefix catalog db first ended.closed.list)
       pub stands_on : kind.honest → StandsOn catalog kind.moment kind.images (kind.moment old.disk) ended.log.disk
       pub receipt : kind.honest → Receipt catalog (present kind) ended.receipted ended.log.disk

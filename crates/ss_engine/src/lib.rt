@@ -60,8 +60,9 @@
 //!   memory, or the lane is told of the disk's faults; all that waits for a receipt goes on waiting. No clause says that a
 //!   generation begins at this place, since the log is behind a lock; of the last one `EndsNear` does.
 //! - `run_session` (`ok`: `EndsOnDisk`), from any whole database that the log's generation stands for (`OpensOn`): a list
-//!   that replays and has its orders, with just the entries of each client that its answers report, how settling ended
-//!   on it, and which of its last entries are the steps of settling, in the model's order (`IsRun`); a crash at any
+//!   that replays and has its orders, with just the entries of each client that its answers report, where each client
+//!   begins at a request of its own (`starts`) and none of its answers is listed behind a stop, how settling ended on
+//!   it, and which of its last entries are the steps of settling, in the model's order (`IsRun`); a crash at any
 //!   moment leaves a prefix of it, and takes nothing that one at an earlier moment could not take; and one now leaves a
 //!   front that ends at the receipted count at least, or all of it where the last flush went well. With checkpoints the
 //!   log's generation then begins near the list's end (`EndsNear`). An error hands the log back as it was (`err`).
@@ -78,6 +79,8 @@
 //!   whoever called has no name, and the lock of `ss_receipts` speaks of the past that the name has.
 //! - A client that has come far makes the checkpoint itself, instead of a thread of its own, because it comes between requests
 //!   anyway, and no thread has to be had or told. Whether one is due it tells by its own last entry, which it knows without a lock.
+//! - Where each client begins is handed down as a list beside the requests, instead of being read off the lanes, because then
+//!   what is said of a client's answers names its first request by what the caller gave.
 //! - The order of the input is kept for each client alone. Threads that run at the same time have none between them,
 //!   and each client's own order is what its answers can promise.
 //! - Each crate shows of its own types that threads may share them or hand them on (`proofs/Crossing`), instead of

@@ -49,7 +49,8 @@ pub struct Begun<I: Life> {
 }
 
 /// What an engine begins with, over the shard of all partitions and the streams of the opening's database: first what the log opens,
-/// with bays and lanes over its marks, then what threads share.
+/// with bays and lanes over its marks, then what threads share. The next request of each client has its number in `starts`, 0 where
+/// there is none.
 ///
 /// Out of memory is its one error. Costs what `split` costs, and as much again for each inbox and slot; no row is moved.
 pub fn begin<I: Life>(
@@ -59,6 +60,7 @@ pub fn begin<I: Life>(
     whole: Shard,
     streams: Streams,
     opening: Opening,
+    starts: &[u64],
 ) -> Result<Begun<I>, NoMemory>
     requires blank { (blank.opening ≡ opening) × (blank.table.shared.table_id ≡ I.table) }
     requires numbers { (opening.first ≡ I.first) × (opening.limit ≡ I.limit) × (opening.parts ≡ I.parts) × (opening.clients ≡ I.clients) }
@@ -71,7 +73,7 @@ pub fn begin<I: Life>(
     requires few { (s : ℕ) → length (stream_batches I.opening s) ≤ opening.first }
     ensures homes { IfOk result (λ b. b.homes ≡ homes_of I.catalog I.parts) }
     ensures bays { IfOk result (λ b. bay_count b.bays ≡ I.parts) }
-    ensures lanes { IfOk result (λ b. AreFresh I.first I.clients b.lanes.items) }
+    ensures lanes { IfOk result (λ b. AreFresh I.first I.clients starts.now b.lanes.items) }
     ensures notes { IfOk result (λ b. b.notes ≡ at_opening I.first (numbered reader 0 I.parts [])) }
     ensures disk { IfOk result (λ b. b.disk ≡ known Disk [] I.first 0) }
 {
@@ -83,7 +85,7 @@ pub fn begin<I: Life>(
         disk,
     } = log_of(alloc, blank, catalog, &whole, streams, opening)?;
     let (bays, lanes, notes) = bays_and_lanes(
-        alloc, catalog, whole, opening, parts, clients, notes,
+        alloc, catalog, whole, opening, starts, parts, clients, notes,
     )?;
     let (hub, homes, room) = shared_of(alloc, catalog, log, opening)?;
     Ok(Begun {
@@ -137,6 +139,7 @@ fn bays_and_lanes<I: Life>(
     catalog: &Catalog,
     whole: Shard,
     opening: Opening,
+    starts: &[u64],
     parts: Marks<I>,
     clients: Marks<I>,
     mut notes: Notes<I>,
@@ -150,11 +153,11 @@ fn bays_and_lanes<I: Life>(
     requires clients { clients ≡ at_opening I.first (numbered Client 0 I.clients []) }
     requires notes { notes ≡ at_opening I.first (numbered reader 0 (I.parts + I.clients) []) }
     ensures bays { IfOk result (λ made. bay_count made.0 ≡ I.parts) }
-    ensures lanes { IfOk result (λ made. AreFresh I.first I.clients made.1.items) }
+    ensures lanes { IfOk result (λ made. AreFresh I.first I.clients starts.now made.1.items) }
     ensures notes { IfOk result (λ made. made.2 ≡ at_opening I.first (numbered reader 0 I.parts [])) }
 {
     let bays = bays_of(alloc, catalog, whole, opening.parts, parts)?;
-    let lanes = fresh_lanes(alloc, opening.clients, clients, &mut notes)?;
+    let lanes = fresh_lanes(alloc, opening.clients, starts, clients, &mut notes)?;
     Ok((bays, lanes, notes))
 }
 

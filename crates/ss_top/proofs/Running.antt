@@ -20,7 +20,8 @@ use Rattle.ss_model.specs.Settled.{NoneReady}
 use Rattle.ss_model.specs.Replays.{after}
 use Rattle.ss_model.specs.Report.{End, Stop, Whole, Unlisted, report_text}
 use Rattle.ss_model.specs.Settling.{Drained, kept}
-use Rattle.ss_report_laws.specs.Replies.{AreAnswered, IsListedOr, answers_of, mine, weave}
+use Rattle.ss_report_laws.specs.Replies.{AreAnswered, IsListedOr, answers_of, mine, requests_of, weave}
+use Rattle.ss_report_laws.specs.Resuming.{AreToldTo}
 use Rattle.ss_report.specs.declared.run_end.End as report
 use Rattle.ss_report.specs.declared.run_end.End.TheVariants as written
 use Rattle.ss_report.specs.Reported.{IsReportOf, HasEndTables, missing_answer}
@@ -145,7 +146,7 @@ module _ {D : Type 0} (kind : DiskKind D) where
   change = disk_of kind
 
   module _ (every : Option ℕ) (limit : ℕ) (printing : Printing) (catalog : Catalog) (db : Model) (first clients : ℕ) (requests : List Request) (old : D) (log : CmdLog D) (ended : Finished D) (few : first ≤ 2 ^ 60) (accepted : Accepted catalog) (in_step : IsInStep catalog db)
-      (opened : Opened catalog db first (change old log.disk)) (e : EndsOnDisk kind every catalog db first (room_from limit first) clients requests log ended) (small : e.ends.fault < 2 ^ 64)
+      (opened : Opened catalog db first (change old log.disk)) (e : EndsOnDisk kind every catalog db first (room_from limit first) clients requests [] log ended) (small : e.ends.fault < 2 ^ 64)
       (whole_law : WholeRuns change) (stopped_law : StoppedRuns change) (full_law : FullListsHaveAll) where
     abbrev list : List Listed
     list = ended.closed.list
@@ -155,6 +156,10 @@ module _ {D : Type 0} (kind : DiskKind D) where
 
     abbrev new : D
     new = ended.log.disk
+
+    -- each request is answered, from each client's first one on
+    told_all : (client : ℕ) → AreToldTo client 0 first list (requests_of client requests) (answers_of answers client)
+    told_all client = e.ends.run.told client
 
     closed : Closed catalog db first list (change log.disk new)
     closed = record { replays = e.ends.run.replays; orders = e.ends.run.orders; crashes = e.crashes; receipts_stay = e.stands_on }
@@ -231,8 +236,8 @@ module _ {D : Type 0} (kind : DiskKind D) where
     -- these answers, at an end that explains each that isn't listed
     explained : (end : End) → ((a : Answer) → IsListedOr (IsUnlisted (room_from limit first) (length list) e.ends.fault) a → IsListedOr (Unlisted end) a) → AreAnswered requests first list end answers
     explained end explains = record {
-      many = e.ends.run.many;
-      each = e.ends.run.each;
+      many = λ client. (told_all client).many;
+      each = λ client. (told_all client).each;
       others = λ client. all_with (IsListedOr (IsUnlisted (room_from limit first) (length list) e.ends.fault)) (IsListedOr (Unlisted end)) explains (answers_of answers client) (e.ends.run.others client);
     }
 
@@ -240,8 +245,8 @@ module _ {D : Type 0} (kind : DiskKind D) where
     answered_calm : (end : End) → Unlisted end NoMemoryAnswer → ended.log.halted ≡ None → some_say_full answers ≡ false → AreAnswered requests first list end answers
     answered_calm end may going none =
         let calm = calm_at (kind.faults log.disk) (kind.faults new) ended.log.halted e.ends.fault e.ends.holds.halt going in record {
-          many = e.ends.run.many;
-          each = e.ends.run.each;
+          many = λ client. (told_all client).many;
+          each = λ client. (told_all client).each;
           others = λ client. at_calm (room_from limit first) (length list) e.ends.fault end may calm (answers_of answers client) (e.ends.run.others client) (none_of answers client none);
         }
 
@@ -331,7 +336,7 @@ module _ {D : Type 0} (kind : DiskKind D) where
 
     some_outside : some_say_full answers ≡ true → 1 ≤ outside requests list
     some_outside some =
-        let one = some_of answers some in outside_by_one requests first list one.0 (answers_of answers one.0) (e.ends.run.many one.0) (e.ends.run.each one.0) one.1
+        let one = some_of answers some in outside_by_one requests first list one.0 (answers_of answers one.0) (told_all one.0).many (told_all one.0).each one.1
 
     outside_or : (some_say_full answers ≡ true) ⊎ SomeReady catalog (after catalog db list) → (1 ≤ outside requests list) ⊎ SomeReady catalog (after catalog db list)
     outside_or (inl some) = inl (some_outside some)
@@ -449,7 +454,7 @@ module _ {D : Type 0} (kind : DiskKind D) where
         told = all_without_memory answers
 
         answered : AreAnswered requests first list (stop_since log.disk 6) told
-        answered = answered_without_memory requests first list (stop_since log.disk 6) answers tt e.ends.run.many e.ends.run.each
+        answered = answered_without_memory requests first list (stop_since log.disk 6) answers tt (λ client. (told_all client).many) (λ client. (told_all client).each)
 
         logged_at : (failed : Bool) → is_some ended.log.halted ≡ failed → LogEndsAsStopped every 6 first list ended.receipted (change log.disk new)
         logged_at true is = failed_as_stopped is 6 (inr refl)

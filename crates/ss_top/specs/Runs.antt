@@ -1,5 +1,5 @@
 -- How a session ended, by the answers and the ways in which settling and the last flush ended; its report, and how that is told.
-use Rattle.std.specs.Prelude.{◌≡◌, ◌⊎◌, ◌≤◌, ◌^◌, ℕ, Bool, cond, List, Option, Some, None, Result, Ok, Err, IfSome, IfNone}
+use Rattle.std.specs.Prelude.{◌≡◌, ◌⊎◌, ◌≤◌, ◌^◌, ℕ, Bool, cond, List, [], Option, Some, None, Result, Ok, Err, IfSome, IfNone}
 use Rattle.ss_disk.specs.Kinds.{DiskKind}
 use Rattle.ss_value.specs.FaultCounts.{Rose}
 use Rattle.ss_model.specs.declared.catalog.Catalog.{Catalog}
@@ -69,11 +69,11 @@ abbrev pub ReportsFinished : {D : Type 0} → DiskKind D → Printing → List R
 ReportsFinished {D} kind printing requests first finished reported =
     (every : Option ℕ) (limit clients : ℕ) (catalog : Catalog) (db : Model) (old : D) (log : CmdLog D) → first ≤ 2 ^ 60 → Accepted catalog → IsInStep catalog db →
     Opened catalog db first (disk_of kind old log.disk) →
-    EndsOnDisk kind every catalog db first (room_from limit first) clients requests log finished →
+    EndsOnDisk kind every catalog db first (room_from limit first) clients requests [] log finished →
     Reports every limit printing catalog requests reported.status reported.text (disk_of kind old reported.disk)
 
 -- and it tells whether the disk has failed since then
 abbrev pub TellsFinished : {D : Type 0} → DiskKind D → List Request → ℕ → Finished D → Reported D → Type 0
 TellsFinished {D} kind requests first finished reported =
-    (every : Option ℕ) (limit clients : ℕ) (catalog : Catalog) (db : Model) (log : CmdLog D) → EndsOnDisk kind every catalog db first limit clients requests log finished →
+    (every : Option ℕ) (limit clients : ℕ) (catalog : Catalog) (db : Model) (log : CmdLog D) → EndsOnDisk kind every catalog db first limit clients requests [] log finished →
     TellsDiskFault reported.status (kind.faults log.disk) (kind.faults reported.disk)

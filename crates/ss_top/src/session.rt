@@ -304,6 +304,7 @@ pub(crate) fn run_and_report<
         PlainRunner,
         gate,
         requests,
+        &[],
         opening,
         every,
     ) {

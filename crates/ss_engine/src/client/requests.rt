@@ -1,7 +1,7 @@
 //! A client's requests, one after another, with a checkpoint and a receipt where one is due. `session/threads` calls it in the
 //! client's thread. It touches the lane alone; `submit`, `checkpoint` and `receipt`, which it calls, touch the rest.
 
-ghost use Rattle.std.specs.Prelude.{◌≡◌, ◌≤◌, true, length};
+ghost use Rattle.std.specs.Prelude.{◌≡◌, ◌+◌, ◌^◌, ◌<◌, ◌≤◌, true, length};
 ghost use Rattle.ss_model.specs.Database.{fits_entry};
 ghost use Rattle.ss_model.specs.Report.{asked_entry};
 ghost use Rattle.ss_lanes.specs.Between.{HasRequested};
@@ -9,7 +9,7 @@ ghost use Rattle.ss_lanes.specs.Clients.{AllFit, HasMade, MayBegin};
 
 use crate::engine::Engine;
 use ss_disk::Disk;
-use ss_lanes::{Lane, MOST_PENDING, halted, unsent};
+use ss_lanes::{Lane, MOST_PENDING, halted, start_of, unsent};
 use ss_model::{Life, Request};
 use ss_proc::Runner;
 use ss_receipts::{DurableError, Receipts};
@@ -29,7 +29,8 @@ fn make_request<I: Life, N: Runner + Drop, G: Gate + Drop, R: Wait, D: Disk + Dr
 ) -> Lane<I>
     requires spare { 1 ≤ lane.spare }
     requires own { request.now.client ≡ lane.client }
-    requires fits { fits_entry I.catalog (asked_entry lane.client (length lane.answers) request.now.what) ≡ true }
+    requires numbered { lane.start + length lane.answers + 1 < 2 ^ 64 }
+    requires fits { fits_entry I.catalog (asked_entry lane.client (lane.start + length lane.answers) request.now.what) ≡ true }
     ensures { HasRequested I.first I.limit lane request.now.what result }
 {
     if lane.pending() < MOST_PENDING {
@@ -65,7 +66,8 @@ fn make_next<I: Life, N: Runner + Drop, G: Gate + Drop, R: Wait, D: Disk + Drop>
 ) -> (Lane<I>, u64)
     requires spare { 1 ≤ lane.spare }
     requires own { request.now.client ≡ lane.client }
-    requires fits { fits_entry I.catalog (asked_entry lane.client (length lane.answers) request.now.what) ≡ true }
+    requires numbered { lane.start + length lane.answers + 1 < 2 ^ 64 }
+    requires fits { fits_entry I.catalog (asked_entry lane.client (lane.start + length lane.answers) request.now.what) ≡ true }
     ensures { HasRequested I.first I.limit lane request.now.what result.0 }
 {
     let (lane, checkpoint) = engine.checkpoint_if(rt, alloc, receipts, lane, begun);
@@ -73,8 +75,9 @@ fn make_next<I: Life, N: Runner + Drop, G: Gate + Drop, R: Wait, D: Disk + Drop>
     (lane, checkpoint.unwrap_or(begun))
 }
 
-/// Makes those of these requests that are the client's, in order, each once the one before is answered, with a checkpoint before
-/// it where one is due, and then asks for a receipt of all.
+/// Makes those of these requests that are the client's, from its first one here on, whose number is in `starts`, in order, each once
+/// the one before is answered, with a checkpoint before it where one is due, and then asks for a receipt of all. It passes over the
+/// client's earlier requests, which an engine before this one has answered.
 pub(crate) fn make_requests<I: Life, N: Runner + Drop, G: Gate + Drop, R: Wait, D: Disk + Drop>(
     rt: &R,
     alloc: Global,
@@ -82,18 +85,24 @@ pub(crate) fn make_requests<I: Life, N: Runner + Drop, G: Gate + Drop, R: Wait, 
     receipts: &Receipts<I, D>,
     mut lane: Lane<I>,
     requests: &[Request],
+    starts: &[u64],
     number: usize,
 ) -> Lane<I>
     requires fit { AllFit I.catalog requests.now }
-    requires begins { MayBegin I.first requests.now number lane }
-    ensures { HasMade I.first I.limit requests.now number result }
+    requires begins { MayBegin I.first starts.now requests.now number lane }
+    ensures { HasMade I.first I.limit starts.now requests.now number result }
 {
     let mut begun = first_begun(rt, receipts);
+    let mut earlier = start_of(starts, number);
     for request in requests {
         if usize::from(request.client) == number {
-            let (next, place) = make_next(rt, alloc, engine, receipts, lane, request, begun);
-            lane = next;
-            begun = place;
+            if earlier > 0 {
+                earlier -= 1;
+            } else {
+                let (next, place) = make_next(rt, alloc, engine, receipts, lane, request, begun);
+                lane = next;
+                begun = place;
+            }
         }
     }
     // Whatever comes of it, the last flush of the session writes what has no receipt yet.

@@ -1,7 +1,7 @@
 //! A client's entry is sent as a job into an inbox of the hub, and its answer waited for at the client's slot; then mark and
 //! note of the lane meet under the commit log's lock. `submit` calls it. Where the inbox has no executor it pumps it meanwhile.
 
-ghost use Rattle.std.specs.Prelude.{◌≡◌, ◌<◌, ◌≤◌, true, length};
+ghost use Rattle.std.specs.Prelude.{◌≡◌, ◌+◌, ◌^◌, ◌<◌, ◌≤◌, true, length};
 ghost use Rattle.ss_model.specs.Database.{fits_entry};
 ghost use Rattle.ss_model.specs.Report.{asked_entry};
 ghost use Rattle.ss_commitlog.specs.Tokens.{Known};
@@ -39,7 +39,8 @@ impl<I: Life, N: Runner + Drop, G: Gate + Drop> Engine<I, N, G> {
         requires part { p < I.parts }
         requires spare { 1 ≤ lane.spare }
         requires going { (lane.due.faults ≡ 0) × (lane.due.pending < 16) }
-        requires entry { entry ≡ asked_entry lane.client (length lane.answers) what.now }
+        requires numbered { lane.start + length lane.answers + 1 < 2 ^ 64 }
+        requires entry { entry ≡ asked_entry lane.client (lane.start + length lane.answers) what.now }
         requires fits { fits_entry I.catalog entry ≡ true }
         ensures { IsSubmitted I.first I.limit lane what.now result }
     {
@@ -83,6 +84,7 @@ impl<I: Life, N: Runner + Drop, G: Gate + Drop> Engine<I, N, G> {
         requires going { (due.faults ≡ 0) × (due.pending < 16) }
         requires part { p < I.parts }
         requires spare { 1 ≤ answers.spare }
+        requires numbered { ticket.index + 1 < 2 ^ 64 }
         ensures { IsSubmitted I.first I.limit (lane_view ticket due note answers) what.now result }
     {
         let reply = self.awaited(rt, alloc, &mut note, p, &ticket, what);

@@ -1,7 +1,7 @@
 //! The call of a client for one request, which `requests` makes: a copy of what is asked, with its number, is sent to the inbox
 //! of the first partition that it touches. It takes no lock of its own; `send` does.
 
-ghost use Rattle.std.specs.Prelude.{◌≡◌, ◌<◌, ◌≤◌, true, length};
+ghost use Rattle.std.specs.Prelude.{◌≡◌, ◌+◌, ◌^◌, ◌<◌, ◌≤◌, true, length};
 ghost use Rattle.ss_model.specs.Database.{fits_entry};
 ghost use Rattle.ss_model.specs.Report.{asked_entry};
 ghost use Rattle.ss_lanes.specs.Lanes.{IsSubmitted};
@@ -35,7 +35,8 @@ impl<I: Life, N: Runner + Drop, G: Gate + Drop> Engine<I, N, G> {
         requires spare { 1 ≤ lane.spare }
         requires few { lane.due.pending < 16 }
         requires own { request.now.client ≡ lane.client }
-        requires fits { fits_entry I.catalog (asked_entry lane.client (length lane.answers) request.now.what) ≡ true }
+        requires numbered { lane.start + length lane.answers + 1 < 2 ^ 64 }
+        requires fits { fits_entry I.catalog (asked_entry lane.client (lane.start + length lane.answers) request.now.what) ≡ true }
         ensures { IsSubmitted I.first I.limit lane request.now.what result }
     {
         if lane.faults() != 0 {
@@ -44,7 +45,7 @@ impl<I: Life, N: Runner + Drop, G: Gate + Drop> Engine<I, N, G> {
         let Ok(what) = request.what.duplicate(alloc) else {
             return unsent(lane);
         };
-        let entry = asked_entry(request.client, lane.answers().len() as u64, what);
+        let entry = asked_entry(request.client, lane.next_index(), what);
         let (p, _) = self.touched(&entry);
         self.send(rt, alloc, lane, p, entry, &request.what)
     }

@@ -41,7 +41,8 @@ pub struct NewEngine<I: Life, N: Runner + Drop, G: Gate + Drop> {
 }
 
 impl<I: Life, N: Runner + Drop, G: Gate + Drop> Engine<I, N, G> {
-    /// An engine with an empty list, over the shard of all partitions and the streams of the opening's database.
+    /// An engine with an empty list, over the shard of all partitions and the streams of the opening's database. The next request of
+    /// each client has its number in `starts`, 0 where there is none.
     ///
     /// Out of memory is its one error. Costs what `split` costs, and as much again for each inbox and slot; no row is moved.
     pub fn open(
@@ -53,6 +54,7 @@ impl<I: Life, N: Runner + Drop, G: Gate + Drop> Engine<I, N, G> {
         runner: N,
         gate: G,
         opening: Opening,
+        starts: &[u64],
     ) -> Result<NewEngine<I, N, G>, NoMemory>
         requires blank { (blank.opening ≡ opening) × (blank.table.shared.table_id ≡ I.table) }
         requires numbers { (opening.first ≡ I.first) × (opening.limit ≡ I.limit) × (opening.parts ≡ I.parts) × (opening.clients ≡ I.clients) }
@@ -64,11 +66,11 @@ impl<I: Life, N: Runner + Drop, G: Gate + Drop> Engine<I, N, G> {
         requires streams { AreStreamsOf I.catalog I.opening streams.streams }
         requires few { (s : ℕ) → length (stream_batches I.opening s) ≤ opening.first }
         requires checkpoints { AllowsCheckpoints I.catalog I.opening I.first I.every }
-        ensures lanes { IfOk result (λ o. AreFresh I.first I.clients o.lanes.items) }
+        ensures lanes { IfOk result (λ o. AreFresh I.first I.clients starts.now o.lanes.items) }
         ensures notes { IfOk result (λ o. o.notes ≡ at_opening I.first (numbered reader 0 I.parts [])) }
         ensures disk { IfOk result (λ o. o.disk_note ≡ known Disk [] I.first 0) }
     {
-        let Ok(begun) = begin(alloc, blank, &catalog, whole, streams, opening) else {
+        let Ok(begun) = begin(alloc, blank, &catalog, whole, streams, opening, starts) else {
             return Err(NoMemory);
         };
         let Begun {

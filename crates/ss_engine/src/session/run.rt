@@ -12,7 +12,7 @@ ghost use Rattle.ss_shard.specs.Parts.{IsWholeShard};
 ghost use Rattle.ss_shard.specs.Windows.{HoldsDatabase};
 ghost use Rattle.ss_commitlog.specs.Committing.{IsOpening};
 ghost use Rattle.ss_receipts.specs.Holding.{Holds};
-ghost use Rattle.ss_engine.specs.Clients.{AllFit};
+ghost use Rattle.ss_engine.specs.Clients.{AllFit, StartWithin};
 ghost use Rattle.ss_engine.specs.Engines.{AllowsCheckpoints};
 ghost use Rattle.ss_engine.specs.Sessions.{AreOfClients, Ends, EndsOnDisk, IsFlushed, IsLeftOver, IsTrimmedTo, OpensOn};
 
@@ -72,6 +72,7 @@ fn incarnation<
     runner: N,
     gate: G,
     requests: &Seq<Request>,
+    starts: &[u64],
     opening: Opening,
     every: Option<u64>,
 ) -> Result<Finished<D>, (NoMemory, CmdLog<D>)>
@@ -91,12 +92,13 @@ fn incarnation<
     requires log { Holds I.every I.catalog I.opening I.first I.moment I.faults I.past D.kind [] command_log I.first 0 }
     requires fit { AllFit I.catalog requests.now }
     requires asked { AreOfClients I.clients requests.now }
+    requires starts { StartWithin starts.now requests.now }
     ensures ok { IfOk result (Ends D.kind I.every I.catalog I.opening I.first
-        I.limit I.clients I.moment I.faults I.past requests.now) }
+        I.limit I.clients I.moment I.faults I.past requests.now starts.now) }
     ensures err { IfErr result (λ e. e.1 ≡ command_log) }
 {
     let Ok(opened) = Engine::<I, N, G>::open(
-        blank, alloc, catalog, whole, streams, runner, gate, opening,
+        blank, alloc, catalog, whole, streams, runner, gate, opening, starts,
     ) else {
         return Err((NoMemory, command_log));
     };
@@ -107,7 +109,7 @@ fn incarnation<
         disk_note,
         room,
     } = opened;
-    let Ok(ready) = with_room(alloc, lanes, requests.as_slice()) else {
+    let Ok(ready) = with_room(alloc, lanes, requests.as_slice(), starts) else {
         return Err((NoMemory, command_log));
     };
     // Laws of what a log holds, which do nothing.
@@ -123,6 +125,7 @@ fn incarnation<
         ready,
         notes,
         requests.as_slice(),
+        starts,
     );
     let (command_log, mut disk_note) = receipts.into_parts();
     let posted = engine.hub.log.see(&mut disk_note);
@@ -225,10 +228,13 @@ fn flushed_at_last<I: Life, D: Disk + Drop>(
     }
 }
 
-/// Makes all requests on an opened log, those of each client in order and those of different clients at the same time, then
-/// settles, and flushes what has no receipt by then. `opening` has the place of the first entry, which is the log's count, and
-/// how many entries there may be, how many partitions run and how many clients ask. Shard and streams stand for a database `db`
-/// that is whole, at which the log's disk stands.
+/// Makes all requests on an opened log, of each client those from the number in `starts` on, 0 where there is none, in order, and
+/// those of different clients at the same time, then settles, and flushes what has no receipt by then. `opening` has the place of
+/// the first entry, which is the log's count, and how many entries there may be, how many partitions run and how many clients ask.
+/// Shard and streams stand for a database `db` that is whole, at which the log's disk stands.
+///
+/// So a client may begin behind requests that were answered for good when an engine before this one ran on the disk: these are
+/// passed over, and the others keep their numbers.
 ///
 /// With `every` a client makes a checkpoint before a request where its last listed entry stands so many places behind the
 /// beginning of the log's generation, and one is made at the end, behind the last flush, where it is due: so where all went
@@ -265,6 +271,7 @@ pub fn run_session<
     runner: N,
     gate: G,
     requests: &Seq<Request>,
+    starts: &[u64],
     opening: Opening,
     every: Option<u64>,
 ) -> Result<Finished<D>, (NoMemory, CmdLog<D>)>
@@ -284,8 +291,9 @@ pub fn run_session<
     requires log { OpensOn D.kind catalog db opening.first command_log }
     requires fit { AllFit catalog requests.now }
     requires asked { AreOfClients opening.clients requests.now }
+    requires starts { StartWithin starts.now requests.now }
     ensures ok { IfOk result (EndsOnDisk D.kind every catalog db opening.first
-        opening.limit opening.clients requests.now command_log) }
+        opening.limit opening.clients requests.now starts.now command_log) }
     ensures err { IfErr result (λ e. e.1 ≡ command_log) }
 {
     let Ok(blank) = Blank::new(alloc, &opening) else {
@@ -302,6 +310,7 @@ pub fn run_session<
         runner,
         gate,
         requests,
+        starts,
         opening,
         every,
     )

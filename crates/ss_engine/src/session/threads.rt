@@ -20,7 +20,7 @@ use std::sync::atomic::{AtomicBool, Ordering};
 use std::thread;
 use std::thread::Threads;
 
-/// Makes a client's requests with its lane, which it has again behind the last answer.
+/// Makes a client's requests, from the number in `starts` on, with its lane, which it has again behind the last answer.
 fn client_thread<I: Life, N: Runner + Drop, G: Gate + Drop, R: Wait, D: Disk + Drop>(
     rt: &R,
     alloc: Global,
@@ -28,16 +28,17 @@ fn client_thread<I: Life, N: Runner + Drop, G: Gate + Drop, R: Wait, D: Disk + D
     receipts: &Receipts<I, D>,
     client: &mut Client<I>,
     requests: &[Request],
+    starts: &[u64],
     number: usize,
 )
     requires fit { AllFit I.catalog requests.now }
-    requires begins { HasLane (MayBegin I.first requests.now number) client.old }
-    ensures { HasLane (HasMade I.first I.limit requests.now number) client.new }
+    requires begins { HasLane (MayBegin I.first starts.now requests.now number) client.old }
+    ensures { HasLane (HasMade I.first I.limit starts.now requests.now number) client.new }
 {
     let Some(lane) = client.lane.take() else {
         unreachable!()
     };
-    client.lane = Some(make_requests(rt, alloc, engine, receipts, lane, requests, number));
+    client.lane = Some(make_requests(rt, alloc, engine, receipts, lane, requests, starts, number));
 }
 
 /// Makes the requests of all clients, each in a thread of its own where one can be made.
@@ -54,10 +55,11 @@ fn client_threads<
     receipts: &Receipts<I, D>,
     mut clients: Vec<Client<I>>,
     requests: &[Request],
+    starts: &[u64],
 ) -> Vec<Client<I>>
     requires fit { AllFit I.catalog requests.now }
-    requires begin { EachHasLane (length clients.items) (MayBegin I.first requests.now) clients.items }
-    ensures { EachHasLane (length clients.items) (HasMade I.first I.limit requests.now) result.items }
+    requires begin { EachHasLane (length clients.items) (MayBegin I.first starts.now requests.now) clients.items }
+    ensures { EachHasLane (length clients.items) (HasMade I.first I.limit starts.now requests.now) result.items }
 {
     let many = clients.len().max(1);
     thread::for_each_mut(
@@ -65,9 +67,13 @@ fn client_threads<
         clients.as_mut_slice(),
         many,
         &|number: usize, client: &mut Client<I>|
-            requires { AllFit I.catalog requests.now × HasLane (MayBegin I.first requests.now number) client.old }
-            ensures { HasLane (HasMade I.first I.limit requests.entry.now number) client.new }
-        { client_thread(rt, alloc, engine, receipts, client, requests, number) },
+            requires { AllFit I.catalog requests.now × HasLane (MayBegin I.first starts.now requests.now number) client.old }
+            ensures { HasLane (HasMade I.first I.limit starts.entry.now requests.entry.now number) client.new }
+        {
+            client_thread(
+                rt, alloc, engine, receipts, client, requests, starts, number,
+            )
+        },
     );
     clients
 }
@@ -116,10 +122,11 @@ fn clients_beside_executors<
     clients: Vec<Client<I>>,
     notes: Notes<I>,
     requests: &[Request],
+    starts: &[u64],
 ) -> Vec<Client<I>>
     requires fit { AllFit I.catalog requests.now }
-    requires begin { EachHasLane (length clients.items) (MayBegin I.first requests.now) clients.items }
-    ensures { EachHasLane (length clients.items) (HasMade I.first I.limit requests.now) result.items }
+    requires begin { EachHasLane (length clients.items) (MayBegin I.first starts.now requests.now) clients.items }
+    ensures { EachHasLane (length clients.items) (HasMade I.first I.limit starts.now requests.now) result.items }
 {
     let processors = thread::available_parallelism(rt).map_or(1, |many| many.get());
     engine.hub.look_with(processors);
@@ -129,8 +136,8 @@ fn clients_beside_executors<
         thread::scope_env(),
         rt,
         move |scope| -> Vec<Client<I>>
-            requires { AllFit I.catalog requests.now × EachHasLane (length clients.items) (MayBegin I.first requests.now) clients.items }
-            ensures { EachHasLane (length clients.items) (HasMade I.first I.limit requests.entry.now) result.items }
+            requires { AllFit I.catalog requests.now × EachHasLane (length clients.items) (MayBegin I.first starts.now requests.now) clients.items }
+            ensures { EachHasLane (length clients.items) (HasMade I.first I.limit starts.entry.now requests.entry.now) result.items }
         {
             let mut notes = notes;
             for p in 0..engine.parts {
@@ -144,7 +151,7 @@ fn clients_beside_executors<
                     engine.no_executor(p);
                 }
             }
-            let clients = client_threads(rt, alloc, engine, receipts, clients, requests);
+            let clients = client_threads(rt, alloc, engine, receipts, clients, requests, starts);
             flag.store(true, Ordering::SeqCst);
             engine.stop(rt);
             clients
@@ -152,8 +159,9 @@ fn clients_beside_executors<
     )
 }
 
-/// Makes the requests of all clients, those of each in order and one after another, and those of different clients at the same
-/// time. An executor pumps the inbox of each partition meanwhile. The lanes come back once all requests are answered.
+/// Makes the requests of all clients, of each those from the number in `starts` on, in order and one after another, and those of
+/// different clients at the same time. An executor pumps the inbox of each partition meanwhile. The lanes come back once all of
+/// these requests are answered.
 ///
 /// A client asks for a receipt where 16 of its listed answers wait for one, and behind its last answer. Looks at each request once
 /// for each client. Threads: one for each client and one for each partition, where they can be made; where none can, the clients
@@ -172,13 +180,16 @@ pub(crate) fn run_clients<
     ready: Ready<I>,
     notes: Notes<I>,
     requests: &[Request],
+    starts: &[u64],
 ) -> Vec<Lane<I>>
     requires fit { AllFit I.catalog requests.now }
-    requires begin { EachHasLane (length ready.clients.items) (MayBegin I.first requests.now) ready.clients.items }
+    requires begin { EachHasLane (length ready.clients.items) (MayBegin I.first starts.now requests.now) ready.clients.items }
     ensures many { length result.items ≡ length ready.clients.items }
-    ensures made { EachAt (HasMade I.first I.limit requests.now) result.items }
+    ensures made { EachAt (HasMade I.first I.limit starts.now requests.now) result.items }
 {
     let Ready { clients, again } = ready;
-    let clients = clients_beside_executors(rt, alloc, engine, receipts, clients, notes, requests);
+    let clients = clients_beside_executors(
+        rt, alloc, engine, receipts, clients, notes, requests, starts,
+    );
     lanes_of(clients, again)
 }

@@ -1,6 +1,6 @@
 use denote.Param.Send.{given_send, param_send}
 use mir.Syntax.{ty_unit}
-use Rattle.std.proofs.Common.{rules, ℕ, ◌≡◌, ◌≤◌, Some, sym, subst}
+use Rattle.std.proofs.Common.{rules, ℕ, ◌≡◌, ◌≤◌, arith, [], Some, sym, subst}
 use Rattle.ss_model.specs.Accepted.{Accepted}
 use Rattle.ss_engine.specs.Clients.{AllFit}
 use Rattle.ss_engine.specs.Sessions.{AreOfClients, EndsOnDisk, OpensOn}
@@ -27,14 +27,14 @@ run_session-requires g c = λ κs within.
     let every : (k : ℕ) → c.args.every ≡ Some k → 1 ≤ k = search (rules, c.requires) parts 40 in
     let clients = c.client_count-clients.ensures in
     let sent = param_send 3 _ (given_send 0 ty_unit g.row.D c.requires.1.1.1.0) in
-    (search rules, (search (rules, within), (search (rules, within), (search (rules, within), (record { owned = sent.owned; leaving = sent.leaving }, (search rules, (search (rules, c.requires.1.1.1.1.0), (search (rules, c.requires.1.1.1.1.1.0), (accepted, ((some, few), ((clients.some, clients.few), (small, (goes.ready.whole.in_step.matched, (goes.had.streams, (goes.ready.whole, (goes.had, (every, (goes.ready.dealt, (goes.ready.holds.shard, (goes.ready.holds.streams, (opens, (fit, subst (AreOfClients c.client_count-clients.result) c.as_slice.ensures clients.of_clients))))))))))))))))))))))
+    (search rules, (search (rules, within), (search (rules, within), (search (rules, within), (record { owned = sent.owned; leaving = sent.leaving }, (search rules, (search (rules, c.requires.1.1.1.1.0), (search (rules, c.requires.1.1.1.1.1.0), (accepted, ((some, few), ((clients.some, clients.few), (small, (goes.ready.whole.in_step.matched, (goes.had.streams, (goes.ready.whole, (goes.had, (every, (goes.ready.dealt, (goes.ready.holds.shard, (goes.ready.holds.streams, (opens, (fit, (subst (AreOfClients c.client_count-clients.result) c.as_slice.ensures clients.of_clients, λ client. omega arith)))))))))))))))))))))))
 
 pub returns-in-Ok-clause-reported : goal.returns-in-Ok-clause-reported
 returns-in-Ok-clause-reported g c = λ old opened.
     let goes : GoesOn {D = g.row.D.Denot} g.D.Disk.kind c.args.partitions c.args.recovered g.db = search (rules, c.requires) parts 40 in
     let accepted : Accepted c.args.recovered.catalog = search (rules, c.requires) parts 40 in
     let ends = subst (λ (room : ℕ). EndsOnDisk {D = g.row.D.Denot} g.D.Disk.kind c.args.every c.args.recovered.catalog g.db c.args.recovered.first
-    room c.client_count-clients.result c.args.requests.now c.args.recovered.log c.in-Ok.finished) c.room_from.ensures c.in-Ok.ensures.ok in
+    room c.client_count-clients.result c.args.requests.now [] c.args.recovered.log c.in-Ok.finished) c.room_from.ensures c.in-Ok.ensures.ok in
     c.report_session.ensures.finished c.args.every c.args.limit c.client_count-clients.result c.args.recovered.catalog g.db old c.args.recovered.log goes.few accepted goes.ready.whole.in_step opened ends
 
 pub returns-in-Ok-clause-later : goal.returns-in-Ok-clause-later

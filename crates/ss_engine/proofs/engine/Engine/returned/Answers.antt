@@ -18,4 +18,4 @@ returns g c =
     let came = came_back g.I.Life.catalog g.I.Life.parts g.I.Life.clients g.I.Life.first g.I.Life.limit c.args.ticket c.args.due c.args.what.now c.args.answers c.requires.lane.0 c.args.note c.awaited-reply.new.note c.meet.new.mark c.meet.new.note r
     c.requires.lane.1 c.requires.going c.reply.invariant own c.awaited-reply.ensures.note c.meet.ensures.mark c.meet.ensures.note c.meet.ensures.one in
     submitted g.I.Life.catalog g.I.Life.parts g.I.Life.first g.I.Life.limit c.args.ticket c.args.due c.args.what.now c.args.answers c.args.note c.meet.new.note _ c.answered.result c.reply.inside.said
-    refl c.requires.going.0 c.answered.ensures.client c.answered.ensures.note c.answered.ensures.due c.answered.ensures.answers c.answered.ensures.spare came.on came.right
+    refl c.requires.going.0 c.answered.ensures.client c.answered.ensures.start c.answered.ensures.note c.answered.ensures.due c.answered.ensures.answers c.answered.ensures.spare came.on came.right

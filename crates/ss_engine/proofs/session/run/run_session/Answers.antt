@@ -22,5 +22,5 @@ incarnation-requires-clause-log g c = λ κs within.
 
 pub returns-clause-ok : goal.returns-clause-ok
 returns-clause-ok g c =
-    ends_if_ok g.D.Disk.kind c.args.every c.args.catalog g.db c.args.opening.first c.args.opening.limit c.args.opening.clients c.args.requests.now c.args.command_log
+    ends_if_ok g.D.Disk.kind c.args.every c.args.catalog g.db c.args.opening.first c.args.opening.limit c.args.opening.clients c.args.requests.now c.args.starts.now c.args.command_log
     c.incarnation.result c.incarnation.ensures.ok
