@@ -1,7 +1,7 @@
 //! What stays with what follows it, for `past`. Items are moved and never copied, however deep they are.
 
-ghost use Rattle.std.specs.Prelude.{◌≡◌, ◌++◌, length, map, take, zip, IfOk};
-ghost use Rattle.ss_resume.specs.Pasts.{resumed};
+ghost use Rattle.std.specs.Prelude.{◌≡◌, ◌++◌, take, IfOk};
+ghost use Rattle.ss_resume.specs.Pasts.{joined_lists};
 
 use crate::staying::resume_at;
 use ss_model::Answer;
@@ -26,7 +26,8 @@ pub(crate) fn cut_and_joined<T: Drop>(
     Ok(Seq::from_vec(all))
 }
 
-/// Of each client, the answers that stay where the list is cut at a place, and behind them those to its further requests.
+/// Of each client, the answers that stay where the list is cut at a place, and behind them those to its further requests. Either
+/// list may be the longer one: the clients behind the end of the other have no answers there.
 ///
 /// Looks at each answer that stays. Else it is linear in those that are cut off and in those that are added, and takes room for
 /// a list for each client. Out of memory loses all.
@@ -36,17 +37,15 @@ pub(crate) fn joined_answers(
     answers: Seq<Seq<Answer>>,
     further: Seq<Seq<Answer>>,
 ) -> Result<Seq<Seq<Answer>>, NoMemory>
-    requires { length further ≡ length answers }
-    ensures { IfOk result (λ all. all ≡ map (resumed place) (zip answers further)) }
+    ensures { IfOk result (λ all. all ≡ joined_lists place answers further) }
 {
-    let mut all = Vec::with_capacity(alloc, answers.len())?;
+    let mut all = Vec::with_capacity(alloc, answers.len().max(further.len()))?;
     let mut left = further.into_vec().into_iter();
     for earlier in answers.into_vec() {
-        let Some(others) = left.next() else {
-            unreachable!()
-        };
+        let others = left.next().unwrap_or(Seq::new(alloc));
         let count = resume_at(earlier.as_slice(), place);
         all.push_reserved(cut_and_joined(earlier, count, others)?);
     }
+    all.extend(left)?;
     Ok(Seq::from_vec(all))
 }

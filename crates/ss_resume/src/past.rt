@@ -49,7 +49,7 @@ impl Past {
     }
 
     /// What ran behind an opening at a place joins this past: list and answers go back to what stays there, and those of what
-    /// ran follow.
+    /// ran follow. A client may be in one of the two alone: then it has no answers in the other.
     ///
     /// Entries and answers are moved and never copied. Linear in what is cut off and in what is added; besides, it looks at each
     /// answer that stays, and at no entry that stays. Out of memory loses the past with what ran.
@@ -62,7 +62,6 @@ impl Past {
         receipted: u64,
     ) -> Result<Past, NoMemory>
         requires place { (self.first ≤ place) × (place ≤ self.first + length self.list) }
-        requires many { length answers ≡ length self.answers }
         ensures { IfOk result (JoinsAt place self list answers receipted) }
     {
         let Past {
