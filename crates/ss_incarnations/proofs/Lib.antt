@@ -4,4 +4,5 @@ pub mod Openings
 pub mod Incarnations
 pub mod Runs
 pub mod Pushes
+pub mod Reported
 pub mod worked

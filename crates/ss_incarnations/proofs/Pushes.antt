@@ -195,7 +195,7 @@ module _ (catalog : Catalog) (wired : IsWired catalog) (s : ℕ) (source : List 
           (more ∙ ap (λ y. range_with_len y (length rest)) same)
 
   -- where all pushes of a source have consecutive numbers from the next one on, all are accepted
-  all_done : (db : Database) (list : List Listed) → length db.next_numbers ≡ length catalog.streams → Replays catalog db list → AreConsecutive (next_number db s source) (pushed_numbers s source list)
+  pub all_done : (db : Database) (list : List Listed) → length db.next_numbers ≡ length catalog.streams → Replays catalog db list → AreConsecutive (next_number db s source) (pushed_numbers s source list)
       → accepted_numbers s source list ≡ pushed_numbers s source list
   all_done db [] many replays numbers = refl
   all_done db (l ∷ ls) many replays numbers =
@@ -241,13 +241,13 @@ accepted_are_consecutive = λ catalog accepted db whole list replays s source. c
 
 -- ---- what a list has is what was asked for
 
-abbrev number_of : ℕ → List ℕ → Entry → Option ℕ
+abbrev pub number_of : ℕ → List ℕ → Entry → Option ℕ
 number_of s source e = cond (is_push_of s source e) (Some (push_number e)) None
 
 abbrev numbers_of : ℕ → List ℕ → List (ℕ × Listed) → List ℕ
 numbers_of s source ps = filter_map (λ (p : ℕ × Listed). number_of s source p.1.entry) ps
 
-abbrev IsIts : ℕ → ℕ → List ℕ → Entry → Type 0
+abbrev pub IsIts : ℕ → ℕ → List ℕ → Entry → Type 0
 IsIts client s source e = is_push_of s source e ≡ true → is_of client e ≡ true
 
 -- where all pushes of a source are a client's, they are among its entries
@@ -264,11 +264,11 @@ among_mine client s source place (l ∷ ls) all = by (is_of client l.entry) refl
         ap (λ b. cons_option (cond b (Some (push_number l.entry)) None) (pushed_numbers s source ls)) none ∙ rest
 
 -- which request of a client it is says nothing of its source
-same_push : (s : ℕ) (source : List ℕ) (c d i j : ℕ) (what : Asked) → is_push_of s source (asked_entry c i what) ≡ is_push_of s source (asked_entry d j what)
+pub same_push : (s : ℕ) (source : List ℕ) (c d i j : ℕ) (what : Asked) → is_push_of s source (asked_entry c i what) ≡ is_push_of s source (asked_entry d j what)
 same_push s source c d i j (CallAsked q args) = refl
 same_push s source c d i j (PushAsked t name seq rows) = refl
 
-same_number : (s : ℕ) (source : List ℕ) (c d i j : ℕ) (what : Asked) → number_of s source (asked_entry c i what) ≡ number_of s source (asked_entry d j what)
+pub same_number : (s : ℕ) (source : List ℕ) (c d i j : ℕ) (what : Asked) → number_of s source (asked_entry c i what) ≡ number_of s source (asked_entry d j what)
 same_number s source c d i j (CallAsked q args) = refl
 same_number s source c d i j (PushAsked t name seq rows) = refl
 
@@ -301,7 +301,7 @@ only_its client s source (r ∷ rs) all = by (r.client == client) refl (only_its
         let none : is_push_of s source (entry_asked r) ≡ false = is_false (is_push_of s source (entry_asked r)) (λ it. false≢true (sym is ∙ (Decides-eqb r.client client).1 (all.0 it))) in
         rest ∙ sym (ap (λ b. cons_option (cond b (Some (push_number (entry_asked r))) None) (asked_numbers s source rs)) none)
 
-asked_its : (client s : ℕ) (source : List ℕ) (earlier rs : List Request) → OnlyFrom client s source rs → AllByRecursion (IsIts client s source) (entries_behind earlier rs)
+pub asked_its : (client s : ℕ) (source : List ℕ) (earlier rs : List Request) → OnlyFrom client s source rs → AllByRecursion (IsIts client s source) (entries_behind earlier rs)
 asked_its client s source earlier [] all = tt
 asked_its client s source earlier (r ∷ rs) all = (here, asked_its client s source (earlier ++ r ∷ []) rs all.1)
   where
@@ -321,7 +321,7 @@ asked_is_its client s source requests (StepEntry q r) all asked = λ it. absurd 
 asked_is_its client s source requests (Push c i t name seq rows) all asked =
     All-contains (IsIts client s source) (asked_entries requests) (Push c i t name seq rows) (All-from_recursion (IsIts client s source) (asked_entries requests) (asked_its client s source [] requests all)) asked
 
-all_its : (client s : ℕ) (source : List ℕ) (requests : List Request) (list : List Listed) → OnlyFrom client s source requests → AllByRecursion (λ (l : Listed). IsAsked requests l.entry) list
+pub all_its : (client s : ℕ) (source : List ℕ) (requests : List Request) (list : List Listed) → OnlyFrom client s source requests → AllByRecursion (λ (l : Listed). IsAsked requests l.entry) list
     → AllByRecursion (λ (l : Listed). IsIts client s source l.entry) list
 all_its client s source requests [] all asked = tt
 all_its client s source requests (l ∷ ls) all asked = (asked_is_its client s source requests l.entry all asked.0, all_its client s source requests ls all asked.1)

@@ -15,7 +15,7 @@ use Rattle.ss_model.specs.declared.entry.Request.{Request}
 use Rattle.ss_model.specs.Accepted.{Accepted}
 use Rattle.ss_model.specs.Database.{Database, next_number}
 use Rattle.ss_model.specs.Replays.{Replays}
-use Rattle.ss_model.specs.Report.{IsAsked, asked_entry}
+use Rattle.ss_model.specs.Report.{End, IsAsked, Report, asked_entry}
 use Rattle.ss_model.specs.WholeDatabase.{WholeDatabase}
 use Rattle.ss_report_laws.specs.Replies.{requests_of}
 use Rattle.ss_report_laws.specs.Resuming.{AreToldTo}
@@ -86,4 +86,13 @@ AllAreAccepted =
     (requests : List Request) (first : ℕ) (answers : List Answer) (client s : ℕ) (source : List ℕ) →
     AllByRecursion (λ (l : Listed). IsAsked requests l.entry) list → AreToldTo client 0 first list (requests_of client requests) answers →
     OnlyFrom client s source requests → AllListed s source (requests_of client requests) answers →
+    AreConsecutive (next_number db s source) (asked_numbers s source requests) → accepted_numbers s source list ≡ asked_numbers s source requests
+
+-- law: so it is in a list of which there is a report, where each is listed by the report's answers, which stand in the order of all requests
+abbrev pub AllReportedAreAccepted : Type 0
+AllReportedAreAccepted =
+    (catalog : Catalog) → Accepted catalog → (db : Database) → WholeDatabase catalog db → (list : List Listed) → Replays catalog db list →
+    (requests : List Request) (first : ℕ) (end : End) (text : List ℕ) (client s : ℕ) (source : List ℕ) →
+    (report : Report catalog requests db first list end text) →
+    OnlyFrom client s source requests → AllListed s source requests report.answers →
     AreConsecutive (next_number db s source) (asked_numbers s source requests) → accepted_numbers s source list ≡ asked_numbers s source requests

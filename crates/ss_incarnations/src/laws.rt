@@ -1,7 +1,7 @@
 //! What holds of a run over the faults of its disk.
 
 ghost use Rattle.ss_incarnations.specs.Openings.{NoneIsTried, NoneIsOpened, OpenedAtLast};
-ghost use Rattle.ss_incarnations.specs.Pushes.{AcceptedAreConsecutive, AllAreAccepted};
+ghost use Rattle.ss_incarnations.specs.Pushes.{AcceptedAreConsecutive, AllAreAccepted, AllReportedAreAccepted};
 ghost use Rattle.ss_incarnations.specs.Reopening.{FirstIncarnation, NoneIsReopened, NoEngineIsOpened, OneMoreIncarnation};
 ghost use Rattle.ss_incarnations.specs.Runs.{RunsOverHoldFromEach, RunsOverRestarts};
 
@@ -55,8 +55,10 @@ pub fn runs_over_hold_from_each<D: Disk>()
 
 /// Of a list that replays, the accepted numbers of each source are consecutive from its next number on, each once
 /// (`consecutive`). Where a source's pushes come from one client, with consecutive numbers from there on, and each is
-/// listed, all are accepted in that order (`all`).
+/// listed, all are accepted in that order: by the answers that the client was told (`all`), and so by a report of the
+/// list, whose answers stand in the order of all requests (`reported`).
 pub fn pushes_are_accepted()
     ensures consecutive { AcceptedAreConsecutive }
     ensures all { AllAreAccepted }
+    ensures reported { AllReportedAreAccepted }
 {}
