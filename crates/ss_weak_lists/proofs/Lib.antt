@@ -1,0 +1,6 @@
+pub mod CallerLemmas
+pub mod Asked
+pub mod Pushes
+pub mod WeakLists
+pub mod Recovered
+pub mod worked
