@@ -8,7 +8,8 @@ is preloaded, for which it wants `cc`. A run has calls and pushes of two clients
 entries; it is made on a new store, and on one that has an image and entries to recover.
 
 - One call on a file answers EIO, or is interrupted, or reads or writes one byte alone, or none; or each reads, or writes, one
-  byte alone. Such a run has to end with status 5 where a call failed or did nothing, and else with 0.
+  byte alone. Such a run has to end with status 5 where a call failed or did nothing, and else with 0. With a restart it has to
+  end with 0, but for calls that open the folder or lock it.
 - Before each of the calls on files another process comes between: it removes the folder, moves it, or makes a file longer. Who
   removes the folder keeps its files by other names, and whoever makes the selector longer cuts it again. Files that grew before
   a run are tried too. Such a run has to end with status 0, or with 5 where the folder is gone, or 7 where the selector grew.
@@ -47,6 +48,7 @@ CLIENTS = 2
 PUSHES, CALLS = 5, 3  # of each client
 WORDS = ["--partitions", "2"]
 RUN = ["run", *WORDS, "--checkpoint", "4"]
+AGAIN = ["--restarts", "1"]
 FAULTS = [(kind, "fails") for kind in ("open", "read", "write", "sync", "cut", "seek", "lock")]
 FAULTS += [(kind, how) for kind in ("read", "write") for how in ("interrupted", "short", "nothing")]
 BASES = os.path.join(TOP, "crates/ss_cases/data/bases.cases")
@@ -264,14 +266,14 @@ def check_recovered(folder, sure, asked, begin, what):
     check_rows(rows_of(report), sure, asked, begin, what)
 
 
-def one(library, begin, fault, may_end, found):
+def one(library, begin, fault, may_end, found, words=RUN):
     """A run with a fault on a new store, or behind one without a fault, and its recovery; how many such calls the run had."""
     with tempfile.TemporaryDirectory() as place:
         folder, count = os.path.join(place, "store"), os.path.join(place, "count")
         lines = script(begin)
         asked = prepared(folder, begin) + lines[1:]
-        status, report = run(folder, RUN, lines, fault, library, count)
-        what = f"{fault} behind {begin}"
+        status, report = run(folder, words, lines, fault, library, count)
+        what = f"{' '.join(words)}: {fault} behind {begin}"
         calls = counted(count)
         # Threads decide how many calls there are: behind the last of them nothing failed.
         may_end = may_end if fault[2] == "each" or calls > fault[2] >= 0 else (0,)
@@ -291,15 +293,16 @@ def on(begin):
     return "behind an image and entries" if begin else "on a new store"
 
 
-def each(library, kind, how, may_end, every=1):
+def each(library, kind, how, may_end, every=1, words=RUN):
     """A fault in each call of a kind in turn."""
     for begin in (0, PUSHES):
         found, at = collections.Counter(), 0
-        calls = one(library, begin, (kind, how, -1), (0,), collections.Counter())
+        calls = one(library, begin, (kind, how, -1), (0,), collections.Counter(), words)
         while at < calls:
-            one(library, begin, (kind, how, at), may_end, found)
+            one(library, begin, (kind, how, at), may_end, found, words)
             at += every
-        print(f"{kind} {how}, {on(begin)}: {calls} calls; ended {told(found)}", flush=True)
+        restarts = " ".join(words[len(RUN) :])
+        print(f"{kind} {how}, {on(begin)}{restarts and ', '}{restarts}: {calls} calls; ended {told(found)}", flush=True)
 
 
 def all_short(library):
@@ -494,6 +497,10 @@ def tries(library, every):
     for kind, how in FAULTS:
         may_end = (5,) if how in ("fails", "nothing") else (0,)
         yield f"{kind} {how}", lambda kind=kind, how=how, may_end=may_end: each(library, kind, how, may_end)
+    for kind, how in FAULTS:
+        # A folder that can't be opened or locked is no disk yet.
+        may_end = (0, 5) if kind in ("open", "lock") else (0,)
+        yield f"{kind} {how} again", lambda kind=kind, how=how, may_end=may_end: each(library, kind, how, may_end, words=[*RUN, *AGAIN])
     yield "each short", lambda: all_short(library)
     for name in ACTS:
         yield name, lambda name=name: between(library, name, every)

@@ -14,6 +14,7 @@ sstore runs transactions and stream workflows on one database, and prints replie
 
 With --checkpoint 1..1000000 a run or a voter puts an image of the database in place of the log, each time so many entries
 behind the last one, so that recovery has less to replay.
+With --restarts 0..16 one whose disk failed opens it again and goes on, so often at most; 0 where nothing is said.
 
 The first word is where the store is: a folder, which has to be there and is held by one process at a time, or - for
 memory, which ends with the program.

@@ -18,7 +18,8 @@ use ss_disk::{FolderDisk, MemoryDisk};
 use ss_engine::NoGate;
 use ss_lines::{ReadSource, Sink, Source, WriteSink, write_all};
 use ss_top::{Status, refuse_words, sstore};
-use ss_value::Seq;
+use ss_value::{NoMemory, Seq};
+use std::alloc::Global;
 use std::process::ExitCode;
 use std::sync::Wait;
 use std::thread::Threads;
@@ -51,10 +52,22 @@ fn run_in_memory<R: AllocGlobal + Threads + Wait + Sync, S: Source, K: Sink>(
     sstore(rt, alloc, words, source, sink, disk, NoGate).0
 }
 
+/// The numbers of the first calls of a disk, more of them than a run makes of which each fails: an opening ends at the first
+/// that does, and no run opens its disk so often again.
+fn first_calls(alloc: Global) -> Result<Seq<u64>, NoMemory> {
+    let mut numbers = Seq::new(alloc);
+    for number in 0..64 {
+        if numbers.push(number).is_err() {
+            return Err(NoMemory);
+        }
+    }
+    Ok(numbers)
+}
+
 /// The program where the folder isn't held. Nothing in the folder is read or written.
 ///
-/// One that can't be opened is a disk that fails its first call, so words and input are looked at first; one that another
-/// process has, or that can't be locked, is refused at once.
+/// One that can't be opened is a disk whose calls fail, so words and input are looked at first; one that another process has, or
+/// that can't be locked, is refused at once.
 fn run_unheld<R: AllocGlobal + Threads + Wait + Sync, S: Source, K: Sink>(
     rt: &R,
     claim: &Claim,
@@ -63,13 +76,10 @@ fn run_unheld<R: AllocGlobal + Threads + Wait + Sync, S: Source, K: Sink>(
     sink: &mut K,
 ) -> Status {
     match claim {
-        Claim::Missing(_) => {
-            let mut fails = Seq::new(rt.alloc());
-            match fails.push(0) {
-                Ok(()) => run_in_memory(rt, words, source, sink, fails),
-                Err(_) => no_memory(sink),
-            }
-        }
+        Claim::Missing(_) => match first_calls(rt.alloc()) {
+            Ok(fails) => run_in_memory(rt, words, source, sink, fails),
+            Err(NoMemory) => no_memory(sink),
+        },
         _ => {
             // Where this fails too, the status is left to say so.
             let _written = write_all(sink, b"[\"disk_fault\"]\n");

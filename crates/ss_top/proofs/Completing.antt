@@ -4,7 +4,8 @@ use Rattle.ss_model.specs.declared.catalog.Catalog.{Catalog}
 use Rattle.ss_model.specs.declared.entry.Request.{Request}
 use Rattle.ss_disk.specs.Files.{Files}
 use Rattle.ss_cmdlog.specs.Store.{IsEmpty}
-use Rattle.ss_headline.specs.Disks.{DiskChange}
+use Rattle.ss_disk.specs.Kinds.{DiskKind}
+use Rattle.ss_headline.specs.Disks.{DiskChange, disk_of}
 use Rattle.ss_recover.specs.Faults.{HasFaultAt, IsStore}
 use Rattle.ss_recover.specs.Laws.{EmptyHasNoFault, StoreHasNoFault, StoreHasOneCatalog}
 use Rattle.ss_refusals.specs.declared.status.Status.{Status}
@@ -18,7 +19,8 @@ use Rattle.ss_catalog.specs.Reads.{Reads}
 use Rattle.ss_words.specs.declared.names.Show.{Show}
 use Rattle.ss_top.specs.Shows.{IsCompleteShow, RanShow, ShowEnds, show_requests}
 use Rattle.ss_top.specs.Stores.{CameTo, RecoveredTo}
-use Rattle.ss_top.specs.Serving.{HasStoreCause}
+use Rattle.ss_top.specs.Over.{ComesOver}
+use Rattle.ss_top.specs.Serving.{HasServedCause, HasStoreCause}
 use Rattle.ss_top.specs.Top.{DiskHeld}
 
 -- an empty disk is no store
@@ -68,17 +70,40 @@ module _ (limit : ℕ) (w : SinkChange) (disk : DiskChange) (no_fault : EmptyHas
   recovered_complete catalog Input came cause room = came
   recovered_complete catalog ReadFault came cause room = came
 
+-- the cause of a status where the disk may be opened again is one where it isn't
+served_cause : (restarts : ℕ) (ended : Status) (w : SinkChange) (disk : DiskChange) → HasServedCause restarts ended w disk → HasStoreCause ended w disk
+served_cause restarts WriteFault w disk cause = cause
+served_cause restarts Disk w disk cause = omega (arith, cause)
+served_cause restarts Done w disk cause = tt
+served_cause restarts Usage w disk cause = tt
+served_cause restarts Input w disk cause = tt
+served_cause restarts ReadFault w disk cause = tt
+served_cause restarts NoMemory w disk cause = tt
+served_cause restarts Foreign w disk cause = tt
+served_cause restarts OtherCatalog w disk cause = tt
+served_cause restarts Limit w disk cause = tt
+served_cause restarts Differs w disk cause = tt
+
+module _ {D : Type 0} (kind : DiskKind D) (old new : D) (limit restarts : ℕ) (w : SinkChange) (no_fault : EmptyHasNoFault) (store_has_none : StoreHasNoFault) (one_catalog : StoreHasOneCatalog) (calm : SinkHeld w)
+    (still : DiskHeld (disk_of kind old new)) where
+  -- where no fault was counted the disk was opened once
+  pub over_complete : (every : Option ℕ) (printing : Printing) (catalog : Catalog) (requests : List Request) (ended : Status) → ComesOver kind every limit restarts printing catalog requests ended w old new
+      → HasServedCause restarts ended w (disk_of kind old new) → HasRoom limit catalog requests (disk_of kind old new) → IsDoneOrShort ended
+  over_complete every printing catalog requests ended (inl came) cause room =
+      came_complete limit w (disk_of kind old new) no_fault store_has_none one_catalog calm still every printing catalog requests ended came (served_cause restarts ended w (disk_of kind old new) cause) room
+  over_complete every printing catalog requests ended (inr over) cause room = let some = over.2.some in let rose = over.2.rose in absurd (still (omega (arith, some, rose)))
+
   -- a show that has room for all that it owes
-  pub show_complete : (every : Option ℕ) → HasOneCatalog → (show : Show) (ended : Status) → ShowEnds every limit show ended w disk → HasStoreCause ended w disk → IsCompleteShow limit show disk ended
+  pub show_complete : (every : Option ℕ) → HasOneCatalog → (show : Show) (ended : Status) → ShowEnds kind every limit restarts show ended w old new → HasServedCause restarts ended w (disk_of kind old new) → IsCompleteShow limit show (disk_of kind old new) ended
   show_complete every one show ended ends cause catalog voter room = by ended ends cause
     where
-      ran : (status : Status) → RanShow every limit show status w disk → HasStoreCause status w disk → IsDoneOrShort status
+      ran : (status : Status) → RanShow kind every limit restarts show status w old new → HasServedCause restarts status w (disk_of kind old new) → IsDoneOrShort status
       ran status r cause =
           let value : r.voter.value ≡ voter.value = (let same : Some r.voter.value ≡ Some voter.value = sym r.voter.json ∙ voter.json in cc) in
           let same : r.catalog ≡ catalog = one voter.value r.catalog catalog (subst (λ d. Reads d r.catalog) value r.voter.reads) voter.reads in
-          came_complete every (Summary show.votes) r.catalog (show_requests show) status r.came cause (subst (λ c. HasRoom limit c (show_requests show) disk) (sym same) room)
+          over_complete every (Summary show.votes) r.catalog (show_requests show) status r.came cause (subst (λ c. HasRoom limit c (show_requests show) (disk_of kind old new)) (sym same) room)
 
-      by : (status : Status) → ShowEnds every limit show status w disk → HasStoreCause status w disk → IsDoneOrShort status
+      by : (status : Status) → ShowEnds kind every limit restarts show status w old new → HasServedCause restarts status w (disk_of kind old new) → IsDoneOrShort status
       by Done r cause' = tt
       by NoMemory r cause' = tt
       by WriteFault r cause' = ran WriteFault r cause'

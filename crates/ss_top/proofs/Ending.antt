@@ -19,7 +19,8 @@ use Rattle.ss_words.specs.declared.command.CommandLine.{CommandLine}
 use Rattle.ss_words.specs.declared.command.Options.{Options}
 use Rattle.ss_words.specs.Words.{IsCommand, AsksFor, words_of}
 use Rattle.ss_words.proofs.CallerLemmas.{asks_is_command, asks_for_one}
-use Rattle.ss_headline.specs.Disks.{DiskChange}
+use Rattle.ss_disk.specs.Kinds.{DiskKind}
+use Rattle.ss_headline.specs.Disks.{DiskChange, disk_of}
 use Rattle.ss_recover.specs.Laws.{EmptyHasNoFault, StoreHasNoFault, StoreHasOneCatalog}
 use Rattle.ss_refusals.specs.declared.input.InputError.{InputError}
 use Rattle.ss_refusals.specs.declared.status.Status.{Status}
@@ -30,13 +31,16 @@ use Rattle.ss_refusals.proofs.CallerLemmas.{OfRefusal, refusals_have, never, mem
 use Rattle.ss_refusals.specs.Sinks.{SourceChange, SinkChange, TellsSourceFault, Writes, ExitsRefused, LeavesOfRefusedSource, SinkHeld}
 use Rattle.ss_refusals.specs.Starts.{Starts}
 use Rattle.ss_refusals.specs.Statuses.{refusal_status, refusal_text, usage_text, no_memory_text}
-use Rattle.ss_top.specs.declared.session.Printing.TheVariants.{InFull}
+use Rattle.ss_top.specs.declared.session.Printing.{Printing}
+use Rattle.ss_top.specs.declared.session.Printing.TheVariants.{InFull, Summary}
 use Rattle.ss_top.specs.Complete.{HasRoom, IsDoneOrShort}
+use Rattle.ss_top.specs.Over.{ComesOver, MayEnd}
 use Rattle.ss_top.specs.Stores.{CameTo, RecoveredTo}
-use Rattle.ss_top.specs.Serving.{ComesToShow, RecoversTo, HasStoreCause, TellsStoreFaults}
-use Rattle.ss_top.specs.Shows.{ShowEnds}
+use Rattle.ss_top.specs.Serving.{ComesToShow, RecoversTo, HasServedCause, HasStoreCause, TellsStoreFaults}
+use Rattle.ss_top.specs.Runs.{TellsDiskFault}
+use Rattle.ss_top.specs.Shows.{ShowEnds, show_requests}
 use Rattle.ss_top.specs.Top.{Ends, EndsRun, EndsVoter, RunEndsSo, RunEnds, RanInput, HasCause, IsComplete, TellsFaults, WritesOnly, DiskHeld}
-use Rattle.ss_top.proofs.Completing.{came_complete, recovered_complete, show_complete}
+use Rattle.ss_top.proofs.Completing.{over_complete, recovered_complete, show_complete}
 
 -- what holds of each holds of one that may be there
 always : {A : Type 0} {Q : A → Type 0} (o : Option A) → ((x : A) → Q x) → IfSome o Q
@@ -65,18 +69,42 @@ short Foreign of started = absurd of
 short OtherCatalog of started = absurd of
 short Limit of started = absurd of
 
+-- ---- what runs over restarts end with
+
+came_may : {D : Type 0} (kind : DiskKind D) (every : Option ℕ) (limit : ℕ) (printing : Printing) (catalog : Catalog) (requests : List Request) (w : SinkChange) (old new : D) (status : Status)
+    → CameTo every limit printing catalog requests status w (disk_of kind old new) → MayEnd status
+came_may kind every limit printing catalog requests w old new Done came = tt
+came_may kind every limit printing catalog requests w old new WriteFault came = tt
+came_may kind every limit printing catalog requests w old new Disk came = tt
+came_may kind every limit printing catalog requests w old new NoMemory came = tt
+came_may kind every limit printing catalog requests w old new Foreign came = tt
+came_may kind every limit printing catalog requests w old new OtherCatalog came = tt
+came_may kind every limit printing catalog requests w old new Limit came = tt
+came_may kind every limit printing catalog requests w old new Usage came = came
+came_may kind every limit printing catalog requests w old new Differs came = came
+came_may kind every limit printing catalog requests w old new Input came = came
+came_may kind every limit printing catalog requests w old new ReadFault came = came
+
+comes_may : {D : Type 0} (kind : DiskKind D) (every : Option ℕ) (limit restarts : ℕ) (printing : Printing) (catalog : Catalog) (requests : List Request) (w : SinkChange) (old new : D) (status : Status)
+    → ComesOver kind every limit restarts printing catalog requests status w old new → MayEnd status
+comes_may kind every limit restarts printing catalog requests w old new status (inl came) = came_may kind every limit printing catalog requests w old new status came
+comes_may kind every limit restarts printing catalog requests w old new status (inr over) = over.2.may
+
 -- ---- the command run
 
-module _ (every : Option ℕ) (limit : ℕ) (s : SourceChange) (w : SinkChange) (disk : DiskChange) where
+module _ {D : Type 0} (kind : DiskKind D) (old new : D) (every : Option ℕ) (limit restarts : ℕ) (s : SourceChange) (w : SinkChange) where
+  abbrev disk : DiskChange
+  disk = disk_of kind old new
+
   abbrev EndsSo : Status → Type 0
-  EndsSo = RunEndsSo every limit s w disk
+  EndsSo = RunEndsSo kind old new every limit restarts s w
 
   -- ---- the input is refused
 
   module _ (one : HasOneRefusal) (either : StartsOrRefused) (uncalled : disk.uncalled) (e : InputError) (first : IfSome s.before (λ input. IsRefusedBy input e))
       (leaves : LeavesOfRefusedSource e s.faults_before s.faults_now s.before s.now) where
     -- the statuses that a refusal has
-    refused_so : (status : Status) → refusal_status e ≡ status → Writes (refusal_text e) w → RunEnds every limit s.before status w disk
+    refused_so : (status : Status) → refusal_status e ≡ status → Writes (refusal_text e) w → RunEnds kind old new every limit restarts s.before status w
     refused_so Input is reported = record { refused = record { refusal = e; first = first; is = is; reported = reported }; uncalled = uncalled }
     refused_so ReadFault is reported = uncalled
     refused_so NoMemory is reported = inl (record { uncalled = uncalled; written = subst (λ text. Writes text w) (memory_text_is e is) reported })
@@ -121,6 +149,7 @@ module _ (every : Option ℕ) (limit : ℕ) (s : SourceChange) (w : SinkChange) 
     memory_so reported = record {
       ends = record {
         came = inl (record { uncalled = uncalled; written = reported });
+        used_up = λ is. let no : ⊥ = cc in absurd no;
         empties = tt;
         refused = λ held. always s.before (λ input f has. inr refl);
         started = λ held calm still. always s.before (λ input c rs start. tt);
@@ -138,6 +167,7 @@ module _ (every : Option ℕ) (limit : ℕ) (s : SourceChange) (w : SinkChange) 
     refusal_so reported = record {
       ends = record {
         came = refused_so (refusal_status e) refl reported;
+        used_up = λ is. never e Disk is (λ of. of);
         empties = leaves_so e s.faults_before s.faults_now s.before s.now leaves;
         refused = λ held. refused_ends_refused one s.before s.now e (refusal_status e) w s.faults_before s.faults_now first leaves (inl (record { is = refl; reported = reported })) held;
         started = λ held calm still. not_started held reported;
@@ -156,14 +186,17 @@ module _ (every : Option ℕ) (limit : ℕ) (s : SourceChange) (w : SinkChange) 
 
   module _ (one : HasOneStart) (either : StartsOrRefused) (no_fault : EmptyHasNoFault) (store_has_none : StoreHasNoFault) (one_catalog : StoreHasOneCatalog) (catalog : Catalog) (requests : List Request) (starts : IfSome s.before (λ input. Starts input catalog requests)) (accepted : Accepted catalog)
       (left : IsAtEnd s.now) where
+    over_may : (status : Status) → ComesOver kind every limit restarts InFull catalog requests status w old new → MayEnd status
+    over_may status came = comes_may kind every limit restarts InFull catalog requests w old new status came
+
     -- an input that starts has no refusal
     not_refused : (ended : Status) → IfSome s.before (λ input. ExitsAsRefused input ended)
     not_refused ended = IfSome_then s.before starts (λ input start e has. absurd (false≢true (sym has.says ∙ either input catalog requests e start has.first)))
 
-    ran : (status : Status) → CameTo every limit InFull catalog requests status w disk → RanInput every limit s.before status w disk
+    ran : (status : Status) → ComesOver kind every limit restarts InFull catalog requests status w old new → RanInput kind old new every limit restarts s.before status w
     ran status came = record { catalog = catalog; requests = requests; starts = starts; accepted = accepted; came = came }
 
-    came_so : (ended : Status) → CameTo every limit InFull catalog requests ended w disk → RunEnds every limit s.before ended w disk
+    came_so : (ended : Status) → ComesOver kind every limit restarts InFull catalog requests ended w old new → RunEnds kind old new every limit restarts s.before ended w
     came_so Done came = ran Done came
     came_so WriteFault came = ran WriteFault came
     came_so Disk came = ran Disk came
@@ -171,15 +204,15 @@ module _ (every : Option ℕ) (limit : ℕ) (s : SourceChange) (w : SinkChange) 
     came_so Foreign came = ran Foreign came
     came_so OtherCatalog came = ran OtherCatalog came
     came_so Limit came = ran Limit came
-    came_so Usage came = absurd came
-    came_so Differs came = absurd came
-    came_so Input came = absurd came
-    came_so ReadFault came = absurd came
+    came_so Usage came = absurd (over_may Usage came)
+    came_so Differs came = absurd (over_may Differs came)
+    came_so Input came = absurd (over_may Input came)
+    came_so ReadFault came = absurd (over_may ReadFault came)
 
-    left_so : (ended : Status) → CameTo every limit InFull catalog requests ended w disk → LeavesOfSource ended s.before s.now
-    left_so Usage came = absurd came
-    left_so Differs came = absurd came
-    left_so Input came = absurd came
+    left_so : (ended : Status) → ComesOver kind every limit restarts InFull catalog requests ended w old new → LeavesOfSource ended s.before s.now
+    left_so Usage came = absurd (over_may Usage came)
+    left_so Differs came = absurd (over_may Differs came)
+    left_so Input came = absurd (over_may Input came)
     left_so ReadFault came = tt
     left_so NoMemory came = tt
     left_so Done came = left
@@ -189,11 +222,11 @@ module _ (every : Option ℕ) (limit : ℕ) (s : SourceChange) (w : SinkChange) 
     left_so OtherCatalog came = left
     left_so Limit came = left
 
-    started_so : (ended : Status) → CameTo every limit InFull catalog requests ended w disk → HasCause ended s w disk → SinkHeld w → DiskHeld disk → OfStarted ended
-    started_so Usage came cause calm still = absurd came
-    started_so Differs came cause calm still = absurd came
-    started_so Input came cause calm still = absurd came
-    started_so ReadFault came cause calm still = absurd came
+    started_so : (ended : Status) → ComesOver kind every limit restarts InFull catalog requests ended w old new → HasCause ended s w disk → SinkHeld w → DiskHeld disk → OfStarted ended
+    started_so Usage came cause calm still = absurd (over_may Usage came)
+    started_so Differs came cause calm still = absurd (over_may Differs came)
+    started_so Input came cause calm still = absurd (over_may Input came)
+    started_so ReadFault came cause calm still = absurd (over_may ReadFault came)
     started_so WriteFault came cause calm still = absurd (calm cause)
     started_so Disk came cause calm still = absurd (still cause)
     started_so NoMemory came cause calm still = tt
@@ -202,23 +235,23 @@ module _ (every : Option ℕ) (limit : ℕ) (s : SourceChange) (w : SinkChange) 
     started_so OtherCatalog came cause calm still = tt
     started_so Limit came cause calm still = tt
 
-    cause_ran : (ended : Status) → CameTo every limit InFull catalog requests ended w disk → HasStoreCause ended w disk → HasCause ended s w disk
-    cause_ran Usage came cause = absurd came
-    cause_ran Differs came cause = absurd came
-    cause_ran Input came cause = absurd came
-    cause_ran ReadFault came cause = absurd came
+    cause_ran : (ended : Status) → ComesOver kind every limit restarts InFull catalog requests ended w old new → HasServedCause restarts ended w disk → HasCause ended s w disk
+    cause_ran Usage came cause = absurd (over_may Usage came)
+    cause_ran Differs came cause = absurd (over_may Differs came)
+    cause_ran Input came cause = absurd (over_may Input came)
+    cause_ran ReadFault came cause = absurd (over_may ReadFault came)
     cause_ran WriteFault came cause = cause
-    cause_ran Disk came cause = cause
+    cause_ran Disk came cause = omega (arith, cause)
     cause_ran Done came cause = tt
     cause_ran NoMemory came cause = tt
     cause_ran Foreign came cause = tt
     cause_ran OtherCatalog came cause = tt
     cause_ran Limit came cause = tt
 
-    only_ran : (ended : Status) → CameTo every limit InFull catalog requests ended w disk → WritesOnly ended w
-    only_ran Usage came = absurd came
-    only_ran Differs came = absurd came
-    only_ran ReadFault came = absurd came
+    only_ran : (ended : Status) → ComesOver kind every limit restarts InFull catalog requests ended w old new → WritesOnly ended w
+    only_ran Usage came = absurd (over_may Usage came)
+    only_ran Differs came = absurd (over_may Differs came)
+    only_ran ReadFault came = absurd (over_may ReadFault came)
     only_ran Done came = tt
     only_ran Input came = tt
     only_ran WriteFault came = tt
@@ -228,16 +261,17 @@ module _ (every : Option ℕ) (limit : ℕ) (s : SourceChange) (w : SinkChange) 
     only_ran OtherCatalog came = tt
     only_ran Limit came = tt
 
-    complete_so : (ended : Status) → CameTo every limit InFull catalog requests ended w disk → HasStoreCause ended w disk → SinkHeld w → DiskHeld disk → IfSome s.before (λ input. IsComplete limit input disk ended)
+    complete_so : (ended : Status) → ComesOver kind every limit restarts InFull catalog requests ended w old new → HasServedCause restarts ended w disk → SinkHeld w → DiskHeld disk → IfSome s.before (λ input. IsComplete kind old new limit input ended)
     complete_so ended came cause calm still = IfSome_then s.before starts (λ input start c rs other room.
         let same = one input catalog c requests rs start other in
-        came_complete limit w disk no_fault store_has_none one_catalog calm still every InFull catalog requests ended came cause
+        over_complete kind old new limit restarts w no_fault store_has_none one_catalog calm still every InFull catalog requests ended came cause
         (subst (λ c'. HasRoom limit c' requests disk) (sym same.0) (subst (λ rs'. HasRoom limit c rs' disk) (sym same.1) room)))
 
-    pub run_came : (ended : Status) → CameTo every limit InFull catalog requests ended w disk → HasStoreCause ended w disk → EndsSo ended
+    pub run_came : (ended : Status) → ComesOver kind every limit restarts InFull catalog requests ended w old new → HasServedCause restarts ended w disk → EndsSo ended
     run_came ended came store_cause = let cause = cause_ran ended came store_cause in record {
       ends = record {
         came = came_so ended came;
+        used_up = λ is. subst (λ status. HasServedCause restarts status w disk) is store_cause;
         empties = left_so ended came;
         refused = λ held. not_refused ended;
         started = λ held calm still. always s.before (λ input c rs start. started_so ended came cause calm still);
@@ -245,18 +279,21 @@ module _ (every : Option ℕ) (limit : ℕ) (s : SourceChange) (w : SinkChange) 
       };
       only = only_ran ended came;
       cause = cause;
-      no_usage = λ is. subst (λ status. CameTo every limit InFull catalog requests status w disk) is came;
+      no_usage = λ is. over_may Usage (subst (λ status. ComesOver kind every limit restarts InFull catalog requests status w old new) is came);
     }
 
 -- ---- the whole call
 
-module _ (limit : ℕ) (words : List (String Global)) (s : SourceChange) (w : SinkChange) (disk : DiskChange) where
+module _ {D : Type 0} (kind : DiskKind D) (old new : D) (limit : ℕ) (words : List (String Global)) (s : SourceChange) (w : SinkChange) where
+  abbrev change : DiskChange
+  change = disk_of kind old new
+
   -- counts of faults never fall
   abbrev Counts : Type 0
-  Counts = (s.faults_before ≤ s.faults_now) × (w.faults_before ≤ w.faults_now) × (disk.faults_before ≤ disk.faults_now)
+  Counts = (s.faults_before ≤ s.faults_now) × (w.faults_before ≤ w.faults_now) × (change.faults_before ≤ change.faults_now)
 
   -- the words are no command, nothing is read, and no call reaches the disk
-  pub ends_usage : ¬ (IsCommand (words_of words)) → s.now ≡ s.before → s.faults_now ≡ s.faults_before → Counts → disk.uncalled → disk.faults_now ≡ disk.faults_before → Writes usage_text w → Ends limit words s w disk Usage
+  pub ends_usage : ¬ (IsCommand (words_of words)) → s.now ≡ s.before → s.faults_now ≡ s.faults_before → Counts → change.uncalled → change.faults_now ≡ change.faults_before → Writes usage_text w → Ends kind old new limit words s w Usage
   ends_usage none same unmoved counts uncalled still reported = record {
     usage = (λ is. none, λ _. refl);
     run = λ what asks. absurd (none (asks_is_command _ _ asks));
@@ -268,7 +305,7 @@ module _ (limit : ℕ) (words : List (String Global)) (s : SourceChange) (w : Si
     only = reported;
     counts = counts;
     cause = tt;
-    told = record { source = inr unmoved; store = inr (inr still); sink = λ either. by either };
+    told = λ line asks. record { source = inr unmoved; store = λ once. inr (inr still); sink = λ either. by either };
     taken = takes_nothing (max_input + 1) s.before s.now same;
   }
     where
@@ -277,11 +314,12 @@ module _ (limit : ℕ) (words : List (String Global)) (s : SourceChange) (w : Si
       by (inr is) = absurd (cc)
 
   -- a call that gives no verdict tells what its store tells
-  tells_so : (ended : Status) → (ended ≡ Differs → ⊥) → TellsSourceFault ended s.faults_before s.faults_now → TellsStoreFaults ended w disk → TellsFaults ended s w disk
-  tells_so ended no_verdict source told = record { source = source; store = told.store; sink = by }
+  tells_so : (restarts : ℕ) (ended : Status) → (ended ≡ Differs → ⊥) → TellsSourceFault ended s.faults_before s.faults_now → (restarts ≡ 0 → TellsDiskFault ended change.faults_before change.faults_now)
+      → (ended ≡ Done → w.faults_now ≡ w.faults_before) → TellsFaults restarts ended s w change
+  tells_so restarts ended no_verdict source store sink = record { source = source; store = store; sink = by }
     where
       by : (ended ≡ Done) ⊎ (ended ≡ Differs) → w.faults_now ≡ w.faults_before
-      by (inl is) = told.sink is
+      by (inl is) = sink is
       by (inr is) = absurd (no_verdict is)
 
   module _ (what : Options) (counts : Counts) where
@@ -289,15 +327,12 @@ module _ (limit : ℕ) (words : List (String Global)) (s : SourceChange) (w : Si
     other_command : (a b : Command) (other : Options) → AsksFor (words_of words) (record { command = a; options = what }) → AsksFor (words_of words) (record { command = b; options = other }) → a ≡ b
     other_command a b other asks more = ap (λ (l : CommandLine). l.command) (asks_for_one (words_of words) (record { command = a; options = what }) (record { command = b; options = other }) asks more)
 
-    -- and ask for the same checkpoints
-    same_every : (command : Command) (other : Options) → AsksFor (words_of words) (record { command = command; options = what }) → AsksFor (words_of words) (record { command = command; options = other }) → what.every ≡ other.every
-    same_every command other asks more = ap (λ (l : CommandLine). l.options.every) (asks_for_one (words_of words) (record { command = command; options = what }) (record { command = command; options = other }) asks more)
-
     pub ends_run : AsksFor (words_of words) (record { command = Run; options = what }) → TakesAtMost (max_input + 1) s.before s.now
-        → (ended : Status) → RunEndsSo what.every limit s w disk ended → TellsSourceFault ended s.faults_before s.faults_now → TellsStoreFaults ended w disk → Ends limit words s w disk ended
-    ends_run asks taken ended so source told = record {
+        → (ended : Status) → RunEndsSo kind old new what.every limit what.restarts s w ended → TellsSourceFault ended s.faults_before s.faults_now → (what.restarts ≡ 0 → TellsDiskFault ended change.faults_before change.faults_now)
+        → (ended ≡ Done → w.faults_now ≡ w.faults_before) → Ends kind old new limit words s w ended
+    ends_run asks taken ended so source store sink = record {
       usage = (λ is. absurd (so.no_usage is), λ none. absurd (none (asks_is_command _ _ asks)));
-      run = λ other more. subst (λ (o : Option ℕ). EndsRun o limit s w disk ended) (same_every Run other asks more) so.ends;
+      run = λ other more. subst (λ (l : CommandLine). EndsRun kind old new l.options.every limit l.options.restarts s w ended) (asks_for_one (words_of words) (record { command = Run; options = what }) (record { command = Run; options = other }) asks more) so.ends;
       recover = λ other more. let no : Run ≡ Recover = other_command Run Recover other asks more in absurd cc;
       voter = λ other show more. let wrong : Run ≡ Voter show = other_command Run (Voter show) other asks more in absurd cc;
       audit = λ other more. let no : Run ≡ Audit = other_command Run Audit other asks more in absurd cc;
@@ -306,12 +341,13 @@ module _ (limit : ℕ) (words : List (String Global)) (s : SourceChange) (w : Si
       only = so.only;
       counts = counts;
       cause = so.cause;
-      told = tells_so ended (λ is. subst (λ status. RunEnds what.every limit s.before status w disk) is so.ends.came) source told;
+      told = λ line more. tells_so line.options.restarts ended (λ is. subst (λ status. RunEnds kind old new what.every limit what.restarts s.before status w) is so.ends.came) source
+          (subst (λ (l : CommandLine). l.options.restarts ≡ 0 → TellsDiskFault ended change.faults_before change.faults_now) (asks_for_one (words_of words) (record { command = Run; options = what }) line asks more) store) sink;
       taken = taken;
     }
 
     -- a recovery has no status of an input, and none of the words
-    recovered_so : (ended : Status) → RecoveredTo limit ended w disk → WritesOnly ended w
+    recovered_so : (ended : Status) → RecoveredTo limit ended w change → WritesOnly ended w
     recovered_so Usage came = absurd came
     recovered_so Differs came = absurd came
     recovered_so ReadFault came = absurd came
@@ -324,7 +360,7 @@ module _ (limit : ℕ) (words : List (String Global)) (s : SourceChange) (w : Si
     recovered_so OtherCatalog came = tt
     recovered_so Limit came = tt
 
-    recovered_cause : (ended : Status) → RecoveredTo limit ended w disk → HasStoreCause ended w disk → HasCause ended s w disk
+    recovered_cause : (ended : Status) → RecoveredTo limit ended w change → HasStoreCause ended w change → HasCause ended s w change
     recovered_cause Usage came cause = absurd came
     recovered_cause Differs came cause = absurd came
     recovered_cause Input came cause = absurd came
@@ -338,77 +374,99 @@ module _ (limit : ℕ) (words : List (String Global)) (s : SourceChange) (w : Si
     recovered_cause Limit came cause = tt
 
     pub ends_recover : EmptyHasNoFault → StoreHasNoFault → StoreHasOneCatalog → AsksFor (words_of words) (record { command = Recover; options = what }) → s.now ≡ s.before → s.faults_now ≡ s.faults_before
-        → (ended : Status) → RecoversTo limit ended w disk → TellsStoreFaults ended w disk → Ends limit words s w disk ended
+        → (ended : Status) → RecoversTo limit ended w change → TellsStoreFaults ended w change → Ends kind old new limit words s w ended
     ends_recover no_fault store_has_none one_catalog asks same unmoved ended so told = let came = so.came in record {
-      usage = (λ is. absurd (subst (λ status. RecoveredTo limit status w disk) is came), λ none. absurd (none (asks_is_command _ _ asks)));
+      usage = (λ is. absurd (subst (λ status. RecoveredTo limit status w change) is came), λ none. absurd (none (asks_is_command _ _ asks)));
       run = λ other more. let no : Recover ≡ Run = other_command Recover Run other asks more in absurd cc;
       recover = λ other more. record {
         came = came;
-        complete = λ calm still catalog room. recovered_complete limit w disk no_fault store_has_none one_catalog calm still catalog ended came so.cause room;
+        complete = λ calm still catalog room. recovered_complete limit w change no_fault store_has_none one_catalog calm still catalog ended came so.cause room;
         unread = (same, unmoved);
       };
       voter = λ other show more. let wrong : Recover ≡ Voter show = other_command Recover (Voter show) other asks more in absurd cc;
       audit = λ other more. let no : Recover ≡ Audit = other_command Recover Audit other asks more in absurd cc;
       unread = λ is. (same, unmoved);
-      untouched = λ is. absurd (subst (λ status. RecoveredTo limit status w disk) is came);
+      untouched = λ is. absurd (subst (λ status. RecoveredTo limit status w change) is came);
       only = recovered_so ended came;
       counts = counts;
       cause = recovered_cause ended came so.cause;
-      told = tells_so ended (λ is. subst (λ status. RecoveredTo limit status w disk) is came) (inr unmoved) told;
+      told = λ line more. tells_so line.options.restarts ended (λ is. subst (λ status. RecoveredTo limit status w change) is came) (inr unmoved) (λ once. told.store) told.sink;
       taken = takes_nothing (max_input + 1) s.before s.now same;
     }
 
     -- a show has no status of an input, and none of the words
-    show_so : (show : Show) (ended : Status) → ShowEnds what.every limit show ended w disk → WritesOnly ended w × (ended ≡ Usage → ⊥)
-    show_so show Usage ends = absurd ends.came
-    show_so show Differs ends = absurd ends.came
-    show_so show ReadFault ends = absurd ends.came
-    show_so show Done ends = (tt, λ is. let wrong : ⊥ = cc in wrong)
-    show_so show Input ends = (tt, λ is. let wrong : ⊥ = cc in wrong)
-    show_so show WriteFault ends = (tt, λ is. let wrong : ⊥ = cc in wrong)
-    show_so show Disk ends = (tt, λ is. let wrong : ⊥ = cc in wrong)
-    show_so show NoMemory ends = (tt, λ is. let wrong : ⊥ = cc in wrong)
-    show_so show Foreign ends = (tt, λ is. let wrong : ⊥ = cc in wrong)
-    show_so show OtherCatalog ends = (tt, λ is. let wrong : ⊥ = cc in wrong)
-    show_so show Limit ends = (tt, λ is. let wrong : ⊥ = cc in wrong)
+    show_so : (restarts : ℕ) (show : Show) (ended : Status) → ShowEnds kind what.every limit restarts show ended w old new → MayEnd ended
+    show_so restarts show Done ends = tt
+    show_so restarts show WriteFault ends = tt
+    show_so restarts show Disk ends = tt
+    show_so restarts show NoMemory ends = tt
+    show_so restarts show Foreign ends = tt
+    show_so restarts show OtherCatalog ends = tt
+    show_so restarts show Limit ends = tt
+    show_so restarts show Usage ends = comes_may kind what.every limit restarts (Summary show.votes) ends.catalog (show_requests show) w old new Usage ends.came
+    show_so restarts show Differs ends = comes_may kind what.every limit restarts (Summary show.votes) ends.catalog (show_requests show) w old new Differs ends.came
+    show_so restarts show Input ends = comes_may kind what.every limit restarts (Summary show.votes) ends.catalog (show_requests show) w old new Input ends.came
+    show_so restarts show ReadFault ends = comes_may kind what.every limit restarts (Summary show.votes) ends.catalog (show_requests show) w old new ReadFault ends.came
 
-    show_cause : (show : Show) (ended : Status) → ShowEnds what.every limit show ended w disk → HasStoreCause ended w disk → HasCause ended s w disk
-    show_cause show Usage ends cause = absurd ends.came
-    show_cause show Differs ends cause = absurd ends.came
-    show_cause show Input ends cause = absurd ends.came
-    show_cause show ReadFault ends cause = absurd ends.came
-    show_cause show WriteFault ends cause = cause
-    show_cause show Disk ends cause = cause
-    show_cause show Done ends cause = tt
-    show_cause show NoMemory ends cause = tt
-    show_cause show Foreign ends cause = tt
-    show_cause show OtherCatalog ends cause = tt
-    show_cause show Limit ends cause = tt
+    may_only : (ended : Status) → MayEnd ended → WritesOnly ended w
+    may_only Done may = tt
+    may_only WriteFault may = tt
+    may_only Disk may = tt
+    may_only NoMemory may = tt
+    may_only Foreign may = tt
+    may_only OtherCatalog may = tt
+    may_only Limit may = tt
+    may_only Input may = tt
+    may_only Differs may = tt
+    may_only Usage may = absurd may
+    may_only ReadFault may = absurd may
+
+    served_cause : (restarts : ℕ) (ended : Status) → MayEnd ended → HasServedCause restarts ended w change → HasCause ended s w change
+    served_cause restarts WriteFault may cause = cause
+    served_cause restarts Disk may cause = omega (arith, cause)
+    served_cause restarts Done may cause = tt
+    served_cause restarts NoMemory may cause = tt
+    served_cause restarts Foreign may cause = tt
+    served_cause restarts OtherCatalog may cause = tt
+    served_cause restarts Limit may cause = tt
+    served_cause restarts Usage may cause = absurd may
+    served_cause restarts Differs may cause = absurd may
+    served_cause restarts Input may cause = absurd may
+    served_cause restarts ReadFault may cause = absurd may
 
     pub ends_voter : HasOneCatalog → EmptyHasNoFault → StoreHasNoFault → StoreHasOneCatalog → (show : Show) → AsksFor (words_of words) (record { command = Voter show; options = what })
-        → s.now ≡ s.before → s.faults_now ≡ s.faults_before → (ended : Status) → ComesToShow what.every limit show ended w disk → TellsStoreFaults ended w disk → Ends limit words s w disk ended
-    ends_voter one no_fault store_has_none one_catalog show asks same unmoved ended so told = let came = so.came in record {
-      usage = (λ is. absurd ((show_so show ended came).1 is), λ none. absurd (none (asks_is_command _ _ asks)));
-      run = λ other more. let wrong : Voter show ≡ Run = other_command (Voter show) Run other asks more in absurd cc;
-      recover = λ other more. let wrong : Voter show ≡ Recover = other_command (Voter show) Recover other asks more in absurd cc;
-      voter = λ other another more.
-          let is : Voter show ≡ Voter another = other_command (Voter show) (Voter another) other asks more in
-          let is_show : show ≡ another = cc in
-          let every = same_every (Voter show) other asks (subst (λ (x : Show). AsksFor (words_of words) (record { command = Voter x; options = other })) (sym is_show) more) in
-          subst (λ (x : Show). EndsVoter other.every limit x s w disk ended) is_show (subst (λ (o : Option ℕ). EndsVoter o limit show s w disk ended) every (record {
-            came = came;
-            complete = λ calm still. show_complete limit w disk no_fault store_has_none one_catalog calm still what.every one show ended came so.cause;
-            unread = (same, unmoved);
-          }));
-      audit = λ other more. let wrong : Voter show ≡ Audit = other_command (Voter show) Audit other asks more in absurd cc;
-      unread = λ is. (same, unmoved);
-      untouched = λ is. absurd ((show_so show ended came).1 is);
-      only = (show_so show ended came).0;
-      counts = counts;
-      cause = show_cause show ended came so.cause;
-      told = tells_so ended (λ is. (subst (λ status. ShowEnds what.every limit show status w disk) is came).came) (inr unmoved) told;
-      taken = takes_nothing (max_input + 1) s.before s.now same;
-    }
+        → s.now ≡ s.before → s.faults_now ≡ s.faults_before → (ended : Status) → ComesToShow kind what.every limit what.restarts show ended w old new → Ends kind old new limit words s w ended
+    ends_voter one no_fault store_has_none one_catalog show asks same unmoved ended so =
+        let came = so.came in
+        let may = show_so what.restarts show ended came in
+        let no_usage : ended ≡ Usage → ⊥ = λ is. subst MayEnd is may in
+        record {
+          usage = (λ is. absurd (no_usage is), λ none. absurd (none (asks_is_command _ _ asks)));
+          run = λ other more. let wrong : Voter show ≡ Run = other_command (Voter show) Run other asks more in absurd cc;
+          recover = λ other more. let wrong : Voter show ≡ Recover = other_command (Voter show) Recover other asks more in absurd cc;
+          voter = λ other another more.
+              let is : Voter show ≡ Voter another = other_command (Voter show) (Voter another) other asks more in
+              let is_show : show ≡ another = cc in
+              let line = asks_for_one (words_of words) (record { command = Voter show; options = what }) (record { command = Voter show; options = other }) asks
+              (subst (λ (x : Show). AsksFor (words_of words) (record { command = Voter x; options = other })) (sym is_show) more) in
+              subst (λ (x : Show). EndsVoter kind old new other.every limit other.restarts x s w ended) is_show
+              (subst (λ (l : CommandLine). EndsVoter kind old new l.options.every limit l.options.restarts show s w ended) line (record {
+                came = came;
+                used_up = λ is'. subst (λ status. HasServedCause what.restarts status w change) is' so.cause;
+                complete = λ calm still. show_complete kind old new limit what.restarts w no_fault store_has_none one_catalog calm still what.every one show ended came so.cause;
+                unread = (same, unmoved);
+              }));
+          audit = λ other more. let wrong : Voter show ≡ Audit = other_command (Voter show) Audit other asks more in absurd cc;
+          unread = λ is. (same, unmoved);
+          untouched = λ is. absurd (no_usage is);
+          only = may_only ended may;
+          counts = counts;
+          cause = served_cause what.restarts ended may so.cause;
+          told = λ line more. tells_so line.options.restarts ended (λ is. subst MayEnd is may) (inr unmoved)
+              (subst (λ (l : CommandLine). l.options.restarts ≡ 0 → TellsDiskFault ended change.faults_before change.faults_now) (asks_for_one (words_of words) (record { command = Voter show; options = what }) line asks more) (λ once. (so.told once).store))
+              so.sink;
+          taken = takes_nothing (max_input + 1) s.before s.now same;
+        }
 
     -- an audit has no status of a run, and none of the words
     audit_only : (ended : Status) → AuditEnds s.before ended w → WritesOnly ended w
@@ -424,7 +482,7 @@ module _ (limit : ℕ) (words : List (String Global)) (s : SourceChange) (w : Si
     audit_only Limit came = tt
     audit_only Differs came = tt
 
-    audit_cause : (ended : Status) → AuditEnds s.before ended w → HasAuditCause ended s w → HasCause ended s w disk
+    audit_cause : (ended : Status) → AuditEnds s.before ended w → HasAuditCause ended s w → HasCause ended s w change
     audit_cause ReadFault came cause = cause
     audit_cause WriteFault came cause = cause
     audit_cause Disk came cause = absurd came
@@ -437,7 +495,7 @@ module _ (limit : ℕ) (words : List (String Global)) (s : SourceChange) (w : Si
     audit_cause Limit came cause = tt
     audit_cause Differs came cause = tt
 
-    pub ends_audit : AsksFor (words_of words) (record { command = Audit; options = what }) → TakesAtMost (max_input + 1) s.before s.now → disk.uncalled → disk.faults_now ≡ disk.faults_before → (ended : Status) → AuditComes s w ended → TellsAuditFaults ended s w → Ends limit words s w disk ended
+    pub ends_audit : AsksFor (words_of words) (record { command = Audit; options = what }) → TakesAtMost (max_input + 1) s.before s.now → change.uncalled → change.faults_now ≡ change.faults_before → (ended : Status) → AuditComes s w ended → TellsAuditFaults ended s w → Ends kind old new limit words s w ended
     ends_audit asks taken uncalled still ended comes told =
         let no_usage : ended ≡ Usage → ⊥ = λ is. subst (λ status. AuditEnds s.before status w) is comes.ends in
         record {
@@ -451,6 +509,6 @@ module _ (limit : ℕ) (words : List (String Global)) (s : SourceChange) (w : Si
           only = audit_only ended comes.ends;
           counts = counts;
           cause = audit_cause ended comes.ends comes.cause;
-          told = record { source = told.source; store = inr (inr still); sink = told.sink };
+          told = λ line more. record { source = told.source; store = λ once. inr (inr still); sink = told.sink };
           taken = taken;
         }

@@ -1,7 +1,15 @@
 pub mod Outside
 pub mod Unreported
+pub mod Lasting
 pub mod Running
+pub mod Overs
+pub mod OverReports
 pub mod Storing
+pub mod Turning
+pub mod NewTurns
+pub mod AgainTurns
+pub mod OpenTurns
+pub mod LastTurns
 pub mod ClientsBelow
 pub mod Completing
 pub mod Ending

@@ -31,7 +31,8 @@ use Rattle.ss_top.specs.Told.{some_say_full}
 use Rattle.ss_voter.specs.VoterCatalog.{IsVoter}
 use Rattle.ss_words.specs.declared.names.Show.{Show}
 use Rattle.ss_top.specs.Shows.{RanShow, ShowEnds, show_requests}
-use Rattle.ss_top.specs.Serving.{ComesTo, ComesToShow, RecoversTo, IsOpenedFor, TellsStoreFaults}
+use Rattle.ss_top.specs.Over.{ComesOver}
+use Rattle.ss_top.specs.Serving.{ComesTo, ComesToShow, RecoversTo, ServesTo, IsOpenedFor, TellsStoreFaults}
 use Rattle.ss_top.specs.Stores.{CameTo, RecoveredTo, Ran, RanAs, WasOf}
 
 -- ---- a session was reported
@@ -111,9 +112,13 @@ module _ (w : SinkChange) (text : List ℕ) (ended : Status) where
   sink_by_text Limit tells is = let no : Limit ≡ Done = sym tells.is ∙ is in absurd (cc)
 
 -- by how a session is told
-pub session_tells : (w : SinkChange) (disk : DiskChange) (status : Status) (text : Option (List ℕ)) (ended : Status) → TellsReport status text ended w → TellsDiskFault status disk.faults_before disk.faults_now → TellsStoreFaults ended w disk
-session_tells w disk status (Some text) ended tells told = record { store = store_by_text w text ended status tells disk.faults_before disk.faults_now told; sink = sink_by_text w text ended status tells }
-session_tells w disk status None ended tells told = record { store = inr (inl tells.is); sink = λ is. let no : NoMemory ≡ Done = sym tells.is ∙ is in absurd (cc) }
+pub store_by_report : (w : SinkChange) (status : Status) (text : Option (List ℕ)) (ended : Status) → TellsReport status text ended w → (before now : ℕ) → TellsDiskFault status before now → TellsDiskFault ended before now
+store_by_report w status (Some text) ended tells before now told = store_by_text w text ended status tells before now told
+store_by_report w status None ended tells before now told = inr (inl tells.is)
+
+pub report_sink : (w : SinkChange) (status : Status) (text : Option (List ℕ)) (ended : Status) → TellsReport status text ended w → ended ≡ Done → w.faults_now ≡ w.faults_before
+report_sink w status (Some text) ended tells is = sink_by_text w text ended status tells is
+report_sink w status None ended tells is = let no : NoMemory ≡ Done = sym tells.is ∙ is in absurd (cc)
 
 -- by how a refusal is
 module _ (w : SinkChange) (disk : DiskChange) (ended : Status) where
@@ -324,22 +329,22 @@ of_given {every} {limit} {printing} {stored} {given} {requests} {ended} {w} {dis
 
 -- ---- a show ran
 
-pub show_came : (every : Option ℕ) (limit : ℕ) (show : Show) (catalog : Catalog) (requests : List Request) (w : SinkChange) (disk : DiskChange) → IsVoter catalog → Accepted catalog → requests ≡ show_requests show → (ended : Status)
-    → ComesTo every limit (Summary show.votes) catalog requests ended w disk → ComesToShow every limit show ended w disk
-show_came every limit show catalog requests w disk voter accepted are ended comes = record { came = by ended comes.came; cause = comes.cause }
+pub show_came : {D : Type 0} (kind : DiskKind D) (every : Option ℕ) (limit restarts : ℕ) (show : Show) (catalog : Catalog) (requests : List Request) (w : SinkChange) (old new : D) → IsVoter catalog → Accepted catalog
+    → requests ≡ show_requests show → (ended : Status) → ServesTo kind every limit restarts (Summary show.votes) catalog requests ended w old new → ComesToShow kind every limit restarts show ended w old new
+show_came kind every limit restarts show catalog requests w old new voter accepted are ended serves = record { came = by ended serves.came; cause = serves.cause; told = serves.told; sink = serves.sink }
   where
-    ran : (status : Status) → CameTo every limit (Summary show.votes) catalog requests status w disk → RanShow every limit show status w disk
-    ran status came = record { catalog = catalog; voter = voter; accepted = accepted; came = subst (λ rs. CameTo every limit (Summary show.votes) catalog rs status w disk) are came }
+    ran : (status : Status) → ComesOver kind every limit restarts (Summary show.votes) catalog requests status w old new → RanShow kind every limit restarts show status w old new
+    ran status came = record { catalog = catalog; voter = voter; accepted = accepted; came = subst (λ rs. ComesOver kind every limit restarts (Summary show.votes) catalog rs status w old new) are came }
 
-    by : (status : Status) → CameTo every limit (Summary show.votes) catalog requests status w disk → ShowEnds every limit show status w disk
+    by : (status : Status) → ComesOver kind every limit restarts (Summary show.votes) catalog requests status w old new → ShowEnds kind every limit restarts show status w old new
     by Done came = ran Done came
     by WriteFault came = ran WriteFault came
     by Disk came = ran Disk came
-    by NoMemory came = inr (ran NoMemory came)
     by Foreign came = ran Foreign came
     by OtherCatalog came = ran OtherCatalog came
     by Limit came = ran Limit came
-    by Usage came = absurd came
-    by Differs came = absurd came
-    by Input came = absurd came
-    by ReadFault came = absurd came
+    by Usage came = ran Usage came
+    by Differs came = ran Differs came
+    by Input came = ran Input came
+    by ReadFault came = ran ReadFault came
+    by NoMemory came = inr (ran NoMemory came)

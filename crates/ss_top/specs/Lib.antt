@@ -1,5 +1,7 @@
 pub mod Told
 pub mod Stores
+pub mod Over
+pub mod Turns
 pub mod Complete
 pub mod Shows
 pub mod Serving

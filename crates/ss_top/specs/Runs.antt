@@ -1,9 +1,11 @@
 -- How a session ended, by the answers and the ways in which settling and the last flush ended; its report, and how that is told.
-use Rattle.std.specs.Prelude.{◌≡◌, ◌⊎◌, ◌≤◌, ◌^◌, ℕ, Bool, cond, List, [], Option, Some, None, Result, Ok, Err, IfSome, IfNone}
+use Rattle.std.specs.Prelude.{◌≡◌, ◌⊎◌, ◌≤◌, ◌^◌, ℕ, Bool, cond, List, [], Option, Some, None, Result, Ok, Err, IfSome, IfNone, IsOk, true, ◌<◌}
+use Rattle.std.specs.Option.{is_some}
 use Rattle.ss_disk.specs.Kinds.{DiskKind}
 use Rattle.ss_value.specs.FaultCounts.{Rose}
 use Rattle.ss_model.specs.declared.catalog.Catalog.{Catalog}
 use Rattle.ss_model.specs.declared.entry.Answer.{Answer}
+use Rattle.ss_model.specs.declared.entry.Listed.{Listed}
 use Rattle.ss_model.specs.declared.entry.Request.{Request}
 use Rattle.ss_model.specs.Accepted.{Accepted}
 use Rattle.ss_model.specs.Database.{Database as Model}
@@ -19,6 +21,9 @@ use Rattle.ss_commitlog.specs.declared.placed.Unlisted.TheVariants as unlisted
 use Rattle.ss_engine.specs.Sessions.{EndsOnDisk}
 use Rattle.ss_report.specs.declared.run_end.End.{End}
 use Rattle.ss_report.specs.declared.run_end.End.TheVariants as report
+use Rattle.ss_report.specs.Readable.{HasReadableLines}
+use Rattle.ss_report.specs.Reported.{IsReportOf}
+use Rattle.ss_resume.specs.declared.past.Past.{Past}
 use Rattle.ss_refusals.specs.declared.status.Status.{Status}
 use Rattle.ss_refusals.specs.declared.status.Status.TheVariants.{Done, Disk, NoMemory, Limit}
 use Rattle.ss_refusals.specs.Sinks.{SinkChange, ExitsAs}
@@ -58,6 +63,24 @@ pub record Reports (every : Option ℕ) (limit : ℕ) (printing : Printing) (cat
 abbrev pub TellsDiskFault : Status → ℕ → ℕ → Type 0
 TellsDiskFault status before now = (status ≡ Disk) ⊎ (status ≡ NoMemory) ⊎ (now ≡ before)
 
+-- these bytes are the report with this end, and each of its lines is read as what it says
+abbrev pub IsWrittenReport : Catalog → List Request → List (List Answer) → ℕ → List Listed → End → List ℕ → Type 0
+IsWrittenReport catalog requests answers first list end text = IsReportOf catalog requests answers first list end text × HasReadableLines catalog requests answers first list end
+
+-- a finished session is reported by this status and this text
+pub record IsReportedAs {D : Type 0} (printing : Printing) (requests : List Request) (first : ℕ) (finished : Finished D) (status : Status) (text : List ℕ) : Type 0 where
+  pub flushed : Bool
+  pub all : flushed ≡ true → IsOk finished.flushed
+  pub faults : ℕ
+  pub small : (fault : ℕ) → finished.log.halted ≡ Some fault → fault < 2 ^ 64
+  pub is : status ≡ session_status (is_some finished.log.halted) finished.closed.answers finished.closed.settling flushed
+  pub written : IsWrittenReport finished.closed.catalog requests finished.closed.answers first finished.closed.list (end_for status printing finished.closed.database finished.receipted faults) text
+
+-- or there was no memory for a report
+abbrev pub ReportsAs : {D : Type 0} → Printing → List Request → ℕ → Finished D → Status → Option (List ℕ) → Type 0
+ReportsAs printing requests first finished status (Some text) = IsReportedAs printing requests first finished status text
+ReportsAs printing requests first finished status None = status ≡ NoMemory
+
 -- how a session with this status is told, by its report, or by a line where there was no memory for one
 abbrev pub TellsReport : Status → Option (List ℕ) → Status → SinkChange → Type 0
 TellsReport status None ended w = ExitsAs NoMemory ended no_memory_text w
@@ -75,5 +98,11 @@ ReportsFinished {D} kind printing requests first finished reported =
 -- and it tells whether the disk has failed since then
 abbrev pub TellsFinished : {D : Type 0} → DiskKind D → List Request → ℕ → Finished D → Reported D → Type 0
 TellsFinished {D} kind requests first finished reported =
-    (every : Option ℕ) (limit clients : ℕ) (catalog : Catalog) (db : Model) (log : CmdLog D) → EndsOnDisk kind every catalog db first limit clients requests [] log finished →
+    (every : Option ℕ) (limit clients : ℕ) (starts : List ℕ) (catalog : Catalog) (db : Model) (log : CmdLog D) → EndsOnDisk kind every catalog db first limit clients requests starts log finished →
     TellsDiskFault reported.status (kind.faults log.disk) (kind.faults reported.disk)
+
+-- what could be said of a past was written as the report of a run that stopped because the disk has failed, or there was no memory for one
+abbrev pub ReportsPast : Catalog → Past → List Request → Status → Option (List ℕ) → Type 0
+ReportsPast catalog past requests status (Some text) =
+    (status ≡ Disk) × IsReportOf catalog requests past.answers past.first past.list (report.Stopped (status_number Disk) past.receipted 0) text
+ReportsPast catalog past requests status None = status ≡ NoMemory

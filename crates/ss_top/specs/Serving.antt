@@ -1,5 +1,5 @@
 -- What serving requests on a store comes to, with the causes of its status.
-use Rattle.std.specs.Prelude.{◌≡◌, ℕ, List, Option}
+use Rattle.std.specs.Prelude.{◌≡◌, ℕ, suc, List, Option}
 use Rattle.ss_disk.specs.Kinds.{DiskKind}
 use Rattle.ss_value.specs.FaultCounts.{Rose}
 use Rattle.ss_model.specs.declared.catalog.Catalog.{Catalog}
@@ -15,6 +15,7 @@ use Rattle.ss_refusals.specs.Sinks.{SinkChange}
 use Rattle.ss_top.specs.declared.session.Printing.{Printing}
 use Rattle.ss_top.specs.Runs.{TellsDiskFault}
 use Rattle.ss_top.specs.Shows.{ShowEnds}
+use Rattle.ss_top.specs.Over.{ComesOver, RoseBy}
 use Rattle.ss_top.specs.Stores.{CameTo, RecoveredTo, WasOf}
 
 -- a fault of the sink or of the disk is answered only where it was counted
@@ -28,6 +29,20 @@ pub record TellsStoreFaults (status : Status) (w : SinkChange) (disk : DiskChang
   pub store : TellsDiskFault status disk.faults_before disk.faults_now
   pub sink : status ≡ Done → w.faults_now ≡ w.faults_before
 
+-- the same where the disk may be opened so often again: then status 5 tells of as many faults, and one
+abbrev pub HasServedCause : ℕ → Status → SinkChange → DiskChange → Type 0
+HasServedCause restarts WriteFault w disk = Rose w.faults_before w.faults_now
+HasServedCause restarts Disk w disk = RoseBy (suc restarts) disk.faults_before disk.faults_now
+HasServedCause restarts _ w disk = Unit {0}
+
+-- running these requests of this catalogue, over so many restarts at most
+pub record ServesTo {D : Type 0} (kind : DiskKind D) (every : Option ℕ) (limit restarts : ℕ) (printing : Printing) (catalog : Catalog) (requests : List Request) (status : Status) (w : SinkChange) (old new : D) : Type 0 where
+  pub came : ComesOver kind every limit restarts printing catalog requests status w old new
+  pub cause : HasServedCause restarts status w (disk_of kind old new)
+  -- a fault that isn't told is one behind which the disk was opened again
+  pub told : restarts ≡ 0 → TellsStoreFaults status w (disk_of kind old new)
+  pub sink : status ≡ Done → w.faults_now ≡ w.faults_before
+
 -- running these requests of this catalogue
 pub record ComesTo (every : Option ℕ) (limit : ℕ) (printing : Printing) (catalog : Catalog) (requests : List Request) (status : Status) (w : SinkChange) (disk : DiskChange) : Type 0 where
   pub came : CameTo every limit printing catalog requests status w disk
@@ -39,9 +54,11 @@ pub record RecoversTo (limit : ℕ) (status : Status) (w : SinkChange) (disk : D
   pub cause : HasStoreCause status w disk
 
 -- a show
-pub record ComesToShow (every : Option ℕ) (limit : ℕ) (show : Show) (status : Status) (w : SinkChange) (disk : DiskChange) : Type 0 where
-  pub came : ShowEnds every limit show status w disk
-  pub cause : HasStoreCause status w disk
+pub record ComesToShow {D : Type 0} (kind : DiskKind D) (every : Option ℕ) (limit restarts : ℕ) (show : Show) (status : Status) (w : SinkChange) (old new : D) : Type 0 where
+  pub came : ShowEnds kind every limit restarts show status w old new
+  pub cause : HasServedCause restarts status w (disk_of kind old new)
+  pub told : restarts ≡ 0 → TellsStoreFaults status w (disk_of kind old new)
+  pub sink : status ≡ Done → w.faults_now ≡ w.faults_before
 
 -- the store was opened on this disk, or made on it
 pub record IsOpenedFor {D : Type 0} (kind : DiskKind D) (old : D) (r : Recovered D) : Type 0 where

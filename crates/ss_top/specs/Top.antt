@@ -1,5 +1,5 @@
 -- What the top call promises.
-use Rattle.std.specs.Prelude.{◌≡◌, ◌≤◌, ◌⊎◌, ℕ, List, [], Option, IfSome, ◌+◌, ◌↔◌, String}
+use Rattle.std.specs.Prelude.{◌≡◌, ◌≤◌, ◌⊎◌, ℕ, suc, List, [], Option, IfSome, ◌+◌, ◌↔◌, String}
 use Rattle.std.specs.declared.alloc.Global.{Global}
 use Rattle.ss_value.specs.FaultCounts.{Rose}
 use Rattle.ss_lines.specs.Causes.{TakesAtMost}
@@ -7,7 +7,8 @@ use Rattle.ss_lines.specs.Lines.{max_input}
 use Rattle.ss_model.specs.declared.catalog.Catalog.{Catalog}
 use Rattle.ss_model.specs.declared.entry.Request.{Request}
 use Rattle.ss_model.specs.Accepted.{Accepted}
-use Rattle.ss_headline.specs.Disks.{DiskChange}
+use Rattle.ss_disk.specs.Kinds.{DiskKind}
+use Rattle.ss_headline.specs.Disks.{DiskChange, disk_of}
 use Rattle.ss_refusals.specs.declared.status.Status.{Status}
 use Rattle.ss_refusals.specs.declared.status.Status.TheVariants.{Done, Usage, Input, ReadFault, WriteFault, Disk, NoMemory, Differs}
 use Rattle.ss_refusals.specs.Inputs.{LeavesOfSource, ExitsAsRefused, ExitsAsStarted, DidNotRise}
@@ -18,9 +19,11 @@ use Rattle.ss_top.specs.declared.session.Printing.TheVariants.{InFull}
 use Rattle.ss_top.specs.Complete.{HasRoom, IsDoneOrShort}
 use Rattle.ss_top.specs.Runs.{TellsDiskFault}
 use Rattle.ss_top.specs.Shows.{ShowEnds, IsCompleteShow}
-use Rattle.ss_top.specs.Stores.{CameTo, EndsUncalled, RecoveredTo}
+use Rattle.ss_top.specs.Over.{ComesOver, RoseBy}
+use Rattle.ss_top.specs.Stores.{EndsUncalled, RecoveredTo}
 use Rattle.ss_audit_input.specs.Told.{AuditEnds, EndsWithVerdict}
 use Rattle.ss_words.specs.declared.names.Command.TheVariants.{Run, Recover, Audit, Voter}
+use Rattle.ss_words.specs.declared.command.CommandLine.{CommandLine}
 use Rattle.ss_words.specs.declared.command.Options.{Options}
 use Rattle.ss_words.specs.declared.names.Show.{Show}
 use Rattle.ss_words.specs.Words.{IsCommand, AsksFor, words_of}
@@ -36,11 +39,16 @@ HasCause WriteFault s w disk = Rose w.faults_before w.faults_now
 HasCause Disk s w disk = Rose disk.faults_before disk.faults_now
 HasCause _ s w disk = Unit {0}
 
--- that a device failed is told. The source's count of faults rose where the status says so, and there alone; the disk's where the status
--- says so, or where there was no memory, and there alone; and the sink's rose neither where all is done nor with a verdict
-pub record TellsFaults (ended : Status) (s : SourceChange) (w : SinkChange) (disk : DiskChange) : Type 0 where
+-- where the disk may be opened so often again, its fault is answered only behind as many, and one
+abbrev pub UsesUp : ℕ → Status → DiskChange → Type 0
+UsesUp restarts ended disk = ended ≡ Disk → RoseBy (suc restarts) disk.faults_before disk.faults_now
+
+-- that a device failed is told. The source's count of faults rose where the status says so, and there alone; the disk's, where it isn't to be
+-- opened again, where the status says so, or where there was no memory, and there alone; and the sink's rose neither where all is done nor
+-- with a verdict
+pub record TellsFaults (restarts : ℕ) (ended : Status) (s : SourceChange) (w : SinkChange) (disk : DiskChange) : Type 0 where
   pub source : TellsSourceFault ended s.faults_before s.faults_now
-  pub store : TellsDiskFault ended disk.faults_before disk.faults_now
+  pub store : restarts ≡ 0 → TellsDiskFault ended disk.faults_before disk.faults_now
   pub sink : (ended ≡ Done) ⊎ (ended ≡ Differs) → w.faults_now ≡ w.faults_before
 
 -- no fault of the disk was counted
@@ -53,63 +61,70 @@ WritesOnly Usage w = Writes usage_text w
 WritesOnly ReadFault w = Writes read_fault_text w
 WritesOnly _ w = Unit {0}
 
--- there is a catalogue that is accepted, and requests, which are what the input says where its bytes are known, and running them on the
--- disk has come to this
-pub record RanInput (every : Option ℕ) (limit : ℕ) (input : Option (List ℕ)) (status : Status) (w : SinkChange) (disk : DiskChange) : Type 0 where
-  pub catalog : Catalog
-  pub requests : List Request
-  pub starts : IfSome input (λ bytes. Starts bytes catalog requests)
-  pub accepted : Accepted catalog
-  pub came : CameTo every limit InFull catalog requests status w disk
+module _ {D : Type 0} (kind : DiskKind D) (old new : D) where
+  abbrev changed : DiskChange
+  changed = disk_of kind old new
 
--- the input's first refusal was written, and no call has reached the disk
-pub record RefusedInput (input : Option (List ℕ)) (w : SinkChange) (disk : DiskChange) : Type 0 where
-  pub refused : IsRefused input Input w
-  pub uncalled : disk.uncalled
+  -- there is a catalogue that is accepted, and requests, which are what the input says where its bytes are known, and running them on the
+  -- disk has come to this
+  pub record RanInput (every : Option ℕ) (limit restarts : ℕ) (input : Option (List ℕ)) (status : Status) (w : SinkChange) : Type 0 where
+    pub catalog : Catalog
+    pub requests : List Request
+    pub starts : IfSome input (λ bytes. Starts bytes catalog requests)
+    pub accepted : Accepted catalog
+    pub came : ComesOver kind every limit restarts InFull catalog requests status w old new
 
--- what the command run has come to on this input, whose bytes may not be known
-abbrev pub RunEnds : Option ℕ → ℕ → Option (List ℕ) → Status → SinkChange → DiskChange → Type 0
-RunEnds every limit input Usage w disk = ⊥
-RunEnds every limit input Differs w disk = ⊥
-RunEnds every limit input Input w disk = RefusedInput input w disk
-RunEnds every limit input ReadFault w disk = disk.uncalled
-RunEnds every limit input NoMemory w disk = EndsUncalled no_memory_text w disk ⊎ RanInput every limit input NoMemory w disk
-RunEnds every limit input status w disk = RanInput every limit input status w disk
+  -- the input's first refusal was written, and no call has reached the disk
+  pub record RefusedInput (input : Option (List ℕ)) (w : SinkChange) : Type 0 where
+    pub refused : IsRefused input Input w
+    pub uncalled : changed.uncalled
 
--- an input that starts, on a disk with room for all that is owed, ends as done or at out of memory
-abbrev pub IsComplete : ℕ → List ℕ → DiskChange → Status → Type 0
-IsComplete limit input disk ended = (catalog : Catalog) (requests : List Request) → Starts input catalog requests → HasRoom limit catalog requests disk → IsDoneOrShort ended
+  -- what the command run has come to on this input, whose bytes may not be known
+  abbrev pub RunEnds : Option ℕ → ℕ → ℕ → Option (List ℕ) → Status → SinkChange → Type 0
+  RunEnds every limit restarts input Usage w = ⊥
+  RunEnds every limit restarts input Differs w = ⊥
+  RunEnds every limit restarts input Input w = RefusedInput input w
+  RunEnds every limit restarts input ReadFault w = changed.uncalled
+  RunEnds every limit restarts input NoMemory w = EndsUncalled no_memory_text w changed ⊎ RanInput every limit restarts input NoMemory w
+  RunEnds every limit restarts input status w = RanInput every limit restarts input status w
 
--- what the command run promises
-pub record EndsRun (every : Option ℕ) (limit : ℕ) (s : SourceChange) (w : SinkChange) (disk : DiskChange) (ended : Status) : Type 0 where
-  -- the headline
-  pub came : RunEnds every limit s.before ended w disk
-  -- how much of the source is left
-  pub empties : LeavesOfSource ended s.before s.now
-  -- an input has one answer, and gets it, unless a fault was counted or at out of memory
-  pub refused : SourceHeld s → IfSome s.before (λ input. ExitsAsRefused input ended)
-  pub started : SourceHeld s → SinkHeld w → DiskHeld disk → IfSome s.before (λ input. ExitsAsStarted input ended)
-  -- where there is room for all that is owed it is done
-  pub complete : SourceHeld s → SinkHeld w → DiskHeld disk → IfSome s.before (λ input. IsComplete limit input disk ended)
+  -- an input that starts, on a disk with room for all that is owed, ends as done or at out of memory
+  abbrev pub IsComplete : ℕ → List ℕ → Status → Type 0
+  IsComplete limit input ended = (catalog : Catalog) (requests : List Request) → Starts input catalog requests → HasRoom limit catalog requests changed → IsDoneOrShort ended
 
--- what a run promises, with the causes of its status and what is written of it alone
-pub record RunEndsSo (every : Option ℕ) (limit : ℕ) (s : SourceChange) (w : SinkChange) (disk : DiskChange) (ended : Status) : Type 0 where
-  pub ends : EndsRun every limit s w disk ended
-  pub only : WritesOnly ended w
-  pub cause : HasCause ended s w disk
-  pub no_usage : ended ≡ Usage → ⊥
+  -- what the command run promises
+  pub record EndsRun (every : Option ℕ) (limit restarts : ℕ) (s : SourceChange) (w : SinkChange) (ended : Status) : Type 0 where
+    -- the headline
+    pub came : RunEnds every limit restarts s.before ended w
+    -- the disk was opened again as often as it may be before its fault is answered
+    pub used_up : UsesUp restarts ended changed
+    -- how much of the source is left
+    pub empties : LeavesOfSource ended s.before s.now
+    -- an input has one answer, and gets it, unless a fault was counted or at out of memory
+    pub refused : SourceHeld s → IfSome s.before (λ input. ExitsAsRefused input ended)
+    pub started : SourceHeld s → SinkHeld w → DiskHeld changed → IfSome s.before (λ input. ExitsAsStarted input ended)
+    -- where there is room for all that is owed it is done
+    pub complete : SourceHeld s → SinkHeld w → DiskHeld changed → IfSome s.before (λ input. IsComplete limit input ended)
+
+  -- what a run promises, with the causes of its status and what is written of it alone
+  pub record RunEndsSo (every : Option ℕ) (limit restarts : ℕ) (s : SourceChange) (w : SinkChange) (ended : Status) : Type 0 where
+    pub ends : EndsRun every limit restarts s w ended
+    pub only : WritesOnly ended w
+    pub cause : HasCause ended s w changed
+    pub no_usage : ended ≡ Usage → ⊥
+
+  -- what the command voter promises: the headline of its script, that it does all of it where there is room for it, and that it reads
+  -- nothing
+  pub record EndsVoter (every : Option ℕ) (limit restarts : ℕ) (show : Show) (s : SourceChange) (w : SinkChange) (ended : Status) : Type 0 where
+    pub came : ShowEnds kind every limit restarts show ended w old new
+    pub used_up : UsesUp restarts ended changed
+    pub complete : SinkHeld w → DiskHeld changed → IsCompleteShow limit show changed ended
+    pub unread : (s.now ≡ s.before) × (s.faults_now ≡ s.faults_before)
 
 -- what the command recover promises: the headline, that it does what is pending where there is room for it, and that it reads nothing
 pub record EndsRecover (limit : ℕ) (s : SourceChange) (w : SinkChange) (disk : DiskChange) (ended : Status) : Type 0 where
   pub came : RecoveredTo limit ended w disk
   pub complete : SinkHeld w → DiskHeld disk → (catalog : Catalog) → HasRoom limit catalog [] disk → IsDoneOrShort ended
-  pub unread : (s.now ≡ s.before) × (s.faults_now ≡ s.faults_before)
-
--- what the command voter promises: the headline of its script, that it does all of it where there is room for it, and that it reads
--- nothing
-pub record EndsVoter (every : Option ℕ) (limit : ℕ) (show : Show) (s : SourceChange) (w : SinkChange) (disk : DiskChange) (ended : Status) : Type 0 where
-  pub came : ShowEnds every limit show ended w disk
-  pub complete : SinkHeld w → DiskHeld disk → IsCompleteShow limit show disk ended
   pub unread : (s.now ≡ s.before) × (s.faults_now ≡ s.faults_before)
 
 -- what the command audit promises: the verdict of the report for the script that stands before it, or the input's first refusal; that
@@ -121,21 +136,21 @@ pub record EndsAudit (s : SourceChange) (w : SinkChange) (disk : DiskChange) (en
   pub uncalled : disk.uncalled
 
 -- all that the program promises of a call with these words, on this source, sink and disk, whose list has at most so many entries
-pub record Ends (limit : ℕ) (words : List (String Global)) (s : SourceChange) (w : SinkChange) (disk : DiskChange) (ended : Status) : Type 0 where
+pub record Ends {D : Type 0} (kind : DiskKind D) (old new : D) (limit : ℕ) (words : List (String Global)) (s : SourceChange) (w : SinkChange) (ended : Status) : Type 0 where
   -- the words alone decide whether they are a command, and which
   pub usage : (ended ≡ Usage) ↔ ¬ (IsCommand (words_of words))
-  pub run : (what : Options) → AsksFor (words_of words) (record { command = Run; options = what }) → EndsRun what.every limit s w disk ended
-  pub recover : (what : Options) → AsksFor (words_of words) (record { command = Recover; options = what }) → EndsRecover limit s w disk ended
-  pub voter : (what : Options) (show : Show) → AsksFor (words_of words) (record { command = Voter show; options = what }) → EndsVoter what.every limit show s w disk ended
-  pub audit : (what : Options) → AsksFor (words_of words) (record { command = Audit; options = what }) → EndsAudit s w disk ended
+  pub run : (what : Options) → AsksFor (words_of words) (record { command = Run; options = what }) → EndsRun kind old new what.every limit what.restarts s w ended
+  pub recover : (what : Options) → AsksFor (words_of words) (record { command = Recover; options = what }) → EndsRecover limit s w (disk_of kind old new) ended
+  pub voter : (what : Options) (show : Show) → AsksFor (words_of words) (record { command = Voter show; options = what }) → EndsVoter kind old new what.every limit what.restarts show s w ended
+  pub audit : (what : Options) → AsksFor (words_of words) (record { command = Audit; options = what }) → EndsAudit s w (disk_of kind old new) ended
   -- where they are none nothing is read, and no call reaches the disk
   pub unread : ended ≡ Usage → (s.now ≡ s.before) × (s.faults_now ≡ s.faults_before)
-  pub untouched : ended ≡ Usage → disk.uncalled
+  pub untouched : ended ≡ Usage → (disk_of kind old new).uncalled
   pub only : WritesOnly ended w
   -- a fault is answered only where it was counted, and counts never fall
-  pub counts : (s.faults_before ≤ s.faults_now) × (w.faults_before ≤ w.faults_now) × (disk.faults_before ≤ disk.faults_now)
-  pub cause : HasCause ended s w disk
+  pub counts : (s.faults_before ≤ s.faults_now) × (w.faults_before ≤ w.faults_now) × (kind.faults old ≤ kind.faults new)
+  pub cause : HasCause ended s w (disk_of kind old new)
   -- and each that was counted is told
-  pub told : TellsFaults ended s w disk
+  pub told : (line : CommandLine) → AsksFor (words_of words) line → TellsFaults line.options.restarts ended s w (disk_of kind old new)
   -- how much of the source is taken
   pub taken : TakesAtMost (max_input + 1) s.before s.now

@@ -5,7 +5,9 @@
 //! answers a [`Status`], whose number is the exit status.
 //!
 //! - `top`: the call `sstore`, and the same with a limit of its list
-//! - `store`: the store is opened or made, and serves a session; `session`: its requests run, and are reported
+//! - `store`: requests are run on the store of a disk, or what is pending there, and what came of it is written
+//! - `over`: the disk is opened, and again behind its faults, as often as it may be; `session`: requests run on one opening,
+//!   and are reported
 //! - `voter`: the catalogue and the script of the benchmark, in place of an input
 //!
 //! How an input is read, and what is written of it, of the words and of the disk where they are refused, `ss_refusals` says, with
@@ -17,8 +19,9 @@
 //!
 //! - `sstore`: `Ends`, which docs/CLAIM.md goes through field by field.
 //! - Inside it `run_on_store` and `recover_store` (`came`) say what running requests on a store has come to, by status
-//!   (`ComesTo`, `RecoversTo`), and `run_and_report` (`reported`) that the status and the text of a session are those
-//!   of a whole run or a stopped one (`Reports`).
+//!   (`ServesTo`, `RecoversTo`), `serve_new` (`new`: `ServesNew`) and `close_again` (`closes`: `ClosesAgain`) what one more
+//!   opening has, and `report_session` (`finished`) that the status and the text of a session are those of a whole run or a
+//!   stopped one (`Reports`).
 //!
 //! # What a run is put together from
 //!
@@ -33,9 +36,15 @@
 //! - The laws `whole_runs` and `stopped_runs` take `Opened` of the disk up to the session, `Closed` with `Settled`, or
 //!   with `Receipted` and `LogEndsAsStopped`, of the disk from there on, and the answers to the clients. So a run
 //!   (`RanAs`) speaks of the disk that the program was given and of the one that it leaves.
-//! - `TellsReport`, and `TellsRefusal` of `ss_refusals`, say which of the text was written, and with which status the program ends.
+//! - Behind a fault of the disk what a run has come to is its past (`IsPast`: `Lived` of `ss_incarnations`, with the answers to
+//!   the clients), or that no store was opened (`NotOpened`). The laws `opened_at_last`, `incarnations_go_on` and
+//!   `runs_over_restarts` carry it over the next opening, and to a run over restarts (`RanAsOver`). All of this presumes that
+//!   the disk is honest. What each turn of the loop comes to is `TurnComes`.
+//! - `TellsTurn`, of `TellsReport` and of `TellsRefusal` of `ss_refusals`, says which of the text was written, and with which
+//!   status the program ends.
 #![tactic(auto)]
 
+mod over;
 mod session;
 mod store;
 mod top;

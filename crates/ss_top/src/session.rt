@@ -2,6 +2,7 @@
 
 ghost use Rattle.std.specs.Prelude.{◌≡◌, ◌≢◌, ◌≤◌, ◌<◌, ◌+◌, ◌^◌, ℕ, Some, length, IfOk, IfErr, IfSome, OnOk};
 ghost use Rattle.std.specs.List.{AllByRecursion};
+ghost use Rattle.std.specs.Option.{is_some};
 ghost use Rattle.ss_model.specs.declared.entry.Request.{Request};
 ghost use Rattle.ss_model.specs.Accepted.{Accepted};
 ghost use Rattle.ss_model.specs.Database.{Database as Model};
@@ -11,20 +12,23 @@ ghost use Rattle.ss_headline.specs.Sentences.{room_from};
 ghost use Rattle.ss_recover.specs.Recovering.{GoesOn};
 ghost use Rattle.ss_report.specs.Readable.{HasReadableLines};
 ghost use Rattle.ss_report.specs.Reported.{IsReportOf};
-ghost use Rattle.ss_engine.specs.Clients.{AllFit};
+ghost use Rattle.ss_engine.specs.Clients.{AllFit, StartWithin};
 ghost use Rattle.ss_engine.specs.Sessions.{AreOfClients, IsLeftOver};
-ghost use Rattle.ss_top.specs.Runs.{settled_status, session_status, end_for, Reports, ReportsFinished, TellsDiskFault, TellsFinished};
+ghost use Rattle.ss_top.specs.Runs.{settled_status, session_status, end_for, ReportsAs, ReportsFinished, ReportsPast, TellsFinished};
+ghost use Rattle.ss_top.specs.Turns.{RanFrom};
 ghost use Rattle.ss_top.specs.Told.{says_full, say_full, some_say_full};
 
+use ss_cmdlog::CmdLog;
 use ss_commitlog::{Opening, Unlisted};
 use ss_disk::Disk;
 use ss_engine::{Closed, Finished, Gate, run_session};
 use ss_headline::{full_lists_have_all, stopped_runs, whole_runs};
-use ss_model::{Answer, Request};
+use ss_model::{Answer, Catalog, Request};
 use ss_proc::PlainRunner;
 use ss_recover::Recovered;
 use ss_refusals::Status;
 use ss_report::{End, write_report};
+use ss_resume::Past;
 use ss_shard::Database;
 use ss_value::{NoMemory, Seq};
 use std::alloc::Global;
@@ -45,6 +49,14 @@ pub(crate) enum Printing {
     InFull,
     /// By the line that sums up its list, which has so many votes.
     Summary { votes: u64 },
+}
+
+/// Whether the disk of a log has failed in one of its calls.
+pub(crate) fn has_failed<D: Disk>(log: &CmdLog<D>) -> bool
+    ensures failed { result ≡ is_some log.now.halted }
+    ensures small { (fault : ℕ) → log.now.halted ≡ Some fault → fault < 2 ^ 64 }
+{
+    log.halted().is_some()
 }
 
 /// How a session ended, its report where there was memory for it, and the disk.
@@ -190,7 +202,7 @@ fn closed_report(
 /// Linear in the bytes of the report. Where there is no memory for it the session has stopped for want of memory, whatever it
 /// ended with. It is a stopped run all the same (`Reports`): the list and the receipts are what they would be with a report,
 /// and its text, which nobody reads, says of no request but that there was no memory.
-fn report_session<D: Disk + Drop>(
+pub(crate) fn report_session<D: Disk + Drop>(
     alloc: Global,
     finished: Finished<D>,
     requests: &Seq<Request>,
@@ -201,6 +213,7 @@ fn report_session<D: Disk + Drop>(
     requires left { (d : Model) × IfSome finished.closed.database (IsLeftOver finished.closed.catalog d) }
     ensures finished { ReportsFinished D.kind printing requests.now first finished result }
     ensures told { TellsFinished D.kind requests.now first finished result }
+    ensures as_said { ReportsAs printing requests.now first finished result.status result.text }
     ensures own { result.status ≢ Status.OtherCatalog }
     ensures disk { result.disk ≡ finished.log.disk }
 {
@@ -245,36 +258,67 @@ fn report_session<D: Disk + Drop>(
     }
 }
 
-/// Runs requests on what was recovered, each client's in a thread of its own, on so many partitions, and makes the report. A checkpoint
-/// is due from `every` entries behind the last one on, and none is made where that is none.
+/// The report of a run whose disk could not be opened again behind this past. Linear in its bytes.
+pub(crate) fn report_past<D: Disk>(
+    alloc: Global,
+    catalog: &Catalog,
+    past: &Past,
+    requests: &Seq<Request>,
+    disk: D,
+) -> Reported<D>
+    requires places { past.now.first + length past.now.list < 2 ^ 64 }
+    ensures written { ReportsPast catalog.now past.now requests.now result.status result.text }
+    ensures disk { result.disk ≡ disk }
+{
+    let end = End::Stopped {
+        status: Status::Disk.number(),
+        count: past.receipted,
+        faults: 0,
+    };
+    match write_report(
+        alloc,
+        catalog,
+        requests,
+        &past.answers,
+        past.first,
+        &past.list,
+        &end,
+    ) {
+        Ok(text) => Reported {
+            status: Status::Disk,
+            text: Some(text),
+            disk,
+        },
+        Err(_) => Reported {
+            status: Status::NoMemory,
+            text: None,
+            disk,
+        },
+    }
+}
+
+/// Runs requests on what was recovered, each client's from the number on that `starts` says of it, in a thread of its own, on so many
+/// partitions. A checkpoint is due from `every` entries behind the last one on, and none is made where that is none.
 /// Hands the disk back where there was no memory to begin.
-pub(crate) fn run_and_report<
-    D: Disk + Drop + Send,
-    G: Gate + Drop + Sync,
-    R: Threads + Wait + Sync,
->(
+pub(crate) fn run_recovered<D: Disk + Drop + Send, G: Gate + Drop + Sync, R: Threads + Wait + Sync>(
     rt: &R,
     alloc: Global,
     recovered: Recovered<D>,
     requests: &Seq<Request>,
+    starts: &[u64],
     partitions: u8,
     gate: G,
     every: Option<u64>,
     limit: u64,
-    printing: Printing,
-) -> Result<Reported<D>, D>
+) -> Result<Finished<D>, D>
     ghost db: { Model }
     requires accepted { Accepted recovered.catalog }
     requires goes_on { GoesOn D.kind partitions recovered db }
     requires fit { AllFit recovered.catalog requests.now }
+    requires starts { StartWithin starts.now requests.now }
     requires partitions { (1 ≤ partitions) × (partitions ≤ 8) }
     requires every { (k : ℕ) → every ≡ Some k → 1 ≤ k }
-    ensures reported { IfOk result (λ r. (old : D)
-        → Opened recovered.catalog db recovered.first (disk_of D.kind old recovered.log.disk)
-        → Reports every limit printing recovered.catalog requests.now r.status r.text (disk_of D.kind old r.disk)) }
-    ensures told { IfOk result (λ r. TellsDiskFault r.status (D.kind.faults recovered.log.disk) (D.kind.faults r.disk)) }
-    ensures own { IfOk result (λ r. r.status ≢ Status.OtherCatalog) }
-    ensures later { IfOk result (λ r. D.kind.faults recovered.log.disk ≤ D.kind.faults r.disk) }
+    ensures ran { IfOk result (RanFrom D.kind every limit recovered.catalog db recovered.first requests.now starts.now recovered.log) }
     ensures unstarted { IfErr result (λ disk. disk ≡ recovered.log.disk) }
 {
     let clients = client_count(requests.as_slice());
@@ -304,11 +348,11 @@ pub(crate) fn run_and_report<
         PlainRunner,
         gate,
         requests,
-        &[],
+        starts,
         opening,
         every,
     ) {
-        Ok(finished) => Ok(report_session(alloc, finished, requests, first, printing)),
+        Ok(finished) => Ok(finished),
         Err((_, log)) => Err(log.into_disk()),
     }
 }

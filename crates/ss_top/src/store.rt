@@ -1,21 +1,22 @@
 //! The store of a run: what is recovered of it serves a session, and else it is told why nothing is.
 
 ghost use Rattle.std.specs.Prelude.{◌≡◌, ◌≢◌, ◌≤◌, ℕ, Some};
-ghost use Rattle.ss_model.specs.Accepted.{Accepted};
 ghost use Rattle.ss_headline.specs.Disks.{disk_of};
-ghost use Rattle.ss_recover.specs.Recovering.{GoesOn, IsOwnCatalog, recovered_database};
+ghost use Rattle.ss_recover.specs.Recovering.{IsOwnCatalog};
 ghost use Rattle.ss_engine.specs.Clients.{AllFit};
 ghost use Rattle.ss_refusals.specs.Sinks.{sink_of};
 ghost use Rattle.ss_top.specs.Runs.{TellsReport};
-ghost use Rattle.ss_top.specs.Serving.{ComesTo, RecoversTo, IsOpenedFor, TellsStoreFaults};
+ghost use Rattle.ss_top.specs.Serving.{RecoversTo, ServesTo, TellsStoreFaults};
+ghost use Rattle.ss_top.specs.Turns.{HasTurnTexts, IsOver, TellsTurn, disk_left};
 
-use crate::session::{Printing, Reported, run_and_report};
+use crate::over::{Turn, run_over, serve_new};
+use crate::session::{Printing, Reported};
 use ss_disk::Disk;
 use ss_engine::Gate;
 use ss_lines::{Sink, write_all};
 use ss_model::{Catalog, Request};
 use ss_proc::PlainRunner;
-use ss_recover::{Recovered, recover};
+use ss_recover::recover;
 use ss_refusals::{NO_MEMORY, Status, refuse_store, write_line, write_whole};
 use ss_value::Seq;
 use std::alloc::Global;
@@ -41,44 +42,24 @@ fn write_report<K: Sink>(sink: &mut K, status: Status, text: &Option<Seq<u8>>) -
     status
 }
 
-/// Runs requests on what was recovered, and writes the report.
-fn serve<K: Sink, D: Disk + Drop + Send, G: Gate + Drop + Sync, R: Threads + Wait + Sync>(
-    rt: &R,
-    alloc: Global,
-    sink: &mut K,
-    recovered: Recovered<D>,
-    requests: &Seq<Request>,
-    partitions: u8,
-    gate: G,
-    every: Option<u64>,
-    limit: u64,
-    printing: Printing,
-) -> (Status, D)
-    requires accepted { Accepted recovered.catalog }
-    requires goes_on { GoesOn D.kind partitions recovered (recovered_database recovered) }
-    requires fit { AllFit recovered.catalog requests.now }
-    requires partitions { (1 ≤ partitions) × (partitions ≤ 8) }
-    requires every { (k : ℕ) → every ≡ Some k → 1 ≤ k }
-    ensures served { (old : D) → IsOpenedFor D.kind old recovered
-        → ComesTo every limit printing recovered.catalog requests.now result.0
-        (sink_of K.kind sink.old sink.new)
-        (disk_of D.kind old result.1) }
-    ensures told { TellsStoreFaults result.0 (sink_of K.kind sink.old sink.new) (disk_of D.kind recovered.log.disk result.1) }
-    ensures own { result.0 ≢ Status.OtherCatalog }
-    ensures counts { (K.kind.faults sink.old ≤ K.kind.faults sink.new) × (D.kind.faults recovered.log.disk ≤ D.kind.faults result.1) }
+/// Writes how a run ended, and answers its status. Takes no memory but for the line of a refusal.
+fn write_turn<K: Sink, D: Disk>(alloc: Global, sink: &mut K, turn: Turn<D>) -> (Status, D)
+    requires over { IsOver turn }
+    requires texts { HasTurnTexts turn }
+    ensures told { TellsTurn turn result.0 (sink_of K.kind sink.old sink.new) }
+    ensures disk { result.1 ≡ disk_left turn }
+    ensures counts { K.kind.faults sink.old ≤ K.kind.faults sink.new }
 {
-    match run_and_report(
-        rt, alloc, recovered, requests, partitions, gate, every, limit, printing,
-    ) {
-        Ok(Reported { status, text, disk }) => (write_report(sink, status, &text), disk),
-        Err(disk) => {
-            write_line(sink, NO_MEMORY);
-            (Status::NoMemory, disk)
-        }
+    match turn {
+        Turn::Over(Reported { status, text, disk }) => (write_report(sink, status, &text), disk),
+        Turn::Short(disk) => (write_report(sink, Status::NoMemory, &None), disk),
+        Turn::Refused(error, disk) => (refuse_store(alloc, sink, &error), disk),
+        Turn::Failed(..) => unreachable!(),
     }
 }
 
-/// Opens the store of a catalogue, or makes one on an empty disk, runs requests on it, and writes the report.
+/// Opens the store of a catalogue, or makes one on an empty disk, runs requests on it, and writes the report. Behind a fault of the
+/// disk it is opened again, so often at most.
 pub(crate) fn run_on_store<
     K: Sink,
     D: Disk + Drop + Send,
@@ -89,30 +70,26 @@ pub(crate) fn run_on_store<
     alloc: Global,
     sink: &mut K,
     disk: D,
-    catalog: Catalog,
+    catalog: &Catalog,
     requests: &Seq<Request>,
     partitions: u8,
     gate: G,
     every: Option<u64>,
     limit: u64,
+    restarts: u8,
     printing: Printing,
 ) -> (Status, D)
-    requires own { IsOwnCatalog catalog }
-    requires fit { AllFit catalog requests.now }
+    requires own { IsOwnCatalog catalog.now }
+    requires fit { AllFit catalog.now requests.now }
     requires partitions { (1 ≤ partitions) × (partitions ≤ 8) }
     requires every { (k : ℕ) → every ≡ Some k → 1 ≤ k }
-    ensures came { ComesTo every limit printing catalog requests.now result.0
-        (sink_of K.kind sink.old sink.new)
-        (disk_of D.kind disk result.1) }
-    ensures told { TellsStoreFaults result.0 (sink_of K.kind sink.old sink.new) (disk_of D.kind disk result.1) }
+    ensures came { ServesTo D.kind every limit restarts printing catalog.now requests.now result.0 (sink_of K.kind sink.old sink.new) disk result.1 }
     ensures counts { (K.kind.faults sink.old ≤ K.kind.faults sink.new) × (D.kind.faults disk ≤ D.kind.faults result.1) }
 {
-    match recover(alloc, &PlainRunner, disk, Some(catalog), partitions) {
-        Ok(recovered) => serve(
-            rt, alloc, sink, recovered, requests, partitions, gate, every, limit, printing,
-        ),
-        Err((error, disk)) => (refuse_store(alloc, sink, &error), disk),
-    }
+    let turn = run_over(
+        rt, alloc, disk, catalog, requests, partitions, gate, every, limit, printing, restarts,
+    );
+    write_turn(alloc, sink, turn)
 }
 
 /// Opens the store of a disk, runs what is pending on it, and writes the report; of an empty disk it reports that there is
@@ -132,18 +109,21 @@ pub(crate) fn recover_store<
 {
     let requests = Seq::new(alloc);
     match recover(alloc, &PlainRunner, disk, None, partitions) {
-        Ok(recovered) => serve(
-            rt,
-            alloc,
-            sink,
-            recovered,
-            &requests,
-            partitions,
-            gate,
-            None,
-            limit,
-            Printing::InFull,
-        ),
+        Ok(recovered) => {
+            let turn = serve_new(
+                rt,
+                alloc,
+                recovered,
+                &requests,
+                partitions,
+                gate,
+                None,
+                limit,
+                Printing::InFull,
+                true,
+            );
+            write_turn(alloc, sink, turn)
+        }
         Err((error, disk)) => (refuse_store(alloc, sink, &error), disk),
     }
 }

@@ -39,14 +39,14 @@ fn run<S: Source, K: Sink, D: Disk + Drop + Send, G: Gate + Drop + Sync, R: Thre
     gate: G,
     every: Option<u64>,
     limit: u64,
+    restarts: u8,
 ) -> (Status, D)
     requires partitions { (1 ≤ partitions) × (partitions ≤ 8) }
     requires every { (k : ℕ) → every ≡ Some k → 1 ≤ k }
-    ensures ends { RunEndsSo every limit (source_of S.kind source.old source.new)
-        (sink_of K.kind sink.old sink.new)
-        (disk_of D.kind disk result.1) result.0 }
+    ensures ends { RunEndsSo D.kind disk result.1 every limit restarts (source_of S.kind source.old source.new) (sink_of K.kind sink.old sink.new) result.0 }
     ensures source { TellsSourceFault result.0 (S.kind.faults source.old) (S.kind.faults source.new) }
-    ensures told { TellsStoreFaults result.0 (sink_of K.kind sink.old sink.new) (disk_of D.kind disk result.1) }
+    ensures told { restarts ≡ 0 → TellsStoreFaults result.0 (sink_of K.kind sink.old sink.new) (disk_of D.kind disk result.1) }
+    ensures sink { result.0 ≡ Status.Done → K.kind.faults sink.new ≡ K.kind.faults sink.old }
     ensures taken { TakesAtMost (max_input + 1) (S.kind.left source.old) (S.kind.left source.new) }
     ensures counts { (S.kind.faults source.old ≤ S.kind.faults source.new) × (K.kind.faults sink.old ≤ K.kind.faults sink.new)
         × (D.kind.faults disk ≤ D.kind.faults result.1) }
@@ -60,12 +60,13 @@ fn run<S: Source, K: Sink, D: Disk + Drop + Send, G: Gate + Drop + Sync, R: Thre
             alloc,
             sink,
             disk,
-            catalog,
+            &catalog,
             &requests,
             partitions,
             gate,
             every,
             limit,
+            restarts,
             Printing::InFull,
         ),
         Err(error) => (refuse(alloc, sink, &error), disk),
@@ -83,14 +84,13 @@ fn voter<K: Sink, D: Disk + Drop + Send, G: Gate + Drop + Sync, R: Threads + Wai
     gate: G,
     every: Option<u64>,
     limit: u64,
+    restarts: u8,
 ) -> (Status, D)
     requires partitions { (1 ≤ partitions) × (partitions ≤ 8) }
     requires every { (k : ℕ) → every ≡ Some k → 1 ≤ k }
     requires few { show.now.votes ≤ 200000 }
     requires clients { (1 ≤ show.now.clients) × (show.now.clients ≤ 8) }
-    ensures came { ComesToShow every limit show.now result.0 (sink_of K.kind sink.old sink.new)
-        (disk_of D.kind disk result.1) }
-    ensures told { TellsStoreFaults result.0 (sink_of K.kind sink.old sink.new) (disk_of D.kind disk result.1) }
+    ensures came { ComesToShow D.kind every limit restarts show.now result.0 (sink_of K.kind sink.old sink.new) disk result.1 }
     ensures counts { (K.kind.faults sink.old ≤ K.kind.faults sink.new) × (D.kind.faults disk ≤ D.kind.faults result.1) }
 {
     let Ok(ParsedInput { catalog, requests }) = show_input(alloc, show) else {
@@ -99,7 +99,8 @@ fn voter<K: Sink, D: Disk + Drop + Send, G: Gate + Drop + Sync, R: Threads + Wai
     };
     let printing = Printing::Summary { votes: show.votes };
     run_on_store(
-        rt, alloc, sink, disk, catalog, &requests, partitions, gate, every, limit, printing,
+        rt, alloc, sink, disk, &catalog, &requests, partitions, gate, every, limit, restarts,
+        printing,
     )
 }
 
@@ -127,9 +128,7 @@ pub fn sstore_limited<
     gate: G,
     limit: u64,
 ) -> (Status, D)
-    ensures { Ends limit words.now (source_of S.kind source.old source.new)
-        (sink_of K.kind sink.old sink.new)
-        (disk_of D.kind disk result.1) result.0 }
+    ensures { Ends D.kind disk result.1 limit words.now (source_of S.kind source.old source.new) (sink_of K.kind sink.old sink.new) result.0 }
 {
     // Do nothing: they state the laws by which a store has room for what is owed.
     a_disk_has_one_fault();
@@ -138,14 +137,20 @@ pub fn sstore_limited<
         write_line(sink, USAGE);
         return (Status::Usage, disk);
     };
-    let Options { partitions, every } = options;
+    let Options {
+        partitions,
+        every,
+        restarts,
+    } = options;
     match command {
         Command::Run => run(
-            rt, alloc, source, sink, disk, partitions, gate, every, limit,
+            rt, alloc, source, sink, disk, partitions, gate, every, limit, restarts,
         ),
         Command::Audit => (audit_input(alloc, source, sink), disk),
         Command::Recover => recover_store(rt, alloc, sink, disk, partitions, gate, limit),
-        Command::Voter(show) => voter(rt, alloc, sink, disk, &show, partitions, gate, every, limit),
+        Command::Voter(show) => voter(
+            rt, alloc, sink, disk, &show, partitions, gate, every, limit, restarts,
+        ),
     }
 }
 
@@ -165,9 +170,7 @@ pub fn sstore<
     disk: D,
     gate: G,
 ) -> (Status, D)
-    ensures { Ends most_entries words.now (source_of S.kind source.old source.new)
-        (sink_of K.kind sink.old sink.new)
-        (disk_of D.kind disk result.1) result.0 }
+    ensures { Ends D.kind disk result.1 most_entries words.now (source_of S.kind source.old source.new) (sink_of K.kind sink.old sink.new) result.0 }
 {
     sstore_limited(rt, alloc, words, source, sink, disk, gate, MOST_ENTRIES)
 }

@@ -7,6 +7,7 @@
 //! - `faults`: a source, a sink and a disk that fail, one call of a run after another; sinks that are full
 //! - `edges`: an input at its limit of bytes, and one of a byte more
 //! - `full`: lists that have as many entries as they may
+//! - `restarts`: disks that fail, again and again, and are opened again
 //! - `stores`: runs that go on from a store, what a crash leaves in each call of a run, stores that are damaged
 //! - `gates`: an execution that is held until another one is over, which only threads can do
 #![tactic(auto)]

@@ -5,12 +5,12 @@ use Rattle.std.specs.Str.Parse.{digits_value}
 use Rattle.std.proofs.lemmas.Bool.{and_parts}
 use Rattle.ss_lemmas.proofs.Bools.{some_same}
 use Rattle.ss_words.specs.declared.names.OptionName.{OptionName}
-use Rattle.ss_words.specs.declared.names.OptionName.TheVariants.{Partitions, Recovery, Seed, Votes, Clients, Checkpoint}
+use Rattle.ss_words.specs.declared.names.OptionName.TheVariants.{Partitions, Recovery, Seed, Votes, Clients, Checkpoint, Restarts}
 use Rattle.ss_words.specs.declared.names.Command.{Command}
 use Rattle.ss_words.specs.declared.names.Command.TheVariants.{Run, Recover, Audit, Voter}
 use Rattle.ss_words.specs.declared.names.Show.{Show}
 use Rattle.ss_words.specs.declared.command.CommandLine.{CommandLine}
-use Rattle.ss_words.specs.Words.{Asked, asked, fits, is_named, is_number_within, AreOptions, IsCommand, IsMadeFrom, IsShowAsked, AsksFor, command_word, number_asked, partitions_asked}
+use Rattle.ss_words.specs.Words.{Asked, asked, fits, is_named, is_number_within, AreOptions, IsCommand, IsMadeFrom, IsShowAsked, AsksFor, command_word, number_asked, partitions_asked, restarts_asked}
 use Rattle.ss_words.proofs.Reading.{one_spelling}
 
 pub asks_is_command : (words : List (List ℕ)) (line : CommandLine) → AsksFor words line → IsCommand words
@@ -62,10 +62,12 @@ asks_for_one words line other h k =
     let same = one_spelling h.rest k.asks.options h.asks.options (subst (λ w. AreOptions w k.asks.options) behind k.asks.are.are).spelled h.asks.are.are.spelled in
     let partitions : line.options.partitions ≡ other.options.partitions = h.asks.partitions ∙ ap partitions_asked (sym same) ∙ sym k.asks.partitions in
     let every : line.options.every ≡ other.options.every = h.asks.every ∙ ap (number_asked Checkpoint) (sym same) ∙ sym k.asks.every in
+    let restarts : line.options.restarts ≡ other.options.restarts = h.asks.restarts ∙ ap restarts_asked (sym same) ∙ sym k.asks.restarts in
     let command = same_command line.command other.command h.asks.options first h.asks.show (subst (IsMadeFrom other.command) same k.asks.show) in
-    let of : Command → ℕ → Option ℕ → CommandLine = λ c n o. record { command = c; options = record { partitions = n; every = o } } in
+    let of : Command → ℕ → Option ℕ → ℕ → CommandLine = λ c n o r. record { command = c; options = record { partitions = n; every = o; restarts = r } } in
     let both : of line.command line.options.partitions ≡ of other.command other.options.partitions = ap₂ of command partitions in
-    ap₂ (λ (f : Option ℕ → CommandLine) (o : Option ℕ). f o) both every
+    let three : of line.command line.options.partitions line.options.every ≡ of other.command other.options.partitions other.options.every = ap₂ (λ (f : Option ℕ → ℕ → CommandLine) (o : Option ℕ). f o) both every in
+    ap₂ (λ (f : ℕ → CommandLine) (r : ℕ). f r) three restarts
 
 -- ---- within its ranges
 
@@ -91,6 +93,8 @@ fits_too Clients Clients value e fit = fit
 fits_too Clients other value e fit = absurd cc
 fits_too Checkpoint Checkpoint value e fit = fit
 fits_too Checkpoint other value e fit = absurd cc
+fits_too Restarts Restarts value e fit = fit
+fits_too Restarts other value e fit = absurd cc
 
 -- the number of an option, where each fits
 number_fits : (name : OptionName) (least most : ℕ) → ((value : List ℕ) → fits name value ≡ true → is_number_within least most value ≡ true)
@@ -103,16 +107,22 @@ number_fits name least most range (option ∷ others) fit n e = by (is_named nam
     by true is later e = subst (IsWithin least most) (some_same _ _ e) (within least most option.value (range option.value (fits_too name option.name option.value is fit.0)))
     by false is later e = later e
 
-or_one : (o : Option ℕ) → ((n : ℕ) → o ≡ Some n → IsWithin 1 8 n) → IsWithin 1 8 (unwrap_or o 1)
-or_one None h = (omega arith, omega arith)
-or_one (Some n) h = h n refl
+-- the number, or what stands for none
+or_else : (least most other : ℕ) → IsWithin least most other → (o : Option ℕ) → ((n : ℕ) → o ≡ Some n → IsWithin least most n) → IsWithin least most (unwrap_or o other)
+or_else least most other within None h = within
+or_else least most other within (Some n) h = h n refl
 
 pub partitions_are_few : (words : List (List ℕ)) (line : CommandLine) → AsksFor words line → (1 ≤ line.options.partitions) × (line.options.partitions ≤ 8)
 partitions_are_few words line h =
-    subst (IsWithin 1 8) (sym h.asks.partitions) (or_one (number_asked Partitions h.asks.options) (number_fits Partitions 1 8 (λ value fit. fit) h.asks.options h.asks.are.are.fit))
+    subst (IsWithin 1 8) (sym h.asks.partitions) (or_else 1 8 1 (omega arith, omega arith) (number_asked Partitions h.asks.options) (number_fits Partitions 1 8 (λ value fit. fit) h.asks.options h.asks.are.are.fit))
 
 pub every_is_within : (words : List (List ℕ)) (line : CommandLine) → AsksFor words line → (k : ℕ) → line.options.every ≡ Some k → (1 ≤ k) × (k ≤ 1000000)
 every_is_within words line h k is = number_fits Checkpoint 1 1000000 (λ value fit. fit) h.asks.options h.asks.are.are.fit k (sym h.asks.every ∙ is)
+
+pub restarts_are_few : (words : List (List ℕ)) (line : CommandLine) → AsksFor words line → line.options.restarts ≤ 16
+restarts_are_few words line h =
+    let few = or_else 0 16 0 (omega arith, omega arith) (number_asked Restarts h.asks.options) (number_fits Restarts 0 16 (λ value fit. fit) h.asks.options h.asks.are.are.fit) in
+    (subst (IsWithin 0 16) (sym h.asks.restarts) few).1
 
 pub show_is_small : (words : List (List ℕ)) (line : CommandLine) (show : Show) → line.command ≡ Voter show → AsksFor words line
     → (show.seed ≤ 9999999) × (1 ≤ show.votes) × (show.votes ≤ 200000) × (1 ≤ show.clients) × (show.clients ≤ 8)

@@ -3,7 +3,7 @@ use Rattle.std.proofs.Common.{◌≡◌, ◌==◌, ◌⊎◌, ◌++◌, ℕ, Lis
 use Rattle.std.specs.List.{find}
 use Rattle.ss_lemmas.proofs.Bools.{some_same}
 use Rattle.ss_words.specs.declared.names.OptionName.{OptionName}
-use Rattle.ss_words.specs.declared.names.OptionName.TheVariants.{Partitions, Recovery, Seed, Votes, Clients, Checkpoint}
+use Rattle.ss_words.specs.declared.names.OptionName.TheVariants.{Partitions, Recovery, Seed, Votes, Clients, Checkpoint, Restarts}
 use Rattle.ss_words.specs.Words.{Asked, asked, dashed, StartsWith}
 
 -- what stands before the first =, and behind it where there is one
@@ -13,7 +13,7 @@ cut (b ∷ bs) = cond (b == 61) ([], Some bs) (b ∷ (cut bs).0, (cut bs).1)
 
 -- an option more is a name here, and a line in each of the three below
 abbrev all_names : List OptionName
-all_names = Partitions ∷ Recovery ∷ Seed ∷ Votes ∷ Clients ∷ Checkpoint ∷ []
+all_names = Partitions ∷ Recovery ∷ Seed ∷ Votes ∷ Clients ∷ Checkpoint ∷ Restarts ∷ []
 
 -- the option of a name
 abbrev pub named : List ℕ → Option OptionName
@@ -26,6 +26,7 @@ cut_bare Seed = refl
 cut_bare Votes = refl
 cut_bare Clients = refl
 cut_bare Checkpoint = refl
+cut_bare Restarts = refl
 
 pub cut_joined : (name : OptionName) (value : List ℕ) → cut (dashed name ++ codes "=" ++ value) ≡ (dashed name, Some value)
 cut_joined Partitions value = refl
@@ -34,6 +35,7 @@ cut_joined Seed value = refl
 cut_joined Votes value = refl
 cut_joined Clients value = refl
 cut_joined Checkpoint value = refl
+cut_joined Restarts value = refl
 
 pub named_dashed : (name : OptionName) → named (dashed name) ≡ Some name
 named_dashed Partitions = refl
@@ -42,6 +44,7 @@ named_dashed Seed = refl
 named_dashed Votes = refl
 named_dashed Clients = refl
 named_dashed Checkpoint = refl
+named_dashed Restarts = refl
 
 dashed_same : (m n : OptionName) → dashed m ≡ dashed n → m ≡ n
 dashed_same m n e = some_same m n (sym (named_dashed m) ∙ ap named e ∙ named_dashed n)

@@ -3,7 +3,7 @@ use Rattle.std.proofs.Common.{◌≡◌, ◌++◌, false, List, [], ◌∷◌, �
 use Rattle.std.specs.Str.Parse.{starts_with_minus}
 use Rattle.ss_lemmas.proofs.Bools.{some_same}
 use Rattle.ss_words.specs.declared.names.OptionName.{OptionName}
-use Rattle.ss_words.specs.declared.names.OptionName.TheVariants.{Partitions, Recovery, Seed, Votes, Clients, Checkpoint}
+use Rattle.ss_words.specs.declared.names.OptionName.TheVariants.{Partitions, Recovery, Seed, Votes, Clients, Checkpoint, Restarts}
 use Rattle.ss_words.specs.Words.{Asked, asked, dashed, StartsWith, Spells, HaveOneSpelling}
 use Rattle.ss_words.proofs.Cuts.{cut, named}
 
@@ -31,6 +31,7 @@ read_bare Seed words = refl
 read_bare Votes words = refl
 read_bare Clients words = refl
 read_bare Checkpoint words = refl
+read_bare Restarts words = refl
 
 read_joined : (name : OptionName) (value : List ℕ) (words : List (List ℕ)) → read None ((dashed name ++ codes "=" ++ value) ∷ words) ≡ with_first (asked name value) (read None words)
 read_joined Partitions value words = refl
@@ -39,6 +40,7 @@ read_joined Seed value words = refl
 read_joined Votes value words = refl
 read_joined Clients value words = refl
 read_joined Checkpoint value words = refl
+read_joined Restarts value words = refl
 
 read_value : (name : OptionName) (value : List ℕ) (words : List (List ℕ)) → starts_with_minus value ≡ false → read (Some name) (value ∷ words) ≡ with_first (asked name value) (read None words)
 read_value name value words e = rw e refl

@@ -4,16 +4,16 @@ use Rattle.std.proofs.Common.{◌≡◌, ◌∙◌, ◌||◌, String, string_byt
 use Rattle.std.specs.List.{AllByRecursion, list_any}
 use Rattle.std.specs.Str.Parse.{digits_value}
 use Rattle.std.proofs.lemmas.Bool.{or_parts, or_from}
-use Rattle.ss_lemmas.proofs.EachOf.{all_with, all_such, all_both, all_three, none_passes}
+use Rattle.ss_lemmas.proofs.EachOf.{all_with, all_such, all_three, none_passes}
 use Rattle.ss_words.specs.declared.names.OptionName.{OptionName}
-use Rattle.ss_words.specs.declared.names.OptionName.TheVariants.{Partitions, Recovery, Seed, Votes, Clients, Checkpoint}
+use Rattle.ss_words.specs.declared.names.OptionName.TheVariants.{Partitions, Recovery, Seed, Votes, Clients, Checkpoint, Restarts}
 use Rattle.ss_words.specs.declared.names.Command.{Command}
 use Rattle.ss_words.specs.declared.names.Command.TheVariants.{Run, Recover, Audit, Voter}
 use Rattle.ss_words.specs.declared.names.Show.{Show}
 use Rattle.ss_words.specs.declared.command.CommandLine.{CommandLine}
 use Rattle.ss_words.specs.declared.found.Found.{Found}
 use Rattle.ss_words.specs.Words.{Asked, asked, is_named, is_among, belongs, number_asked, command_word, IsMadeFrom, AreOptionsOf, IsCommand, AsksFor, words_of}
-use Rattle.ss_words.specs.Found.{HaveFound, HasWhatItNeeds, Suits, is_any, is_for_show}
+use Rattle.ss_words.specs.Found.{HaveFound, HasWhatItNeeds, Suits, is_any, is_for_run, is_for_show}
 use Rattle.ss_words.proofs.Reading.{one_spelling}
 
 -- ---- a number is had just where an option of its name is
@@ -47,6 +47,7 @@ not_of_show Seed value e = absurd cc
 not_of_show Votes value e = absurd cc
 not_of_show Clients value e = absurd cc
 not_of_show Checkpoint value e = (refl, refl, refl)
+not_of_show Restarts value e = (refl, refl, refl)
 
 of_each : (name : OptionName) (value : List ℕ) → NotOf Seed (asked name value) → NotOf Votes (asked name value) → NotOf Clients (asked name value) → belongs Run (asked name value) ≡ true
 of_each Partitions value s v c = refl
@@ -55,22 +56,25 @@ of_each Seed value s v c = absurd cc
 of_each Votes value s v c = absurd cc
 of_each Clients value s v c = absurd cc
 of_each Checkpoint value s v c = refl
+of_each Restarts value s v c = refl
 
-of_recover : (name : OptionName) (value : List ℕ) → NotOf Checkpoint (asked name value) → belongs Run (asked name value) ≡ true → belongs Recover (asked name value) ≡ true
-of_recover Partitions value n e = refl
-of_recover Recovery value n e = refl
-of_recover Seed value n e = absurd cc
-of_recover Votes value n e = absurd cc
-of_recover Clients value n e = absurd cc
-of_recover Checkpoint value n e = absurd cc
+of_recover : (name : OptionName) (value : List ℕ) → NotOf Checkpoint (asked name value) → NotOf Restarts (asked name value) → belongs Run (asked name value) ≡ true → belongs Recover (asked name value) ≡ true
+of_recover Partitions value n m e = refl
+of_recover Recovery value n m e = refl
+of_recover Seed value n m e = absurd cc
+of_recover Votes value n m e = absurd cc
+of_recover Clients value n m e = absurd cc
+of_recover Checkpoint value n m e = absurd cc
+of_recover Restarts value n m e = absurd cc
 
-of_run : (name : OptionName) (value : List ℕ) → belongs Recover (asked name value) ≡ true → (belongs Run (asked name value) ≡ true) × NotOf Checkpoint (asked name value)
-of_run Partitions value e = (refl, refl)
-of_run Recovery value e = (refl, refl)
+of_run : (name : OptionName) (value : List ℕ) → belongs Recover (asked name value) ≡ true → (belongs Run (asked name value) ≡ true) × NotOf Checkpoint (asked name value) × NotOf Restarts (asked name value)
+of_run Partitions value e = (refl, refl, refl)
+of_run Recovery value e = (refl, refl, refl)
 of_run Seed value e = absurd cc
 of_run Votes value e = absurd cc
 of_run Clients value e = absurd cc
 of_run Checkpoint value e = absurd cc
+of_run Restarts value e = absurd cc
 
 of_voter : (show : Show) (name : OptionName) (value : List ℕ) → belongs (Voter show) (asked name value) ≡ true
 of_voter show Partitions value = refl
@@ -79,6 +83,7 @@ of_voter show Seed value = refl
 of_voter show Votes value = refl
 of_voter show Clients value = refl
 of_voter show Checkpoint value = refl
+of_voter show Restarts value = refl
 
 -- ---- an audit has none. An option more is a line in the first of these
 
@@ -89,6 +94,7 @@ own Seed value = refl
 own Votes value = refl
 own Clients value = refl
 own Checkpoint value = refl
+own Restarts value = refl
 
 none_there : (options : List Asked) → ((name : OptionName) → is_among options name ≡ false) → options ≡ []
 none_there [] h = refl
@@ -121,15 +127,21 @@ module _ (words : List (List ℕ)) (found : Found) (h : HaveFound words found) w
   every_is : is_some found.every ≡ is_among h.options Checkpoint
   every_is = ap (λ o. is_some o) h.every ∙ asked_is Checkpoint h.options
 
+  restarts_is : is_some found.restarts ≡ is_among h.options Restarts
+  restarts_is = ap (λ o. is_some o) h.restarts ∙ asked_is Restarts h.options
+
   -- nothing was found just where there is no option
   nothing_there : is_any found ≡ false → h.options ≡ []
   nothing_there e = none_there h.options each
     where
-      both : (is_some found.partitions || found.recovery || is_some found.every ≡ false) × (is_for_show found ≡ false)
-      both = or_parts (is_some found.partitions || found.recovery || is_some found.every) (is_for_show found) e
+      both : (is_some found.partitions || found.recovery || is_for_run found ≡ false) × (is_for_show found ≡ false)
+      both = or_parts (is_some found.partitions || found.recovery || is_for_run found) (is_for_show found) e
 
-      three : (is_some found.partitions || found.recovery ≡ false) × (is_some found.every ≡ false)
-      three = or_parts (is_some found.partitions || found.recovery) (is_some found.every) both.0
+      three : (is_some found.partitions || found.recovery ≡ false) × (is_for_run found ≡ false)
+      three = or_parts (is_some found.partitions || found.recovery) (is_for_run found) both.0
+
+      run : (is_some found.every ≡ false) × (is_some found.restarts ≡ false)
+      run = or_parts (is_some found.every) (is_some found.restarts) three.1
 
       first : (is_some found.partitions ≡ false) × (found.recovery ≡ false)
       first = or_parts (is_some found.partitions) found.recovery three.0
@@ -146,15 +158,17 @@ module _ (words : List (List ℕ)) (found : Found) (h : HaveFound words found) w
       each Seed = sym seed_is ∙ numbers.0
       each Votes = sym votes_is ∙ numbers.1
       each Clients = sym clients_is ∙ show.1
-      each Checkpoint = sym every_is ∙ three.1
+      each Checkpoint = sym every_is ∙ run.0
+      each Restarts = sym restarts_is ∙ run.1
 
   found_nothing : h.options ≡ [] → is_any found ≡ false
   found_nothing e =
       let none : (name : OptionName) → is_among h.options name ≡ false = λ name. ap (λ (options : List Asked). is_among options name) e in
       let show = or_from (is_some found.seed || is_some found.votes) (is_some found.clients) (or_from (is_some found.seed) (is_some found.votes) (seed_is ∙ none Seed) (votes_is ∙ none Votes)) (clients_is ∙ none Clients) in
       let first = or_from (is_some found.partitions) found.recovery (partitions_is ∙ none Partitions) (h.recovery ∙ none Recovery) in
-      let three = or_from (is_some found.partitions || found.recovery) (is_some found.every) first (every_is ∙ none Checkpoint) in
-      or_from (is_some found.partitions || found.recovery || is_some found.every) (is_for_show found) three show
+      let run = or_from (is_some found.every) (is_some found.restarts) (every_is ∙ none Checkpoint) (restarts_is ∙ none Restarts) in
+      let three = or_from (is_some found.partitions || found.recovery) (is_for_run found) first run in
+      or_from (is_some found.partitions || found.recovery || is_for_run found) (is_for_show found) three show
 
   -- nothing of a show was found just where each option belongs to run
   all_belong : is_for_show found ≡ false → Belong Run
@@ -176,18 +190,21 @@ module _ (words : List (List ℕ)) (found : Found) (h : HaveFound words found) w
       let clients : is_some found.clients ≡ false = clients_is ∙ none_named Clients (λ option e. (not_of_show option.name option.value e).2) b in
       or_from (is_some found.seed || is_some found.votes) (is_some found.clients) (or_from (is_some found.seed) (is_some found.votes) seed votes) clients
 
-  -- and no checkpoint too just where each belongs to recover
-  all_recover : (is_some found.every ≡ false) × (is_for_show found ≡ false) → Belong Recover
+  -- and nothing of a run too just where each belongs to recover
+  all_recover : (is_for_run found ≡ false) × (is_for_show found ≡ false) → Belong Recover
   all_recover (none, calm) =
-      let every = none_passes (is_named Checkpoint) h.options (sym every_is ∙ none) in
-      all_with (λ option. NotOf Checkpoint option × (belongs Run option ≡ true)) (λ option. belongs Recover option ≡ true) (λ option e. of_recover option.name option.value e.0 e.1) h.options
-      (all_both (NotOf Checkpoint) (λ option. belongs Run option ≡ true) h.options every (all_belong calm))
+      let parts = or_parts (is_some found.every) (is_some found.restarts) none in
+      let every = none_passes (is_named Checkpoint) h.options (sym every_is ∙ parts.0) in
+      let restarts = none_passes (is_named Restarts) h.options (sym restarts_is ∙ parts.1) in
+      all_three (NotOf Checkpoint) (NotOf Restarts) (λ option. belongs Run option ≡ true) (λ option. belongs Recover option ≡ true) (λ option. of_recover option.name option.value) h.options every restarts (all_belong calm)
 
-  none_to_recover : Belong Recover → (is_some found.every ≡ false) × (is_for_show found ≡ false)
+  none_to_recover : Belong Recover → (is_for_run found ≡ false) × (is_for_show found ≡ false)
   none_to_recover b =
-      let each = all_with (λ option. belongs Recover option ≡ true) (NotOf Checkpoint) (λ option e. (of_run option.name option.value e).1) h.options b in
+      let every = all_with (λ option. belongs Recover option ≡ true) (NotOf Checkpoint) (λ option e. (of_run option.name option.value e).1) h.options b in
+      let restarts = all_with (λ option. belongs Recover option ≡ true) (NotOf Restarts) (λ option e. (of_run option.name option.value e).2) h.options b in
       let run = all_with (λ option. belongs Recover option ≡ true) (λ option. belongs Run option ≡ true) (λ option e. (of_run option.name option.value e).0) h.options b in
-      (every_is ∙ none_any (is_named Checkpoint) h.options each, none_of_show run)
+      let none = or_from (is_some found.every) (is_some found.restarts) (every_is ∙ none_any (is_named Checkpoint) h.options every) (restarts_is ∙ none_any (is_named Restarts) h.options restarts) in
+      (none, none_of_show run)
 
   are_of : (command : Command) → HasWhatItNeeds found command → AreOptionsOf command words h.options
   are_of Run n = record { are = h.are; belong = all_belong n; complete = tt }
@@ -240,8 +257,9 @@ module _ (all : List (List ℕ)) (word : List ℕ) (rest : List (List ℕ)) (e :
         let has = has_needs rest found h b.0 (subst (AreOptionsOf b.0 rest) same b.3) in
         none has.0 (record { named = b.2 ∙ has.1; needs = has.2 })
 
-    pub suits_asks : (line : CommandLine) → Suits word found line.command → line.options.partitions ≡ unwrap_or found.partitions 1 → line.options.every ≡ found.every → AsksFor all line
-    suits_asks line s is every = record {
+    pub suits_asks : (line : CommandLine) → Suits word found line.command → line.options.partitions ≡ unwrap_or found.partitions 1 → line.options.every ≡ found.every
+        → line.options.restarts ≡ unwrap_or found.restarts 0 → AsksFor all line
+    suits_asks line s is every restarts = record {
       rest = rest;
       begins = e ∙ ap (λ (w : List ℕ). w ∷ rest) s.named;
       asks = record {
@@ -249,6 +267,7 @@ module _ (all : List (List ℕ)) (word : List ℕ) (rest : List (List ℕ)) (e :
         are = are_of rest found h line.command s.needs;
         partitions = is ∙ ap (λ o. unwrap_or o 1) h.partitions;
         every = every ∙ h.every;
+        restarts = restarts ∙ ap (λ o. unwrap_or o 0) h.restarts;
         show = is_made rest found h line.command s.needs;
       };
     }

@@ -9,7 +9,7 @@ use Rattle.std.proofs.lemmas.Bool.{and_parts, and_from, or_parts, or_from, not-t
 use Rattle.ss_lemmas.proofs.Bools.{some_same}
 use Rattle.ss_lemmas.proofs.EachOf.{all_with, all_such, all_both}
 use Rattle.ss_words.specs.declared.names.OptionName.{OptionName}
-use Rattle.ss_words.specs.declared.names.OptionName.TheVariants.{Partitions, Recovery, Seed, Votes, Clients, Checkpoint}
+use Rattle.ss_words.specs.declared.names.OptionName.TheVariants.{Partitions, Recovery, Seed, Votes, Clients, Checkpoint, Restarts}
 use Rattle.ss_words.specs.declared.found.Found.{Found}
 use Rattle.ss_words.specs.Words.{Asked, asked, is_among, is_named, StartsWith, Spells, AreOptions, AreNoOptions, number_asked, words_of}
 use Rattle.ss_words.specs.Found.{HaveFound, nothing_found, was_found, with_value, with_option, can_take}
@@ -20,9 +20,9 @@ pub record MayFollow (found : Found) (words : List (List ℕ)) (options : List A
   pub are : AreOptions words options
   pub new : AllByRecursion (λ option. was_found found option.name ≡ false) options
 
--- the numbers of what was found and of these options, of partitions, a seed, votes, clients and checkpoints, and whether recovery is among them
+-- the numbers of what was found and of these options, of partitions, a seed, votes, clients, checkpoints and restarts, and whether recovery is among them
 abbrev pub Numbers : Type 0
-Numbers = Option ℕ × Option ℕ × Option ℕ × Option ℕ × Option ℕ × Bool
+Numbers = Option ℕ × Option ℕ × Option ℕ × Option ℕ × Option ℕ × Option ℕ × Bool
 
 abbrev pub numbers_with : Found → List Asked → Numbers
 numbers_with found options = (
@@ -31,6 +31,7 @@ numbers_with found options = (
   option_or found.votes (number_asked Votes options),
   option_or found.clients (number_asked Clients options),
   option_or found.every (number_asked Checkpoint options),
+  option_or found.restarts (number_asked Restarts options),
   found.recovery || is_among options Recovery,
 )
 
@@ -42,6 +43,7 @@ new_is Seed = refl
 new_is Votes = refl
 new_is Clients = refl
 new_is Checkpoint = refl
+new_is Restarts = refl
 
 found_with : (found : Found) (name other : OptionName) (value : List ℕ) → was_found (with_value found name value) other ≡ is_named name (asked other value) || was_found found other
 found_with found Partitions Partitions value = refl
@@ -56,6 +58,8 @@ found_with found Clients Clients value = refl
 found_with found Clients other value = refl
 found_with found Checkpoint Checkpoint value = refl
 found_with found Checkpoint other value = refl
+found_with found Restarts Restarts value = refl
+found_with found Restarts other value = refl
 
 number_first : (o p : Option ℕ) → is_some o ≡ false → option_or o p ≡ p
 number_first None p e = refl
@@ -81,12 +85,13 @@ module _ (found : Found) (value : List ℕ) (options : List Asked) where
   old = numbers_with found options
 
   numbers_first : (name : OptionName) → was_found found name ≡ false → numbers_with found (asked name value ∷ options) ≡ numbers_with (with_value found name value) options
-  numbers_first Partitions e = ap (λ (n : Option ℕ). (n, old.1, old.2, old.3, old.4, old.5)) (number_first found.partitions number e)
-  numbers_first Recovery e = ap (λ (b : Bool). (old.0, old.1, old.2, old.3, old.4, b)) (either_true found.recovery)
-  numbers_first Seed e = ap (λ (n : Option ℕ). (old.0, n, old.2, old.3, old.4, old.5)) (number_first found.seed number e)
-  numbers_first Votes e = ap (λ (n : Option ℕ). (old.0, old.1, n, old.3, old.4, old.5)) (number_first found.votes number e)
-  numbers_first Clients e = ap (λ (n : Option ℕ). (old.0, old.1, old.2, n, old.4, old.5)) (number_first found.clients number e)
-  numbers_first Checkpoint e = ap (λ (n : Option ℕ). (old.0, old.1, old.2, old.3, n, old.5)) (number_first found.every number e)
+  numbers_first Partitions e = ap (λ (n : Option ℕ). (n, old.1, old.2, old.3, old.4, old.5, old.6)) (number_first found.partitions number e)
+  numbers_first Recovery e = ap (λ (b : Bool). (old.0, old.1, old.2, old.3, old.4, old.5, b)) (either_true found.recovery)
+  numbers_first Seed e = ap (λ (n : Option ℕ). (old.0, n, old.2, old.3, old.4, old.5, old.6)) (number_first found.seed number e)
+  numbers_first Votes e = ap (λ (n : Option ℕ). (old.0, old.1, n, old.3, old.4, old.5, old.6)) (number_first found.votes number e)
+  numbers_first Clients e = ap (λ (n : Option ℕ). (old.0, old.1, old.2, n, old.4, old.5, old.6)) (number_first found.clients number e)
+  numbers_first Checkpoint e = ap (λ (n : Option ℕ). (old.0, old.1, old.2, old.3, n, old.5, old.6)) (number_first found.every number e)
+  numbers_first Restarts e = ap (λ (n : Option ℕ). (old.0, old.1, old.2, old.3, old.4, n, old.6)) (number_first found.restarts number e)
 
 module _ (found : Found) (words : List (List ℕ)) (option : Asked) (rest : List (List ℕ)) (front : StartsWith words option rest) where
   -- what follows a found option is not named as it is, and not found before
@@ -185,7 +190,8 @@ module _ (all : List (List ℕ)) (found : Found) (words : List (List ℕ)) (h : 
         votes = sym (ap (λ (n : Numbers). n.2) k.2 ∙ number_last found.votes);
         clients = sym (ap (λ (n : Numbers). n.3) k.2 ∙ number_last found.clients);
         every = sym (ap (λ (n : Numbers). n.4) k.2 ∙ number_last found.every);
-        recovery = sym (ap (λ (n : Numbers). n.5) k.2 ∙ either_last found.recovery);
+        restarts = sym (ap (λ (n : Numbers). n.5) k.2 ∙ number_last found.restarts);
+        recovery = sym (ap (λ (n : Numbers). n.6) k.2 ∙ either_last found.recovery);
       }
 
 -- ---- what the loop over the words has at hand

@@ -2,7 +2,7 @@
 use Rattle.std.proofs.Common.{◌≡◌, List, [], ◌∷◌, ℕ, true, true≢false, codes, Some, None, inl, inr, refl, sym, subst, ◌∙◌}
 use Rattle.std.specs.List.{AllByRecursion, IsDistinct}
 use Rattle.ss_lemmas.proofs.Bools.{some_same}
-use Rattle.ss_words.specs.declared.names.OptionName.TheVariants.{Partitions, Recovery, Seed, Votes, Clients, Checkpoint}
+use Rattle.ss_words.specs.declared.names.OptionName.TheVariants.{Partitions, Recovery, Seed, Votes, Clients, Checkpoint, Restarts}
 use Rattle.ss_words.specs.declared.names.Command.{Command}
 use Rattle.ss_words.specs.declared.names.Command.TheVariants.{Run, Recover, Audit, Voter}
 use Rattle.ss_words.specs.declared.command.CommandLine.{CommandLine}
@@ -17,10 +17,10 @@ abbrev voter : List (List ℕ) → List (List ℕ)
 voter words = codes "voter" ∷ words
 
 abbrev on : ℕ → CommandLine
-on partitions = record { command = Run; options = record { partitions = partitions; every = None } }
+on partitions = record { command = Run; options = record { partitions = partitions; every = None; restarts = 0 } }
 
 abbrev show_of : ℕ → ℕ → ℕ → ℕ → CommandLine
-show_of partitions seed votes clients = record { command = Voter (record { seed = seed; votes = votes; clients = clients }); options = record { partitions = partitions; every = None } }
+show_of partitions seed votes clients = record { command = Voter (record { seed = seed; votes = votes; clients = clients }); options = record { partitions = partitions; every = None; restarts = 0 } }
 
 -- ---- commands
 
@@ -29,7 +29,7 @@ unfolding IsDistinct
 alone = record {
   rest = [];
   begins = refl;
-  asks = record { options = []; are = record { are = record { spelled = refl; once = tt; fit = tt }; belong = tt; complete = tt }; partitions = refl; every = refl; show = tt };
+  asks = record { options = []; are = record { are = record { spelled = refl; once = tt; fit = tt }; belong = tt; complete = tt }; partitions = refl; every = refl; restarts = refl; show = tt };
 }
 
 eight : AsksFor (run (codes "--partitions" ∷ codes "8" ∷ [])) (on 8)
@@ -42,6 +42,7 @@ eight = record {
     are = record { are = record { spelled = ([], inl (refl, refl), refl); once = (tt, tt); fit = (refl, tt) }; belong = (refl, tt); complete = tt };
     partitions = refl;
     every = refl;
+    restarts = refl;
     show = tt;
   };
 }
@@ -56,6 +57,7 @@ seven_digits = record {
     are = record { are = record { spelled = ([], inr refl, refl); once = (tt, tt); fit = (refl, tt) }; belong = (refl, tt); complete = tt };
     partitions = refl;
     every = refl;
+    restarts = refl;
     show = tt;
   };
 }
@@ -74,11 +76,12 @@ strong_first = record {
     };
     partitions = refl;
     every = refl;
+    restarts = refl;
     show = tt;
   };
 }
 
-recovery : AsksFor (codes "recover" ∷ codes "--partitions=08" ∷ codes "--recovery" ∷ codes "strong" ∷ []) (record { command = Recover; options = record { partitions = 8; every = None } })
+recovery : AsksFor (codes "recover" ∷ codes "--partitions=08" ∷ codes "--recovery" ∷ codes "strong" ∷ []) (record { command = Recover; options = record { partitions = 8; every = None; restarts = 0 } })
 unfolding IsDistinct
 recovery = record {
   rest = _;
@@ -92,16 +95,17 @@ recovery = record {
     };
     partitions = refl;
     every = refl;
+    restarts = refl;
     show = tt;
   };
 }
 
-an_audit : AsksFor (codes "audit" ∷ []) (record { command = Audit; options = record { partitions = 1; every = None } })
+an_audit : AsksFor (codes "audit" ∷ []) (record { command = Audit; options = record { partitions = 1; every = None; restarts = 0 } })
 unfolding IsDistinct
 an_audit = record {
   rest = [];
   begins = refl;
-  asks = record { options = []; are = record { are = record { spelled = refl; once = tt; fit = tt }; belong = tt; complete = tt }; partitions = refl; every = refl; show = tt };
+  asks = record { options = []; are = record { are = record { spelled = refl; once = tt; fit = tt }; belong = tt; complete = tt }; partitions = refl; every = refl; restarts = refl; show = tt };
 }
 
 a_show : AsksFor (voter (codes "--seed" ∷ codes "0" ∷ codes "--votes" ∷ codes "200000" ∷ codes "--clients" ∷ codes "8" ∷ [])) (show_of 1 0 200000 8)
@@ -126,6 +130,7 @@ a_show = record {
     };
     partitions = refl;
     every = refl;
+    restarts = refl;
     show = record { seed = refl; votes = refl; clients = refl };
   };
 }
@@ -152,11 +157,12 @@ show_on_two = record {
     };
     partitions = refl;
     every = refl;
+    restarts = refl;
     show = record { seed = refl; votes = refl; clients = refl };
   };
 }
 
-checkpoints : AsksFor (run (codes "--checkpoint=1000000" ∷ [])) (record { command = Run; options = record { partitions = 1; every = Some 1000000 } })
+checkpoints : AsksFor (run (codes "--checkpoint=1000000" ∷ [])) (record { command = Run; options = record { partitions = 1; every = Some 1000000; restarts = 0 } })
 unfolding IsDistinct
 checkpoints = record {
   rest = _;
@@ -166,6 +172,41 @@ checkpoints = record {
     are = record { are = record { spelled = ([], inr refl, refl); once = (tt, tt); fit = (refl, tt) }; belong = (refl, tt); complete = tt };
     partitions = refl;
     every = refl;
+    restarts = refl;
+    show = tt;
+  };
+}
+
+restarts : AsksFor (run (codes "--restarts" ∷ codes "16" ∷ codes "--checkpoint=5" ∷ [])) (record { command = Run; options = record { partitions = 1; every = Some 5; restarts = 16 } })
+unfolding IsDistinct
+restarts = record {
+  rest = _;
+  begins = refl;
+  asks = record {
+    options = asked Restarts (codes "16") ∷ asked Checkpoint (codes "5") ∷ [];
+    are = record {
+      are = record { spelled = (codes "--checkpoint=5" ∷ [], inl (refl, refl), ([], inr refl, refl)); once = ((refl, tt), (tt, tt)); fit = (refl, (refl, tt)) };
+      belong = (refl, (refl, tt));
+      complete = tt;
+    };
+    partitions = refl;
+    every = refl;
+    restarts = refl;
+    show = tt;
+  };
+}
+
+no_restart : AsksFor (run (codes "--restarts=0" ∷ [])) (on 1)
+unfolding IsDistinct
+no_restart = record {
+  rest = _;
+  begins = refl;
+  asks = record {
+    options = asked Restarts (codes "0") ∷ [];
+    are = record { are = record { spelled = ([], inr refl, refl); once = (tt, tt); fit = (refl, tt) }; belong = (refl, tt); complete = tt };
+    partitions = refl;
+    every = refl;
+    restarts = refl;
     show = tt;
   };
 }
@@ -275,6 +316,26 @@ checkpoint_of_recover = unlike _ _ (asked Checkpoint (codes "1") ∷ []) refl ne
     never w = by w.0 w.1 w.2.belong.0
       where
         by : (command : Command) → codes "recover" ≡ command_word command → belongs command (asked Checkpoint (codes "1")) ≡ true → ⊥
+        by Run e f = cc
+        by Recover e f = cc
+        by Audit e f = cc
+        by (Voter show) e f = cc
+
+past_sixteen : ¬ (IsCommand (run (codes "--restarts" ∷ codes "17" ∷ [])))
+past_sixteen = unlike _ _ (asked Restarts (codes "17") ∷ []) refl (λ w. true≢false (sym w.2.are.fit.0))
+
+restarts_twice : ¬ (IsCommand (run (codes "--restarts" ∷ codes "1" ∷ codes "--restarts" ∷ codes "1" ∷ [])))
+unfolding IsDistinct
+restarts_twice = unlike _ _ (asked Restarts (codes "1") ∷ asked Restarts (codes "1") ∷ []) refl (λ w. true≢false w.2.are.once.0.0)
+
+-- a restart behind a recovery
+restarts_of_recover : ¬ (IsCommand (codes "recover" ∷ codes "--restarts" ∷ codes "1" ∷ []))
+restarts_of_recover = unlike _ _ (asked Restarts (codes "1") ∷ []) refl never
+  where
+    never : ¬ (IsWith (codes "recover") (codes "--restarts" ∷ codes "1" ∷ []) (asked Restarts (codes "1") ∷ []))
+    never w = by w.0 w.1 w.2.belong.0
+      where
+        by : (command : Command) → codes "recover" ≡ command_word command → belongs command (asked Restarts (codes "1")) ≡ true → ⊥
         by Run e f = cc
         by Recover e f = cc
         by Audit e f = cc

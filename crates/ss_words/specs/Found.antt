@@ -2,7 +2,7 @@
 use Rattle.std.specs.Prelude.{◌≡◌, ◌&&◌, ◌||◌, ℕ, List, Bool, true, false, not, is_some, Some, None}
 use Rattle.std.specs.Str.Parse.{digits_value}
 use Rattle.ss_words.specs.declared.names.OptionName.{OptionName}
-use Rattle.ss_words.specs.declared.names.OptionName.TheVariants.{Partitions, Recovery, Seed, Votes, Clients, Checkpoint}
+use Rattle.ss_words.specs.declared.names.OptionName.TheVariants.{Partitions, Recovery, Seed, Votes, Clients, Checkpoint, Restarts}
 use Rattle.ss_words.specs.declared.names.Command.{Command}
 use Rattle.ss_words.specs.declared.names.Command.TheVariants.{Run, Recover, Audit, Voter}
 use Rattle.ss_words.specs.declared.names.Show.{Show}
@@ -10,7 +10,7 @@ use Rattle.ss_words.specs.declared.found.Found.{Found}
 use Rattle.ss_words.specs.Words.{Asked, AreOptions, command_word, fits, is_among, number_asked}
 
 abbrev pub nothing_found : Found
-nothing_found = record { partitions = None; recovery = false; seed = None; votes = None; clients = None; every = None }
+nothing_found = record { partitions = None; recovery = false; seed = None; votes = None; clients = None; every = None; restarts = None }
 
 -- whether the option of a name was found
 abbrev pub was_found : Found → OptionName → Bool
@@ -20,6 +20,7 @@ was_found found Seed = is_some found.seed
 was_found found Votes = is_some found.votes
 was_found found Clients = is_some found.clients
 was_found found Checkpoint = is_some found.every
+was_found found Restarts = is_some found.restarts
 
 -- with an option of this name and value
 abbrev pub with_value : Found → OptionName → List ℕ → Found
@@ -29,6 +30,7 @@ with_value found Seed value = record found { seed = Some (digits_value 10 value)
 with_value found Votes value = record found { votes = Some (digits_value 10 value) }
 with_value found Clients value = record found { clients = Some (digits_value 10 value) }
 with_value found Checkpoint value = record found { every = Some (digits_value 10 value) }
+with_value found Restarts value = record found { restarts = Some (digits_value 10 value) }
 
 abbrev pub with_option : Found → Asked → Found
 with_option found option = with_value found option.name option.value
@@ -46,6 +48,7 @@ pub record HaveFound (words : List (List ℕ)) (found : Found) : Type 0 where
   pub votes : found.votes ≡ number_asked Votes options
   pub clients : found.clients ≡ number_asked Clients options
   pub every : found.every ≡ number_asked Checkpoint options
+  pub restarts : found.restarts ≡ number_asked Restarts options
   pub recovery : found.recovery ≡ is_among options Recovery
 
 -- the options of a show were all found, and are this show's
@@ -54,18 +57,22 @@ pub record HasShow (found : Found) (show : Show) : Type 0 where
   pub votes : found.votes ≡ Some show.votes
   pub clients : found.clients ≡ Some show.clients
 
--- whether one of them was found
+-- whether one of these was found
 abbrev pub is_for_show : Found → Bool
 is_for_show found = is_some found.seed || is_some found.votes || is_some found.clients
 
+-- whether one was found that only a run and a show have
+abbrev pub is_for_run : Found → Bool
+is_for_run found = is_some found.every || is_some found.restarts
+
 -- whether any option was found
 abbrev pub is_any : Found → Bool
-is_any found = is_some found.partitions || found.recovery || is_some found.every || is_for_show found
+is_any found = is_some found.partitions || found.recovery || is_for_run found || is_for_show found
 
--- of the options of a show, the command has what was found; a recovery makes no checkpoint, and an audit has no option at all
+-- of the options of a show, the command has what was found; a recovery has none of those of a run, and an audit has no option at all
 abbrev pub HasWhatItNeeds : Found → Command → Type 0
 HasWhatItNeeds found Run = is_for_show found ≡ false
-HasWhatItNeeds found Recover = (is_some found.every ≡ false) × (is_for_show found ≡ false)
+HasWhatItNeeds found Recover = (is_for_run found ≡ false) × (is_for_show found ≡ false)
 HasWhatItNeeds found Audit = is_any found ≡ false
 HasWhatItNeeds found (Voter show) = HasShow found show
 

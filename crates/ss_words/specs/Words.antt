@@ -5,7 +5,7 @@ use Rattle.std.specs.Str.{all_ascii_digits}
 use Rattle.std.specs.Str.Parse.{digits_value, starts_with_minus}
 use Rattle.std.specs.declared.alloc.Global.{Global}
 use Rattle.ss_words.specs.declared.names.OptionName.{OptionName}
-use Rattle.ss_words.specs.declared.names.OptionName.TheVariants.{Partitions, Recovery, Seed, Votes, Clients, Checkpoint}
+use Rattle.ss_words.specs.declared.names.OptionName.TheVariants.{Partitions, Recovery, Seed, Votes, Clients, Checkpoint, Restarts}
 use Rattle.ss_words.specs.declared.names.Command.{Command}
 use Rattle.ss_words.specs.declared.names.Command.TheVariants.{Run, Recover, Audit, Voter}
 use Rattle.ss_words.specs.declared.names.Show.{Show}
@@ -21,6 +21,7 @@ dashed Seed = codes "--seed"
 dashed Votes = codes "--votes"
 dashed Clients = codes "--clients"
 dashed Checkpoint = codes "--checkpoint"
+dashed Restarts = codes "--restarts"
 
 -- whether a value is one digit to seven, and the number that they write from least to most
 abbrev pub is_number_within : ℕ → ℕ → List ℕ → Bool
@@ -35,6 +36,7 @@ fits Seed value = is_number_within 0 9999999 value
 fits Votes value = is_number_within 1 200000 value
 fits Clients value = is_number_within 1 8 value
 fits Checkpoint value = is_number_within 1 1000000 value
+fits Restarts value = is_number_within 0 16 value
 
 -- ---- Their spelling
 
@@ -90,6 +92,10 @@ number_asked name (option ∷ others) = if is_named name option then Some (digit
 abbrev pub partitions_asked : List Asked → ℕ
 partitions_asked options = unwrap_or (number_asked Partitions options) 1
 
+-- how many restarts are asked for: none where no option says it
+abbrev pub restarts_asked : List Asked → ℕ
+restarts_asked options = unwrap_or (number_asked Restarts options) 0
+
 -- the show is the one that is asked for
 pub record IsShowAsked (options : List Asked) (show : Show) : Type 0 where
   pub seed : number_asked Seed options ≡ Some show.seed
@@ -114,10 +120,10 @@ required (Voter show) = Seed ∷ Votes ∷ Clients ∷ []
 
 -- and those that may
 abbrev pub optional : Command → List OptionName
-optional Run = Partitions ∷ Recovery ∷ Checkpoint ∷ []
+optional Run = Partitions ∷ Recovery ∷ Checkpoint ∷ Restarts ∷ []
 optional Recover = Partitions ∷ Recovery ∷ []
 optional Audit = []
-optional (Voter show) = Partitions ∷ Recovery ∷ Checkpoint ∷ []
+optional (Voter show) = Partitions ∷ Recovery ∷ Checkpoint ∷ Restarts ∷ []
 
 -- a command is made from its options: a voter has the show that they ask for
 abbrev pub IsMadeFrom : Command → List Asked → Type 0
@@ -154,6 +160,7 @@ pub record OptionsAskFor (words : List (List ℕ)) (line : CommandLine) : Type 0
   pub are : AreOptionsOf line.command words options
   pub partitions : line.options.partitions ≡ partitions_asked options
   pub every : line.options.every ≡ number_asked Checkpoint options
+  pub restarts : line.options.restarts ≡ restarts_asked options
   pub show : IsMadeFrom line.command options
 
 -- the words are this command, and behind it options that ask for this

@@ -16,6 +16,8 @@ pub struct Options {
     pub partitions: u8,
     /// From how many entries behind the last checkpoint on the next is due: 1 to 1000000, and none is made where no option says it.
     pub every: Option<u64>,
+    /// How often at most a run whose disk failed opens it again and goes on: 0 to 16, and never where no option says it.
+    pub restarts: u8,
 }
 
 /// The option at the front of the words, by its name, its value and the words behind it. Linear in the bytes of its words.
@@ -70,6 +72,7 @@ pub fn command_line(words: &[String]) -> Option<CommandLine>
     let options = Options {
         partitions: found.partitions.unwrap_or(1),
         every: found.every,
+        restarts: found.restarts.unwrap_or(0),
     };
     Some(CommandLine { command, options })
 }

@@ -2,7 +2,7 @@
 
 ghost use Rattle.std.specs.Prelude.{◌≡◌, if◌then◌else◌, MatchOption};
 ghost use Rattle.ss_words.specs.Words.{asked};
-ghost use Rattle.ss_words.specs.Found.{nothing_found, can_take, with_option, is_any, is_for_show, HasShow, Suits};
+ghost use Rattle.ss_words.specs.Found.{nothing_found, can_take, with_option, is_any, is_for_run, is_for_show, HasShow, Suits};
 
 use crate::names::{Command, OptionName, Show};
 use crate::numbers::number_within;
@@ -22,6 +22,8 @@ pub(crate) struct Found {
     pub(crate) clients: Option<u8>,
     /// From how many entries on a checkpoint is due.
     pub(crate) every: Option<u64>,
+    /// How often the disk may be opened again.
+    pub(crate) restarts: Option<u8>,
 }
 
 impl Found {
@@ -36,6 +38,7 @@ impl Found {
             votes: None,
             clients: None,
             every: None,
+            restarts: None,
         }
     }
 
@@ -62,6 +65,9 @@ impl Found {
             OptionName::Checkpoint if self.every.is_none() => {
                 self.every = Some(u64::from(number_within(value, 1, 1_000_000)?));
             }
+            OptionName::Restarts if self.restarts.is_none() => {
+                self.restarts = Some(number_within(value, 0, 16)? as u8);
+            }
             _ => return None,
         }
         Some(self)
@@ -74,11 +80,18 @@ impl Found {
         self.seed.is_some() || self.votes.is_some() || self.clients.is_some()
     }
 
+    /// Whether an option was found that only a run and a show have.
+    fn is_for_run(self) -> bool
+        ensures { result ≡ is_for_run self }
+    {
+        self.every.is_some() || self.restarts.is_some()
+    }
+
     /// Whether any option was found.
     fn is_any(self) -> bool
         ensures { result ≡ is_any self }
     {
-        self.partitions.is_some() || self.recovery || self.every.is_some() || self.is_for_show()
+        self.partitions.is_some() || self.recovery || self.is_for_run() || self.is_for_show()
     }
 
     /// The show of these options, where each was found that a show must have.
@@ -98,7 +111,7 @@ impl Found {
     {
         match word {
             "run" if !self.is_for_show() => Some(Command::Run),
-            "recover" if self.every.is_none() && !self.is_for_show() => Some(Command::Recover),
+            "recover" if !self.is_for_run() && !self.is_for_show() => Some(Command::Recover),
             "audit" if !self.is_any() => Some(Command::Audit),
             "voter" => Some(Command::Voter(self.show()?)),
             _ => None,

@@ -7,10 +7,12 @@
 //! - `--partitions`, a number from 1 to 8: into how many partitions the database is split, 1 where it isn't said
 //! - `--recovery`, the word `strong`: how the state is had again after a crash
 //!
-//! Behind `run` and `voter` may stand one more:
+//! Behind `run` and `voter` may stand two more:
 //!
 //! - `--checkpoint`, a number from 1 to 1000000: from how many entries behind the last checkpoint on the next is due, and
 //!   none is made where it isn't said
+//! - `--restarts`, a number from 0 to 16: how often at most a run whose disk failed opens it again and goes on, 0 where it isn't
+//!   said
 //!
 //! Behind `voter` must stand three more, which no other command has. They say which show of the benchmark is run:
 //!

@@ -45,6 +45,8 @@ pub enum OptionName {
     Clients,
     /// `--checkpoint`: a number from 1 to 1000000.
     Checkpoint,
+    /// `--restarts`: a number from 0 to 16.
+    Restarts,
 }
 
 /// The option whose name this is, with its two dashes. Constant in time.
@@ -58,6 +60,7 @@ pub(crate) fn option_named(word: &str) -> Option<OptionName>
         "--votes" => Some(OptionName::Votes),
         "--clients" => Some(OptionName::Clients),
         "--checkpoint" => Some(OptionName::Checkpoint),
+        "--restarts" => Some(OptionName::Restarts),
         _ => None,
     }
 }

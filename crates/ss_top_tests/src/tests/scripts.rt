@@ -14,7 +14,7 @@ pub(super) const ROOM: usize = 4096;
 /// A command line, and an input.
 #[derive(Clone, Copy)]
 pub(super) struct Script {
-    pub(super) words: [&'static str; 2],
+    pub(super) words: [&'static str; 3],
     pub(super) catalog: &'static str,
     pub(super) requests: &'static str,
     /// How the report of a run without faults ends.
@@ -37,7 +37,7 @@ impl Script {
 }
 
 /// Two batches, one of them pushed twice, and one too early.
-const PUSHES: &str =
+pub(super) const PUSHES: &str =
     "{\"push\":\"s\",\"source\":\"a\",\"seq\":0,\"rows\":[[1]]}\n{\"push\":\"s\",\"source\":\"a\",\"seq\":0,\"rows\":[[1]]}\n{\"push\":\"s\",\"source\":\"a\",\"seq\":2,\"rows\":[[2]]}\n{\"push\":\"s\",\"source\":\"a\",\"seq\":1,\"rows\":[[2]]}\n";
 
 /// A workflow whose steps have four partitions, and a call of its argument's.
@@ -51,21 +51,21 @@ const OF_EIGHT: &str =
 /// One client, the same with a checkpoint due behind each entry, and eight clients on as many partitions.
 pub(super) const SCRIPTS: [Script; 3] = [
     Script {
-        words: ["run", "--partitions=1"],
+        words: ["run", "--partitions=1", "--restarts=0"],
         catalog: DIAMOND,
         requests: PUSHES,
         last: "[\"done\",12]\n",
         empty: "[\"table\",\"joined\",0]\n[\"done\",0]\n",
     },
     Script {
-        words: ["run", "--checkpoint=1"],
+        words: ["run", "--checkpoint=1", "--recovery=strong"],
         catalog: DIAMOND,
         requests: PUSHES,
         last: "[\"done\",12]\n",
         empty: "[\"table\",\"joined\",0]\n[\"done\",0]\n",
     },
     Script {
-        words: ["run", "--partitions=8"],
+        words: ["run", "--partitions=8", "--recovery=strong"],
         catalog: SPREAD,
         requests: OF_EIGHT,
         last: "[\"done\",48]\n",
@@ -197,11 +197,11 @@ fn rows_of(line: &str, report: &str) -> Option<(bool, bool)> {
     None
 }
 
-/// How many rows a report has.
-fn row_count(report: &str) -> usize {
+/// How many lines of a report begin so.
+pub(super) fn line_count(report: &str, front: &str) -> usize {
     let mut count = 0usize;
     for line in report.split('\n') {
-        if line.starts_with("[\"row\",") {
+        if line.starts_with(front) {
             count = count.saturating_add(1);
         }
     }
@@ -219,7 +219,7 @@ fn has_first_rows(list: &str, report: &str) -> bool {
             None => {}
         }
     }
-    row_count(report) == count
+    line_count(report, "[\"row\",") == count
 }
 
 /// Whether a recovery did all that was pending, and found a prefix of the list of this report; of an empty disk it tells that nothing

@@ -1,24 +1,18 @@
-use Rattle.std.proofs.Common.{refl, sym, subst}
-use Rattle.ss_model.specs.declared.catalog.Catalog.{Catalog}
-use Rattle.ss_engine.specs.Clients.{AllFit}
-use Rattle.ss_top.proofs.Storing.{of_given, run_refused, recovered_opened, refusal_tells, tells_since}
+use Rattle.std.proofs.Common.{◌≤◌, sym, subst}
+use Rattle.ss_refusals.specs.Sinks.{sink_of}
+use Rattle.ss_top.specs.Serving.{ServesTo}
+use Rattle.ss_top.proofs.LastTurns.{later_at_last, serves_at_last}
 use Rattle.ss_top.proofs.store.run_on_store.Goals as goal
 
-pub serve-requires-clause-fit : goal.serve-requires-clause-fit
-serve-requires-clause-fit g c = λ κs within. subst (λ (k : Catalog). AllFit k c.args.requests.now) (sym (c.in-Ok.ensures.recovered.given_one c.args.catalog refl)) c.requires.fit
+pub returns-clause-came : goal.returns-clause-came
+returns-clause-came g c =
+    subst (λ (d : g.row.D.Denot). ServesTo {D = g.row.D.Denot} g.D.Disk.kind c.args.every c.args.limit c.args.restarts c.args.printing c.args.catalog.now c.args.requests.now c.write_turn.result.0 (sink_of g.K.Sink.kind c.args.sink.now c.write_turn.new.sink) c.args.disk d)
+    (sym c.write_turn.ensures.disk)
+    (serves_at_last g.D.Disk.kind c.args.every c.args.limit c.args.printing c.args.catalog.now c.args.requests.now c.args.restarts c.args.disk c.run_over-turn.result c.run_over-turn.ensures.comes _ c.write_turn.result.0 c.write_turn.ensures.told)
 
-pub returns-in-Ok-clause-came : goal.returns-in-Ok-clause-came
-returns-in-Ok-clause-came g c =
-    of_given (c.in-Ok.ensures.recovered.given_one c.args.catalog refl)
-    (c.serve.ensures.served c.args.disk (recovered_opened g.D.Disk.kind _ c.args.partitions c.args.disk c.in-Ok.recovered c.in-Ok.ensures.recovered c.in-Ok.ensures.later))
-
-pub returns-in-Err-clause-came : goal.returns-in-Err-clause-came
-returns-in-Err-clause-came g c =
-    run_refused g.D.Disk.kind c.args.every c.args.limit c.args.printing _ c.args.disk c.in-Err.disk
-    c.args.catalog c.args.requests.now c.in-Err.error c.in-Err.ensures.refused c.refuse_store.result c.refuse_store.ensures.told
-
-pub returns-in-Ok-clause-told : goal.returns-in-Ok-clause-told
-returns-in-Ok-clause-told g c = tells_since g.D.Disk.kind _ c.args.disk c.in-Ok.recovered.log.disk c.serve.result.1 c.serve.result.0 c.in-Ok.ensures.told c.serve.ensures.told
-
-pub returns-in-Err-clause-told : goal.returns-in-Err-clause-told
-returns-in-Err-clause-told g c = refusal_tells _ _ c.refuse_store.result c.in-Err.error c.refuse_store.ensures.told c.in-Err.ensures.told
+pub returns-clause-counts : goal.returns-clause-counts
+returns-clause-counts g c = (
+  c.write_turn.ensures.counts,
+  subst (λ (d : g.row.D.Denot). g.D.Disk.kind.faults c.args.disk ≤ g.D.Disk.kind.faults d) (sym c.write_turn.ensures.disk)
+      (later_at_last g.D.Disk.kind c.args.every c.args.limit c.args.printing c.args.catalog.now c.args.requests.now c.args.restarts c.args.disk c.run_over-turn.result c.run_over-turn.ensures.comes (sink_of g.K.Sink.kind c.args.sink.now c.write_turn.new.sink) c.write_turn.result.0 c.write_turn.ensures.told),
+)

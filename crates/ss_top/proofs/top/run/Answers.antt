@@ -5,12 +5,12 @@ use Rattle.ss_top.proofs.top.run.Goals as goal
 
 pub returns-in-Ok-clause-ends : goal.returns-in-Ok-clause-ends
 returns-in-Ok-clause-ends g c =
-    run_came c.args.every c.args.limit _ _ _ c.an_input_has_one_answer.ensures.start c.an_input_has_one_answer.ensures.either c.a_disk_has_one_fault.ensures.empty c.a_disk_has_one_fault.ensures.store c.a_disk_has_one_fault.ensures.catalog
+    run_came g.D.Disk.kind c.args.disk c.run_on_store.result.1 c.args.every c.args.limit c.args.restarts _ _ c.an_input_has_one_answer.ensures.start c.an_input_has_one_answer.ensures.either c.a_disk_has_one_fault.ensures.empty c.a_disk_has_one_fault.ensures.store c.a_disk_has_one_fault.ensures.catalog
     c.in-Ok.field-0.catalog c.in-Ok.field-0.requests c.in-Ok.ensures.ok c.in-Ok.ensures.own.0 c.in-Ok.ensures.end c.run_on_store.result.0 c.run_on_store.ensures.came.came c.run_on_store.ensures.came.cause
 
 pub returns-in-Err-clause-ends : goal.returns-in-Err-clause-ends
 returns-in-Err-clause-ends g c =
-    run_refused c.args.every c.args.limit _ _ _ c.an_input_has_one_answer.ensures.refusal c.an_input_has_one_answer.ensures.either refl c.in-Err.error c.in-Err.ensures.refused c.in-Err.ensures.leaves
+    run_refused g.D.Disk.kind c.args.disk c.args.disk c.args.every c.args.limit c.args.restarts _ _ c.an_input_has_one_answer.ensures.refusal c.an_input_has_one_answer.ensures.either refl c.in-Err.error c.in-Err.ensures.refused c.in-Err.ensures.leaves
     c.refuse.result c.refuse.ensures.refused
 
 pub returns-in-Ok-clause-source : goal.returns-in-Ok-clause-source
@@ -20,4 +20,7 @@ pub returns-in-Err-clause-source : goal.returns-in-Err-clause-source
 returns-in-Err-clause-source g c = refusal_told c.in-Err.error c.refuse.result _ _ c.refuse.ensures.read_fault c.in-Err.ensures.told
 
 pub returns-in-Err-clause-told : goal.returns-in-Err-clause-told
-returns-in-Err-clause-told g c = record { store = inr (inr refl); sink = λ done. absurd (subst OfRefusal done (ends_refused c.in-Err.error c.refuse.result _ c.refuse.ensures.refused)) }
+returns-in-Err-clause-told g c = λ once. record { store = inr (inr refl); sink = λ done. absurd (subst OfRefusal done (ends_refused c.in-Err.error c.refuse.result _ c.refuse.ensures.refused)) }
+
+pub returns-in-Err-clause-sink : goal.returns-in-Err-clause-sink
+returns-in-Err-clause-sink g c = λ done. absurd (subst OfRefusal done (ends_refused c.in-Err.error c.refuse.result _ c.refuse.ensures.refused))

@@ -17,13 +17,14 @@ run-requires-clause-every g c = λ κs within. λ k is. (every_is_within (words_
 pub returns-in-Run : goal.returns-in-Run
 returns-in-Run g c =
     let asks = subst (λ (command : Command). AsksFor (words_of c.args.words.now) (record { command = command; options = c.in-Some.field-0.options })) c.in-Run.is c.in-Some.ensures in
-    ends_run c.args.limit c.args.words.now _ _ _ c.in-Some.field-0.options (c.run.ensures.counts.0, c.run.ensures.counts.1, c.run.ensures.counts.2) asks c.run.ensures.taken c.run.result.0 c.run.ensures.ends c.run.ensures.source c.run.ensures.told
+    ends_run g.D.Disk.kind c.args.disk c.run.result.1 c.args.limit c.args.words.now _ _ c.in-Some.field-0.options (c.run.ensures.counts.0, c.run.ensures.counts.1, c.run.ensures.counts.2) asks c.run.ensures.taken c.run.result.0
+    c.run.ensures.ends c.run.ensures.source (λ once. (c.run.ensures.told once).store) c.run.ensures.sink
 
 pub returns-in-Recover : goal.returns-in-Recover
 returns-in-Recover g c =
     let asks = subst (λ (command : Command). AsksFor (words_of c.args.words.now) (record { command = command; options = c.in-Some.field-0.options })) c.in-Recover.is c.in-Some.ensures in
     let fault = c.a_disk_has_one_fault.ensures in
-    ends_recover c.args.limit c.args.words.now _ _ _ c.in-Some.field-0.options (omega arith, c.recover_store.ensures.counts.0, c.recover_store.ensures.counts.1) fault.empty fault.store fault.catalog asks refl refl
+    ends_recover g.D.Disk.kind c.args.disk c.recover_store.result.1 c.args.limit c.args.words.now _ _ c.in-Some.field-0.options (omega arith, c.recover_store.ensures.counts.0, c.recover_store.ensures.counts.1) fault.empty fault.store fault.catalog asks refl refl
     c.recover_store.result.0 c.recover_store.ensures.came c.recover_store.ensures.told
 
 pub voter-requires-clause-partitions : goal.voter-requires-clause-partitions
@@ -42,11 +43,11 @@ pub returns-in-Voter : goal.returns-in-Voter
 returns-in-Voter g c =
     let asks = subst (λ (command : Command). AsksFor (words_of c.args.words.now) (record { command = command; options = c.in-Some.field-0.options })) c.in-Voter.is c.in-Some.ensures in
     let fault = c.a_disk_has_one_fault.ensures in
-    ends_voter c.args.limit c.args.words.now _ _ _ c.in-Some.field-0.options (omega arith, c.voter.ensures.counts.0, c.voter.ensures.counts.1) c.a_value_has_one_answer.ensures.catalog fault.empty fault.store fault.catalog c.in-Voter.show asks
-    refl refl c.voter.result.0 c.voter.ensures.came c.voter.ensures.told
+    ends_voter g.D.Disk.kind c.args.disk c.voter.result.1 c.args.limit c.args.words.now _ _ c.in-Some.field-0.options (omega arith, c.voter.ensures.counts.0, c.voter.ensures.counts.1) c.a_value_has_one_answer.ensures.catalog fault.empty fault.store fault.catalog c.in-Voter.show asks
+    refl refl c.voter.result.0 c.voter.ensures.came
 
 pub returns-in-Audit : goal.returns-in-Audit
 returns-in-Audit g c =
     let asks = subst (λ (command : Command). AsksFor (words_of c.args.words.now) (record { command = command; options = c.in-Some.field-0.options })) c.in-Audit.is c.in-Some.ensures in
     let told = c.audit_input.ensures in
-    ends_audit c.args.limit c.args.words.now _ _ _ c.in-Some.field-0.options (told.counts.0, told.counts.1, omega arith) asks told.taken refl refl c.audit_input.result told.comes told.told
+    ends_audit g.D.Disk.kind c.args.disk c.args.disk c.args.limit c.args.words.now _ _ c.in-Some.field-0.options (told.counts.0, told.counts.1, omega arith) asks told.taken refl refl c.audit_input.result told.comes told.told

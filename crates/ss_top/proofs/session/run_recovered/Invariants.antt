@@ -1,4 +1,4 @@
-use Rattle.ss_top.proofs.session.run_and_report.Given as goal
+use Rattle.ss_top.proofs.session.run_recovered.Given as goal
 
 -- the database that was recovered
 abbrev pub ghost-run_session : goal.ghost-run_session

@@ -1,0 +1,203 @@
+-- What each opening of a disk, with the engine on it, has come to, and where a run goes on behind a fault.
+use Rattle.std.specs.Prelude.{◌≡◌, ◌≢◌, ◌+◌, ◌-◌, ◌^◌, ◌≤◌, ℕ, zero, suc, Bool, true, false, List, drop, length, map, Option, Some, None, IfSome}
+use Rattle.ss_model.specs.declared.catalog.Catalog.{Catalog}
+use Rattle.ss_model.specs.declared.entry.Request.{Request}
+use Rattle.ss_model.specs.Database.{Database}
+use Rattle.ss_model.specs.Accepted.{Accepted}
+use Rattle.ss_report_laws.specs.Replies.{AreAnswered, answers_of, requests_of}
+use Rattle.ss_report_laws.specs.Resuming.{NoneBehindStop, resume_at}
+use Rattle.ss_disk.specs.Kinds.{DiskKind}
+use Rattle.ss_cmdlog.specs.declared.log.CmdLog.{CmdLog}
+use Rattle.ss_headline.specs.Disks.{DiskChange, disk_of}
+use Rattle.ss_headline.specs.Layers.{Opened}
+use Rattle.ss_headline.specs.Sentences.{room_from}
+use Rattle.ss_incarnations.specs.Incarnations.{Incarnation}
+use Rattle.ss_incarnations.specs.Openings.{NotOpened}
+use Rattle.ss_incarnations.specs.Reopening.{Lived}
+use Rattle.ss_incarnations.specs.Runs.{stop_over}
+use Rattle.ss_engine.specs.declared.session.run.Finished.{Finished}
+use Rattle.ss_engine.specs.Sessions.{EndsOnDisk}
+use Rattle.ss_recover.specs.declared.error.RecoverError.{RecoverError}
+use Rattle.ss_recover.specs.declared.error.RecoverError.TheVariants as recovery
+use Rattle.ss_recover.specs.declared.recovered.Recovered.{Recovered}
+use Rattle.ss_recover.specs.Recovering.{recovered_database}
+use Rattle.ss_resume.specs.declared.past.Past.{Past}
+use Rattle.ss_refusals.specs.declared.status.Status.{Status}
+use Rattle.ss_refusals.specs.declared.status.Status.TheVariants.{Done, Disk, NoMemory, OtherCatalog}
+use Rattle.ss_refusals.specs.Sinks.{SinkChange}
+use Rattle.ss_refusals.specs.StoreRefusals.{HasTexts, TellsRefusal}
+use Rattle.ss_top.specs.declared.over.Turn.{Turn}
+use Rattle.ss_top.specs.declared.over.Turn.TheVariants.{Over, Short, Refused, Failed}
+use Rattle.ss_top.specs.declared.session.Printing.{Printing}
+use Rattle.ss_top.specs.Over.{CameAgain, RoseBy}
+use Rattle.ss_top.specs.Runs.{ReportsPast, TellsDiskFault, TellsReport}
+use Rattle.ss_top.specs.Serving.{HasServedCause, IsOpenedFor}
+use Rattle.ss_top.specs.Stores.{CameTo, WasOf}
+
+-- how a turn that is over is told, and the disk that it leaves
+abbrev pub TellsTurn : {D : Type 0} → Turn D → Status → SinkChange → Type 0
+TellsTurn (Over reported) ended w = TellsReport reported.status reported.text ended w
+TellsTurn (Short disk) ended w = TellsReport NoMemory None ended w
+TellsTurn (Refused error disk) ended w = TellsRefusal error ended w
+TellsTurn (Failed past disk) ended w = ⊥
+
+abbrev pub disk_left : {D : Type 0} → Turn D → D
+disk_left (Over reported) = reported.disk
+disk_left (Short disk) = disk
+disk_left (Refused error disk) = disk
+disk_left (Failed past disk) = disk
+
+-- where a run may go on, each client has an answer to each of its requests, and places are small
+pub record MayGoOn (requests : List Request) (past : Past) : Type 0 where
+  pub told : (client : ℕ) → length (answers_of past.answers client) ≡ length (requests_of client requests)
+  pub small : past.first + length past.list ≤ 2 ^ 60
+
+module _ {D : Type 0} (kind : DiskKind D) (limit : ℕ) (catalog : Catalog) (requests : List Request) where
+  abbrev change : D → D → DiskChange
+  change = disk_of kind
+
+  -- The past is that of these incarnations, of which the disk keeps what it has to, and its answers may stand in the report of a run that
+  -- stopped because the disk has failed.
+  pub record IsPast (again : ℕ) (old now : D) (past : Past) : Type 0 where
+    pub db : Database
+    pub was : WasOf catalog (change old now)
+    pub last : Incarnation
+    pub earlier : List Incarnation
+    pub lived : Lived kind catalog db past.first last earlier old now
+    pub list_is : past.list ≡ last.list
+    pub receipted_is : past.receipted ≡ last.receipted
+    pub few : suc (length earlier) ≤ again
+    pub within : length past.list ≤ room_from limit past.first
+    pub answered : AreAnswered requests past.first past.list (stop_over kind 5 limit past.first last old now) past.answers
+    pub stops : (client : ℕ) → NoneBehindStop (answers_of past.answers client)
+
+  -- where no engine has run no store was opened
+  abbrev pub CameSoFar : ℕ → D → D → Option Past → Type 0
+  CameSoFar again old now None = NotOpened catalog (change old now)
+  CameSoFar again old now (Some past) = IsPast again old now past
+
+  -- behind so many faults of the disk; behind none nothing has happened
+  abbrev pub HasCome : ℕ → D → D → Option Past → Type 0
+  HasCome zero old now past = (now ≡ old) × (past ≡ None)
+  HasCome (suc again) old now past =
+      (kind.faults old ≤ kind.faults now) × RoseBy (suc again) (kind.faults old) (kind.faults now) × (kind.honest → CameSoFar (suc again) old now past)
+
+-- behind so many faults of an old disk a store was opened behind this past, and the engine on it was closed
+pub record ReopensFor {D : Type 0} (kind : DiskKind D) (every : Option ℕ) (limit : ℕ) (catalog : Catalog) (requests : List Request) (past : Past) (again : ℕ) (old mid : D) (from : Database)
+    (place : ℕ) (log : CmdLog D) (finished : Finished D) : Type 0 where
+  pub accepted : Accepted catalog
+  pub before : kind.faults old ≤ kind.faults mid
+  pub rose : RoseBy (suc again) (kind.faults old) (kind.faults mid)
+  pub past_is : kind.honest → IsPast kind limit catalog requests (suc again) old mid past
+  pub later : kind.faults mid ≤ kind.faults log.disk
+  pub opened : kind.honest → Opened catalog from place (disk_of kind mid log.disk)
+  pub clients : ℕ
+  pub closed : EndsOnDisk kind every catalog from place (room_from (limit - (place - past.first)) place) clients requests (map (resume_at place) past.answers) log finished
+
+module _ {D : Type 0} (kind : DiskKind D) (every : Option ℕ) (limit : ℕ) (printing : Printing) (catalog : Catalog) (requests : List Request) where
+  -- a run whose disk was opened so often again and that ended with this status has come to this
+  abbrev pub CameAt : ℕ → Status → SinkChange → D → D → Type 0
+  CameAt zero status w old new = CameTo every limit printing catalog requests status w (disk_of kind old new)
+  CameAt (suc again) status w old new = CameAgain kind every limit (suc again) printing catalog requests status w old new
+
+  -- and status 5 tells of one fault more, at the last opening alone; one of the sink tells that it has failed
+  pub record Comes (again : ℕ) (last : Bool) (status : Status) (w : SinkChange) (old new : D) : Type 0 where
+    pub came : CameAt again status w old new
+    pub cause : HasServedCause again status w (disk_of kind old new)
+    pub at_last : status ≡ Disk → last ≡ true
+    pub told : again ≡ 0 → last ≡ true → TellsDiskFault status (kind.faults old) (kind.faults new)
+    pub sink : status ≡ Done → w.faults_now ≡ w.faults_before
+    pub later : kind.faults old ≤ kind.faults new
+
+  -- what one more opening has come to: where it is over, however that is told
+  abbrev pub TurnComes : ℕ → Bool → D → Turn D → Type 0
+  TurnComes again last old (Failed past new) = HasCome kind limit catalog requests (suc again) old new past
+  TurnComes again last old turn = (w : SinkChange) (ended : Status) → TellsTurn turn ended w → Comes again last ended w old (disk_left turn)
+
+  -- ---- what is run on a store that was opened
+
+  -- the first one that could be: of the disk as it was given, or, behind so many faults, of one that is honest
+  pub record ServesNew (last : Bool) (r : Recovered D) (turn : Turn D) : Type 0 where
+    pub once : (old : D) → IsOpenedFor kind old r → kind.faults r.log.disk ≡ kind.faults old → TurnComes zero last old turn
+    pub later : (again : ℕ) (old : D) → kind.faults old ≤ kind.faults r.log.disk → RoseBy (suc again) (kind.faults old) (kind.faults r.log.disk) →
+        (kind.honest → IsOpenedFor kind old r) → TurnComes (suc again) last old turn
+
+  -- one that was opened behind an engine that ran
+  abbrev pub ServesAgain : Bool → Past → D → Recovered D → Turn D → Type 0
+  ServesAgain last past mid r turn =
+      (again : ℕ) (old : D) → kind.faults old ≤ kind.faults mid → RoseBy (suc again) (kind.faults old) (kind.faults mid) →
+      (kind.honest → IsPast kind limit catalog requests (suc again) old mid past) → kind.faults mid ≤ kind.faults r.log.disk →
+      (kind.honest → Opened catalog (recovered_database r) r.first (disk_of kind mid r.log.disk)) → TurnComes (suc again) last old turn
+
+  -- one whose engine was closed
+  abbrev pub ClosesAgain : Bool → Past → ℕ → Finished D → Turn D → Type 0
+  ClosesAgain last past place finished turn =
+      (again : ℕ) (old mid : D) (from : Database) (log : CmdLog D) → ReopensFor kind every limit catalog requests past again old mid from place log finished → TurnComes (suc again) last old turn
+
+-- whichever catalogue, limit and checkpoints it was opened for
+abbrev pub ClosesEach : {D : Type 0} → DiskKind D → Printing → List Request → Bool → Past → ℕ → Finished D → Turn D → Type 0
+ClosesEach kind printing requests last past place finished turn =
+    (every : Option ℕ) (limit : ℕ) (catalog : Catalog) → ClosesAgain kind every limit printing catalog requests last past place finished turn
+
+-- what one more opening of this disk has come to, whatever has come before
+abbrev pub ComesFrom : {D : Type 0} → DiskKind D → Option ℕ → ℕ → Printing → Catalog → List Request → Bool → D → Option Past → Turn D → Type 0
+ComesFrom {D} kind every limit printing catalog requests last disk past turn =
+    (again : ℕ) (old : D) → HasCome kind limit catalog requests again old disk past → TurnComes kind every limit printing catalog requests again last old turn
+
+-- a session ran these requests, of each client from its first one here on, on what was opened
+abbrev pub RanFrom : {D : Type 0} → DiskKind D → Option ℕ → ℕ → Catalog → Database → ℕ → List Request → List ℕ → CmdLog D → Finished D → Type 0
+RanFrom kind every limit catalog db first requests starts log finished =
+    (clients : ℕ) × EndsOnDisk kind every catalog db first (room_from limit first) clients requests starts log finished
+
+-- each client has an answer to each request that it made behind a past
+abbrev pub ToldFrom : {D : Type 0} → ℕ → Past → List Request → Finished D → Type 0
+ToldFrom place past requests finished =
+    (client : ℕ) → length (answers_of finished.closed.answers client) ≡ length (drop (resume_at place (answers_of past.answers client)) (requests_of client requests))
+
+-- a turn is not one to go on from
+abbrev pub IsOver : {D : Type 0} → Turn D → Type 0
+IsOver (Failed past disk) = ⊥
+IsOver _ = Unit {0}
+
+-- what a turn leaves to the next one may go on
+abbrev pub LeavesToGoOn : {D : Type 0} → List Request → Turn D → Type 0
+LeavesToGoOn requests (Failed past disk) = IfSome past (MayGoOn requests)
+LeavesToGoOn requests _ = Unit {0}
+
+-- what was served was not refused, and its report is not that of another catalogue
+abbrev pub HasServed : {D : Type 0} → Turn D → Type 0
+HasServed (Over reported) = reported.status ≢ OtherCatalog
+HasServed (Refused error disk) = ⊥
+HasServed _ = Unit {0}
+
+-- the texts that a refusal tells are UTF-8
+abbrev pub HasTurnTexts : {D : Type 0} → Turn D → Type 0
+HasTurnTexts (Refused error disk) = HasTexts error
+HasTurnTexts _ = Unit {0}
+
+-- a session whose disk has failed is left as it is
+abbrev pub LeavesPast : {D : Type 0} → Finished D → ℕ → Turn D → Type 0
+LeavesPast finished first turn = turn ≡ Failed (Some (record { list = finished.closed.list; first = first; answers = finished.closed.answers; receipted = finished.receipted })) finished.log.disk
+
+-- a run that is over has come to this, at one of its openings: at the last one alone with the disk's fault
+pub record ComesAtLast {D : Type 0} (kind : DiskKind D) (every : Option ℕ) (limit restarts : ℕ) (printing : Printing) (catalog : Catalog) (requests : List Request) (old : D) (turn : Turn D) : Type 0 where
+  pub again : ℕ
+  pub within : again ≤ restarts
+  pub last : Bool
+  pub at_last : last ≡ true → again ≡ restarts
+  pub not_before : again ≡ restarts → last ≡ true
+  pub comes : TurnComes kind every limit printing catalog requests again last old turn
+  pub over : IsOver turn
+
+-- whether a refusal is for a fault of the disk
+abbrev pub is_fault : RecoverError → Bool
+is_fault recovery.DiskFault = true
+is_fault _ = false
+
+-- how a run ends whose store was not opened: without a past it is refused; with one, a fault of the disk is reported with the past, and else
+-- there is no memory for more
+abbrev pub LeavesUnopened : {D : Type 0} → Catalog → Option Past → List Request → RecoverError → D → Turn D → Type 0
+LeavesUnopened catalog None requests error disk turn = turn ≡ Refused error disk
+LeavesUnopened catalog (Some past) requests recovery.DiskFault disk turn =
+    (status : Status) × (text : Option (List ℕ)) × ReportsPast catalog past requests status text × (turn ≡ Over (record { status = status; text = text; disk = disk }))
+LeavesUnopened catalog (Some past) requests error disk turn = turn ≡ Short disk
