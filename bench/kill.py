@@ -1,7 +1,7 @@
 #!/usr/bin/env python3
 """Kills the program in the midst of its runs, recovers its store each time, and goes on.
 
-    python3 bench/kill.py [--kills 100] [--folder FOLDER] [--partitions 2] [--checkpoint K] [--seed 1]
+    python3 bench/kill.py [--kills 100] [--folder FOLDER] [--partitions 2] [--checkpoint K] [--recovery strong] [--seed 1]
 
 Runs the program that `./sstore` built (build it first), or the one that SSTORE names, on a store in a new folder inside
 FOLDER. In each round eight clients push batches, each from a source of its own: the last ones of the round before again, and
@@ -10,8 +10,9 @@ process gets SIGKILL, until that has been done so often. What its log then has i
 docs/FORMATS.md says, and `sstore FOLDER recover` has to agree with it: each source's pushes are counted and summed once
 each, none that was in the log is missing, and none that was not is there. A round that ends before it is killed has to have
 done all its pushes, those that were there before as duplicates. With --checkpoint each run makes them, so that most of what
-was there is in an image, which is read here too; a round that ended has fewer than K entries behind it. Last, of two processes that begin at once on one folder,
-twenty times over, one has to be done and the other refused. What was counted is printed at the end.
+was there is in an image, which is read here too; a round that ended has fewer than K entries behind it. With --recovery weak
+the log has the calls and pushes alone, and a recovery runs their steps without a line of them. Last, of two processes that
+begin at once on one folder, twenty times over, one has to be done and the other refused. What was counted is printed at the end.
 """
 
 import argparse
@@ -96,14 +97,14 @@ def sources_of(image, first):
 
 
 def there_in(folder):
-    """The next number of each source, where pushes are accepted in their order and once each; the place behind the last entry of
-    the store, and how many entries stand behind its image."""
+    """The next number of each source, where pushes are accepted in their order and once each; the place at which the store's image
+    stands, and how many entries stand behind it."""
     first, image, entries, _ = generation_of(folder)
     numbers = sources_of(image, first)
     for entry in entries:
         if entry[0] == "push" and entry[2] == numbers.get(entry[1], 0):
             numbers[entry[1]] = entry[2] + 1
-    return [numbers.get(f"s{source}", 0) for source in range(CLIENTS)], first + len(entries), len(entries)
+    return [numbers.get(f"s{source}", 0) for source in range(CLIENTS)], first, len(entries)
 
 
 # ---- runs
@@ -112,6 +113,15 @@ def there_in(folder):
 def call(folder, words, text=""):
     done = subprocess.run([PROGRAM, folder, *words], input=text, capture_output=True, text=True)
     return done.returncode, [json.loads(line) for line in done.stdout.splitlines()]
+
+
+def check_steps(lines, first, behind, recovery):
+    """The steps that a recovery lists stand behind the log's entries; on a weak store they ran in the opening."""
+    places = [line[1] for line in lines if line[0] == "step"]
+    if recovery == "weak":
+        assert not places, "steps are listed"
+    else:
+        assert places == list(range(first + behind, first + behind + len(places))), "steps at other places"
 
 
 def check_tables(lines, numbers):
@@ -181,15 +191,16 @@ def main():
     parser.add_argument("--folder")
     parser.add_argument("--partitions", type=int, default=2)
     parser.add_argument("--checkpoint", type=int)
+    parser.add_argument("--recovery", choices=["strong", "weak"], default="strong")
     parser.add_argument("--seed", type=int, default=1)
     given = parser.parse_args()
     if not os.access(PROGRAM, os.X_OK):
         sys.exit("the program isn't built: run ./sstore - run < examples/stored_run.jsonl first")
     chance = random.Random(given.seed)
-    run = ["run", "--partitions", str(given.partitions)]
+    options = ["--partitions", str(given.partitions), "--recovery", given.recovery]
+    run, recover = ["run", *options], ["recover", *options]
     if given.checkpoint:
         run += ["--checkpoint", str(given.checkpoint)]
-    recover = ["recover", "--partitions", str(given.partitions)]
     rounds = kills = in_midst = 0
     with tempfile.TemporaryDirectory(dir=given.folder) as folder:
         opens = [json.dumps({"call": "open", "args": [source]}) for source in range(CLIENTS)]
@@ -200,12 +211,11 @@ def main():
             rounds += 1
             many = chance.choice([10, 100, 400])
             text = pushes(numbers, many)
-            _, before, _ = there_in(folder)
             ended = killed(folder, run, text, chance.uniform(0.0, 0.25))
-            there, end, behind = there_in(folder)
+            there, first, behind = there_in(folder)
             if ended is None:
                 kills += 1
-                in_midst += end > before
+                in_midst += there != numbers
             else:
                 status, lines = ended
                 assert status == 0, f"status {status}"
@@ -215,19 +225,18 @@ def main():
             assert all(new >= old for new, old in zip(there, numbers)), "a push that was there is lost"
             status, lines = call(folder, recover)
             assert status == 0, f"recovery ended with {status}: {lines[-1:]}"
-            places = [line[1] for line in lines if line[0] == "step"]
-            assert places == list(range(end, end + len(places))), "steps at other places"
+            check_steps(lines, first, behind, given.recovery)
             check_tables(lines, there)
             numbers = there
         for _ in range(RACES):
             race(folder, run, pushes(numbers, 10))
             numbers = [number + 10 for number in numbers]
-        there, end, behind = there_in(folder)
+        there, first, behind = there_in(folder)
         assert there == numbers, "a push was lost between two processes"
         _, groups = entries_of(folder)
-    print(f"{rounds} rounds, {kills} killed, {in_midst} of them with entries of theirs in the log")
+    print(f"{rounds} rounds, {kills} killed, {in_midst} of them with pushes of theirs in the log")
     print(f"{rounds + RACES} second processes refused, {RACES} of them begun at once")
-    print(f"{sum(numbers)} pushes once each; of {end} entries {behind} behind the image, in {groups} groups")
+    print(f"{sum(numbers)} pushes once each; {behind} entries behind the image at place {first}, in {groups} groups")
 
 
 if __name__ == "__main__":

@@ -49,7 +49,7 @@ def generation_of(folder):
     if not selector:
         return 0, b"", [], 0
     data = open(os.path.join(folder, "gen1" if selector[0] % 2 == 0 else "gen2"), "rb").read()
-    assert data[:8] == b"SSTORE1\n", "no store"
+    assert data[:8] in (b"SSTORE1\n", b"SSTOREW\n"), "no store"
     first, at = number(data, 8, 8)
     length, at = number(data, at, 8)
     image, at = data[at : at + length], at + length

@@ -26,6 +26,7 @@ STATUS = {
     7: "foreign: the folder's files are no store; nothing has run, and they were left as they are",
     8: "other catalogue: the folder is a store of another catalogue; use another folder, or give the stored catalogue",
     9: "limit: the list is full; what is answered with list_full has not run",
+    11: "other mode: the folder is a store of the other mode of recovery; use another folder, or ask for the stored mode (--recovery)",
     12: "differs: an audit found that the report is not that of a run of its script",
     70: "of the script sstore: the program was not built, and what it printed says why",
     127: "of the script sstore: the toolchain's command rt is not on the path",
@@ -85,7 +86,7 @@ CHECK = {
     4: "is not what the entries leave in the tables",
     5: "counts other than the entries, or a step is pending behind them",
 }
-WITHOUT_RUN = {"usage": 1, "read_fault": 3, "disk_fault": 5, "no_memory": 6, "foreign": 7, "other_catalog": 8}
+WITHOUT_RUN = {"usage": 1, "read_fault": 3, "disk_fault": 5, "no_memory": 6, "foreign": 7, "other_catalog": 8, "other_mode": 11}
 
 
 def counted(count, noun):

@@ -7,7 +7,7 @@
 Reads the store's files as docs/FORMATS.md says them, and neither writes nor locks any, so that it may run beside
 `./sstore FOLDER run`. It looks at the heads of groups alone, from where it stopped the last time. A line has the place behind
 the last entry whose group is open, the entries a second since the line before, and how many of them a group has; a crash may
-still take the last group, whose sync may be under way. Status 0: a store was seen; 1: none was, or the files are none; 2: wrong
+still take the last group, whose sync may be under way. Of a weak store these are calls and pushes, since it logs no steps. Status 0: a store was seen; 1: none was, or the files are none; 2: wrong
 options.
 """
 import argparse
@@ -16,7 +16,7 @@ import time
 
 from shared import Wrong, end, options
 
-MAGIC, HEAD, LONGEST_GROUP, LAST_PLACE = b"SSTORE1\n", 24, 8388608, 2**60
+MAGICS, HEAD, LONGEST_GROUP, LAST_PLACE = (b"SSTORE1\n", b"SSTOREW\n"), 24, 8388608, 2**60
 
 
 def opened(path):
@@ -48,7 +48,7 @@ class Generation:
             return self.at is not None
         head = os.pread(self.file.fileno(), HEAD, 0)
         place, image = int.from_bytes(head[8:16], "big"), int.from_bytes(head[16:24], "big")
-        if not MAGIC.startswith(head[:8]) or place > LAST_PLACE:
+        if not any(magic.startswith(head[:8]) for magic in MAGICS) or place > LAST_PLACE:
             raise Wrong(f"{self.path}: no generation of a store")
         if len(head) < HEAD:
             return False

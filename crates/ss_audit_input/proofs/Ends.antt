@@ -8,7 +8,7 @@ use Rattle.ss_audit.specs.declared.verdict.Verdict.{Verdict}
 use Rattle.ss_audit.specs.declared.verdict.Verdict.TheVariants.{Yes, No}
 use Rattle.ss_refusals.specs.declared.input.InputError.{InputError}
 use Rattle.ss_refusals.specs.declared.status.Status.{Status}
-use Rattle.ss_refusals.specs.declared.status.Status.TheVariants.{Done, Usage, Input, ReadFault, WriteFault, Disk, NoMemory, Foreign, OtherCatalog, Limit, Differs}
+use Rattle.ss_refusals.specs.declared.status.Status.TheVariants.{Done, Usage, Input, ReadFault, WriteFault, Disk, NoMemory, Foreign, OtherMode, OtherCatalog, Limit, Differs}
 use Rattle.ss_refusals.specs.Sinks.{ExitsRefused, LeavesOfRefusedSource, SinkChange, SinkHeld, SourceChange, SourceHeld, TellsSourceFault, Writes, WritesAll, WritesPrefix}
 use Rattle.ss_refusals.specs.Statuses.{no_memory_text, refusal_status, refusal_text}
 use Rattle.ss_refusals.proofs.CallerLemmas.{InputLaws, OfRefusal, ends_refused, fault_rose, refusal_told, leaves_so, memory_text_is, never, read_fault_text_is, silent_ends}
@@ -57,6 +57,7 @@ module _ (s : SourceChange) (w : SinkChange) where
     verdict_comes ReadFault told = absurd told
     verdict_comes Disk told = absurd told
     verdict_comes Foreign told = absurd told
+    verdict_comes OtherMode told = absurd told
     verdict_comes OtherCatalog told = absurd told
     verdict_comes Limit told = absurd told
 
@@ -73,6 +74,7 @@ module _ (s : SourceChange) (w : SinkChange) where
     refused_told WriteFault is reported = never e WriteFault is (λ of. of)
     refused_told Disk is reported = never e Disk is (λ of. of)
     refused_told Foreign is reported = never e Foreign is (λ of. of)
+    refused_told OtherMode is reported = never e OtherMode is (λ of. of)
     refused_told OtherCatalog is reported = never e OtherCatalog is (λ of. of)
     refused_told Limit is reported = never e Limit is (λ of. of)
 
@@ -86,6 +88,7 @@ module _ (s : SourceChange) (w : SinkChange) where
     refused_cause Disk is = tt
     refused_cause NoMemory is = tt
     refused_cause Foreign is = tt
+    refused_cause OtherMode is = tt
     refused_cause OtherCatalog is = tt
     refused_cause Limit is = tt
 

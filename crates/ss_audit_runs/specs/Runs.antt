@@ -6,6 +6,7 @@ use Rattle.ss_model.specs.declared.entry.Listed.{Listed}
 use Rattle.ss_model.specs.declared.entry.Request.{Request}
 use Rattle.ss_model.specs.Accepted.{Accepted}
 use Rattle.ss_model.specs.Database.{Database}
+use Rattle.ss_model.specs.Recovery.{Recovery}
 use Rattle.ss_cmdlog.specs.Store.{IsEmpty}
 use Rattle.ss_audit_laws.specs.Checks.{audited}
 use Rattle.ss_audit_laws.specs.Valid.{bytes_of, AreLines, IsValid}
@@ -24,10 +25,12 @@ pub record AnswersYes (catalog : Catalog) (requests : List Request) (lines : Lis
   pub yes : audited catalog requests lines end ≡ Ok (length list)
 
 module _ {D : Type 0} (disk_of : D → D → DiskChange) where
-  -- law: an audit answers yes of the lines of a whole run that began on an empty disk, where its report was printed so that it is read again
+  -- law: an audit answers yes of the lines of a whole run that began on an empty disk, on a strong store or a weak one, where its report was
+  -- printed so that it is read again
   abbrev pub WholeRunsAreRight : Type 0
   WholeRunsAreRight =
-      (every : Option ℕ) (limit : ℕ) (catalog : Catalog) → Accepted catalog → (requests : List Request) (opening : Database) (first : ℕ)
-      (list : List Listed) (text : List ℕ) (old new : D) → IsWholeRun every limit catalog requests opening first list text (disk_of old new) →
+      (recovery : Recovery) (every : Option ℕ) (limit : ℕ) (catalog : Catalog) → Accepted catalog → (requests : List Request) (opening : Database)
+      (first : ℕ) (list : List Listed) (text : List ℕ) (old new : D) →
+      IsWholeRun recovery every limit catalog requests opening first list text (disk_of old new) →
       (disk_of old new).tells → IsEmpty (disk_of old new).seen_before → IsReadableReport catalog requests opening first list text →
       (lines : List Line) (end : ℕ) → AreLinesOf text lines → AnswersYes catalog requests lines end list

@@ -8,8 +8,9 @@
 //! # Promises
 //!
 //! - A whole run that began on an empty disk, and printed its report, is answered yes by an audit of its lines, with as many
-//!   entries as its list has (`whole_runs_are_right`). So each report that a run prints there at status 0 is: its contract
-//!   says that the run is whole, and that each line was printed so that it is read as what it says.
+//!   entries as its list has, whether it made a strong store or a weak one (`whole_runs_are_right`). So each report that a
+//!   run prints there at status 0 is: its contract says that the run is whole, and that each line was printed so that it is
+//!   read as what it says.
 //!
 //! # Choices
 //!

@@ -10,6 +10,7 @@ pub mod Refused
 pub mod Split
 pub mod Logs
 pub mod Adding
+pub mod Passing
 pub mod Filled
 pub mod Formatted
 pub mod Renewed

@@ -7,6 +7,9 @@ use Rattle.byteorder.specs.Endian.{big_number}
 use Rattle.ss_lemmas.proofs.Bools.{chosen}
 use Rattle.ss_value.specs.declared.text.ValueError.{ValueError}
 use Rattle.ss_model.specs.declared.entry.Entry.{Entry}
+use Rattle.ss_model.specs.declared.entry.Entry.TheVariants.{Call, Push, Step}
+use Rattle.ss_model.specs.declared.entry.Mode.{Mode}
+use Rattle.ss_model.specs.declared.entry.Mode.TheVariants.{Strong, Weak}
 use Rattle.ss_record.specs.declared.record.RecordError.{RecordError}
 use Rattle.ss_record.specs.Numbers.{IsBytes, number_bytes}
 use Rattle.ss_record.specs.Spelling.{record_bytes, records}
@@ -14,6 +17,7 @@ use Rattle.ss_record.specs.Bounds.{IsRecordable, IsTyped}
 use Rattle.ss_record.specs.Reading.{number_at}
 use Rattle.ss_record.specs.Records.{record_at}
 use Rattle.ss_record.proofs.CallerLemmas.{IsTaken, record_takes, takes_number, respelled_4, respelled_8, rest_bytes_of}
+use Rattle.ss_cmdlog.specs.Logged.{is_logged, is_barred}
 use Rattle.ss_cmdlog.specs.Generation.{magic, Stood, IsStood, IsGroup, head_bytes, group_bytes, open_groups, front_bytes, max_body, Spells}
 use Rattle.ss_cmdlog.specs.Reading.{◌>>>◌, whole, magic_at, first_at, bytes_at, image_at, head_at, body_length_at, count_at, as_field, entry_at, group_entry_at, entries_at, group_at, gate_at, groups_at, stood_at, placed, generation_at}
 
@@ -50,20 +54,40 @@ barred_ok : {X : Type 0} (b : Bool) (x : Result X ℕ) (e : ℕ) (y : X) → con
 barred_ok true x e y h = cc
 barred_ok false x e y h = (refl, h)
 
-pub magic_spelled : number_bytes 8 (big_number 8 magic) ≡ magic
+pub magic_spelled : (mode : Mode) → number_bytes 8 (big_number 8 (magic mode)) ≡ magic mode
 unfolding number_bytes
-magic_spelled = refl
+magic_spelled Strong = refl
+magic_spelled Weak = refl
 
-magic_takes : (bytes rest : List ℕ) → IsBytes bytes → magic_at bytes ≡ Ok rest → (bytes ≡ magic ++ rest) × IsBytes rest
+abbrev told : Mode → List ℕ → Result (Mode × List ℕ) ℕ
+told mode rest = Ok (mode, rest)
+
+-- the magic of this mode stands in front
+magic_there : (bytes rest : List ℕ) (mode : Mode) (n : ℕ) (left : List ℕ) → IsBytes bytes → number_at 8 bytes ≡ valued n left → n ≡ big_number 8 (magic mode) → left ≡ rest → (bytes ≡ magic mode ++ rest) × IsBytes rest
+magic_there bytes rest mode n left are read is behind =
+    let takes = takes_number 8 respelled_8 bytes n left are read in
+    (takes.0 ∙ (λ k. number_bytes 8 (is k) ++ behind k) ∙ ap (λ (l : List ℕ). l ++ rest) (magic_spelled mode), subst IsBytes behind takes.1)
+
+magic_takes : (bytes : List ℕ) (mode : Mode) (rest : List ℕ) → IsBytes bytes → magic_at bytes ≡ told mode rest → (bytes ≡ magic mode ++ rest) × IsBytes rest
 unfolding magic_at
-magic_takes bytes rest are read =
-    let number = bind_ok (whole (number_at 8 bytes)) (λ n. if n.0 == big_number 8 magic then Ok n.1 else Err (length bytes)) rest read in
-    let parts = kept_ok (number.0.0 == big_number 8 magic) (Ok number.0.1) (length bytes) rest number.2 in
-    let takes = takes_number 8 respelled_8 bytes number.0.0 number.0.1 are (whole_ok (number_at 8 bytes) number.0.0 number.0.1 number.1) in
-    let same = parts.0 in
-    let is : number.0.0 ≡ big_number 8 magic = grind (arith, nat_tests) in
-    let behind : number.0.1 ≡ rest = (let h = parts.1 in cc) in
-    (takes.0 ∙ (λ k. number_bytes 8 (is k) ++ behind k) ∙ ap (λ (l : List ℕ). l ++ rest) magic_spelled, subst IsBytes behind takes.1)
+magic_takes bytes mode rest are read =
+    let number = bind_ok (whole (number_at 8 bytes)) (λ n. if n.0 == big_number 8 (magic Strong) then Ok (Strong, n.1) else if n.0 == big_number 8 (magic Weak) then Ok (Weak, n.1) else Err (length bytes)) (mode, rest) read in
+    let n = number.0.0 in
+    let left = number.0.1 in
+    let here = whole_ok (number_at 8 bytes) n left number.1 in
+    elim (chosen (n == big_number 8 (magic Strong)) (told Strong left) (if n == big_number 8 (magic Weak) then Ok (Weak, left) else Err (length bytes)) (told mode rest) number.2) [
+      | inl strong ↦
+          let both = ok_pair Strong mode left rest strong.1 in
+          let same = strong.0 in
+          let is : n ≡ big_number 8 (magic Strong) = grind (arith, nat_tests) in
+          magic_there bytes rest mode n left are here (is ∙ ap (λ m. big_number 8 (magic m)) both.0) both.1
+      | inr other ↦
+          let parts = kept_ok (n == big_number 8 (magic Weak)) (told Weak left) (length bytes) (mode, rest) other.1 in
+          let both = ok_pair Weak mode left rest parts.1 in
+          let same = parts.0 in
+          let is : n ≡ big_number 8 (magic Weak) = grind (arith, nat_tests) in
+          magic_there bytes rest mode n left are here (is ∙ ap (λ m. big_number 8 (magic m)) both.0) both.1
+    ]
 
 first_takes : (bytes : List ℕ) (x : ℕ) (rest : List ℕ) → IsBytes bytes → first_at bytes ≡ read_so x rest → (bytes ≡ number_bytes 8 x ++ rest) × IsBytes rest × (x ≤ 2 ^ 60)
 unfolding first_at
@@ -115,37 +139,51 @@ count_takes bytes x rest are read =
     let some : 0 < number.0.0 = grind (arith, nat_tests) in
     (takes.0 ∙ (λ k. number_bytes 4 (both.0 k) ++ both.1 k), subst IsBytes both.1 takes.1, subst (λ (n : ℕ). 0 < n) both.0 some)
 
-entry_takes : (bytes : List ℕ) (e : Entry) (rest : List ℕ) → IsBytes bytes → entry_at bytes ≡ read_so e rest → IsTaken bytes e rest
-unfolding entry_at
-entry_takes bytes e rest are read = record_takes bytes e rest are (as_field_ok bytes (record_at bytes) e rest read)
+-- a record that isn't barred is that of an entry which the log has
+unbarred : (mode : Mode) (e : Entry) (rest : List ℕ) → is_barred mode (record_bytes e ++ rest) ≡ false → is_logged mode e ≡ true
+unbarred Strong e rest free = refl
+unbarred Weak (Call client index q args) rest free = refl
+unbarred Weak (Push client index s source seq rows) rest free = refl
+unbarred Weak (Step q n) rest free = cc
 
-group_entry_takes : (more body total : ℕ) (bytes : List ℕ) (e : Entry) (rest : List ℕ) → IsBytes bytes → group_entry_at more body total bytes ≡ read_so e rest → IsTaken bytes e rest × (more ≡ 0 → body + length rest ≡ total)
+entry_takes : (mode : Mode) (bytes : List ℕ) (e : Entry) (rest : List ℕ) → IsBytes bytes → entry_at mode bytes ≡ read_so e rest → IsTaken bytes e rest × (is_logged mode e ≡ true)
+unfolding entry_at
+entry_takes mode bytes e rest are read =
+    let free = barred_ok (is_barred mode bytes) (as_field bytes (record_at bytes)) (length bytes) (e, rest) read in
+    let taken = record_takes bytes e rest are (as_field_ok bytes (record_at bytes) e rest free.1) in
+    (taken, unbarred mode e rest (ap (is_barred mode) (sym taken.0) ∙ free.0))
+
+group_entry_takes : (mode : Mode) (more body total : ℕ) (bytes : List ℕ) (e : Entry) (rest : List ℕ) → IsBytes bytes → group_entry_at mode more body total bytes ≡ read_so e rest
+    → IsTaken bytes e rest × (more ≡ 0 → body + length rest ≡ total) × (is_logged mode e ≡ true)
 unfolding group_entry_at
-group_entry_takes more body total bytes e rest are read =
-    let entry = bind_ok (entry_at bytes) (λ x. if more == 0 then (if body + length x.1 == total then Ok x else Err (length bytes)) else Ok x) (e, rest) read in
+group_entry_takes mode more body total bytes e rest are read =
+    let entry = bind_ok (entry_at mode bytes) (λ x. if more == 0 then (if body + length x.1 == total then Ok x else Err (length bytes)) else Ok x) (e, rest) read in
     elim (chosen (more == 0) (cond (body + length entry.0.1 == total) (read_so entry.0.0 entry.0.1) (Err (length bytes))) (read_so entry.0.0 entry.0.1) (Ok (e, rest)) entry.2) [
       | inl last ↦
           let parts = kept_ok (body + length entry.0.1 == total) (read_so entry.0.0 entry.0.1) (length bytes) (e, rest) last.1 in
           let both = ok_pair entry.0.0 e entry.0.1 rest parts.1 in
           let tied = parts.0 in
           let is : body + length entry.0.1 ≡ total = grind (arith, nat_tests) in
-          (entry_takes bytes e rest are (entry.1 ∙ (λ k. Ok (both.0 k, both.1 k))), λ none. ap (λ (l : List ℕ). body + length l) (sym both.1) ∙ is)
+          let one = entry_takes mode bytes e rest are (entry.1 ∙ (λ k. Ok (both.0 k, both.1 k))) in
+          (one.0, λ none. ap (λ (l : List ℕ). body + length l) (sym both.1) ∙ is, one.1)
       | inr not ↦
           let both = ok_pair entry.0.0 e entry.0.1 rest not.1 in
           let others = not.0 in
-          (entry_takes bytes e rest are (entry.1 ∙ (λ k. Ok (both.0 k, both.1 k))), λ none. grind (arith, nat_tests))
+          let one = entry_takes mode bytes e rest are (entry.1 ∙ (λ k. Ok (both.0 k, both.1 k))) in
+          (one.0, λ none. grind (arith, nat_tests), one.1)
     ]
 
-pub record AreTaken (more body total : ℕ) (bytes : List ℕ) (es : List Entry) (rest : List ℕ) : Type 0 where
+pub record AreTaken (mode : Mode) (more body total : ℕ) (bytes : List ℕ) (es : List Entry) (rest : List ℕ) : Type 0 where
   pub spelled : bytes ≡ records es ++ rest
   pub behind : IsBytes rest
   pub number : length es ≡ more
   pub recordable : All IsRecordable es
   pub typed : All IsTyped es
+  pub of_mode : All (λ (e : Entry). is_logged mode e ≡ true) es
   pub tied : 0 < more → body + length rest ≡ total
 
-entries_takes : (n body total : ℕ) (bytes : List ℕ) (es : List Entry) (rest : List ℕ) → IsBytes bytes → entries_at n body total bytes ≡ read_so es rest → AreTaken n body total bytes es rest
-entries_takes zero body total bytes es rest are read =
+entries_takes : (mode : Mode) (n body total : ℕ) (bytes : List ℕ) (es : List Entry) (rest : List ℕ) → IsBytes bytes → entries_at mode n body total bytes ≡ read_so es rest → AreTaken mode n body total bytes es rest
+entries_takes mode zero body total bytes es rest are read =
     let both = ok_pair [] es bytes rest read in
     record {
       spelled = both.1 ∙ ap (λ (l : List Entry). records l ++ rest) both.0;
@@ -153,43 +191,45 @@ entries_takes zero body total bytes es rest are read =
       number = ap length (sym both.0);
       recordable = subst (All IsRecordable) both.0 (All-nil IsRecordable);
       typed = subst (All IsTyped) both.0 (All-nil IsTyped);
+      of_mode = subst (All (λ (e : Entry). is_logged mode e ≡ true)) both.0 (All-nil (λ (e : Entry). is_logged mode e ≡ true));
       tied = λ some. absurd (omega arith);
     }
-entries_takes (suc n) body total bytes es rest are read =
-    let first = bind_ok (group_entry_at n body total bytes) (λ e. entries_at n body total e.1 >>> λ xs. Ok (e.0 ∷ xs.0, xs.1)) (es, rest) read in
-    let others = bind_ok (entries_at n body total first.0.1) (λ xs. Ok (first.0.0 ∷ xs.0, xs.1)) (es, rest) first.2 in
+entries_takes mode (suc n) body total bytes es rest are read =
+    let first = bind_ok (group_entry_at mode n body total bytes) (λ e. entries_at mode n body total e.1 >>> λ xs. Ok (e.0 ∷ xs.0, xs.1)) (es, rest) read in
+    let others = bind_ok (entries_at mode n body total first.0.1) (λ xs. Ok (first.0.0 ∷ xs.0, xs.1)) (es, rest) first.2 in
     let both = ok_pair (first.0.0 ∷ others.0.0) es others.0.1 rest others.2 in
-    let one = group_entry_takes n body total bytes first.0.0 first.0.1 are first.1 in
-    let more = entries_takes n body total first.0.1 others.0.0 others.0.1 one.0.1 others.1 in
+    let one = group_entry_takes mode n body total bytes first.0.0 first.0.1 are first.1 in
+    let more = entries_takes mode n body total first.0.1 others.0.0 others.0.1 one.0.1 others.1 in
     record {
       spelled = one.0.0 ∙ ap (λ (l : List ℕ). record_bytes first.0.0 ++ l) more.spelled ∙ sym (append_assoc (record_bytes first.0.0) (records others.0.0) others.0.1) ∙ (λ k. records (both.0 k) ++ both.1 k);
       behind = subst IsBytes both.1 more.behind;
       number = ap length (sym both.0) ∙ ap suc more.number;
       recordable = subst (All IsRecordable) both.0 (All-cons IsRecordable first.0.0 others.0.0 one.0.2 more.recordable);
       typed = subst (All IsTyped) both.0 (All-cons IsTyped first.0.0 others.0.0 one.0.3 more.typed);
+      of_mode = subst (All (λ (e : Entry). is_logged mode e ≡ true)) both.0 (All-cons (λ (e : Entry). is_logged mode e ≡ true) first.0.0 others.0.0 one.2 more.of_mode);
       tied = λ some. tied_on n body total first.0.1 others.0.0 others.0.1 rest both.1 one.1 others.1 more.tied;
     }
   where
-    tied_on : (n body total : ℕ) (after : List ℕ) (xs : List Entry) (behind rest : List ℕ) → behind ≡ rest → (n ≡ 0 → body + length after ≡ total) → entries_at n body total after ≡ read_so xs behind
+    tied_on : (n body total : ℕ) (after : List ℕ) (xs : List Entry) (behind rest : List ℕ) → behind ≡ rest → (n ≡ 0 → body + length after ≡ total) → entries_at mode n body total after ≡ read_so xs behind
         → (0 < n → body + length behind ≡ total) → body + length rest ≡ total
     tied_on zero body total after xs behind rest is last read tied = let both = ok_pair [] xs after behind read in ap (λ (l : List ℕ). body + length l) (sym (both.1 ∙ is)) ∙ last refl
     tied_on (suc n) body total after xs behind rest is last read tied = ap (λ (l : List ℕ). body + length l) (sym is) ∙ tied (omega arith)
 
-pub group_takes : (bytes : List ℕ) (es : List Entry) (rest : List ℕ) → IsBytes bytes → group_at bytes ≡ read_so es rest → (bytes ≡ group_bytes es ++ rest) × IsBytes rest × IsGroup es
+pub group_takes : (mode : Mode) (bytes : List ℕ) (es : List Entry) (rest : List ℕ) → IsBytes bytes → group_at mode bytes ≡ read_so es rest → (bytes ≡ group_bytes es ++ rest) × IsBytes rest × IsGroup mode es
 unfolding group_at group_bytes
-group_takes bytes es rest are read =
-    let body = bind_ok (body_length_at bytes) (λ b. count_at b.1 >>> λ c. entries_at c.0 b.0 (length c.1) c.1) (es, rest) read in
-    let count = bind_ok (count_at body.0.1) (λ c. entries_at c.0 body.0.0 (length c.1) c.1) (es, rest) body.2 in
+group_takes mode bytes es rest are read =
+    let body = bind_ok (body_length_at bytes) (λ b. count_at b.1 >>> λ c. entries_at mode c.0 b.0 (length c.1) c.1) (es, rest) read in
+    let count = bind_ok (count_at body.0.1) (λ c. entries_at mode c.0 body.0.0 (length c.1) c.1) (es, rest) body.2 in
     let size = body_length_takes bytes body.0.0 body.0.1 are body.1 in
     let number = count_takes body.0.1 count.0.0 count.0.1 size.1 count.1 in
-    let all = entries_takes count.0.0 body.0.0 (length count.0.1) count.0.1 es rest number.1 count.2 in
+    let all = entries_takes mode count.0.0 body.0.0 (length count.0.1) count.0.1 es rest number.1 count.2 in
     let tied = all.tied number.2 in
     let long : body.0.0 ≡ length (records es) = omega (arith, tied, ap length all.spelled, length-append (records es) rest) in
     let regroup : (number_bytes 4 (length (records es)) ++ number_bytes 4 (length es) ++ records es) ++ rest ≡ number_bytes 4 (length (records es)) ++ (number_bytes 4 (length es) ++ (records es ++ rest)) =
     group_regroup (number_bytes 4 (length (records es))) (number_bytes 4 (length es)) (records es) rest in (
       size.0 ∙ (λ k. number_bytes 4 (long k) ++ number.0 k) ∙ (λ k. number_bytes 4 (length (records es)) ++ (number_bytes 4 ((sym all.number) k) ++ all.spelled k)) ∙ sym regroup,
       all.behind,
-      record { some = omega (arith, all.number, number.2); short = omega (arith, long, size.2); recordable = all.recordable; typed = all.typed },
+      record { some = omega (arith, all.number, number.2); short = omega (arith, long, size.2); recordable = all.recordable; typed = all.typed; of_mode = all.of_mode },
     )
   where
     group_regroup : (a b c d : List ℕ) → (a ++ b ++ c) ++ d ≡ a ++ (b ++ (c ++ d))
@@ -207,52 +247,52 @@ pub record IsShut (bytes : List ℕ) : Type 0 where
   pub closed : gate ≢ 1
   pub is : bytes ≡ gate ∷ rest
 
-pub groups_takes : (n : ℕ) (bytes : List ℕ) (gs : List (List Entry)) (rest : List ℕ) → IsBytes bytes → groups_at n bytes ≡ read_so gs rest → (bytes ≡ open_groups gs ++ rest) × IsShut rest × All IsGroup gs
-groups_takes zero bytes gs rest are read = cc
-groups_takes (suc n) bytes gs rest are read =
-    let gate = bind_ok (gate_at bytes) (λ g. if g.0 == 1 then (group_at g.1 >>> λ x. groups_at n x.1 >>> λ xs. Ok (x.0 ∷ xs.0, xs.1)) else Ok ([], bytes)) (gs, rest) read in
+pub groups_takes : (mode : Mode) (n : ℕ) (bytes : List ℕ) (gs : List (List Entry)) (rest : List ℕ) → IsBytes bytes → groups_at mode n bytes ≡ read_so gs rest → (bytes ≡ open_groups gs ++ rest) × IsShut rest × All (IsGroup mode) gs
+groups_takes mode zero bytes gs rest are read = cc
+groups_takes mode (suc n) bytes gs rest are read =
+    let gate = bind_ok (gate_at bytes) (λ g. if g.0 == 1 then (group_at mode g.1 >>> λ x. groups_at mode n x.1 >>> λ xs. Ok (x.0 ∷ xs.0, xs.1)) else Ok ([], bytes)) (gs, rest) read in
     let byte = gate_takes bytes gate.0.0 gate.0.1 are gate.1 in
-    elim (chosen (gate.0.0 == 1) (group_at gate.0.1 >>> λ x. groups_at n x.1 >>> λ xs. Ok (x.0 ∷ xs.0, xs.1)) (Ok ([], bytes)) (Ok (gs, rest)) gate.2) [
+    elim (chosen (gate.0.0 == 1) (group_at mode gate.0.1 >>> λ x. groups_at mode n x.1 >>> λ xs. Ok (x.0 ∷ xs.0, xs.1)) (Ok ([], bytes)) (Ok (gs, rest)) gate.2) [
       | inl opened ↦
-          let group = bind_ok (group_at gate.0.1) (λ x. groups_at n x.1 >>> λ xs. Ok (x.0 ∷ xs.0, xs.1)) (gs, rest) opened.1 in
-          let others = bind_ok (groups_at n group.0.1) (λ xs. Ok (group.0.0 ∷ xs.0, xs.1)) (gs, rest) group.2 in
+          let group = bind_ok (group_at mode gate.0.1) (λ x. groups_at mode n x.1 >>> λ xs. Ok (x.0 ∷ xs.0, xs.1)) (gs, rest) opened.1 in
+          let others = bind_ok (groups_at mode n group.0.1) (λ xs. Ok (group.0.0 ∷ xs.0, xs.1)) (gs, rest) group.2 in
           let both = ok_pair (group.0.0 ∷ others.0.0) gs others.0.1 rest others.2 in
-          let one = group_takes gate.0.1 group.0.0 group.0.1 byte.1 group.1 in
-          let more = groups_takes n group.0.1 others.0.0 others.0.1 one.1 others.1 in
+          let one = group_takes mode gate.0.1 group.0.0 group.0.1 byte.1 group.1 in
+          let more = groups_takes mode n group.0.1 others.0.0 others.0.1 one.1 others.1 in
           let test = opened.0 in
           let is : gate.0.0 ≡ 1 = grind (arith, nat_tests) in (
             byte.0 ∙ (λ k. is k ∷ one.0 k) ∙ ap (λ (l : List ℕ). 1 ∷ (group_bytes group.0.0 ++ l)) more.0 ∙ ap (λ (l : List ℕ). 1 ∷ l) (sym (append_assoc (group_bytes group.0.0) (open_groups others.0.0) others.0.1))
                 ∙ (λ k. open_groups (both.0 k) ++ both.1 k),
             subst IsShut both.1 more.1,
-            subst (All IsGroup) both.0 (All-cons IsGroup group.0.0 others.0.0 one.2 more.2),
+            subst (All (IsGroup mode)) both.0 (All-cons (IsGroup mode) group.0.0 others.0.0 one.2 more.2),
           )
       | inr shut ↦
           let both = ok_pair [] gs bytes rest shut.1 in
           let test = shut.0 in (
             both.1 ∙ ap (λ (l : List (List Entry)). open_groups l ++ rest) both.0,
             record { gate = gate.0.0; rest = gate.0.1; closed = λ is. (let h : gate.0.0 ≡ 1 = is in grind (arith, nat_tests)); is = sym both.1 ∙ byte.0 },
-            subst (All IsGroup) both.0 (All-nil IsGroup),
+            subst (All (IsGroup mode)) both.0 (All-nil (IsGroup mode)),
           )
     ]
 
-pub record IsHead (bytes : List ℕ) (first : ℕ) (image rest : List ℕ) : Type 0 where
-  pub spelled : bytes ≡ head_bytes first image ++ rest
+pub record IsHead (bytes : List ℕ) (mode : Mode) (first : ℕ) (image rest : List ℕ) : Type 0 where
+  pub spelled : bytes ≡ head_bytes mode first image ++ rest
   pub behind : IsBytes rest
   pub place : first ≤ 2 ^ 60
   pub long : length image < 2 ^ 64
 
-pub head_takes : (bytes : List ℕ) (head : ℕ × List ℕ × List ℕ) → IsBytes bytes → head_at bytes ≡ Ok head → IsHead bytes head.0 head.1 head.2
+pub head_takes : (bytes : List ℕ) (head : Mode × ℕ × List ℕ × List ℕ) → IsBytes bytes → head_at bytes ≡ Ok head → IsHead bytes head.0 head.1 head.2 head.3
 unfolding head_at head_bytes
 head_takes bytes head are read =
-    let m = bind_ok (magic_at bytes) (λ rest. first_at rest >>> λ first. image_at first.1 >>> λ image. Ok (first.0, image.0, image.1)) head read in
-    let f = bind_ok (first_at m.0) (λ first. image_at first.1 >>> λ image. Ok (first.0, image.0, image.1)) head m.2 in
-    let i = bind_ok (image_at f.0.1) (λ image. Ok (f.0.0, image.0, image.1)) head f.2 in
-    let is : ◌≡◌ {A = ℕ × List ℕ × List ℕ} (f.0.0, i.0.0, i.0.1) head = (let h = i.2 in cc) in
-    let front = magic_takes bytes m.0 are m.1 in
-    let first = first_takes m.0 f.0.0 f.0.1 front.1 f.1 in
+    let m = bind_ok (magic_at bytes) (λ mode. first_at mode.1 >>> λ first. image_at first.1 >>> λ image. Ok (mode.0, first.0, image.0, image.1)) head read in
+    let f = bind_ok (first_at m.0.1) (λ first. image_at first.1 >>> λ image. Ok (m.0.0, first.0, image.0, image.1)) head m.2 in
+    let i = bind_ok (image_at f.0.1) (λ image. Ok (m.0.0, f.0.0, image.0, image.1)) head f.2 in
+    let is : ◌≡◌ {A = Mode × ℕ × List ℕ × List ℕ} (m.0.0, f.0.0, i.0.0, i.0.1) head = (let h = i.2 in cc) in
+    let front = magic_takes bytes m.0.0 m.0.1 are m.1 in
+    let first = first_takes m.0.1 f.0.0 f.0.1 front.1 f.1 in
     let image = image_takes f.0.1 i.0.0 i.0.1 first.1 i.1 in
-    subst (λ (h : ℕ × List ℕ × List ℕ). IsHead bytes h.0 h.1 h.2) is (record {
-      spelled = front.0 ∙ ap (λ (l : List ℕ). magic ++ l) (first.0 ∙ ap (λ (l : List ℕ). number_bytes 8 f.0.0 ++ l) image.0) ∙ sym (head_regroup magic (number_bytes 8 f.0.0) (number_bytes 8 (length i.0.0)) i.0.0 i.0.1);
+    subst (λ (h : Mode × ℕ × List ℕ × List ℕ). IsHead bytes h.0 h.1 h.2 h.3) is (record {
+      spelled = front.0 ∙ ap (λ (l : List ℕ). magic m.0.0 ++ l) (first.0 ∙ ap (λ (l : List ℕ). number_bytes 8 f.0.0 ++ l) image.0) ∙ sym (head_regroup (magic m.0.0) (number_bytes 8 f.0.0) (number_bytes 8 (length i.0.0)) i.0.0 i.0.1);
       behind = image.1;
       place = first.2;
       long = omega (arith, image.2);
@@ -269,16 +309,16 @@ pub record IsRead (bytes : List ℕ) (s : Stood) (rest : List ℕ) : Type 0 wher
 pub stood_takes : (bytes : List ℕ) (s : Stood) (rest : List ℕ) → IsBytes bytes → stood_at bytes ≡ read_so s rest → IsRead bytes s rest
 unfolding stood_at
 stood_takes bytes s rest are read =
-    let head = bind_ok (head_at bytes) (λ h. groups_at (length h.2) h.2 >>> λ gs. Ok (record { first = h.0; image = h.1; groups = gs.0 }, gs.1)) (s, rest) read in
-    let groups = bind_ok (groups_at (length head.0.2) head.0.2) (λ gs. Ok (record { first = head.0.0; image = head.0.1; groups = gs.0 }, gs.1)) (s, rest) head.2 in
-    let whole' : Stood = record { first = head.0.0; image = head.0.1; groups = groups.0.0 } in
+    let head = bind_ok (head_at bytes) (λ h. groups_at h.0 (length h.3) h.3 >>> λ gs. Ok (record { mode = h.0; first = h.1; image = h.2; groups = gs.0 }, gs.1)) (s, rest) read in
+    let groups = bind_ok (groups_at head.0.0 (length head.0.3) head.0.3) (λ gs. Ok (record { mode = head.0.0; first = head.0.1; image = head.0.2; groups = gs.0 }, gs.1)) (s, rest) head.2 in
+    let whole' : Stood = record { mode = head.0.0; first = head.0.1; image = head.0.2; groups = groups.0.0 } in
     let both = ok_pair whole' s groups.0.1 rest groups.2 in
     let front = head_takes bytes head.0 are head.1 in
-    let behind = groups_takes (length head.0.2) head.0.2 groups.0.0 groups.0.1 front.behind groups.1 in
+    let behind = groups_takes head.0.0 (length head.0.3) head.0.3 groups.0.0 groups.0.1 front.behind groups.1 in
     record {
       stood = subst IsStood both.0 (record { first = front.place; image = front.long; groups = behind.2 });
       shut = subst IsShut both.1 behind.1;
-      spelled = front.spelled ∙ ap (λ (l : List ℕ). head_bytes head.0.0 head.0.1 ++ l) behind.0 ∙ sym (append_assoc (head_bytes head.0.0 head.0.1) (open_groups groups.0.0) groups.0.1) ∙ (λ k. front_bytes (both.0 k) ++ both.1 k);
+      spelled = front.spelled ∙ ap (λ (l : List ℕ). head_bytes head.0.0 head.0.1 head.0.2 ++ l) behind.0 ∙ sym (append_assoc (head_bytes head.0.0 head.0.1 head.0.2) (open_groups groups.0.0) groups.0.1) ∙ (λ k. front_bytes (both.0 k) ++ both.1 k);
     }
 
 placed_ok : (total : ℕ) (r : Result (Stood × List ℕ) ℕ) (s : Stood) → placed total r ≡ Ok s → (rest : List ℕ) × (r ≡ read_so s rest)

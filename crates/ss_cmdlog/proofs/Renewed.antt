@@ -3,6 +3,7 @@ use Rattle.std.proofs.Common.{◌≡◌, ◌∙◌, ◌⊎◌, inl, inr, ⊎_eli
 use Rattle.std.proofs.lemmas.List.Elements.{All-nil}
 use Rattle.std.proofs.lemmas.List.{take_at}
 use Rattle.std.proofs.Math.ListN.{drop_of_length-le}
+use Rattle.ss_model.specs.declared.entry.Mode.{Mode}
 use Rattle.ss_disk.specs.declared.disk.FileNo.{FileNo}
 use Rattle.ss_disk.specs.declared.disk.FileNo.TheVariants.{Selector, First, Second}
 use Rattle.ss_disk.specs.Files.{Files, file, with_file, with_bytes_at}
@@ -10,13 +11,11 @@ use Rattle.ss_disk.specs.Crash.{After, InFile, Only, TornWrite}
 use Rattle.ss_disk.specs.Moments.{LeavesOnly}
 use Rattle.ss_disk.proofs.CallerLemmas.{runs_join, leaves_less}
 use Rattle.ss_cmdlog.specs.Generation.{Stood, IsStood, IsGroup, head_bytes, front_bytes}
-use Rattle.ss_cmdlog.specs.Store.{StandsFor, count_of, current_file}
-use Rattle.ss_cmdlog.specs.Formatting.{LeavesSome}
-use Rattle.ss_cmdlog.specs.Log.{IsOpenAt, HasAtLeast, KeepsReceipts, KeepsCounts}
+use Rattle.ss_cmdlog.specs.Store.{StandsFor, current_file}
+use Rattle.ss_cmdlog.specs.Log.{IsOpenAt}
 use Rattle.ss_cmdlog.specs.Renewing.{IsOtherwise, KeepsRest, other_file, renewed, selector_byte}
 use Rattle.ss_cmdlog.proofs.Filled.{at_end}
 use Rattle.ss_cmdlog.proofs.Formatted.{one_byte}
-use Rattle.ss_cmdlog.proofs.ReadAgain.{stands_for_one}
 use Rattle.ss_cmdlog.proofs.Torn.{after_only, own_file, open_stands}
 
 -- ---- bytes behind bytes
@@ -96,11 +95,11 @@ module _ (disk : Files) (current : FileNo) (gate : ℕ) (s : Stood) (at : IsOpen
       let otherwise : IsOtherwise (other_file current) disk image = (keeps.2.0, keeps.2.1 ∙ ap (with_file (other_file current) keeps.2.0) (only keeps.0 keeps.1)) in
       open_stands image current gate s (still_open image otherwise)
 
-renewed_stood : (place : ℕ) (image : List ℕ) → place ≤ 2 ^ 60 → length image < 2 ^ 64 → IsStood (renewed place image)
-renewed_stood place image small long = record { first = small; image = long; groups = All-nil IsGroup }
+renewed_stood : (mode : Mode) (place : ℕ) (image : List ℕ) → place ≤ 2 ^ 60 → length image < 2 ^ 64 → IsStood (renewed mode place image)
+renewed_stood mode place image small long = record { first = small; image = long; groups = All-nil (IsGroup mode) }
 
-renewed_front : (place : ℕ) (image front bytes : List ℕ) → front ++ image ≡ head_bytes place image → bytes ≡ (front ++ image) ++ 0 ∷ [] → bytes ≡ front_bytes (renewed place image) ++ 0 ∷ []
-renewed_front place image front bytes head is = is ∙ ap (λ (l : List ℕ). l ++ 0 ∷ []) (head ∙ sym (append-nil (head_bytes place image)))
+renewed_front : (mode : Mode) (place : ℕ) (image front bytes : List ℕ) → front ++ image ≡ head_bytes mode place image → bytes ≡ (front ++ image) ++ 0 ∷ [] → bytes ≡ front_bytes (renewed mode place image) ++ 0 ∷ []
+renewed_front mode place image front bytes head is = is ∙ ap (λ (l : List ℕ). l ++ 0 ∷ []) (head ∙ sym (append-nil (head_bytes mode place image)))
 
 -- files of which one has s, and the other the next generation
 pub record HasBoth (disk : Files) (current : FileNo) (gate : ℕ) (s next : Stood) : Type 0 where
@@ -108,12 +107,12 @@ pub record HasBoth (disk : Files) (current : FileNo) (gate : ℕ) (s next : Stoo
   pub stood : IsStood next
   pub bytes : file (other_file current) disk ≡ front_bytes next ++ 0 ∷ []
 
-pub has_both : (old new : Files) (current : FileNo) (gate place : ℕ) (s : Stood) (front image : List ℕ) → IsOpenAt old current gate s → place ≤ 2 ^ 60 → length image < 2 ^ 64 → front ++ image ≡ head_bytes place image
-    → new ≡ with_file (other_file current) ((front ++ image) ++ 0 ∷ []) old → HasBoth new current gate s (renewed place image)
+pub has_both : (old new : Files) (current : FileNo) (gate place : ℕ) (s : Stood) (front image : List ℕ) → IsOpenAt old current gate s → place ≤ 2 ^ 60 → length image < 2 ^ 64 → front ++ image ≡ head_bytes s.mode place image
+    → new ≡ with_file (other_file current) ((front ++ image) ++ 0 ∷ []) old → HasBoth new current gate s (renewed s.mode place image)
 has_both old new current gate place s front image at small long head is = record {
   at = still_open old current gate s at new ((front ++ image) ++ 0 ∷ [], is);
-  stood = renewed_stood place image small long;
-  bytes = renewed_front place image front (file (other_file current) new) head (ap (λ (d : Files). file (other_file current) d) is ∙ own_file (other_file current) ((front ++ image) ++ 0 ∷ []) old);
+  stood = renewed_stood s.mode place image small long;
+  bytes = renewed_front s.mode place image front (file (other_file current) new) head (ap (λ (d : Files). file (other_file current) d) is ∙ own_file (other_file current) ((front ++ image) ++ 0 ∷ []) old);
 }
 
 module _ (disk : Files) (current : FileNo) (gate : ℕ) (s next : Stood) (both : HasBoth disk current gate s next) where
@@ -233,30 +232,3 @@ length_filled which old mid bytes is = sym (ap (λ (d : Files). length (file whi
 
 pub otherwise_filled : (which : FileNo) (old mid new : Files) (bytes : List ℕ) → mid ≡ with_file which bytes old → new ≡ mid → IsOtherwise which old new
 otherwise_filled which old mid new bytes one same = (bytes, same ∙ one)
-
--- what was receipted stays so while one generation takes the place of another that counts as many
-pub renew_keeps : {D : Type 0} (moment : D → ℕ) (images : D → ℕ → Files → Type 0) (old new : D) (s next : Stood) (n : ℕ) → n ≤ count_of s → n ≤ count_of next
-    → LeavesOnly moment images old new (λ image. StandsFor image s ⊎ StandsFor image next) → KeepsReceipts moment images n old new
-renew_keeps moment images old new s next n one other run =
-    leaves_less moment images old new _ _ run (λ image either. ⊎_elim
-    (λ (stands : StandsFor image s). (s, stands, one))
-    (λ (stands : StandsFor image next). (next, stands, other))
-    either)
-
--- a count that one of these images has is no more than the one that both generations have
-known_count : (s next : Stood) (image : Files) (n : ℕ) → count_of next ≡ count_of s → HasAtLeast n image → StandsFor image s ⊎ StandsFor image next → n ≤ count_of s
-known_count s next image n same has either = ⊎_elim
-    (λ (stands : StandsFor image s). subst (λ (t : Stood). n ≤ count_of t) (stands_for_one image has.0 s has.1 stands) has.2)
-    (λ (stands : StandsFor image next). subst (λ (k : ℕ). n ≤ k) same (subst (λ (t : Stood). n ≤ count_of t) (stands_for_one image has.0 next has.1 stands) has.2))
-    either
-
--- a count that stands at one of its moments, at each of which a crash leaves something, stands at the later ones
-pub renew_stays : {D : Type 0} (moment : D → ℕ) (images : D → ℕ → Files → Type 0) (old new : D) (s next : Stood) → count_of next ≡ count_of s
-    → LeavesOnly moment images old new (λ image. StandsFor image s ⊎ StandsFor image next) → LeavesSome moment images (moment old) new → KeepsCounts moment images (moment old) new
-renew_stays moment images old new s next same run some n t u a b c each image left =
-    let there = some t a (omega (arith, b, c)) in
-    let le : n ≤ count_of s = known_count s next there.0 n same (each there.0 there.1) (run.each t there.0 a (omega (arith, b, c)) there.1) in
-    ⊎_elim
-    (λ (stands : StandsFor image s). (s, stands, le))
-    (λ (stands : StandsFor image next). (next, stands, omega (arith, le, same)))
-    (run.each u image (omega (arith, a, b)) c left)

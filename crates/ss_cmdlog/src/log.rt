@@ -1,13 +1,13 @@
 //! The log.
 
-ghost use Rattle.std.specs.Prelude.{◌≡◌, ◌≤◌, ◌<◌, ◌+◌, ◌^◌, List, [], length, None, OnOk, OnErr, IsOk, IfOk, IfErr, IsErrOf, All, ℕ};
+ghost use Rattle.std.specs.Prelude.{◌≡◌, ◌≤◌, ◌<◌, ◌+◌, ◌^◌, List, [], ◌∷◌, length, None, OnOk, OnErr, IsOk, IfOk, IfErr, IsErrOf, All, ℕ};
 ghost use Rattle.ss_model.specs.declared.entry.Entry.{Entry};
 ghost use Rattle.ss_record.specs.Spelling.{records};
 
 use crate::group::add_group;
-use crate::next::{behind_gate, next_group};
+use crate::next::{NextGroup, behind_gate, next_group};
 use ss_disk::{Disk, DiskError, FileNo};
-use ss_model::Entry;
+use ss_model::{Entry, Mode};
 use ss_value::{NoMemory, Seq};
 use std::alloc::Global;
 
@@ -63,6 +63,7 @@ impl From<DiskError> for LogError {
 pub struct CmdLog<D: Disk> {
     pub(crate) disk: D,
     pub(crate) alloc: Global,
+    pub(crate) mode: Mode,
     pub(crate) file: FileNo,
     pub(crate) gate: u64,
     pub(crate) first: u64,
@@ -74,21 +75,26 @@ impl<D: Disk> CmdLog<D> {
     ghost use Rattle.ss_cmdlog.specs.Generation.{Stood, IsGroup, max_body};
     ghost use Rattle.ss_record.specs.Bounds.{IsRecordable};
     ghost use Rattle.ss_disk.specs.Kinds.{present};
-    ghost use Rattle.ss_cmdlog.specs.Log.{IsOpenAt, IsOpen, AddsGroup, AddsEntries, HasLogCause, IsAddRefusal, IsReceipted, KeepsReceipts, KeepsCounts};
+    ghost use Rattle.ss_cmdlog.specs.Groups.{as_group};
+    ghost use Rattle.ss_cmdlog.specs.Logged.{logged};
+    ghost use Rattle.ss_cmdlog.specs.Store.{count_of};
+    ghost use Rattle.ss_cmdlog.specs.Log.{IsOpenAt, IsOpen, AddsGroups, AddsEntries, HasRecords, HasLogCause, IsAddRefusal, IsReceipted, KeepsCounts};
 
-    /// Adds the group of these records.
-    pub(crate) fn write_group(&mut self, body: &[u8], number: usize) -> Result<(), LogError>
+    /// Adds the group of these records, which is for so many entries.
+    fn write_group(&mut self, body: &[u8], number: usize, taken: usize) -> Result<(), LogError>
         requires going { self.old.halted ≡ None }
         requires open { D.kind.tells → (s : Stood) × IsOpenAt (D.kind.seen self.old.disk) self.old.file self.old.gate s }
         requires body { length body.now ≤ max_body }
         requires number { number ≤ max_body }
-        requires within { self.old.count + number ≤ 2 ^ 60 }
-        ensures adds { (s : Stood) (entries : List Entry) → IsOpen D.kind self.old s → IsGroup entries
-            → body.now ≡ records entries → number ≡ length entries → AddsGroup D.kind self.old self.new result s entries }
-        ensures count { OnOk result (self.new.count ≡ self.old.count + number) }
+        requires recorded { HasRecords self.old.mode number taken }
+        requires within { self.old.count + taken ≤ 2 ^ 60 }
+        ensures adds { (s : Stood) (entries : List Entry) → IsOpen D.kind self.old s → IsGroup self.old.mode entries
+            → body.now ≡ records entries → number ≡ length entries → AddsGroups D.kind self.old self.new result s (entries ∷ []) }
+        ensures count { OnOk result (self.new.count ≡ self.old.count + taken) }
         ensures uncounted { OnErr result (self.new.count ≡ self.old.count) }
         ensures refusals { IfErr result IsAddRefusal }
         ensures cause { HasLogCause (D.kind.faults self.old.disk) (D.kind.faults self.new.disk) self.old.halted self.new.halted result }
+        ensures same { self.new.mode ≡ self.old.mode }
     {
         let bytes = behind_gate(self.alloc, body, number)?;
         let Some(gate) = self.gate.checked_add(bytes.len() as u64) else {
@@ -97,7 +103,7 @@ impl<D: Disk> CmdLog<D> {
         match add_group(&mut self.disk, self.file, self.gate, bytes.as_slice()) {
             Ok(()) => {
                 self.gate = gate;
-                self.count += number as u64;
+                self.count += taken as u64;
                 Ok(())
             }
             Err(DiskError::NoMemory) => Err(LogError::NoMemory),
@@ -106,6 +112,31 @@ impl<D: Disk> CmdLog<D> {
                 Err(LogError::DiskFault)
             }
         }
+    }
+
+    /// Adds the next group, and counts the entries that were taken for it. Where there is no record the disk isn't called.
+    fn write_next(&mut self, next: &NextGroup) -> Result<(), LogError>
+        requires going { self.old.halted ≡ None }
+        requires open { D.kind.tells → (s : Stood) × IsOpenAt (D.kind.seen self.old.disk) self.old.file self.old.gate s }
+        requires body { length next.now.body.items ≤ max_body }
+        requires number { next.now.records ≤ max_body }
+        requires recorded { HasRecords self.old.mode next.now.records next.now.taken }
+        requires within { self.old.count + next.now.taken ≤ 2 ^ 60 }
+        ensures adds { (s : Stood) (entries : List Entry) → IsOpen D.kind self.old s
+            → (0 < length entries → IsGroup self.old.mode entries) → next.now.body.items ≡ records entries → next.now.records ≡ length entries
+            → AddsGroups D.kind self.old self.new result s (as_group entries) }
+        ensures count { OnOk result (self.new.count ≡ self.old.count + next.now.taken) }
+        ensures uncounted { OnErr result (self.new.count ≡ self.old.count) }
+        ensures refusals { IfErr result IsAddRefusal }
+        ensures cause { HasLogCause (D.kind.faults self.old.disk) (D.kind.faults self.new.disk) self.old.halted self.new.halted result }
+        ensures same { self.new.mode ≡ self.old.mode }
+        ensures quiet { next.now.records ≡ 0 → self.new.disk ≡ self.old.disk }
+    {
+        if next.records == 0 {
+            self.count += next.taken as u64;
+            return Ok(());
+        }
+        self.write_group(next.body.as_slice(), next.records, next.taken)
     }
 
     /// Adds entries, group by group.
@@ -120,13 +151,15 @@ impl<D: Disk> CmdLog<D> {
         ensures between { (self.old.count ≤ self.new.count) × (self.new.count ≤ self.old.count + length entries.now) }
         ensures cause { HasLogCause (D.kind.faults self.old.disk) (D.kind.faults self.new.disk) self.old.halted self.new.halted result }
         ensures refusals { IfErr result IsAddRefusal }
+        ensures same { self.new.mode ≡ self.old.mode }
         ensures nothing { entries.now ≡ [] → self.new ≡ self.old }
+        ensures quiet { logged self.old.mode entries.now ≡ [] → self.new.disk ≡ self.old.disk }
     {
         let mut rest = entries;
         while !rest.is_empty() {
-            let next = next_group(self.alloc, rest)?;
-            self.write_group(next.body.as_slice(), next.number)?;
-            let (_, behind) = rest.split_at(next.number);
+            let next = next_group(self.alloc, self.mode, rest)?;
+            self.write_next(&next)?;
+            let (_, behind) = rest.split_at(next.taken);
             rest = behind;
         }
         Ok(())
@@ -141,8 +174,9 @@ impl<D: Disk> CmdLog<D> {
     /// that are on the disk. `DiskFault` comes exactly where the disk counted a fault; the log answers `Halted` with that count
     /// from then on, and touches the disk no more.
     ///
-    /// No entries are a receipt of what is there, without a call on the disk. Else there are four calls of the disk for
-    /// each group: its bytes behind the present gate, a sync, the gate, a sync. Time is linear in the bytes of the records,
+    /// A weak log has no steps, which run again where it is recovered: of the entries it writes the calls and pushes alone, and
+    /// the receipt counts them all. Where there is nothing to write the disk isn't called, and nothing is spelled. Else there are
+    /// four calls of the disk for each group: its bytes behind the present gate, a sync, the gate, a sync. Time is linear in the bytes of the records,
     /// each of which is spelled into a buffer of its own and copied into its group, and with it once more behind the
     /// group's head; the entry that begins the next group is spelled twice.
     pub fn flush(&mut self, entries: &Seq<Entry>) -> Result<Receipt, LogError>
@@ -154,14 +188,14 @@ impl<D: Disk> CmdLog<D> {
         ensures count { IfOk result (λ receipt. (receipt.count ≡ self.old.count + length entries.now) × (self.new.count ≡ receipt.count)) }
         ensures between { (self.old.count ≤ self.new.count) × (self.new.count ≤ self.old.count + length entries.now) }
         ensures cause { HasLogCause (D.kind.faults self.old.disk) (D.kind.faults self.new.disk) self.old.halted self.new.halted result }
-        ensures receipt { D.kind.honest → IfOk result (λ receipt. IsReceipted (present D.kind) receipt.count self.new.disk) }
-        ensures receipts { D.kind.honest → (n : ℕ) → n ≤ self.old.count → IsReceipted (present D.kind) n self.old.disk
-            → KeepsReceipts D.kind.moment D.kind.images n self.old.disk self.new.disk }
+        ensures receipt { self.old.mode ≡ Mode.Strong → D.kind.honest → IfOk result (λ receipt. IsReceipted (present D.kind) receipt.count self.new.disk) }
         ensures stays { D.kind.honest → KeepsCounts D.kind.moment D.kind.images (D.kind.moment self.old.disk) self.new.disk }
         ensures halted { (faults : ℕ) → self.old.halted ≡ Some faults → (result ≡ Err (LogError.Halted faults)) × (self.new ≡ self.old) }
         ensures halted_only { (faults : ℕ) → result ≡ Err (LogError.Halted faults) → self.old.halted ≡ Some faults }
         ensures own { (file at : ℕ) → result ≡ Err (LogError.Foreign file at) → ⊥ }
+        ensures same { self.new.mode ≡ self.old.mode }
         ensures nothing { entries.now ≡ [] → self.new ≡ self.old }
+        ensures quiet { logged self.old.mode entries.now ≡ [] → self.new.disk ≡ self.old.disk }
     {
         if let Some(faults) = self.halted {
             return Err(LogError::Halted { faults });
@@ -177,7 +211,29 @@ impl<D: Disk> CmdLog<D> {
         self.first
     }
 
-    /// How many executions the log has: those of its image, and the entries behind it. While it isn't halted that is the count
+    /// The mode of the store. Takes no memory.
+    pub fn mode(&self) -> Mode
+        ensures { result ≡ self.now.mode }
+    {
+        self.mode
+    }
+
+    /// Counts from here: of a weak log, how many executions it was recovered to, with the steps that ran again. Takes no memory.
+    ///
+    /// The log was opened, and nothing was flushed since: it counts its entries so far, and later receipts count from this.
+    pub fn rebase(&mut self, count: u64)
+        requires weak { self.old.mode ≡ Mode.Weak }
+        requires fresh { D.kind.tells → (s : Stood) × IsOpen D.kind self.old s × (self.old.count ≡ count_of s) }
+        requires no_less { self.old.count ≤ count }
+        requires few { count ≤ 2 ^ 60 }
+        ensures open { (s : Stood) → IsOpen D.kind self.old s → IsOpen D.kind self.new s }
+        ensures count { self.new.count ≡ count }
+        ensures rest { self.new ≡ record self.old { count = count } }
+    {
+        self.count = count;
+    }
+
+    /// How many executions the log has: those of its image, and those behind it. While it isn't halted that is the count
     /// of a receipt of all of them.
     pub fn count(&self) -> u64
         ensures { result ≡ self.now.count }

@@ -12,13 +12,14 @@ use crate::contents::{bytes_of, selector_of};
 use crate::log::{CmdLog, LogError};
 use crate::read::{Generation, ReadError, generation_in};
 use ss_disk::{Disk, FileNo};
-use ss_model::Entry;
+use ss_model::{Entry, Mode};
 use ss_value::Seq;
 use std::alloc::Global;
 
-/// What a store holds: the image, the place behind it, the entries from there on, and how many each group has of them.
+/// What a store holds: its mode, the image, the place behind it, the entries from there on, and how many each group has of them.
 #[derive(Drop)]
 pub struct Loaded {
+    pub mode: Mode,
     pub first: u64,
     pub image: Seq<u8>,
     pub entries: Seq<Entry>,
@@ -102,12 +103,13 @@ impl<D: Disk> CmdLog<D> {
     ghost use Rattle.ss_cmdlog.specs.Log.{IsOpen};
     ghost use Rattle.ss_cmdlog.specs.Opening.{IsOpenRefusal, IsForeignAt, StandForLoaded};
 
-    /// Opens the store on a disk that isn't empty, and gives what it holds.
+    /// Opens the store on a disk that isn't empty, and gives what it holds, of either mode.
     ///
     /// It begins with a sync, and then reads: there are five calls of the disk, none of which changes it. A read gives what it
     /// gave, and a crash at any moment leaves what it could leave before, and no more than at the moments between. `Foreign` tells the first byte that can't be, where the image is taken as
     /// bytes; `DiskFault` comes exactly where the disk counted a fault. Time is linear in the current file, which is read whole
     /// into one buffer; the image is copied out of it, and each entry.
+    #[tactic(auto, using(crate::proofs::Logs::counts_read))]
     pub fn open(alloc: Global, mut disk: D) -> Result<(CmdLog<D>, Loaded), (LogError, D)>
         requires stored { D.kind.tells → (D.kind.seen disk).selector ≢ [] }
         ensures open { IfOk result (λ r. (s : Stood) × (D.kind.tells → store_at (D.kind.seen disk) ≡ Ok s)
@@ -136,6 +138,7 @@ impl<D: Disk> CmdLog<D> {
                 let log = CmdLog {
                     disk,
                     alloc,
+                    mode: loaded.mode,
                     file,
                     gate: gate as u64,
                     first: loaded.first,

@@ -12,9 +12,10 @@ ghost use Rattle.ss_cmdlog.specs.Formatting.{LeavesSome};
 ghost use Rattle.ss_cmdlog.specs.Log.{IsOpenAt, IsSettled};
 ghost use Rattle.ss_cmdlog.specs.Renewing.{IsOtherwise, KeepsRest, other_file, renewed, selector_byte};
 
-use crate::format::MAGIC;
+use crate::format::magic_of;
 use crate::log::{CmdLog, LogError};
 use ss_disk::{Disk, DiskError, FileNo, write_synced};
+use ss_model::Mode;
 use ss_record::push_u64;
 use ss_value::NoMemory;
 use std::alloc::Global;
@@ -40,10 +41,11 @@ fn selector_byte(which: FileNo) -> u8
 }
 
 /// What stands in front of an image of this length.
-fn front(alloc: Global, first: u64, image: u64) -> Result<Vec<u8>, NoMemory>
-    ensures { IfOk result (λ bytes. bytes.items ≡ magic ++ number_bytes 8 first ++ number_bytes 8 image) }
+fn front(alloc: Global, mode: Mode, first: u64, image: u64) -> Result<Vec<u8>, NoMemory>
+    ensures { IfOk result (λ bytes. bytes.items ≡ magic mode ++ number_bytes 8 first ++ number_bytes 8 image) }
 {
-    let mut bytes = Vec::from_slice(alloc, &MAGIC)?;
+    let magic = magic_of(mode);
+    let mut bytes = Vec::from_slice(alloc, &magic)?;
     push_u64(&mut bytes, first)?;
     push_u64(&mut bytes, image)?;
     Ok(bytes)
@@ -125,12 +127,12 @@ fn switch<D: Disk>(
     requires fits { length front.now + length image.now < 2 ^ 64 }
     requires open { D.kind.tells → (s : Stood) × (gate : ℕ) × IsOpenAt (D.kind.seen disk.old) current gate s }
     ensures switched { D.kind.tells → (s : Stood) (gate place : ℕ) → IsOpenAt (D.kind.seen disk.old) current gate s → place ≤ 2 ^ 60
-        → front.now ++ image.now ≡ head_bytes place image.now
-        → OnOk result (IsOpenAt (D.kind.seen disk.new) (other_file current) (length front.now + length image.now) (renewed place image.now)) }
+        → front.now ++ image.now ≡ head_bytes s.mode place image.now
+        → OnOk result (IsOpenAt (D.kind.seen disk.new) (other_file current) (length front.now + length image.now) (renewed s.mode place image.now)) }
     ensures durable { D.kind.honest → OnOk result (IsSettled D.kind disk.new) }
     ensures moments { D.kind.honest → (s : Stood) (gate place : ℕ) → IsOpenAt (D.kind.seen disk.old) current gate s → place ≤ 2 ^ 60
-        → front.now ++ image.now ≡ head_bytes place image.now → IsSettled D.kind disk.old
-        → LeavesOnly D.kind.moment D.kind.images disk.old disk.new (λ crashed. StandsFor crashed s ⊎ StandsFor crashed (renewed place image.now)) }
+        → front.now ++ image.now ≡ head_bytes s.mode place image.now → IsSettled D.kind disk.old
+        → LeavesOnly D.kind.moment D.kind.images disk.old disk.new (λ crashed. StandsFor crashed s ⊎ StandsFor crashed (renewed s.mode place image.now)) }
     ensures some { D.kind.honest → LeavesSome D.kind.moment D.kind.images (D.kind.moment disk.old) disk.new }
     ensures kept { D.kind.tells → (s : Stood) (gate : ℕ) → IsOpenAt (D.kind.seen disk.old) current gate s → IsErrOf result DiskError.NoMemory
         → IsOpenAt (D.kind.seen disk.new) current gate s }
@@ -144,14 +146,15 @@ fn switch<D: Disk>(
 
 impl<D: Disk> CmdLog<D> {
     ghost use Rattle.std.specs.Prelude.{None, Some, Err, OnErr};
-    ghost use Rattle.ss_cmdlog.specs.Log.{IsOpen, HasLogCause, IsReceipted, KeepsReceipts, KeepsCounts};
+    ghost use Rattle.ss_cmdlog.specs.Log.{IsOpen, HasLogCause};
     ghost use Rattle.ss_cmdlog.specs.Renewing.{Renews};
 
-    /// Puts a generation with this image, at the place of all that the log has, in place of the current one: a checkpoint.
+    /// Puts a generation with this image, at the place of all that the log has, in place of the current one, in the same mode: a
+    /// checkpoint.
     ///
     /// The new generation is written into the other file and synced; then the selector names that file, and is synced. A
-    /// crash at any moment leaves the generation that there was, with all its groups, or the new one, whatever byte the
-    /// selector holds. After `NoMemory` the log goes on with the generation that there was. `DiskFault` comes exactly where the
+    /// crash at any moment leaves something (`some`): the generation that there was, with all its groups, or the new one, whatever
+    /// byte the selector holds. After `NoMemory` the log goes on with the generation that there was. `DiskFault` comes exactly where the
     /// disk counted a fault; the log answers `Halted` with that count from then on, and touches the disk no more.
     ///
     /// There are seven calls of the disk. Time is linear in the image, which is written from where it is: no copy is made.
@@ -160,14 +163,13 @@ impl<D: Disk> CmdLog<D> {
         requires place { self.old.halted ≡ None → place ≡ self.old.count }
         requires small { place ≤ 2 ^ 60 }
         ensures renews { (s : Stood) → IsOpen D.kind self.old s
-            → Renews D.kind self.old self.new result s (renewed place image.now) }
+            → Renews D.kind self.old self.new result s (renewed s.mode place image.now) }
         ensures first { OnOk result (self.new.first ≡ place) }
         ensures first_stays { OnErr result (self.new.first ≡ self.old.first) }
         ensures count { self.new.count ≡ self.old.count }
+        ensures same { self.new.mode ≡ self.old.mode }
         ensures cause { HasLogCause (D.kind.faults self.old.disk) (D.kind.faults self.new.disk) self.old.halted self.new.halted result }
-        ensures receipts { D.kind.honest → (n : ℕ) → n ≤ self.old.count → IsReceipted (present D.kind) n self.old.disk
-            → KeepsReceipts D.kind.moment D.kind.images n self.old.disk self.new.disk }
-        ensures stays { D.kind.honest → KeepsCounts D.kind.moment D.kind.images (D.kind.moment self.old.disk) self.new.disk }
+        ensures some { D.kind.honest → LeavesSome D.kind.moment D.kind.images (D.kind.moment self.old.disk) self.new.disk }
         ensures halted { (faults : ℕ) → self.old.halted ≡ Some faults → (result ≡ Err (LogError.Halted faults)) × (self.new ≡ self.old) }
         ensures halted_only { (faults : ℕ) → result ≡ Err (LogError.Halted faults) → self.old.halted ≡ Some faults }
         ensures own { (file at : ℕ) → result ≡ Err (LogError.Foreign file at) → ⊥ }
@@ -175,7 +177,7 @@ impl<D: Disk> CmdLog<D> {
         if let Some(faults) = self.halted {
             return Err(LogError::Halted { faults });
         }
-        let front = front(self.alloc, place, image.len() as u64)?;
+        let front = front(self.alloc, self.mode, place, image.len() as u64)?;
         let Some(gate) = front.len().checked_add(image.len()) else {
             return Err(LogError::NoMemory);
         };

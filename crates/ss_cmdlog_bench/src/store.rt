@@ -7,7 +7,7 @@ ghost use Rattle.ss_cmdlog.specs.Log.{IsSettled};
 
 use ss_cmdlog::{CmdLog, LogError};
 use ss_disk::{Disk, FileNo};
-use ss_model::Entry;
+use ss_model::{Entry, Mode};
 use ss_value::{NoMemory, Seq, Value};
 use std::alloc::Global;
 use std::io;
@@ -73,7 +73,7 @@ pub fn write_calls<D: Disk + Drop, C: Clock>(
     requires some { 0 < group }
     ensures { IfOk result (λ r. r.0 ≡ records) }
 {
-    let mut log = match CmdLog::format(alloc, disk, b"") {
+    let mut log = match CmdLog::format(alloc, disk, b"", Mode::Strong) {
         Ok(log) => log,
         Err((refused, _)) => return Err(error_of(refused)),
     };

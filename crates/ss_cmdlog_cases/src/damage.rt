@@ -2,6 +2,7 @@
 
 use crate::renewals::twice_renewed;
 use crate::stores::{answer_of as read_of, store_of_steps};
+use crate::weak::store_among_steps;
 use crate::words::{bytes_of, file_of, number_of};
 use ss_case_files::Wrong;
 use ss_disk::{Disk, FileNo, MemoryDisk};
@@ -56,6 +57,12 @@ fn read_behind(alloc: Global, disk: MemoryDisk, given: &str) -> Result<String, W
 /// What is read of a store of three steps behind an image of two bytes, to which was done what words say.
 pub fn answer_of(alloc: Global, given: &str) -> Result<String, Wrong> {
     let disk = store_of_steps(alloc)?;
+    read_behind(alloc, disk, given)
+}
+
+/// The same of a weak store of a call and a push, among steps.
+pub fn answer_of_weak(alloc: Global, given: &str) -> Result<String, Wrong> {
+    let disk = store_among_steps(alloc)?;
     read_behind(alloc, disk, given)
 }
 

@@ -9,7 +9,7 @@ use crate::words::{number_of, said};
 use ss_case_files::Wrong;
 use ss_cmdlog::{CmdLog, LogError, Receipt};
 use ss_disk::{Disk, MemoryDisk};
-use ss_model::Entry;
+use ss_model::{Entry, Mode};
 use ss_value::{NoMemory, Seq};
 use std::alloc::Global;
 
@@ -75,7 +75,8 @@ fn flushes_of(alloc: Global, entries: &Seq<Entry>, call: u64) -> Result<String, 
     requires three { length entries.now ≡ 3 }
 {
     let fails = one_call(alloc, call)?;
-    let Ok(mut log) = CmdLog::format(alloc, MemoryDisk::new(alloc, fails), &[7, 8]) else {
+    let Ok(mut log) = CmdLog::format(alloc, MemoryDisk::new(alloc, fails), &[7, 8], Mode::Strong)
+    else {
         return Err(Wrong::text(alloc, "no store"));
     };
     if log.flush(entries).is_err() {
@@ -115,7 +116,7 @@ fn not_so(
 pub fn opening_failing_at(alloc: Global, given: &str) -> Result<String, Wrong> {
     let call = number_of(alloc, given)?;
     let fails = one_call(alloc, call)?;
-    let log = match CmdLog::format(alloc, MemoryDisk::new(alloc, fails), &[7, 8]) {
+    let log = match CmdLog::format(alloc, MemoryDisk::new(alloc, fails), &[7, 8], Mode::Strong) {
         Ok(log) => log,
         Err((refused, disk)) => return not_so(alloc, "not made", refused, disk, call),
     };

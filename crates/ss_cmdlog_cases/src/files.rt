@@ -7,7 +7,7 @@ use crate::stores::store_with;
 use crate::words::file_of;
 use ss_case_files::Wrong;
 use ss_disk::{Disk, FileNo, MemoryDisk};
-use ss_model::Entry;
+use ss_model::{Entry, Mode};
 use ss_value::{Seq, Value, name_of, text_of};
 use std::alloc::Global;
 
@@ -46,7 +46,7 @@ fn push(alloc: Global) -> Result<Entry, Wrong>
 }
 
 /// Both of them, in one group.
-fn group(alloc: Global) -> Result<Seq<Entry>, Wrong>
+pub fn group(alloc: Global) -> Result<Seq<Entry>, Wrong>
     ensures recordable { IfOk result (λ entries. All IsRecordable entries) }
     ensures two { IfOk result (λ entries. length entries ≡ 2) }
 {
@@ -58,7 +58,7 @@ fn group(alloc: Global) -> Result<Seq<Entry>, Wrong>
 /// The store of that group behind an image of three bytes.
 fn store(alloc: Global) -> Result<MemoryDisk, Wrong> {
     let entries = group(alloc)?;
-    store_with(alloc, b"img", &entries)
+    store_with(alloc, Mode::Strong, b"img", &entries)
 }
 
 /// Bytes as two hexadecimal digits each.

@@ -14,6 +14,8 @@
 //! openings    CALL ~ STORY       the same of a store's making and its opening
 //! renewals    CALL ~ STORY       the same of a new generation and a flush behind it
 //! renewed     DAMAGE ~ ANSWER    what is read of a damaged store whose generation was renewed twice
+//! weak        DAMAGE ~ ANSWER    what is read of a damaged weak store of a call and a push, among steps
+//! left_out    CALL ~ STORY       what flushes to a weak log answer, where the disk fails at this call
 //! ```
 //!
 //! FILE is `selector`, `first` or `second`; bytes stand as two hexadecimal digits each, and `|` parts fields. What is read of a store is `empty`;
@@ -27,6 +29,7 @@
 //! - `files`: the bytes of one, as docs/FORMATS.md shows them; `damage`: bytes that can't be
 //! - `crashes`: a crash in each call; `faults`: a disk that fails in each call
 //! - `renewals`: new generations, and a disk that fails in each call of one
+//! - `weak`: weak logs, which leave steps out
 #![tactic(auto)]
 
 mod crashes;
@@ -36,6 +39,7 @@ mod files;
 mod records;
 mod renewals;
 mod stores;
+mod weak;
 mod words;
 
 use ss_case_files::{Behind, BlockForm, Case, Wrong, column, compare, run_files};
@@ -52,7 +56,9 @@ fn form_of(word: &str) -> Option<BlockForm> {
         | "flushes"
         | "openings"
         | "renewals"
-        | "renewed" => Some(BlockForm {
+        | "renewed"
+        | "weak"
+        | "left_out" => Some(BlockForm {
             behind: Behind::Nothing,
             has_rows: true,
         }),
@@ -70,6 +76,8 @@ fn answer_of(alloc: Global, kind: &str, given: &str) -> Result<String, Wrong> {
         "flushes" => faults::flushes_failing_at(alloc, given),
         "renewals" => renewals::renewal_failing_at(alloc, given),
         "renewed" => damage::answer_of_renewed(alloc, given),
+        "weak" => damage::answer_of_weak(alloc, given),
+        "left_out" => weak::flushes_failing_at(alloc, given),
         _ => faults::opening_failing_at(alloc, given),
     }
 }

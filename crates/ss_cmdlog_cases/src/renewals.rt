@@ -11,7 +11,7 @@ use crate::words::number_of;
 use ss_case_files::Wrong;
 use ss_cmdlog::{CmdLog, LogError, Receipt};
 use ss_disk::{Disk, MemoryDisk};
-use ss_model::Entry;
+use ss_model::{Entry, Mode};
 use ss_value::Seq;
 use std::alloc::Global;
 
@@ -45,7 +45,8 @@ fn renewal_of(alloc: Global, entries: &Seq<Entry>, call: u64) -> Result<String, 
     requires three { length entries.now ≡ 3 }
 {
     let fails = one_call(alloc, call)?;
-    let Ok(mut log) = CmdLog::format(alloc, MemoryDisk::new(alloc, fails), &[7, 8]) else {
+    let Ok(mut log) = CmdLog::format(alloc, MemoryDisk::new(alloc, fails), &[7, 8], Mode::Strong)
+    else {
         return Err(Wrong::text(alloc, "no store"));
     };
     let Ok(receipt) = log.flush(entries) else {
@@ -95,7 +96,8 @@ fn renewed_behind(alloc: Global, entries: &Seq<Entry>) -> Result<MemoryDisk, Wro
     requires recordable { All IsRecordable entries.now }
     requires three { length entries.now ≡ 3 }
 {
-    let Ok(mut log) = CmdLog::format(alloc, MemoryDisk::new(alloc, Seq::new(alloc)), &[7, 8]) else {
+    let disk = MemoryDisk::new(alloc, Seq::new(alloc));
+    let Ok(mut log) = CmdLog::format(alloc, disk, &[7, 8], Mode::Strong) else {
         return Err(Wrong::text(alloc, "no store"));
     };
     let Ok(()) = renew_behind(&mut log, entries, &[9]) else {

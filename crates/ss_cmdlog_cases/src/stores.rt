@@ -9,7 +9,7 @@ use crate::words::said;
 use ss_case_files::Wrong;
 use ss_cmdlog::{CmdLog, Loaded, LogError};
 use ss_disk::{Disk, FileNo, MemoryDisk};
-use ss_model::Entry;
+use ss_model::{Entry, Mode};
 use ss_value::Seq;
 use std::alloc::Global;
 
@@ -32,11 +32,17 @@ pub fn three_steps(alloc: Global) -> Result<Seq<Entry>, Wrong>
 }
 
 /// A store of one group behind this image, made in 11 calls: 7 of its making, 4 of a flush.
-pub fn store_with(alloc: Global, image: &[u8], group: &Seq<Entry>) -> Result<MemoryDisk, Wrong>
+pub fn store_with(
+    alloc: Global,
+    mode: Mode,
+    image: &[u8],
+    group: &Seq<Entry>,
+) -> Result<MemoryDisk, Wrong>
     requires recordable { All IsRecordable group.now }
     requires within { length group.now ≤ 2 ^ 60 }
 {
-    let Ok(mut log) = CmdLog::format(alloc, MemoryDisk::new(alloc, Seq::new(alloc)), image) else {
+    let disk = MemoryDisk::new(alloc, Seq::new(alloc));
+    let Ok(mut log) = CmdLog::format(alloc, disk, image, mode) else {
         return Err(Wrong::text(alloc, "no store"));
     };
     match log.flush(group) {
@@ -48,7 +54,7 @@ pub fn store_with(alloc: Global, image: &[u8], group: &Seq<Entry>) -> Result<Mem
 /// A store of three steps behind an image of two bytes.
 pub fn store_of_steps(alloc: Global) -> Result<MemoryDisk, Wrong> {
     let steps = three_steps(alloc)?;
-    store_with(alloc, &[7, 8], &steps)
+    store_with(alloc, Mode::Strong, &[7, 8], &steps)
 }
 
 /// What the opening of a store came to: its first place, and how many entries it has from there on; or what is wrong with it.

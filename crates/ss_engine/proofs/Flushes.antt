@@ -3,23 +3,23 @@ use Rattle.std.proofs.Common.{◌≡◌, ◌⊎◌, ℕ, ◌+◌, ◌^◌, ◌<�
 use Rattle.ss_disk.specs.Kinds.{DiskKind}
 use Rattle.ss_model.specs.declared.catalog.Catalog.{Catalog}
 use Rattle.ss_model.specs.declared.entry.Listed.{Listed}
+use Rattle.ss_model.specs.Recovery.{Recovery}
 use Rattle.ss_model.specs.declared.entry.Request.{Request}
 use Rattle.ss_model.specs.Database.{Database}
 use Rattle.ss_model.specs.Replays.{Replays, after}
 use Rattle.ss_shard.specs.declared.database.Database as shard
-use Rattle.ss_disk.specs.Files.{Files}
 use Rattle.ss_cmdlog.specs.declared.log.CmdLog.{CmdLog}
 use Rattle.ss_cmdlog.specs.declared.log.Receipt.{Receipt as ReceiptValue}
 use Rattle.ss_commitlog.specs.Meaning.{listed_of}
 use Rattle.ss_commitlog.specs.Tokens.{Known, known}
 use Rattle.ss_report_laws.specs.Replies.{answers_of, mine}
-use Rattle.ss_standing.specs.Standing.{StandsForAtLeast, StandsForFront}
+use Rattle.ss_fronts.proofs.CallerLemmas.{front_less}
 use Rattle.ss_receipts.specs.declared.durable.DurableError.{DurableError}
 use Rattle.ss_receipts.specs.declared.durable.DurableError.TheVariants.{NoMemory, DiskFault, Halted}
 use Rattle.ss_receipts.specs.Trimming.{HoldsAll, IsTrimmed, Trims}
 use Rattle.ss_receipts.specs.Durable.{Finishes, IsDurable}
 use Rattle.ss_receipts.specs.Holding.{Holds}
-use Rattle.ss_receipts.specs.Laws.{AllStands, HeldFrontsStand, HoldsGoOn}
+use Rattle.ss_receipts.specs.Laws.{HoldsGoOn}
 use Rattle.ss_receipts.specs.Past.{past_of}
 use Rattle.ss_receipts.proofs.CallerLemmas.{disk_since}
 use Rattle.ss_engine.specs.declared.session.close.Closed.{Closed}
@@ -47,15 +47,11 @@ run_on catalog db first limit clients requests starts count more faults later cl
   settled = run.settled;
 }
 
--- a front that ends at a place at least, ends so at each place before it
-front_less : (catalog : Catalog) (db : Database) (first : ℕ) (list : List Listed) (m n : ℕ) (image : Files) → m ≤ n → StandsForFront catalog db first list n image → StandsForFront catalog db first list m image
-front_less catalog db first list m n image less front = record { some = front.some; within = front.within; enough = (let e = front.enough in omega arith); stands = front.stands }
-
-module _ {D : Type 0} (kind : DiskKind D) (every : Option ℕ) (catalog : Catalog) (db : Database) (first opened before : ℕ) (past : ℕ → List (List ℕ) → Type 0) where
+module _ {D : Type 0} (kind : DiskKind D) (recovery : Recovery) (every : Option ℕ) (catalog : Catalog) (db : Database) (first opened before : ℕ) (past : ℕ → List (List ℕ) → Type 0) where
   -- a log that has all of a list, with the database that it leaves
   pub holds_with : (list : List Listed) (log : CmdLog D) (end fault : ℕ) (database : shard.Database) → end ≡ first + length list → first + length list ≤ 2 ^ 60 → Replays catalog db list
-      → IsLeftOver catalog (after catalog db list) database → Holds every catalog db first opened before past kind list log end fault
-      → HoldsAll every catalog db first opened before past kind list log end fault database.whole database.streams.streams
+      → IsLeftOver catalog (after catalog db list) database → Holds recovery every catalog db first opened before past kind list log end fault
+      → HoldsAll recovery every catalog db first opened before past kind list log end fault database.whole database.streams.streams
   holds_with list log end fault database is small replays left holds = record {
     end_is = is;
     small = (omega (arith, is, small));
@@ -65,8 +61,8 @@ module _ {D : Type 0} (kind : DiskKind D) (every : Option ℕ) (catalog : Catalo
   }
 
   -- the log was to begin near the end of a list, all of which it holds
-  module _ (list : List Listed) (receipt : ReceiptValue) (old_fault k : ℕ) (new : CmdLog D) (answer : Result (Unit {0}) DurableError) (t : Trims every catalog db first opened before past kind list new receipt.count old_fault k answer) where
-    pub trimmed_ok : (done : Unit {0}) → answer ≡ Ok done → every ≡ Some k → IsTrimmedTo kind every catalog db first opened before past list receipt old_fault new (Ok receipt)
+  module _ (list : List Listed) (receipt : ReceiptValue) (old_fault k : ℕ) (new : CmdLog D) (answer : Result (Unit {0}) DurableError) (t : Trims recovery every catalog db first opened before past kind list new receipt.count old_fault k answer) where
+    pub trimmed_ok : (done : Unit {0}) → answer ≡ Ok done → every ≡ Some k → IsTrimmedTo kind recovery every catalog db first opened before past list receipt old_fault new (Ok receipt)
     trimmed_ok done is asked =
         let near : receipt.count < new.first + k = subst (IsTrimmed receipt.count k t.later new) is t.answer in
         record {
@@ -80,7 +76,7 @@ module _ {D : Type 0} (kind : DiskKind D) (every : Option ℕ) (catalog : Catalo
         same_some : (a b : ℕ) → Some a ≡ Some b → a ≡ b
         same_some a b e = cc
 
-    pub trimmed_err : (refused : DurableError) → answer ≡ Err refused → IsTrimmedTo kind every catalog db first opened before past list receipt old_fault new (Err refused)
+    pub trimmed_err : (refused : DurableError) → answer ≡ Err refused → IsTrimmedTo kind recovery every catalog db first opened before past list receipt old_fault new (Err refused)
     trimmed_err refused is = record { fault = t.later; holds = t.holds; told = t.told; flushed = why refused (subst (IsTrimmed receipt.count k t.later new) is t.answer); near = λ ok. absurd (cc) }
       where
         why : (e : DurableError) → IsTrimmed receipt.count k t.later new (Err e) → IsDurable receipt.count receipt.count t.later (Err e)
@@ -88,7 +84,7 @@ module _ {D : Type 0} (kind : DiskKind D) (every : Option ℕ) (catalog : Catalo
         why DiskFault right = right
         why (Halted faults) right = right
 
-  module _ (closed : Closed) (log : CmdLog D) (old_count old_fault : ℕ) (answer : Result ReceiptValue DurableError) (f : Finishes every catalog db first opened before past kind closed.list log old_count old_fault answer) where
+  module _ (closed : Closed) (log : CmdLog D) (old_count old_fault : ℕ) (answer : Result ReceiptValue DurableError) (f : Finishes recovery every catalog db first opened before past kind closed.list log old_count old_fault answer) where
     -- where all is flushed, the receipt is of all
     pub all_flushed : (receipt : ReceiptValue) → answer ≡ Ok receipt → (receipt.count ≡ f.count) × (receipt.count ≡ first + length closed.list)
     all_flushed receipt is =
@@ -96,13 +92,13 @@ module _ {D : Type 0} (kind : DiskKind D) (every : Option ℕ) (catalog : Catalo
         (durable.1, (let a = durable.0 in let b = durable.1 in let w = f.holds.within in omega arith))
 
     -- the log holds all of it at the receipt
-    pub holds_all : (receipt : ReceiptValue) → answer ≡ Ok receipt → Holds every catalog db first opened before past kind closed.list log receipt.count f.fault
-    holds_all receipt is = subst (λ (n : ℕ). Holds every catalog db first opened before past kind closed.list log n f.fault) (sym (all_flushed receipt is).0) f.holds
+    pub holds_all : (receipt : ReceiptValue) → answer ≡ Ok receipt → Holds recovery every catalog db first opened before past kind closed.list log receipt.count f.fault
+    holds_all receipt is = subst (λ (n : ℕ). Holds recovery every catalog db first opened before past kind closed.list log n f.fault) (sym (all_flushed receipt is).0) f.holds
 
     -- all is flushed, and then the log was to begin near the end
     pub flushed_ok : (receipt : ReceiptValue) (new : CmdLog D) (flushed : Result ReceiptValue DurableError) → answer ≡ Ok receipt
-        → IsTrimmedTo kind every catalog db first opened before past closed.list receipt f.fault new flushed
-        → IsFlushed kind every catalog db first opened before past old_count old_fault (record { closed = closed; log = new; receipted = receipt.count; flushed = flushed })
+        → IsTrimmedTo kind recovery every catalog db first opened before past closed.list receipt f.fault new flushed
+        → IsFlushed kind recovery every catalog db first opened before past old_count old_fault (record { closed = closed; log = new; receipted = receipt.count; flushed = flushed })
     flushed_ok receipt new flushed is t =
         let all = all_flushed receipt is in
         record {
@@ -119,7 +115,7 @@ module _ {D : Type 0} (kind : DiskKind D) (every : Option ℕ) (catalog : Catalo
 
     -- not all is, and the count that had receipts has them
     pub flushed_err : (refused : DurableError) → answer ≡ Err refused
-        → IsFlushed kind every catalog db first opened before past old_count old_fault (record { closed = closed; log = log; receipted = old_count; flushed = Err refused })
+        → IsFlushed kind recovery every catalog db first opened before past old_count old_fault (record { closed = closed; log = log; receipted = old_count; flushed = Err refused })
     flushed_err refused is = record {
       count = f.count;
       fault = f.fault;
@@ -135,10 +131,9 @@ module _ {D : Type 0} (kind : DiskKind D) (every : Option ℕ) (catalog : Catalo
   -- the run that was flushed
   pub run_ends : (limit clients : ℕ) (requests : List Request) (starts : List ℕ) (closed : Closed) (old_count old_fault : ℕ) (ended : Finished D) → ended.closed ≡ closed → first ≤ old_count
       → IsRun catalog db first limit clients requests starts old_count old_fault closed
-      → IsFlushed kind every catalog db first opened before past old_count old_fault ended
-      → HeldFrontsStand D every catalog db first opened before past kind → AllStands D every catalog db first opened before past kind
-      → Ends kind every catalog db first limit clients opened before past requests starts ended
-  run_ends limit clients requests starts closed old_count old_fault ended same begun run flushed held all_held = record {
+      → IsFlushed kind recovery every catalog db first opened before past old_count old_fault ended
+      → Ends kind recovery every catalog db first limit clients opened before past requests starts ended
+  run_ends limit clients requests starts closed old_count old_fault ended same begun run flushed = record {
     count = flushed.count;
     fault = flushed.fault;
     run = run_on catalog db first limit clients requests starts old_count ended.receipted old_fault flushed.fault ended.closed flushed.more flushed.told
@@ -148,31 +143,27 @@ module _ {D : Type 0} (kind : DiskKind D) (every : Option ℕ) (catalog : Catalo
     within = flushed.within;
     flushed = flushed.flushed;
     near = flushed.near;
-    fronts = λ good image now. front_less catalog db first ended.closed.list ended.receipted flushed.count image flushed.within (held ended.closed.list ended.log flushed.count flushed.fault flushed.holds good image now);
-    all_stands = λ ok good image now. all_held ended.closed.list ended.log flushed.count flushed.fault flushed.holds good
-        (let a = flushed.all_receipted ok in let b = flushed.within in let w = flushed.holds.within in omega arith) image now;
+    fronts = λ good image now. front_less recovery catalog db first ended.closed.list ended.receipted flushed.count image flushed.within (flushed.holds.receipt good image now);
+    all_stands = λ ok good image now. front_less recovery catalog db first ended.closed.list (first + length ended.closed.list) flushed.count image
+        (let a = flushed.all_receipted ok in let b = flushed.within in omega arith) (flushed.holds.receipt good image now);
   }
 
 -- the same, where the past is that of the disk at the opening
-pub ends_on_disk : {D : Type 0} (kind : DiskKind D) (every : Option ℕ) (catalog : Catalog) (db : Database) (first limit clients : ℕ) (requests : List Request) (starts : List ℕ)
-    (old : CmdLog D) (ended : Finished D) → Ends kind every catalog db first limit clients (kind.moment old.disk) (kind.faults old.disk) (past_of kind.images old.disk) requests starts ended
-    → EndsOnDisk kind every catalog db first limit clients requests starts old ended
-ends_on_disk kind every catalog db first limit clients requests starts old ended ends = record {
+pub ends_on_disk : {D : Type 0} (kind : DiskKind D) (recovery : Recovery) (every : Option ℕ) (catalog : Catalog) (db : Database) (first limit clients : ℕ) (requests : List Request) (starts : List ℕ)
+    (old : CmdLog D) (ended : Finished D) → Ends kind recovery every catalog db first limit clients (kind.moment old.disk) (kind.faults old.disk) (past_of kind.images old.disk) requests starts ended
+    → EndsOnDisk kind recovery every catalog db first limit clients requests starts old ended
+ends_on_disk kind recovery every catalog db first limit clients requests starts old ended ends = record {
   ends = ends;
   crashes = λ good. disk_since kind.moment kind.images old.disk ended.log.disk _ (ends.holds.crashes good);
   stands_on = λ good. ends.holds.stands_on good;
-  receipt = λ good image now. fewer (ends.holds.receipt good image now);
   few_behind = λ client. few_from client first ended.receipted 16 ended.closed.list ends.begun (let a = ends.within in let b = ends.holds.within in omega arith) (ends.run.few_behind client);
 }
-  where
-    fewer : {image : Files} → StandsForAtLeast catalog ends.count image → StandsForAtLeast catalog ended.receipted image
-    fewer s = record { count = s.count; k = s.k; stands = s.stands; enough = (let e = s.enough in let w = ends.within in omega arith) }
 
-pub ends_if_ok : {D E : Type 0} (kind : DiskKind D) (every : Option ℕ) (catalog : Catalog) (db : Database) (first limit clients : ℕ) (requests : List Request) (starts : List ℕ)
-    (old : CmdLog D) (result : Result (Finished D) E) → IfOk result (Ends kind every catalog db first limit clients (kind.moment old.disk) (kind.faults old.disk) (past_of kind.images old.disk) requests starts)
-    → IfOk result (EndsOnDisk kind every catalog db first limit clients requests starts old)
-ends_if_ok kind every catalog db first limit clients requests starts old (Ok ended) ends = ends_on_disk kind every catalog db first limit clients requests starts old ended ends
-ends_if_ok kind every catalog db first limit clients requests starts old (Err e) ends = tt
+pub ends_if_ok : {D E : Type 0} (kind : DiskKind D) (recovery : Recovery) (every : Option ℕ) (catalog : Catalog) (db : Database) (first limit clients : ℕ) (requests : List Request) (starts : List ℕ)
+    (old : CmdLog D) (result : Result (Finished D) E) → IfOk result (Ends kind recovery every catalog db first limit clients (kind.moment old.disk) (kind.faults old.disk) (past_of kind.images old.disk) requests starts)
+    → IfOk result (EndsOnDisk kind recovery every catalog db first limit clients requests starts old)
+ends_if_ok kind recovery every catalog db first limit clients requests starts old (Ok ended) ends = ends_on_disk kind recovery every catalog db first limit clients requests starts old ended ends
+ends_if_ok kind recovery every catalog db first limit clients requests starts old (Err e) ends = tt
 
 -- ---- the disk's note, as it came back from behind the lock, and as it was looked at
 
@@ -185,12 +176,12 @@ module _ (disk looked : Known) (count posted : ℕ) (is : looked ≡ known disk.
       (subst (λ (f : ℕ). IsRun catalog db first limit clients requests starts looked.count f closed) (ap (λ (k : Known). k.faults) is ∙ same.1) run)
 
   -- and the log holds the run's list up to there
-  pub holds_looked : {D : Type 0} (kind : DiskKind D) (every : Option ℕ) (catalog : Catalog) (db : Database) (first opened before : ℕ) (past : ℕ → List (List ℕ) → Type 0)
-      (log : CmdLog D) (list rest : List Listed) → HoldsGoOn D every catalog db first opened before past kind
-      → list ≡ listed_of looked.list ++ rest → Holds every catalog db first opened before past kind (listed_of disk.list) log disk.count disk.faults
-      → Holds every catalog db first opened before past kind list log count disk.faults
-  holds_looked kind every catalog db first opened before past log list rest on begins holds =
+  pub holds_looked : {D : Type 0} (kind : DiskKind D) (recovery : Recovery) (every : Option ℕ) (catalog : Catalog) (db : Database) (first opened before : ℕ) (past : ℕ → List (List ℕ) → Type 0)
+      (log : CmdLog D) (list rest : List Listed) → HoldsGoOn D recovery every catalog db first opened before past kind
+      → list ≡ listed_of looked.list ++ rest → Holds recovery every catalog db first opened before past kind (listed_of disk.list) log disk.count disk.faults
+      → Holds recovery every catalog db first opened before past kind list log count disk.faults
+  holds_looked kind recovery every catalog db first opened before past log list rest on begins holds =
       let whole : list ≡ listed_of disk.list ++ rest = begins ∙ ap (λ (k : Known). listed_of k.list ++ rest) is in
-      subst (λ (l : List Listed). Holds every catalog db first opened before past kind l log count disk.faults) (sym whole)
-      (subst (λ (n : ℕ). Holds every catalog db first opened before past kind (listed_of disk.list ++ rest) log n disk.faults) (sym same.0)
+      subst (λ (l : List Listed). Holds recovery every catalog db first opened before past kind l log count disk.faults) (sym whole)
+      (subst (λ (n : ℕ). Holds recovery every catalog db first opened before past kind (listed_of disk.list ++ rest) log n disk.faults) (sym same.0)
       (on (listed_of disk.list) rest log disk.count disk.faults holds))

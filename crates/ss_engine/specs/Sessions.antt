@@ -1,14 +1,14 @@
 -- What a run of clients in threads comes to, and what its disk then has.
-use Rattle.std.specs.Prelude.{◌≡◌, ◌⊎◌, ◌≤◌, ◌<◌, ◌+◌, ℕ, List, length, Option, Some, IfSome, IfNone, IsOk, Result, Err}
+use Rattle.std.specs.Prelude.{◌≡◌, ◌⊎◌, ◌≤◌, ◌<◌, ◌+◌, ℕ, List, [], length, Option, Some, IfSome, IfNone, IsOk, Result, Err}
 use Rattle.ss_disk.specs.Kinds.{DiskKind, present}
 use Rattle.std.specs.List.{AllByRecursion}
 use Rattle.ss_model.specs.declared.catalog.Catalog.{Catalog}
 use Rattle.ss_model.specs.declared.entry.Listed.{Listed}
+use Rattle.ss_model.specs.Recovery.{Recovery}
 use Rattle.ss_model.specs.declared.entry.Request.{Request}
 use Rattle.ss_model.specs.Database.{Database}
 use Rattle.ss_model.specs.Orders.{Orders}
 use Rattle.ss_model.specs.Replays.{Replays, after}
-use Rattle.ss_model.specs.Settling.{kept}
 use Rattle.ss_report_laws.specs.Replies.{mine, answers_of}
 use Rattle.ss_report_laws.specs.Resuming.{AreToldTo, NoneBehindStop}
 use Rattle.ss_disk.specs.Files.{Files}
@@ -21,7 +21,7 @@ use Rattle.ss_cmdlog.specs.Generation.{Stood}
 use Rattle.ss_cmdlog.specs.Log.{IsOpen}
 use Rattle.ss_commitlog.specs.declared.placed.Unlisted.TheVariants.{NoMemory}
 use Rattle.ss_commitlog.specs.Meaning.{HaveClientsBelow}
-use Rattle.ss_standing.specs.Standing.{Prefix, Receipt, Replayed, StandsForAll, StandsForFront, StandsOn}
+use Rattle.ss_fronts.specs.Fronts.{BeganAt, FrontStands, HoldsFront, StandsOnBy}
 use Rattle.ss_cmdlog.specs.declared.log.Receipt.{Receipt as ReceiptValue}
 use Rattle.ss_receipts.specs.declared.durable.DurableError.{DurableError}
 use Rattle.ss_receipts.specs.Durable.{IsDurable}
@@ -37,6 +37,11 @@ use Rattle.ss_lanes.specs.Lanes.{start_of}
 -- each request is of one of so many clients
 abbrev pub AreOfClients : ℕ → List Request → Type 0
 AreOfClients clients requests = AllByRecursion (λ (r : Request). r.client < clients) requests
+
+-- where a run begins: how its store is had again, and the database
+pub record Beginning : Type 0 where
+  pub recovery : Recovery
+  pub db : Database
 
 -- a database that a list leaves, between executions
 abbrev pub IsLeftOver : Catalog → Database → shard.Database → Type 0
@@ -69,19 +74,20 @@ pub record IsRun (catalog : Catalog) (db : Database) (first limit clients : ℕ)
 -- ---- with a disk
 
 module _ {D : Type 0} (kind : DiskKind D) where
-  -- the log is open on a generation that stands for what is kept of a database, at this place
-  pub record OpensOn (catalog : Catalog) (db : Database) (first : ℕ) (log : CmdLog D) : Type 0 where
+  -- the log is open on a generation behind which a run begins at this database and place
+  pub record OpensOn (recovery : Recovery) (catalog : Catalog) (db : Database) (first : ℕ) (log : CmdLog D) : Type 0 where
     pub stood : Stood
     pub going : IsOpen kind log stood
     pub count : log.count ≡ first
-    pub replayed : kind.tells → Replayed catalog stood first (kept catalog db)
+    pub began : kind.tells → BeganAt recovery catalog db first
+    pub held : kind.tells → HoldsFront recovery catalog db first [] 0 stood
 
   -- a crash now leaves what has P
   abbrev pub LeavesNow : D → (Files → Type 0) → Type 0
   LeavesNow disk P = kind.honest → (image : Files) → present kind disk image → P image
 
   -- with checkpoints, or without
-  module _ (every : Option ℕ) (catalog : Catalog) (db : Database) (first : ℕ) where
+  module _ (recovery : Recovery) (every : Option ℕ) (catalog : Catalog) (db : Database) (first : ℕ) where
     -- where checkpoints are asked for and the last flush went well, the log's generation begins near the end of the list
     abbrev pub EndsNear : Finished D → Type 0
     EndsNear ended = IsOk ended.flushed → (k : ℕ) → every ≡ Some k → first + length ended.closed.list < ended.log.first + k
@@ -90,7 +96,7 @@ module _ {D : Type 0} (kind : DiskKind D) where
     -- receipt, with a generation that begins near the end, or why there is no such
     pub record IsTrimmedTo (opened before : ℕ) (past : ℕ → List (List ℕ) → Type 0) (list : List Listed) (receipt : ReceiptValue) (old_fault : ℕ) (new : CmdLog D) (answer : Result ReceiptValue DurableError) : Type 0 where
       pub fault : ℕ
-      pub holds : Holds every catalog db first opened before past kind list new receipt.count fault
+      pub holds : Holds recovery every catalog db first opened before past kind list new receipt.count fault
       pub told : (old_fault ≡ 0) ⊎ (old_fault ≡ fault)
       pub flushed : IsDurable receipt.count receipt.count fault answer
       pub near : IsOk answer → (k : ℕ) → every ≡ Some k → receipt.count < new.first + k
@@ -100,7 +106,7 @@ module _ {D : Type 0} (kind : DiskKind D) where
     pub record IsFlushed (opened before : ℕ) (past : ℕ → List (List ℕ) → Type 0) (old_count old_fault : ℕ) (ended : Finished D) : Type 0 where
       pub count : ℕ
       pub fault : ℕ
-      pub holds : Holds every catalog db first opened before past kind ended.closed.list ended.log count fault
+      pub holds : Holds recovery every catalog db first opened before past kind ended.closed.list ended.log count fault
       pub more : old_count ≤ ended.receipted
       pub within : ended.receipted ≤ count
       pub told : (old_fault ≡ 0) ⊎ (old_fault ≡ fault)
@@ -114,19 +120,18 @@ module _ {D : Type 0} (kind : DiskKind D) where
       pub count : ℕ
       pub fault : ℕ
       pub run : IsRun catalog db first limit clients requests starts ended.receipted fault ended.closed
-      pub holds : Holds every catalog db first opened before past kind ended.closed.list ended.log count fault
+      pub holds : Holds recovery every catalog db first opened before past kind ended.closed.list ended.log count fault
       pub begun : first ≤ ended.receipted
       pub within : ended.receipted ≤ count
       pub flushed : IsDurable (first + length ended.closed.list) count fault ended.flushed
       pub near : EndsNear ended
-      pub fronts : LeavesNow ended.log.disk (StandsForFront catalog db first ended.closed.list ended.receipted)
-      pub all_stands : IsOk ended.flushed → LeavesNow ended.log.disk (StandsForAll catalog db first ended.closed.list)
+      pub fronts : LeavesNow ended.log.disk (FrontStands recovery catalog db first ended.closed.list ended.receipted)
+      pub all_stands : IsOk ended.flushed → LeavesNow ended.log.disk (FrontStands recovery catalog db first ended.closed.list (first + length ended.closed.list))
 
     -- the same with the log at the opening: a crash at any moment since then leaves a front of the list, and takes nothing that one at an
     -- earlier moment could not take; what is below the count that is told stands for good, and of each client at most 16 entries stand from there on
     pub record EndsOnDisk (limit clients : ℕ) (requests : List Request) (starts : List ℕ) (old : CmdLog D) (ended : Finished D) : Type 0 where
       pub ends : Ends limit clients (kind.moment old.disk) (kind.faults old.disk) (past_of kind.images old.disk) requests starts ended
-      pub crashes : kind.honest → LeavesOnly kind.moment kind.images old.disk ended.log.disk (Prefix catalog db first ended.closed.list)
-      pub stands_on : kind.honest → StandsOn catalog kind.moment kind.images (kind.moment old.disk) ended.log.disk
-      pub receipt : kind.honest → Receipt catalog (present kind) ended.receipted ended.log.disk
+      pub crashes : kind.honest → LeavesOnly kind.moment kind.images old.disk ended.log.disk (FrontStands recovery catalog db first ended.closed.list first)
+      pub stands_on : kind.honest → StandsOnBy recovery catalog ended.closed.list kind.moment kind.images (kind.moment old.disk) ended.log.disk
       pub few_behind : (client : ℕ) → entries_from client ended.receipted first ended.closed.list ≤ 16

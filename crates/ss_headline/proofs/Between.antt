@@ -6,6 +6,7 @@ use Rattle.ss_model.specs.declared.catalog.Catalog.{Catalog}
 use Rattle.ss_model.specs.declared.entry.Listed.{Listed}
 use Rattle.ss_model.specs.declared.entry.Request.{Request}
 use Rattle.ss_model.specs.Database.{Database}
+use Rattle.ss_model.specs.Recovery.{Strong}
 use Rattle.ss_model.specs.Replays.{Replays, ReplaysGoOn, after}
 use Rattle.ss_model.specs.Settling.{Drained, KeptCarries, kept}
 use Rattle.ss_disk.specs.Files.{Files}
@@ -17,13 +18,14 @@ use Rattle.ss_headline.specs.Between.{AreOneList, CallsGoOn, GoesOnBehindAll, Go
 use Rattle.ss_headline.specs.Runs.{IsStoppedRun, IsWholeRun}
 use Rattle.ss_headline.proofs.Disks.{always_has, calls_join, less_at_each}
 use Rattle.ss_headline.proofs.EachDatabase.{drained_carried, front_carried}
+use Rattle.ss_headline.proofs.Sessions.{front_is_all}
 
 -- ---- what an image stands for
 
--- a front stands for so many executions at least
-front_at_least : (catalog : Catalog) (db : Database) (first : ℕ) (list : List Listed) (least n : ℕ) (image : Files) → n ≤ first → StandsForFront catalog db first list least image → StandsForAtLeast catalog n image
+-- a front stands for as many executions as its place says, at least
+front_at_least : (catalog : Catalog) (db : Database) (first : ℕ) (list : List Listed) (least n : ℕ) (image : Files) → n ≤ least → StandsForFront catalog db first list least image → StandsForAtLeast catalog n image
 front_at_least catalog db first list least n image le f =
-    record { count = first + f.some; k = kept catalog (after catalog db (take f.some list)); stands = f.stands; enough = omega (arith, le) }
+    record { count = first + f.some; k = kept catalog (after catalog db (take f.some list)); stands = f.stands; enough = omega (arith, le, f.enough) }
 
 -- all of a list is a prefix of what goes on behind it
 all_is_front : (catalog : Catalog) (db : Database) (first : ℕ) (one two : List Listed) (image : Files) → StandsForAll catalog db first one image → Prefix catalog db first (one ++ two) image
@@ -55,7 +57,7 @@ module _ (goes_on : ReplaysGoOn) (carries : KeptCarries) (one_thing : StandsForO
   moved : (a b : Database) (m n : ℕ) (one two : List Listed) → n ≡ m + length one → kept catalog b ≡ kept catalog (after catalog a one) → (image : Files) → Prefix catalog b n two image → Prefix catalog a m (one ++ two) image
   moved a b m n one two place same image f =
       behind_is_front a m one two image
-      (subst (λ (at : ℕ). Prefix catalog (after catalog a one) at two image) place (front_carried carries catalog b (after catalog a one) same n two n image f))
+      (subst (λ (at : ℕ). Prefix catalog (after catalog a one) at two image) place (front_carried carries catalog b (after catalog a one) same Strong n two n image f))
 
   module _ {D : Type 0} (kind : DiskKind D) (told : kind.honest → kind.tells)
       (sees : (disk : D) → kind.honest → kind.images disk (kind.moment disk) (kind.seen disk)) where
@@ -95,27 +97,30 @@ module _ (goes_on : ReplaysGoOn) (carries : KeptCarries) (one_thing : StandsForO
 
     -- ---- behind a whole run
 
-    behind_all : (every each : Option ℕ) (limit : ℕ) (requests others : List Request) (a b : Database) (m n : ℕ) (one two : List Listed) (text : List ℕ) (old mid new : D) → kind.honest → IsWholeRun every limit catalog requests a m one text (change old mid)
+    behind_all : (every each : Option ℕ) (limit : ℕ) (requests others : List Request) (a b : Database) (m n : ℕ) (one two : List Listed) (text : List ℕ) (old mid new : D) → kind.honest → IsWholeRun Strong every limit catalog requests a m one text (change old mid)
         → HadList each limit catalog others b n two (change mid new) → GoesOnBehindAll change catalog a b m n one two old mid new
     behind_all every each limit requests others a b m n one two text old mid new true' first had =
         let session = first.session.each a refl in
         let second = goes_of each limit others b n two mid new had in
-        let lists = one_list true' a b m n one two mid new session.replies_and_tables.one_by_one (session.all_stands true' (kind.seen mid) (sees mid true')) second in
+        let lists = one_list true' a b m n one two mid new session.replies_and_tables.one_by_one (all_of (session.all_stands true' (kind.seen mid) (sees mid true'))) second in
         let list = one ++ two in
         let before = less_at_each kind (Prefix catalog a m one) (Prefix catalog a m list) old mid (front_goes_on catalog a m one two) session.wherever_a_crash_falls in
         let behind = less_at_each kind (Prefix catalog b n two) (Prefix catalog a m list) mid new (moved a b m n one two lists.place lists.same) second.crashes in
         let least : m + length one ≤ n = omega (arith, lists.place) in record {
           lists = lists;
           crashes = calls_join kind (Prefix catalog a m list) old mid new before
-              (always_has kind (Prefix catalog a m list) mid new (λ h image left. all_is_front catalog a m one two image (session.all_stands h image left)) behind);
+              (always_has kind (Prefix catalog a m list) mid new (λ h image left. all_is_front catalog a m one two image (all_of (session.all_stands h image left))) behind);
           stays = stays (m + length one) b n two mid new least
-              (λ h image left. record { count = m + length one; k = kept catalog (after catalog a one); stands = session.all_stands h image left; enough = omega arith }) second;
+              (λ h image left. front_at_least catalog a m one (m + length one) (m + length one) image (omega arith) (session.all_stands h image left)) second;
         }
+      where
+        all_of : {image : Files} → StandsForFront catalog a m one (m + length one) image → StandsForAll catalog a m one image
+        all_of {image} f = front_is_all catalog a m one image f
 
     -- ---- behind a run that stopped
 
     behind_front : (every each : Option ℕ) (limit : ℕ) (requests others : List Request) (a b : Database) (m n : ℕ) (one two : List Listed) (status count : ℕ) (text : List ℕ) (old mid new : D) → kind.honest
-        → IsStoppedRun every limit catalog requests a m one status count text (change old mid) → HadList each limit catalog others b n two (change mid new) → GoesOnBehindFront change catalog a b m n one two count old mid new
+        → IsStoppedRun Strong every limit catalog requests a m one status count text (change old mid) → HadList each limit catalog others b n two (change mid new) → GoesOnBehindFront change catalog a b m n one two count old mid new
     behind_front every each limit requests others a b m n one two status count text old mid new true' first had =
         let session = first.session.each a refl in
         let receipts = session.every_receipt_stands in
@@ -135,7 +140,7 @@ module _ (goes_on : ReplaysGoOn) (carries : KeptCarries) (one_thing : StandsForO
           lists = lists;
           crashes = calls_join kind left old mid new before
               (always_has kind left mid new (λ h image stays'. inl (as_prefix (receipts.fronts h image stays'))) behind);
-          stays = stays count b n two mid new least receipts.receipt second;
+          stays = stays count b n two mid new least (λ h image left'. front_at_least catalog a m one count count image (omega arith) (receipts.fronts h image left')) second;
         }
       where
         as_prefix : {image : Files} → StandsForFront catalog a m one count image → Prefix catalog a m one image

@@ -5,13 +5,15 @@ use Rattle.ss_model.specs.declared.catalog.Catalog.{Catalog}
 use Rattle.ss_model.specs.declared.entry.Listed.{Listed}
 use Rattle.ss_model.specs.declared.entry.Request.{Request}
 use Rattle.ss_model.specs.Database.{Database}
+use Rattle.ss_model.specs.Recovery.{Recovery, Strong, Weak}
 use Rattle.ss_model.specs.Replays.{after}
 use Rattle.ss_model.specs.Report.{End, Whole, Stopped, end_lines, reply_lines}
 use Rattle.ss_model.specs.ReportLines.{database_lines, done_line, list_lines, lines_text}
 use Rattle.ss_model.specs.Settling.{Kept, kept, Drained, border_stream, KeptCarries}
 use Rattle.ss_model_kept.proofs.CallerLemmas.{from_kept}
 use Rattle.ss_disk.specs.Files.{Files}
-use Rattle.ss_standing.specs.Standing.{Stands, StandsForFront, Prefix}
+use Rattle.ss_standing.specs.Standing.{Stands}
+use Rattle.ss_fronts.specs.Fronts.{FrontStands}
 use Rattle.ss_headline.specs.Disks.{DiskChange, disk_of}
 use Rattle.ss_headline.specs.Sentences.{RepliesAndTables, WholeSession, StoppedSession, stop_at}
 use Rattle.ss_headline.specs.Laws.{HoldsFromOther, SessionsHoldFromEach}
@@ -40,8 +42,10 @@ module _ (carries : KeptCarries) (catalog : Catalog) (x y : Database) (same : ke
     };
   }
 
-  pub front_carried : (first : ℕ) (list : List Listed) (least : ℕ) (image : Files) → StandsForFront catalog x first list least image → StandsForFront catalog y first list least image
-  front_carried first list least image f = record {
+  -- of a weak run a front doesn't speak of the database
+  pub front_carried : (recovery : Recovery) (first : ℕ) (list : List Listed) (least : ℕ) (image : Files) → FrontStands recovery catalog x first list least image → FrontStands recovery catalog y first list least image
+  front_carried (Weak o) first list least image f = f
+  front_carried Strong first list least image f = record {
     some = f.some;
     within = f.within;
     enough = f.enough;
@@ -53,40 +57,39 @@ module _ (carries : KeptCarries) (catalog : Catalog) (x y : Database) (same : ke
       let alike = from_kept catalog (after catalog x list) (after catalog y list) (carries catalog x y same list).after in
       sym (ap (λ cs. get_or cs q 0) alike.counts) ∙ d q streams ∙ alike.lengths (border_stream catalog q)
 
-  module _ {D : Type 0} (kind : DiskKind D) where
+  module _ {D : Type 0} (kind : DiskKind D) (recovery : Recovery) where
     abbrev change : D → D → DiskChange
     change = disk_of kind
 
-    whole_carried : (requests : List Request) (first : ℕ) (list : List Listed) (text : List ℕ) (old new : D) → WholeSession catalog requests first list text (change old new) x
-        → WholeSession catalog requests first list text (change old new) y
+    whole_carried : (requests : List Request) (first : ℕ) (list : List Listed) (text : List ℕ) (old new : D) → WholeSession recovery catalog requests first list text (change old new) x
+        → WholeSession recovery catalog requests first list text (change old new) y
     whole_carried requests first list text old new s = record {
       replies_and_tables = replies_carried requests first list Whole text s.replies_and_tables;
       in_order = (carries catalog x y same list).orders s.in_order;
-      wherever_a_crash_falls = less_at_each kind (Prefix catalog x first list) (Prefix catalog y first list) old new (front_carried first list first) s.wherever_a_crash_falls;
+      wherever_a_crash_falls = less_at_each kind (FrontStands recovery catalog x first list first) (FrontStands recovery catalog y first list first) old new (front_carried recovery first list first) s.wherever_a_crash_falls;
       receipts_stay = s.receipts_stay;
-      all_stands = λ true' image left. subst (λ (k : Kept). Stands catalog image (first + length list) k) (carries catalog x y same list).after (s.all_stands true' image left);
+      all_stands = λ true' image left. front_carried recovery first list (first + length list) image (s.all_stands true' image left);
       at_the_end = drained_carried list s.at_the_end;
     }
 
     stopped_carried : (requests : List Request) (limit first : ℕ) (list : List Listed) (status count : ℕ) (text : List ℕ) (old new : D)
-        → StoppedSession catalog requests limit first list status count text (change old new) x → StoppedSession catalog requests limit first list status count text (change old new) y
+        → StoppedSession recovery catalog requests limit first list status count text (change old new) x → StoppedSession recovery catalog requests limit first list status count text (change old new) y
     stopped_carried requests limit first list status count text old new s = record {
       replies = replies_carried requests first list (stop_at status count limit first list (kind.faults old) (kind.faults new)) text s.replies;
       in_order = (carries catalog x y same list).orders s.in_order;
-      wherever_a_crash_falls = less_at_each kind (Prefix catalog x first list) (Prefix catalog y first list) old new (front_carried first list first) s.wherever_a_crash_falls;
+      wherever_a_crash_falls = less_at_each kind (FrontStands recovery catalog x first list first) (FrontStands recovery catalog y first list first) old new (front_carried recovery first list first) s.wherever_a_crash_falls;
       receipts_stay = s.receipts_stay;
       every_receipt_stands = record {
         from_first = s.every_receipt_stands.from_first;
         within = s.every_receipt_stands.within;
-        receipt = s.every_receipt_stands.receipt;
-        fronts = λ true' image left. front_carried first list count image (s.every_receipt_stands.fronts true' image left);
+        fronts = λ true' image left. front_carried recovery first list count image (s.every_receipt_stands.fronts true' image left);
         few_behind = s.every_receipt_stands.few_behind;
       };
     }
 
-    pub holds_from_other : HoldsFromOther change catalog x y
+    pub holds_from_other : HoldsFromOther change recovery catalog x y
     holds_from_other = record { whole = whole_carried; stopped = stopped_carried }
 
 pub sessions_hold_from_each : KeptCarries → {D : Type 0} (kind : DiskKind D)
     → SessionsHoldFromEach (disk_of kind)
-sessions_hold_from_each carries kind = λ catalog x y same. holds_from_other carries catalog x y same kind
+sessions_hold_from_each carries kind = λ recovery catalog x y same. holds_from_other carries catalog x y same kind recovery

@@ -6,5 +6,6 @@ pub mod Sessions
 pub mod EachDatabase
 pub mod Runs
 pub mod Between
+pub mod Recovered
 pub mod worked
 pub mod Owed

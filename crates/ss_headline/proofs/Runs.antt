@@ -6,6 +6,7 @@ use Rattle.ss_model.specs.declared.entry.Answer.{Answer}
 use Rattle.ss_model.specs.declared.entry.Answer.TheVariants.{Listed as ListedAnswer, NoMemory, ListFull, Halted}
 use Rattle.ss_model.specs.declared.entry.Listed.{Listed}
 use Rattle.ss_model.specs.declared.entry.Request.{Request}
+use Rattle.ss_model.specs.Recovery.{Recovery}
 use Rattle.ss_model.specs.Report.{Stop, Stopped, Whole, Unlisted, report_text}
 use Rattle.ss_model.specs.Settling.{kept}
 use Rattle.ss_report_laws.specs.Replies.{answers_of, IsListedOr, AreAnswered, weave, AnswersMakeReport}
@@ -46,38 +47,40 @@ module _ {D : Type 0} (kind : DiskKind D) where
   change = disk_of kind
 
   pub whole_runs : AnswersMakeReport → WholeSessions change → SessionsHoldFromEach change → WholeRuns change
-  whole_runs makes sessions from_each = λ every limit catalog requests db first list missing answers old mid new opened closed settled answered within.
+  whole_runs makes sessions from_each = λ recovery every limit catalog requests db first list missing answers old mid new opened closed settled answered within.
       let text = report_text catalog requests (weave missing requests answers) first list db Whole in
-      let session = sessions every catalog requests db first list text old mid new opened closed settled (makes catalog requests db first list Whole missing answers answered) in record {
+      let session = sessions recovery every catalog requests db first list text old mid new opened closed settled (makes catalog requests db first list Whole missing answers answered) in record {
         within = within;
         logged = settled.logged;
         session = record {
           whole = opened.whole;
+          began = opened.began;
           stood = opened.stood;
-          each = λ x same. (from_each catalog db x (sym same)).whole requests first list text old new session;
+          each = λ x same. (from_each recovery catalog db x (sym same)).whole requests first list text old new session;
         };
       }
 
   -- a disk that failed since the opening has failed since before it
-  pub failed_since : (every : Option ℕ) (status first : ℕ) (list : List Listed) (count : ℕ) (old mid new : D) → kind.faults old ≤ kind.faults mid → LogEndsAsStopped every status first list count (change mid new)
-      → LogEndsAsStopped every status first list count (change old new)
-  failed_since every status first list count old mid new le logged told = elim (logged told) [
+  pub failed_since : (recovery : Recovery) (every : Option ℕ) (status first : ℕ) (list : List Listed) (count : ℕ) (old mid new : D) → kind.faults old ≤ kind.faults mid → LogEndsAsStopped recovery every status first list count (change mid new)
+      → LogEndsAsStopped recovery every status first list count (change old new)
+  failed_since recovery every status first list count old mid new le logged told = elim (logged told) [
     | inl front ↦ inl front
     | inr failed ↦ inr (record { status_is = failed.status_is; rose = (let rose = failed.rose in omega (arith, rose, le)) })
   ]
 
   pub stopped_runs : AnswersMakeReport → StoppedSessions change → SessionsHoldFromEach change → StoppedRuns change
-  stopped_runs makes sessions from_each = λ every limit catalog requests db first list status count missing answers old mid new opened closed receipted logged answered within.
+  stopped_runs makes sessions from_each = λ recovery every limit catalog requests db first list status count missing answers old mid new opened closed receipted logged answered within.
       let end = stop_at status count limit first list (kind.faults old) (kind.faults new) in
       let text = report_text catalog requests (weave missing requests answers) first list db end in
       let since = answered_since _ (kind.faults old) opened.faults requests first list answers answered in
-      let session = sessions catalog requests limit db first list status count text old mid new opened closed receipted (makes catalog requests db first list end missing answers since) in record {
+      let session = sessions recovery catalog requests limit db first list status count text old mid new opened closed receipted (makes catalog requests db first list end missing answers since) in record {
         within = within;
-        logged = failed_since every status first list count old mid new opened.faults logged;
+        logged = failed_since recovery every status first list count old mid new opened.faults logged;
         session = record {
           whole = opened.whole;
+          began = opened.began;
           stood = opened.stood;
-          each = λ x same. (from_each catalog db x (sym same)).stopped requests limit first list status count text old new session;
+          each = λ x same. (from_each recovery catalog db x (sym same)).stopped requests limit first list status count text old new session;
         };
       }
 

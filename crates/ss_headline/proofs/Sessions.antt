@@ -7,11 +7,9 @@ use Rattle.ss_model.specs.Database.{Database}
 use Rattle.ss_model.specs.Replays.{after}
 use Rattle.ss_model.specs.Settling.{kept}
 use Rattle.ss_disk.specs.Files.{Files}
-use Rattle.ss_standing.specs.Standing.{Stands, StandsForAll, StandsForFront, StandsForAtLeast}
-use Rattle.ss_standing.specs.Laws.{ReceiptsBoundFronts}
-use Rattle.ss_headline.specs.Disks.{DiskChange, disk_of, AtTheExit}
+use Rattle.ss_standing.specs.Standing.{Stands, StandsForAll, StandsForFront}
+use Rattle.ss_headline.specs.Disks.{DiskChange, disk_of}
 use Rattle.ss_headline.specs.Laws.{FewStandBehind, WholeSessions, StoppedSessions}
-use Rattle.ss_headline.specs.Layers.{Closed}
 use Rattle.ss_headline.proofs.Untouched.{crashes_join, receipts_join}
 
 -- a front that ends at the end is all
@@ -22,38 +20,30 @@ front_is_all catalog db first list image f =
     subst (λ (l : List Listed). Stands catalog image (first + length list) (kept catalog (after catalog db l))) whole
     (subst (λ (m : ℕ). Stands catalog image (first + m) (kept catalog (after catalog db (take f.some list)))) some_is f.stands)
 
-module _ {D : Type 0} (kind : DiskKind D) (bounds : ReceiptsBoundFronts) where
+module _ {D : Type 0} (kind : DiskKind D) where
   abbrev change : D → D → DiskChange
   change = disk_of kind
 
-  -- at the exit each image is a front that ends at the receipt at least
-  fronts_at_exit : (catalog : Catalog) (db : Database) (first : ℕ) (list : List Listed) (n : ℕ) (old new : D) → Closed catalog db first list (change old new)
-      → AtTheExit (change old new) (StandsForAtLeast catalog n) → AtTheExit (change old new) (StandsForFront catalog db first list n)
-  fronts_at_exit catalog db first list n old new closed receipt true' image left =
-      let run = closed.crashes true' in
-      bounds catalog db first list n image (run.each (kind.moment new) image run.later (omega arith) left) (receipt true' image left)
-
   pub whole_sessions : WholeSessions change
-  whole_sessions = λ every catalog requests db first list text old mid new opened closed settled report. record {
+  whole_sessions = λ recovery every catalog requests db first list text old mid new opened closed settled report. record {
     replies_and_tables = record { one_by_one = closed.replays; report = report };
     in_order = closed.orders;
-    wherever_a_crash_falls = crashes_join kind catalog db first list old mid new opened closed;
-    receipts_stay = receipts_join kind catalog db first list old mid new opened closed;
-    all_stands = λ true' image left. front_is_all catalog db first list image (fronts_at_exit catalog db first list (first + length list) mid new closed settled.receipt true' image left);
+    wherever_a_crash_falls = crashes_join kind recovery catalog db first list old mid new opened closed;
+    receipts_stay = receipts_join kind recovery catalog db first list old mid new opened closed;
+    all_stands = settled.receipt;
     at_the_end = settled.drained;
   }
 
   pub stopped_sessions : FewStandBehind → StoppedSessions change
-  stopped_sessions few = λ catalog requests limit db first list status count text old mid new opened closed receipted report. record {
+  stopped_sessions few = λ recovery catalog requests limit db first list status count text old mid new opened closed receipted report. record {
     replies = record { one_by_one = closed.replays; report = report };
     in_order = closed.orders;
-    wherever_a_crash_falls = crashes_join kind catalog db first list old mid new opened closed;
-    receipts_stay = receipts_join kind catalog db first list old mid new opened closed;
+    wherever_a_crash_falls = crashes_join kind recovery catalog db first list old mid new opened closed;
+    receipts_stay = receipts_join kind recovery catalog db first list old mid new opened closed;
     every_receipt_stands = record {
       from_first = receipted.from_first;
       within = receipted.within;
-      receipt = receipted.receipt;
-      fronts = fronts_at_exit catalog db first list count mid new closed receipted.receipt;
+      fronts = receipted.receipt;
       few_behind = λ client. few client first list count receipted.from_first (receipted.few client);
     };
   }

@@ -1,15 +1,19 @@
 -- Calls that ran nothing, openings, and an engine behind one.
-use Rattle.std.proofs.Common.{◌≡◌, inl, ℕ, ◌+◌, List, refl, sym, subst, arith}
+use Rattle.std.proofs.Common.{◌≡◌, inl, ℕ, ◌+◌, ◌≤◌, List, [], take, refl, sym, subst, arith}
 use Rattle.ss_disk.specs.Kinds.{DiskKind, present}
 use Rattle.ss_model.specs.declared.catalog.Catalog.{Catalog}
 use Rattle.ss_model.specs.declared.entry.Listed.{Listed}
 use Rattle.ss_model.specs.Database.{Database, empty_database}
+use Rattle.ss_model.specs.Recovery.{Recovery}
+use Rattle.ss_model.specs.Replays.{after}
 use Rattle.ss_model.specs.Settling.{Kept, kept}
 use Rattle.ss_disk.specs.Files.{Files}
 use Rattle.ss_disk.proofs.CallerLemmas.{no_call, stays_join}
 use Rattle.ss_cmdlog.specs.Store.{IsEmpty}
-use Rattle.ss_standing.specs.Standing.{Stands, Prefix, StandsForAtLeast}
+use Rattle.ss_standing.specs.Standing.{Stands, Prefix}
 use Rattle.ss_standing.specs.Laws.{StandsForOne}
+use Rattle.ss_fronts.specs.Fronts.{AtLeast, FrontStands}
+use Rattle.ss_fronts.proofs.CallerLemmas.{grows}
 use Rattle.ss_headline.specs.Disks.{DiskChange, disk_of, AtEachMoment, OnlyRead}
 use Rattle.ss_headline.specs.Untouched.{UncalledIsOnlyRead, NothingRanStands}
 use Rattle.ss_headline.specs.Sentences.{ReceiptsStay}
@@ -29,6 +33,15 @@ none_stands catalog db first list image stands =
     let place : first ≡ first + 0 = omega arith in
     record { some = 0; within = omega arith; enough = omega arith; stands = subst (λ (n : ℕ). Stands catalog image n (kept catalog db)) place stands }
 
+-- and a prefix of no list stands for the database before it
+pub no_list_stands : (catalog : Catalog) (db : Database) (first : ℕ) (image : Files) → Prefix catalog db first [] image → Stands catalog image first (kept catalog db)
+no_list_stands catalog db first image f =
+    let within : f.some ≤ 0 = f.within in
+    let none : f.some ≡ 0 = omega (arith, within) in
+    let at : first + 0 ≡ first = omega arith in
+    subst (λ (n : ℕ). Stands catalog image n (kept catalog db)) at
+    (subst (λ (m : ℕ). Stands catalog image (first + m) (kept catalog (after catalog db (take m [])))) none f.stands)
+
 module _ {D : Type 0} (kind : DiskKind D) where
   abbrev change : D → D → DiskChange
   change = disk_of kind
@@ -47,14 +60,16 @@ module _ {D : Type 0} (kind : DiskKind D) where
       (λ image made. stands_as_empty one catalog db first (kind.seen old) image stood made.0 made.1) nothing
 
   -- what stays through the opening, and then through the engine, stays through all of the call
-  pub receipts_join : (catalog : Catalog) (db : Database) (first : ℕ) (list : List Listed) (old mid new : D) → Opened catalog db first (change old mid) → Closed catalog db first list (change mid new)
-      → ReceiptsStay catalog (change old new)
-  receipts_join catalog db first list old mid new opened closed true' n =
-      stays_join kind.moment kind.images (StandsForAtLeast catalog n) (kind.moment old) mid new (Prefix catalog db first list) (opened.receipts_stay true' n) (closed.crashes true') (closed.receipts_stay true' n)
+  pub receipts_join : (recovery : Recovery) (catalog : Catalog) (db : Database) (first : ℕ) (list : List Listed) (old mid new : D) → Opened recovery catalog db first (change old mid)
+      → Closed recovery catalog db first list (change mid new) → ReceiptsStay recovery catalog list (change old new)
+  receipts_join recovery catalog db first list old mid new opened closed true' n =
+      stays_join kind.moment kind.images (AtLeast recovery catalog list n) (kind.moment old) mid new (FrontStands recovery catalog db first list first)
+      (opened.receipts_stay list true' n) (closed.crashes true') (closed.receipts_stay true' n)
 
-  -- what the opening and the engine say of crashes is said of all of the call
-  pub crashes_join : (catalog : Catalog) (db : Database) (first : ℕ) (list : List Listed) (old mid new : D) → Opened catalog db first (change old mid) → Closed catalog db first list (change mid new)
-      → AtEachMoment (change old new) (Prefix catalog db first list)
-  crashes_join catalog db first list old mid new opened closed =
-      calls_join kind (Prefix catalog db first list) old mid new
-      (less_at_each kind (λ image. Stands catalog image first (kept catalog db)) (Prefix catalog db first list) old mid (none_stands catalog db first list) opened.crashes) closed.crashes
+  -- what the opening and the engine say of crashes is said of all of the call: a front of no entries is one of each list
+  pub crashes_join : (recovery : Recovery) (catalog : Catalog) (db : Database) (first : ℕ) (list : List Listed) (old mid new : D) → Opened recovery catalog db first (change old mid)
+      → Closed recovery catalog db first list (change mid new) → AtEachMoment (change old new) (FrontStands recovery catalog db first list first)
+  crashes_join recovery catalog db first list old mid new opened closed =
+      let front : Files → Type 0 = FrontStands recovery catalog db first list first in
+      calls_join kind front old mid new
+      (less_at_each kind (FrontStands recovery catalog db first [] first) front old mid ((grows recovery catalog db first [] list).fronts first) opened.crashes) closed.crashes

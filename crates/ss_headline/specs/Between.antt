@@ -5,6 +5,7 @@ use Rattle.ss_model.specs.declared.catalog.Catalog.{Catalog}
 use Rattle.ss_model.specs.declared.entry.Listed.{Listed}
 use Rattle.ss_model.specs.declared.entry.Request.{Request}
 use Rattle.ss_model.specs.Database.{Database}
+use Rattle.ss_model.specs.Recovery.{Strong}
 use Rattle.ss_model.specs.Replays.{Replays, after}
 use Rattle.ss_model.specs.Settling.{Drained, kept}
 use Rattle.ss_disk.specs.Files.{Files}
@@ -42,11 +43,11 @@ pub record AreOneList (catalog : Catalog) (a b : Database) (m n : ℕ) (one two 
   -- where nothing is pending behind the second list, nothing is behind both
   pub drained : Drained catalog (after catalog b two) → Drained catalog (after catalog a (one ++ two))
 
--- a run, whole or stopped, had this list
+-- a run on a strong store, whole or stopped, had this list
 abbrev pub HadList : Option ℕ → ℕ → Catalog → List Request → Database → ℕ → List Listed → DiskChange → Type 0
 HadList every limit catalog requests opening first list disk =
-    ((text : List ℕ) × IsWholeRun every limit catalog requests opening first list text disk) ⊎
-    ((status : ℕ) × (count : ℕ) × (text : List ℕ) × IsStoppedRun every limit catalog requests opening first list status count text disk)
+    ((text : List ℕ) × IsWholeRun Strong every limit catalog requests opening first list text disk) ⊎
+    ((status : ℕ) × (count : ℕ) × (text : List ℕ) × IsStoppedRun Strong every limit catalog requests opening first list status count text disk)
 
 module _ {D : Type 0} (disk_of : D → D → DiskChange) where
   -- a crash in either call leaves a prefix of the one list, and all of the first stands through the second
@@ -65,13 +66,13 @@ module _ {D : Type 0} (disk_of : D → D → DiskChange) where
     pub crashes : AtEachMoment (disk_of old new) (λ image. Prefix catalog a m one image ⊎ Prefix catalog a m (take some one ++ two) image)
     pub stays : AlwaysLeaves (disk_of mid new) (StandsForAtLeast catalog count)
 
-  -- law: on an honest disk a run goes on from the one before it, which was whole, or had stopped; either may have had checkpoints
+  -- law: on an honest disk a run on a strong store goes on from the one before it, which was whole, or had stopped; either may have had checkpoints
   pub record CallsGoOn : Type 0 where
     pub whole : (every each : Option ℕ) (limit : ℕ) (catalog : Catalog) (requests others : List Request) (a b : Database) (m n : ℕ)
         (one two : List Listed) (text : List ℕ) (old mid new : D) → (disk_of old mid).honest →
-        IsWholeRun every limit catalog requests a m one text (disk_of old mid) → HadList each limit catalog others b n two (disk_of mid new) →
+        IsWholeRun Strong every limit catalog requests a m one text (disk_of old mid) → HadList each limit catalog others b n two (disk_of mid new) →
         GoesOnBehindAll catalog a b m n one two old mid new
     pub stopped : (every each : Option ℕ) (limit : ℕ) (catalog : Catalog) (requests others : List Request) (a b : Database) (m n : ℕ)
         (one two : List Listed) (status count : ℕ) (text : List ℕ) (old mid new : D) → (disk_of old mid).honest →
-        IsStoppedRun every limit catalog requests a m one status count text (disk_of old mid) →
+        IsStoppedRun Strong every limit catalog requests a m one status count text (disk_of old mid) →
         HadList each limit catalog others b n two (disk_of mid new) → GoesOnBehindFront catalog a b m n one two count old mid new

@@ -2,12 +2,12 @@
 use Rattle.std.specs.Prelude.{◌≡◌, ◌⊎◌, ℕ}
 use Rattle.ss_disk.specs.Kinds.{DiskKind, present as present_images}
 use Rattle.ss_model.specs.declared.catalog.Catalog.{Catalog}
+use Rattle.ss_model.specs.declared.entry.Mode.{Mode}
 use Rattle.ss_model.specs.Database.{empty_database}
-use Rattle.ss_model.specs.Settling.{kept}
 use Rattle.ss_disk.specs.Files.{Files}
 use Rattle.ss_disk.specs.Moments.{LeavesOnly, StaysFrom}
 use Rattle.ss_cmdlog.specs.Store.{IsEmpty}
-use Rattle.ss_standing.specs.Standing.{Stands}
+use Rattle.ss_fronts.specs.Fronts.{StoodAs, fresh_recovery}
 
 -- a disk before and after a call: what reads give, what a crash leaves, and how often it has failed
 pub record DiskChange : Type 1 where
@@ -68,6 +68,7 @@ pub record OnlyRead (disk : DiskChange) : Type 0 where
   pub as_before : AsBefore disk
   pub reads : disk.tells → disk.seen_now ≡ disk.seen_before
 
--- wherever a crash fell, it left what it might have left before, or, of an empty disk, what stands for the empty database
-abbrev pub NothingRan : Catalog → DiskChange → Type 0
-NothingRan catalog disk = AtEachMoment disk (λ image. IsEmpty disk.seen_before × Stands catalog image 0 (kept catalog (empty_database catalog)))
+-- wherever a crash fell, it left what it might have left before, or, of an empty disk, what a store of this mode is that was just made
+abbrev pub NothingRan : Mode → Catalog → DiskChange → Type 0
+NothingRan mode catalog disk =
+    AtEachMoment disk (λ image. IsEmpty disk.seen_before × StoodAs (fresh_recovery mode catalog) catalog (empty_database catalog) 0 image)

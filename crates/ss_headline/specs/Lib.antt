@@ -6,3 +6,4 @@ pub mod Untouched
 pub mod Laws
 pub mod Owed
 pub mod Between
+pub mod Recovering

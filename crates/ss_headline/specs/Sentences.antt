@@ -4,12 +4,13 @@ use Rattle.ss_model.specs.declared.catalog.Catalog.{Catalog}
 use Rattle.ss_model.specs.declared.entry.Listed.{Listed}
 use Rattle.ss_model.specs.declared.entry.Request.{Request}
 use Rattle.ss_model.specs.Database.{Database}
+use Rattle.ss_model.specs.Recovery.{Recovery}
 use Rattle.ss_model.specs.Orders.{Orders}
 use Rattle.ss_model.specs.Replays.{Replays, after}
 use Rattle.ss_model.specs.Report.{Report, End, Whole, Stopped}
 use Rattle.ss_model.specs.Settling.{Drained}
 use Rattle.ss_report_laws.specs.Replies.{mine}
-use Rattle.ss_standing.specs.Standing.{Prefix, StandsForAll, StandsForFront, StandsForAtLeast}
+use Rattle.ss_fronts.specs.Fronts.{AtLeast, FrontStands}
 use Rattle.ss_headline.specs.Disks.{DiskChange, AtEachMoment, AtTheExit}
 
 -- ---- the one serial list
@@ -30,39 +31,41 @@ AtTheEnd catalog db list = Drained catalog (after catalog db list)
 
 -- ---- crashes
 
--- wherever a crash falls in the call, it leaves what it might have left before, or a disk that stands for a front of the list
-abbrev pub WhereverACrashFalls : Catalog → Database → ℕ → List Listed → DiskChange → Type 0
-WhereverACrashFalls catalog db first list disk = AtEachMoment disk (Prefix catalog db first list)
+-- wherever a crash falls in the call, it leaves what it might have left before, or a disk that is a front of the list
+abbrev pub WhereverACrashFalls : Recovery → Catalog → Database → ℕ → List Listed → DiskChange → Type 0
+WhereverACrashFalls recovery catalog db first list disk = AtEachMoment disk (FrontStands recovery catalog db first list first)
 
--- so many executions that a crash at some moment of the call could not take, a crash at no later moment takes
-abbrev pub ReceiptsStay : Catalog → DiskChange → Type 0
-ReceiptsStay catalog disk = disk.honest → (n : ℕ) → disk.stays (StandsForAtLeast catalog n)
+-- So much that a crash at some moment of the call could not take, a crash at no later moment takes: so many executions, or on a weak store
+-- so many of the calls and pushes of the list and what it goes on from.
+abbrev pub ReceiptsStay : Recovery → Catalog → List Listed → DiskChange → Type 0
+ReceiptsStay recovery catalog list disk = disk.honest → (n : ℕ) → disk.stays (AtLeast recovery catalog list n)
 
--- at the exit it leaves one that stands for the whole list
-abbrev pub AllStands : Catalog → Database → ℕ → List Listed → DiskChange → Type 0
-AllStands catalog db first list disk = AtTheExit disk (StandsForAll catalog db first list)
+-- at the exit it leaves a front that is the whole list
+abbrev pub AllStands : Recovery → Catalog → Database → ℕ → List Listed → DiskChange → Type 0
+AllStands recovery catalog db first list disk = AtTheExit disk (FrontStands recovery catalog db first list (first + length list))
 
 -- a client's entries from a place on, in a list that begins at a place
 abbrev pub entries_from : ℕ → ℕ → ℕ → List Listed → List (ℕ × Listed)
 entries_from client place first list = mine client place (drop (place - first) list)
 
--- at the exit each execution below this place of the list, or its end, stands, and of each client at most 16 entries are from there on
-pub record EveryReceiptStands (catalog : Catalog) (db : Database) (first : ℕ) (list : List Listed) (count : ℕ) (disk : DiskChange) : Type 0 where
+-- at the exit it leaves a front that ends at this place of the list, or its end, at least, and of each client at most 16 entries are from
+-- there on
+pub record EveryReceiptStands (recovery : Recovery) (catalog : Catalog) (db : Database) (first : ℕ) (list : List Listed) (count : ℕ)
+    (disk : DiskChange) : Type 0 where
   pub from_first : first ≤ count
   pub within : count ≤ first + length list
-  pub receipt : AtTheExit disk (StandsForAtLeast catalog count)
-  pub fronts : AtTheExit disk (StandsForFront catalog db first list count)
+  pub fronts : AtTheExit disk (FrontStands recovery catalog db first list count)
   pub few_behind : (client : ℕ) → length (entries_from client count first list) ≤ 16
 
 -- ---- a whole run
 
-pub record WholeSession (catalog : Catalog) (requests : List Request) (first : ℕ) (list : List Listed) (text : List ℕ) (disk : DiskChange)
-    (db : Database) : Type 0 where
+pub record WholeSession (recovery : Recovery) (catalog : Catalog) (requests : List Request) (first : ℕ) (list : List Listed) (text : List ℕ)
+    (disk : DiskChange) (db : Database) : Type 0 where
   pub replies_and_tables : RepliesAndTables catalog requests db first list Whole text
   pub in_order : InOrder catalog db list
-  pub wherever_a_crash_falls : WhereverACrashFalls catalog db first list disk
-  pub receipts_stay : ReceiptsStay catalog disk
-  pub all_stands : AllStands catalog db first list disk
+  pub wherever_a_crash_falls : WhereverACrashFalls recovery catalog db first list disk
+  pub receipts_stay : ReceiptsStay recovery catalog list disk
+  pub all_stands : AllStands recovery catalog db first list disk
   pub at_the_end : AtTheEnd catalog db list
 
 -- ---- a run that stopped
@@ -84,10 +87,10 @@ stop_at status count limit first list before now =
     })
 
 -- it stopped with this status, and the executions below this count are receipted
-pub record StoppedSession (catalog : Catalog) (requests : List Request) (limit first : ℕ) (list : List Listed) (status count : ℕ) (text : List ℕ)
-    (disk : DiskChange) (db : Database) : Type 0 where
+pub record StoppedSession (recovery : Recovery) (catalog : Catalog) (requests : List Request) (limit first : ℕ) (list : List Listed)
+    (status count : ℕ) (text : List ℕ) (disk : DiskChange) (db : Database) : Type 0 where
   pub replies : RepliesAndTables catalog requests db first list (stop_at status count limit first list disk.faults_before disk.faults_now) text
   pub in_order : InOrder catalog db list
-  pub wherever_a_crash_falls : WhereverACrashFalls catalog db first list disk
-  pub receipts_stay : ReceiptsStay catalog disk
-  pub every_receipt_stands : EveryReceiptStands catalog db first list count disk
+  pub wherever_a_crash_falls : WhereverACrashFalls recovery catalog db first list disk
+  pub receipts_stay : ReceiptsStay recovery catalog list disk
+  pub every_receipt_stands : EveryReceiptStands recovery catalog db first list count disk

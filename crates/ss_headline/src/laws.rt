@@ -4,13 +4,15 @@ ghost use Rattle.ss_headline.specs.Disks.{disk_of};
 ghost use Rattle.ss_headline.specs.Owed.{OwedIsEnough, FullListsHaveAll};
 ghost use Rattle.ss_headline.specs.Untouched.{UncalledIsOnlyRead, NothingRanStands};
 ghost use Rattle.ss_headline.specs.Between.{QuietLeaves, QuietStays, CallsGoOn};
+ghost use Rattle.ss_headline.specs.Recovering.{AllRecovers, CrashesHoldFromEach, CrashesRecover};
 ghost use Rattle.ss_headline.specs.Laws.{FewStandBehind, FewStayFew, LogsEndWithLists, NearGenerationsBegin};
 ghost use Rattle.ss_headline.specs.Laws.{WholeSessions, StoppedSessions, SessionsHoldFromEach, WholeRuns, StoppedRuns, RunsHoldFromEach};
 
 use ss_disk::{Claim, Disk};
+use ss_fronts::{fronts_recover, weak_fronts_from_each};
 use ss_model_laws::{kept_carries, next_is_ready, replays_go_on, settling_terminates};
 use ss_report_laws::answers_make_report;
-use ss_standing::{receipts_bound_fronts, stands_for_one};
+use ss_standing::stands_for_one;
 
 /// Where all but 16 of a client's entries stand below a place, at most 16 of them are from there on (`behind`), and they
 /// stand below each later place too (`later`).
@@ -63,15 +65,12 @@ pub fn quiet_leaves<D: Disk, P: Claim>()
 /// An opening, an engine that was settled and closed, and its report are a whole session.
 pub fn whole_sessions<D: Disk>()
     ensures { WholeSessions (disk_of D.kind) }
-{
-    receipts_bound_fronts();
-}
+{}
 
 /// An opening, an engine that was closed, its receipts and its stopped report are a stopped session.
 pub fn stopped_sessions<D: Disk>()
     ensures { StoppedSessions (disk_of D.kind) }
 {
-    receipts_bound_fronts();
     few_stand_behind();
 }
 
@@ -100,7 +99,22 @@ pub fn stopped_runs<D: Disk>()
     sessions_hold_from_each::<D>();
 }
 
-/// A run is one from every place and database that the disk stood for.
+/// Whatever a crash in a weak session leaves anew, recovery has of it the weak list of its calls and pushes (`crashes`), and
+/// behind a session that ended as done of all of them (`all`): it replays, has the orders, leaves no batch pending, and its
+/// pushes come to what they came to. It doesn't matter which database of those is named of which the same is kept
+/// (`from_each`).
+pub fn crashes_recover<D: Disk>()
+    ensures crashes { CrashesRecover (disk_of D.kind) }
+    ensures all { AllRecovers }
+    ensures from_each { CrashesHoldFromEach (disk_of D.kind) }
+{
+    kept_carries();
+    replays_go_on();
+    fronts_recover();
+    weak_fronts_from_each();
+}
+
+/// A run on a strong store is one from every place and database that the disk stood for.
 pub fn runs_hold_from_each<D: Disk>()
     ensures { RunsHoldFromEach (disk_of D.kind) }
 {

@@ -5,6 +5,7 @@ use Rattle.std.proofs.Math.Seq.{take-append-add}
 use Rattle.ss_model.specs.declared.catalog.Catalog.{Catalog}
 use Rattle.ss_model.specs.declared.entry.Listed.{Listed}
 use Rattle.ss_model.specs.Database.{Database}
+use Rattle.ss_model.specs.Recovery.{Strong}
 use Rattle.ss_model.specs.Replays.{ReplaysGoOn, after}
 use Rattle.ss_model.specs.Settling.{KeptCarries, kept}
 use Rattle.ss_disk.specs.Files.{Files}
@@ -24,17 +25,17 @@ pub front_at_least : (catalog : Catalog) (db : Database) (first : ℕ) (list : L
 front_at_least catalog db first list least image f =
     record { count = first + f.some; k = kept catalog (after catalog db (take f.some list)); stands = f.stands; enough = f.enough }
 
--- a front of the second list is one of both, which has all of the first
-pub behind_front : ReplaysGoOn → KeptCarries → (catalog : Catalog) (a b : Database) (m n : ℕ) (one two : List Listed) (least : ℕ) (image : Files) → AreOneList catalog a b m n one two → least ≤ n
-    → Prefix catalog b n two image → StandsForFront catalog a m (one ++ two) least image
-behind_front goes_on carries catalog a b m n one two least image lists le p =
-    let f = front_carried carries catalog b (after catalog a one) lists.same n two n image p in
+-- a front of the second list is one of both, which ends where it does
+pub behind_front : ReplaysGoOn → KeptCarries → (catalog : Catalog) (a b : Database) (m n : ℕ) (one two : List Listed) (least : ℕ) (image : Files) → AreOneList catalog a b m n one two
+    → StandsForFront catalog b n two least image → StandsForFront catalog a m (one ++ two) least image
+behind_front goes_on carries catalog a b m n one two least image lists p =
+    let f = front_carried carries catalog b (after catalog a one) lists.same Strong n two least image p in
     let whole : take (length one + f.some) (one ++ two) ≡ one ++ take f.some two = take-append-add one two f.some in
     let ends : after catalog (after catalog a one) (take f.some two) ≡ after catalog a (take (length one + f.some) (one ++ two)) = sym (goes_on catalog a one (take f.some two)).ends ∙ ap (after catalog a) (sym whole) in
     let place : n + f.some ≡ m + (length one + f.some) = omega (arith, lists.place) in record {
       some = length one + f.some;
       within = omega (arith, f.within, length-append one two);
-      enough = omega (arith, le, lists.place);
+      enough = omega (arith, f.enough, lists.place);
       stands = subst (λ (at : ℕ). Stands catalog image at (kept catalog (after catalog a (take (length one + f.some) (one ++ two))))) place
           (subst (λ (d : Database). Stands catalog image (n + f.some) (kept catalog d)) ends f.stands);
     }
@@ -82,9 +83,9 @@ fronts_carried carries catalog x y same first before images till (i ∷ []) fron
   where
     either : (image : Files) → before image ⊎ Prefix catalog x first i.list image → before image ⊎ Prefix catalog y first i.list image
     either image (inl was) = inl was
-    either image (inr anew) = inr (front_carried carries catalog x y same first i.list first image anew)
+    either image (inr anew) = inr (front_carried carries catalog x y same Strong first i.list first image anew)
 fronts_carried carries catalog x y same first before images till (i ∷ j ∷ earlier) fronts = (
   fronts.0,
-  (λ t image from to left. front_carried carries catalog x y same first i.list j.receipted image (fronts.1 t image from to left)),
+  (λ t image from to left. front_carried carries catalog x y same Strong first i.list j.receipted image (fronts.1 t image from to left)),
   fronts_carried carries catalog x y same first before images i.moment (j ∷ earlier) fronts.2,
 )

@@ -1,8 +1,9 @@
 -- A run goes on over the faults of its disk.
-use Rattle.std.proofs.Common.{◌≡◌, ◌⊎◌, inl, inr, ℕ, ◌+◌, ◌≤◌, List, ◌++◌, length, take, refl, sym, ap, subst, ◌∙◌, arith, length-append, length-take-le}
+use Rattle.std.proofs.Common.{◌≡◌, ◌⊎◌, inl, inr, ℕ, ◌+◌, ◌≤◌, List, [], ◌++◌, length, take, refl, sym, ap, subst, ◌∙◌, arith, length-append, length-take-le}
 use Rattle.ss_model.specs.declared.catalog.Catalog.{Catalog}
 use Rattle.ss_model.specs.Database.{Database, empty_database}
 use Rattle.ss_model.specs.Orders.{ReplaysHaveOrders}
+use Rattle.ss_model.specs.Recovery.{Strong}
 use Rattle.ss_model.specs.Replays.{ReplaysGoOn, after}
 use Rattle.ss_model.specs.Settling.{Drained, KeptCarries, kept}
 use Rattle.ss_disk.specs.Files.{Files}
@@ -10,7 +11,7 @@ use Rattle.ss_disk.specs.Kinds.{DiskKind, present}
 use Rattle.ss_disk.specs.Moments.{LeavesOnly}
 use Rattle.ss_disk.proofs.CallerLemmas.{leaves_less, stays_join}
 use Rattle.ss_cmdlog.specs.Store.{IsEmpty}
-use Rattle.ss_standing.specs.Laws.{StandsForOne, ReceiptsBoundFronts}
+use Rattle.ss_standing.specs.Laws.{StandsForOne}
 use Rattle.ss_standing.specs.Standing.{Prefix, Stands, StandsForAtLeast, StandsForFront}
 use Rattle.ss_standing.proofs.CallerLemmas.{front_replays}
 use Rattle.ss_headline.specs.Between.{AreOneList}
@@ -18,11 +19,11 @@ use Rattle.ss_headline.specs.Disks.{DiskChange, disk_of}
 use Rattle.ss_headline.specs.Laws.{FewStandBehind}
 use Rattle.ss_headline.specs.Layers.{Opened}
 use Rattle.ss_headline.specs.Sentences.{ReceiptsStay}
-use Rattle.ss_headline.proofs.CallerLemmas.{crashes_join, drained_carried, receipts_join, stands_as_empty}
+use Rattle.ss_headline.proofs.CallerLemmas.{crashes_join, drained_carried, no_list_stands, receipts_join, stands_as_empty}
 use Rattle.ss_incarnations.specs.Incarnations.{Incarnation}
 use Rattle.ss_incarnations.specs.Reopening.{Lived, FirstIncarnation, NoneIsReopened, NoEngineIsOpened, OneMoreIncarnation}
 use Rattle.ss_incarnations.proofs.Few.{few_joined}
-use Rattle.ss_incarnations.proofs.Fronts.{behind_front, front_at_least, last_goes_on}
+use Rattle.ss_incarnations.proofs.Fronts.{behind_front, front_before, last_goes_on}
 
 module _ {D : Type 0} (kind : DiskKind D) where
   abbrev change : D → D → DiskChange
@@ -36,23 +37,20 @@ module _ {D : Type 0} (kind : DiskKind D) where
   abbrev Left : D → (Files → Type 0) → Files → Type 0
   Left mid P image = present kind mid image ⊎ P image
 
-  pub first_incarnation : ReceiptsBoundFronts → FewStandBehind → FirstIncarnation kind
-  first_incarnation bounds few = λ catalog db first list count old mid new opened closed receipted. record {
+  pub first_incarnation : FewStandBehind → FirstIncarnation kind
+  first_incarnation few = λ catalog db first list count old mid new opened closed receipted. record {
     whole = opened.whole;
     stood = opened.stood;
     one_by_one = closed.replays;
     in_order = closed.orders;
     wherever_a_crash_falls = λ true'.
-        let run = crashes_join kind catalog db first list old mid new opened closed true' in
+        let run = crashes_join kind Strong catalog db first list old mid new opened closed true' in
         record { begin = refl; each_goes_on = tt; wherever_a_crash_falls = (run.later, run.each) };
-    receipts_stay = receipts_join kind catalog db first list old mid new opened closed;
+    receipts_stay = receipts_join kind Strong catalog db first list old mid new opened closed;
     every_receipt_stands = record {
       from_first = receipted.from_first;
       within = receipted.within;
-      receipt = receipted.receipt;
-      fronts = λ true' image left.
-          let run = closed.crashes true' in
-          bounds catalog db first list count image (run.each (kind.moment new) image run.later (omega arith) left) (receipted.receipt true' image left);
+      fronts = receipted.receipt;
       few_behind = λ client. few client first list count receipted.from_first (receipted.few client);
     };
   }
@@ -61,7 +59,7 @@ module _ {D : Type 0} (kind : DiskKind D) where
 
   -- where a crash leaves fronts of the last list alone, a run stays as it was
   stays_lived : (catalog : Catalog) (db : Database) (first : ℕ) (last : Incarnation) (earlier : List Incarnation) (old mid new : D) → Lived kind catalog db first last earlier old mid
-      → (kind.honest → LeavesOnly kind.moment kind.images mid new (Front catalog db first last)) → ReceiptsStay catalog (change mid new) → Lived kind catalog db first last earlier old new
+      → (kind.honest → LeavesOnly kind.moment kind.images mid new (Front catalog db first last)) → ReceiptsStay Strong catalog last.list (change mid new) → Lived kind catalog db first last earlier old new
   stays_lived catalog db first last earlier old mid new lived further stays =
       let receipts = lived.every_receipt_stands in
       let now = λ (true' : kind.honest) (image : Files) (left : present kind new image). let run = further true' in run.each (kind.moment new) image run.later (omega arith) left in record {
@@ -82,7 +80,6 @@ module _ {D : Type 0} (kind : DiskKind D) where
         every_receipt_stands = record {
           from_first = receipts.from_first;
           within = receipts.within;
-          receipt = λ true' image left. front_at_least catalog db first last.list last.receipted image (now true' image left);
           fronts = now;
           few_behind = receipts.few_behind;
         };
@@ -96,7 +93,7 @@ module _ {D : Type 0} (kind : DiskKind D) where
         let fronts = lived.every_receipt_stands.fronts true' in
         leaves_less kind.moment kind.images mid new (Left mid (λ image. IsEmpty (kind.seen mid) × Stands catalog image 0 (kept catalog (empty_database catalog)))) (Front catalog db first last)
         (none.nothing_ran true') (λ image left. either catalog db first last mid image fronts (fronts (kind.seen mid) (sees mid true')) left))
-        none.receipts_stay
+        (none.receipts_stay last.list)
       where
         either : (catalog : Catalog) (db : Database) (first : ℕ) (last : Incarnation) (mid : D) (image : Files) → ((some : Files) → present kind mid some → Front catalog db first last some)
             → Front catalog db first last (kind.seen mid) → Left mid (λ i. IsEmpty (kind.seen mid) × Stands catalog i 0 (kept catalog (empty_database catalog))) image → Front catalog db first last image
@@ -117,7 +114,7 @@ module _ {D : Type 0} (kind : DiskKind D) where
       same : kept catalog from ≡ kept catalog (after catalog db (take stayed last.list))
 
     found : (catalog : Catalog) (db : Database) (first : ℕ) (last : Incarnation) (earlier : List Incarnation) (from : Database) (place : ℕ) (old mid again : D) → kind.honest
-        → Lived kind catalog db first last earlier old mid → Opened catalog from place (change mid again) → Found catalog db first last from place
+        → Lived kind catalog db first last earlier old mid → Opened Strong catalog from place (change mid again) → Found catalog db first last from place
     found catalog db first last earlier from place old mid again true' lived opened =
         let front = lived.every_receipt_stands.fronts true' (kind.seen mid) (sees mid true') in
         let same = one catalog (kind.seen mid) place (first + front.some) (kept catalog from) (kept catalog (after catalog db (take front.some last.list))) (opened.stood (told true')) front.stands in
@@ -125,29 +122,29 @@ module _ {D : Type 0} (kind : DiskKind D) where
 
     -- while a store is opened a crash leaves such fronts
     opening_leaves : (catalog : Catalog) (db : Database) (first : ℕ) (last : Incarnation) (earlier : List Incarnation) (from : Database) (place : ℕ) (old mid again : D) → Lived kind catalog db first last earlier old mid
-        → Opened catalog from place (change mid again) → kind.honest → LeavesOnly kind.moment kind.images mid again (Front catalog db first last)
+        → Opened Strong catalog from place (change mid again) → kind.honest → LeavesOnly kind.moment kind.images mid again (Front catalog db first last)
     opening_leaves catalog db first last earlier from place old mid again lived opened true' =
         let f = found catalog db first last earlier from place old mid again true' lived opened in
-        leaves_less kind.moment kind.images mid again (Left mid (λ image. Stands catalog image place (kept catalog from))) (Front catalog db first last) (opened.crashes true')
+        leaves_less kind.moment kind.images mid again (Left mid (Prefix catalog from place [])) (Front catalog db first last) (opened.crashes true')
         (λ image left. either f image left)
       where
-        either : Found catalog db first last from place → (image : Files) → Left mid (λ i. Stands catalog i place (kept catalog from)) image → Front catalog db first last image
+        either : Found catalog db first last from place → (image : Files) → Left mid (Prefix catalog from place []) image → Front catalog db first last image
         either f image (inl left) = lived.every_receipt_stands.fronts true' image left
-        either f image (inr stands) = record {
+        either f image (inr front) = record {
           some = f.stayed;
           within = f.within;
           enough = omega (arith, f.enough, f.place_is);
-          stands = subst (λ k. Stands catalog image (first + f.stayed) k) f.same (subst (λ (m : ℕ). Stands catalog image m (kept catalog from)) f.place_is stands);
+          stands = subst (λ k. Stands catalog image (first + f.stayed) k) f.same (subst (λ (m : ℕ). Stands catalog image m (kept catalog from)) f.place_is (no_list_stands catalog from place image front));
         }
 
     pub no_engine_is_opened : NoEngineIsOpened kind
     no_engine_is_opened = λ catalog db first last earlier from place old mid again lived opened.
-        stays_lived catalog db first last earlier old mid again lived (opening_leaves catalog db first last earlier from place old mid again lived opened) opened.receipts_stay
+        stays_lived catalog db first last earlier old mid again lived (opening_leaves catalog db first last earlier from place old mid again lived opened) (opened.receipts_stay last.list)
 
     -- ---- one more
 
-    pub one_more_incarnation : ReplaysGoOn → ReplaysHaveOrders → KeptCarries → ReceiptsBoundFronts → FewStandBehind → OneMoreIncarnation kind
-    one_more_incarnation goes_on have_orders carries bounds few = λ catalog accepted db first last earlier from place list count old mid again new true' lived opened closed receipted.
+    pub one_more_incarnation : ReplaysGoOn → ReplaysHaveOrders → KeptCarries → FewStandBehind → OneMoreIncarnation kind
+    one_more_incarnation goes_on have_orders carries few = λ catalog accepted db first last earlier from place list count old mid again new true' lived opened closed receipted.
         let f = found catalog db first last earlier from place old mid again true' lived opened in
         let stayed = take f.stayed last.list in
         let long : length stayed ≡ f.stayed = length-take-le f.stayed last.list f.within in
@@ -162,7 +159,8 @@ module _ {D : Type 0} (kind : DiskKind D) where
         let next : Incarnation = record { moment = kind.moment again; list = stayed ++ list; receipted = count } in
         let from_first : first ≤ count = (let reached = receipted.from_first in omega (arith, reached, f.place_is)) in
         let opening = opening_leaves catalog db first last earlier from place old mid again lived opened in
-        let now = λ (h : kind.honest) (t : ℕ) (image : Files) (since : kind.moment again ≤ t) (to : t ≤ kind.moment new) (left : kind.images new t image). (closed.crashes h).each t image since to left in
+        let behind = λ (least more : ℕ) (le : least ≤ more) (image : Files) (front : StandsForFront catalog from place list more image).
+        front_before catalog db first (stayed ++ list) least more image le (behind_front goes_on carries catalog db from first place stayed list more image lists front) in
         record {
           stayed = f.stayed;
           within = f.within;
@@ -181,12 +179,12 @@ module _ {D : Type 0} (kind : DiskKind D) where
                 let reopening = opening h in record {
                   begin = so_far.begin;
                   each_goes_on = (
-                    record { stayed = f.stayed; within = f.within; receipted = omega (arith, f.enough, f.place_is); found = (let reached = receipted.from_first in omega (arith, reached, f.place_is)); rest = list; begins = refl },
+                    record { stayed = f.stayed; within = f.within; receipted = omega (arith, f.enough, f.place_is); few_behind = lived.every_receipt_stands.few_behind; found = (let reached = receipted.from_first in omega (arith, reached, f.place_is)); rest = list; begins = refl },
                     so_far.each_goes_on,
                   );
                   wherever_a_crash_falls = (
                     engine.later,
-                    (λ t image since to left. behind_front goes_on carries catalog db from first place stayed list last.receipted image lists f.enough (engine.each t image since to left)),
+                    (λ t image since to left. behind last.receipted place f.enough image (engine.each t image since to left)),
                     last_goes_on catalog db first (present kind old) (kind.images mid) (kind.images new) (kind.moment mid) (kind.moment again) last earlier
                         (λ t image since to left. reopening.each t image since to (engine.kept t image to left))
                         (λ t image to left. reopening.kept t image to (engine.kept t image (let later = reopening.later in omega (arith, to, later)) left))
@@ -196,17 +194,12 @@ module _ {D : Type 0} (kind : DiskKind D) where
             receipts_stay = λ h n.
                 let P : Files → Type 0 = StandsForAtLeast catalog n in
                 stays_join kind.moment kind.images P (kind.moment old) again new (Prefix catalog from place list)
-                (stays_join kind.moment kind.images P (kind.moment old) mid again (Front catalog db first last) (lived.receipts_stay h n) (opening h) (opened.receipts_stay h n))
+                (stays_join kind.moment kind.images P (kind.moment old) mid again (Front catalog db first last) (lived.receipts_stay h n) (opening h) (opened.receipts_stay last.list h n))
                 (closed.crashes h) (closed.receipts_stay h n);
             every_receipt_stands = record {
               from_first = from_first;
               within = (let reaches = receipted.within in omega (arith, reaches, f.place_is, long, length-append stayed list));
-              receipt = receipted.receipt;
-              fronts = λ h image left.
-                  let run = closed.crashes h in
-                  bounds catalog db first (stayed ++ list) count image
-                  (behind_front goes_on carries catalog db from first place stayed list first image lists (omega (arith, f.place_is)) (run.each (kind.moment new) image run.later (omega arith) left))
-                  (receipted.receipt h image left);
+              fronts = λ h image left. behind count count (omega arith) image (receipted.receipt h image left);
               few_behind = λ client.
                   few client first (stayed ++ list) count from_first (few_joined client first last.list f.stayed list place count f.within f.place_is receipted.from_first (receipted.few client));
             };

@@ -4,16 +4,17 @@ use Rattle.ss_model.specs.declared.catalog.Catalog.{Catalog}
 use Rattle.ss_model.specs.declared.entry.Request.{Request}
 use Rattle.ss_model.specs.declared.entry.Listed.{Listed}
 use Rattle.ss_model.specs.Database.{Database}
+use Rattle.ss_model.specs.Recovery.{Strong}
 use Rattle.ss_model.specs.Report.{Whole, report_text}
-use Rattle.ss_model.specs.Settling.{Kept, KeptCarries, kept}
+use Rattle.ss_model.specs.Settling.{KeptCarries, kept}
 use Rattle.ss_report_laws.specs.Replies.{weave, AnswersMakeReport}
 use Rattle.ss_disk.specs.Kinds.{DiskKind, present}
 use Rattle.ss_standing.specs.Laws.{StandsForOne}
-use Rattle.ss_standing.specs.Standing.{Stands, StandsForFront}
+use Rattle.ss_standing.specs.Standing.{StandsForFront}
 use Rattle.ss_headline.specs.Disks.{DiskChange, disk_of}
 use Rattle.ss_headline.specs.Runs.{LogEndsAsStopped}
 use Rattle.ss_headline.specs.Sentences.{EveryReceiptStands, AllStands}
-use Rattle.ss_headline.proofs.CallerLemmas.{answered_since, drained_carried, failed_since, front_carried, front_is_all, replies_carried}
+use Rattle.ss_headline.proofs.CallerLemmas.{answered_since, drained_carried, failed_since, front_carried, replies_carried}
 use Rattle.ss_incarnations.specs.Incarnations.{Incarnation, AreIncarnations}
 use Rattle.ss_incarnations.specs.Runs.{EndsWithOwn, list_before, WholeSessionOver, StoppedSessionOver, stop_over, RunsOverHoldFromEach, RunsOverRestarts}
 use Rattle.ss_incarnations.proofs.Fronts.{fronts_carried}
@@ -38,7 +39,7 @@ module _ {D : Type 0} (kind : DiskKind D) (carries : KeptCarries) where
       in_order = (carries catalog x y same last.list).orders s.in_order;
       wherever_a_crash_falls = λ true'. incarnations_carried (s.wherever_a_crash_falls true');
       receipts_stay = s.receipts_stay;
-      all_stands = λ true' image left. subst (λ (k : Kept). Stands catalog image (first + length last.list) k) (carries catalog x y same last.list).after (s.all_stands true' image left);
+      all_stands = λ true' image left. front_carried carries catalog x y same Strong first last.list (first + length last.list) image (s.all_stands true' image left);
       at_the_end = drained_carried carries catalog x y same last.list s.at_the_end;
     }
 
@@ -52,8 +53,7 @@ module _ {D : Type 0} (kind : DiskKind D) (carries : KeptCarries) where
       every_receipt_stands = record {
         from_first = s.every_receipt_stands.from_first;
         within = s.every_receipt_stands.within;
-        receipt = s.every_receipt_stands.receipt;
-        fronts = λ true' image left. front_carried carries catalog x y same first last.list last.receipted image (s.every_receipt_stands.fronts true' image left);
+        fronts = λ true' image left. front_carried carries catalog x y same Strong first last.list last.receipted image (s.every_receipt_stands.fronts true' image left);
         few_behind = s.every_receipt_stands.few_behind;
       };
     }
@@ -62,20 +62,20 @@ module _ {D : Type 0} (kind : DiskKind D) (carries : KeptCarries) where
 
   -- where all of the list is receipted all of it stands
   all_stand : (catalog : Catalog) (db : Database) (first : ℕ) (last : Incarnation) (old new : D) → last.receipted ≡ first + length last.list
-      → EveryReceiptStands catalog db first last.list last.receipted (change old new) → AllStands catalog db first last.list (change old new)
+      → EveryReceiptStands Strong catalog db first last.list last.receipted (change old new) → AllStands Strong catalog db first last.list (change old new)
   all_stand catalog db first last old new all receipts true' image left =
-      front_is_all catalog db first last.list image (subst (λ n. StandsForFront catalog db first last.list n image) all (receipts.fronts true' image left))
+      subst (λ n. StandsForFront catalog db first last.list n image) all (receipts.fronts true' image left)
 
   -- a log that ended so since a later disk has done so since an earlier one
   own_since : (every : Option ℕ) (status first : ℕ) (last : Incarnation) (list : List Listed) (old before new : D) → kind.faults old ≤ kind.faults before
-      → EndsWithOwn first last.list list (λ place own. LogEndsAsStopped every status place own last.receipted (change before new))
-      → EndsWithOwn first last.list list (λ place own. LogEndsAsStopped every status place own last.receipted (change old new))
+      → EndsWithOwn first last.list list (λ place own. LogEndsAsStopped Strong every status place own last.receipted (change before new))
+      → EndsWithOwn first last.list list (λ place own. LogEndsAsStopped Strong every status place own last.receipted (change old new))
   own_since every status first last list old before new le ends = record {
     stayed = ends.stayed;
     within = ends.within;
     own = ends.own;
     parts = ends.parts;
-    says = failed_since kind every status (first + ends.stayed) ends.own last.receipted old before new le ends.says;
+    says = failed_since kind Strong every status (first + ends.stayed) ends.own last.receipted old before new le ends.says;
   }
 
   pub runs_over_restarts : AnswersMakeReport → RunsOverRestarts kind
@@ -92,7 +92,7 @@ module _ {D : Type 0} (kind : DiskKind D) (carries : KeptCarries) where
         } in record {
           within = within;
           logged = logged;
-          session = record { whole = lived.whole; stood = lived.stood; each = λ x same. whole_carried catalog db x (sym same) first last earlier old new requests text session };
+          session = record { whole = lived.whole; began = λ t. tt; stood = lived.stood; each = λ x same. whole_carried catalog db x (sym same) first last earlier old new requests text session };
         };
     stopped = λ every limit catalog requests db first last earlier status missing answers old before new le lived logged answered within.
         let end = stop_over kind status limit first last old new in
@@ -107,7 +107,7 @@ module _ {D : Type 0} (kind : DiskKind D) (carries : KeptCarries) where
         } in record {
           within = within;
           logged = own_since every status first last (list_before earlier) old before new le logged;
-          session = record { whole = lived.whole; stood = lived.stood; each = λ x same. stopped_carried catalog db x (sym same) first last earlier old new requests limit status text session };
+          session = record { whole = lived.whole; began = λ t. tt; stood = lived.stood; each = λ x same. stopped_carried catalog db x (sym same) first last earlier old new requests limit status text session };
         };
   }
 

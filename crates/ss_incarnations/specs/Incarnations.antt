@@ -6,6 +6,7 @@ use Rattle.ss_model.specs.Database.{Database}
 use Rattle.ss_disk.specs.Files.{Files}
 use Rattle.ss_disk.specs.Kinds.{DiskKind, present}
 use Rattle.ss_standing.specs.Standing.{Prefix, StandsForFront}
+use Rattle.ss_headline.specs.Sentences.{entries_from}
 
 -- an incarnation of a run: it began at this moment, the run's list was this when it ended, and all below this count was receipted by then
 pub record Incarnation : Type 0 where
@@ -28,12 +29,13 @@ LeaveFronts catalog db first before images till (i ∷ j ∷ earlier) =
     (i.moment ≤ till) × Between images i.moment till (StandsForFront catalog db first i.list j.receipted) ×
     LeaveFronts catalog db first before images i.moment (j ∷ earlier)
 
--- The list of the next incarnation begins with a front of the one before, which holds all that was receipted. What is in that front was
--- found on the disk, so it is receipted now.
+-- The list of the next incarnation begins with a front of the one before, which holds all that was receipted: of each client all but its last
+-- 16 entries at most. What is in that front was found on the disk, so it is receipted now.
 pub record GoesOnFrom (first : ℕ) (before next : Incarnation) : Type 0 where
   pub stayed : ℕ
   pub within : stayed ≤ length before.list
   pub receipted : before.receipted ≤ first + stayed
+  pub few_behind : (client : ℕ) → length (entries_from client before.receipted first before.list) ≤ 16
   pub found : first + stayed ≤ next.receipted
   pub rest : List Listed
   pub begins : next.list ≡ take stayed before.list ++ rest

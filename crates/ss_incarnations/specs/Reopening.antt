@@ -4,6 +4,7 @@ use Rattle.ss_model.specs.declared.catalog.Catalog.{Catalog}
 use Rattle.ss_model.specs.declared.entry.Listed.{Listed}
 use Rattle.ss_model.specs.Accepted.{Accepted}
 use Rattle.ss_model.specs.Database.{Database}
+use Rattle.ss_model.specs.Recovery.{Strong}
 use Rattle.ss_model.specs.Replays.{Replays, after}
 use Rattle.ss_model.specs.Settling.{kept}
 use Rattle.ss_model.specs.WholeDatabase.{WholeDatabase}
@@ -25,8 +26,8 @@ pub record Lived {D : Type 0} (kind : DiskKind D) (catalog : Catalog) (db : Data
   pub one_by_one : Replays catalog db last.list
   pub in_order : InOrder catalog db last.list
   pub wherever_a_crash_falls : kind.honest → AreIncarnations kind catalog db first (last ∷ earlier) old new
-  pub receipts_stay : ReceiptsStay catalog (disk_of kind old new)
-  pub every_receipt_stands : EveryReceiptStands catalog db first last.list last.receipted (disk_of kind old new)
+  pub receipts_stay : ReceiptsStay Strong catalog last.list (disk_of kind old new)
+  pub every_receipt_stands : EveryReceiptStands Strong catalog db first last.list last.receipted (disk_of kind old new)
 
 -- What was found behind an incarnation is a front of its list that has all that was receipted. With the list of the engine that was opened
 -- there and closed the run has one incarnation more, which began at this moment and has receipts of all below this count.
@@ -48,7 +49,8 @@ module _ {D : Type 0} (kind : DiskKind D) where
   abbrev pub FirstIncarnation : Type 0
   FirstIncarnation =
       (catalog : Catalog) (db : Database) (first : ℕ) (list : List Listed) (count : ℕ) (old mid new : D) →
-      Opened catalog db first (change old mid) → Closed catalog db first list (change mid new) → Receipted catalog first list count (change mid new) →
+      Opened Strong catalog db first (change old mid) → Closed Strong catalog db first list (change mid new) →
+      Receipted Strong catalog db first list count (change mid new) →
       Lived kind catalog db first (record { moment = kind.moment old; list = list; receipted = count }) [] old new
 
   -- law: where no store was opened behind it, a run has the incarnations that it had
@@ -61,13 +63,14 @@ module _ {D : Type 0} (kind : DiskKind D) where
   abbrev pub NoEngineIsOpened : Type 0
   NoEngineIsOpened =
       (catalog : Catalog) (db : Database) (first : ℕ) (last : Incarnation) (earlier : List Incarnation) (from : Database) (place : ℕ) (old mid again : D) →
-      Lived kind catalog db first last earlier old mid → Opened catalog from place (change mid again) → Lived kind catalog db first last earlier old again
+      Lived kind catalog db first last earlier old mid → Opened Strong catalog from place (change mid again) →
+      Lived kind catalog db first last earlier old again
 
   -- law: where a store was opened on an honest disk, and an engine on it was closed, a run has one incarnation more
   abbrev pub OneMoreIncarnation : Type 0
   OneMoreIncarnation =
       (catalog : Catalog) → Accepted catalog → (db : Database) (first : ℕ) (last : Incarnation) (earlier : List Incarnation) (from : Database) (place : ℕ)
       (list : List Listed) (count : ℕ) (old mid again new : D) → kind.honest → Lived kind catalog db first last earlier old mid →
-      Opened catalog from place (change mid again) → Closed catalog from place list (change again new) →
-      Receipted catalog place list count (change again new) →
+      Opened Strong catalog from place (change mid again) → Closed Strong catalog from place list (change again new) →
+      Receipted Strong catalog from place list count (change again new) →
       LivesOn kind catalog db first last earlier from place list count (kind.moment again) old new

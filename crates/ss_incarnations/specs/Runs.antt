@@ -5,6 +5,7 @@ use Rattle.ss_model.specs.declared.entry.Answer.{Answer}
 use Rattle.ss_model.specs.declared.entry.Listed.{Listed}
 use Rattle.ss_model.specs.declared.entry.Request.{Request}
 use Rattle.ss_model.specs.Database.{Database}
+use Rattle.ss_model.specs.Recovery.{Strong}
 use Rattle.ss_model.specs.Report.{End, Whole, report_text}
 use Rattle.ss_model.specs.Settling.{kept}
 use Rattle.ss_report_laws.specs.Replies.{AreAnswered, weave}
@@ -41,8 +42,8 @@ module _ {D : Type 0} (kind : DiskKind D) where
     pub replies_and_tables : RepliesAndTables catalog requests db first last.list Whole text
     pub in_order : InOrder catalog db last.list
     pub wherever_a_crash_falls : kind.honest → AreIncarnations kind catalog db first (last ∷ earlier) old new
-    pub receipts_stay : ReceiptsStay catalog (change old new)
-    pub all_stands : AllStands catalog db first last.list (change old new)
+    pub receipts_stay : ReceiptsStay Strong catalog last.list (change old new)
+    pub all_stands : AllStands Strong catalog db first last.list (change old new)
     pub at_the_end : AtTheEnd catalog db last.list
 
   -- the stop with this status of a run whose last incarnation is this
@@ -55,8 +56,8 @@ module _ {D : Type 0} (kind : DiskKind D) where
     pub replies : RepliesAndTables catalog requests db first last.list (stop_over status limit first last old new) text
     pub in_order : InOrder catalog db last.list
     pub wherever_a_crash_falls : kind.honest → AreIncarnations kind catalog db first (last ∷ earlier) old new
-    pub receipts_stay : ReceiptsStay catalog (change old new)
-    pub every_receipt_stands : EveryReceiptStands catalog db first last.list last.receipted (change old new)
+    pub receipts_stay : ReceiptsStay Strong catalog last.list (change old new)
+    pub every_receipt_stands : EveryReceiptStands Strong catalog db first last.list last.receipted (change old new)
 
   -- ---- runs
 
@@ -65,15 +66,15 @@ module _ {D : Type 0} (kind : DiskKind D) where
   pub record IsWholeRunOver (every : Option ℕ) (limit : ℕ) (catalog : Catalog) (requests : List Request) (opening : Database) (first : ℕ)
       (last : Incarnation) (earlier : List Incarnation) (text : List ℕ) (old new : D) : Type 0 where
     pub within : length last.list ≤ room_from limit first
-    pub logged : kind.tells → EndsWithOwn first last.list (list_before earlier) (λ place own. Logged every place own (kind.seen new))
-    pub session : FromStore catalog opening first (change old new) (WholeSessionOver catalog requests first last earlier text old new)
+    pub logged : kind.tells → EndsWithOwn first last.list (list_before earlier) (λ place own. Logged Strong every place own (kind.seen new))
+    pub session : FromStore Strong catalog opening first (change old new) (WholeSessionOver catalog requests first last earlier text old new)
 
   -- they stopped with this status, where the executions below the last one's count are receipted
   pub record IsStoppedRunOver (every : Option ℕ) (limit : ℕ) (catalog : Catalog) (requests : List Request) (opening : Database) (first : ℕ)
       (last : Incarnation) (earlier : List Incarnation) (status : ℕ) (text : List ℕ) (old new : D) : Type 0 where
     pub within : length last.list ≤ room_from limit first
-    pub logged : EndsWithOwn first last.list (list_before earlier) (λ place own. LogEndsAsStopped every status place own last.receipted (change old new))
-    pub session : FromStore catalog opening first (change old new) (StoppedSessionOver catalog requests limit first last earlier status text old new)
+    pub logged : EndsWithOwn first last.list (list_before earlier) (λ place own. LogEndsAsStopped Strong every status place own last.receipted (change old new))
+    pub session : FromStore Strong catalog opening first (change old new) (StoppedSessionOver catalog requests limit first last earlier status text old new)
 
   -- law: what a run has come to over its incarnations, with the answers to its clients, is a whole run, or one that stopped
   pub record RunsOverRestarts : Type 0 where
@@ -81,7 +82,7 @@ module _ {D : Type 0} (kind : DiskKind D) where
     pub whole : (every : Option ℕ) (limit : ℕ) (catalog : Catalog) (requests : List Request) (db : Database) (first : ℕ) (last : Incarnation)
         (earlier : List Incarnation) (missing : Answer) (answers : List (List Answer)) (old new : D) → Lived kind catalog db first last earlier old new →
         last.receipted ≡ first + length last.list → AtTheEnd catalog db last.list →
-        (kind.tells → EndsWithOwn first last.list (list_before earlier) (λ place own. Logged every place own (kind.seen new))) →
+        (kind.tells → EndsWithOwn first last.list (list_before earlier) (λ place own. Logged Strong every place own (kind.seen new))) →
         AreAnswered requests first last.list Whole answers → length last.list ≤ room_from limit first →
         IsWholeRunOver every limit catalog requests db first last earlier
         (report_text catalog requests (weave missing requests answers) first last.list db Whole) old new
@@ -89,7 +90,7 @@ module _ {D : Type 0} (kind : DiskKind D) where
     pub stopped : (every : Option ℕ) (limit : ℕ) (catalog : Catalog) (requests : List Request) (db : Database) (first : ℕ) (last : Incarnation)
         (earlier : List Incarnation) (status : ℕ) (missing : Answer) (answers : List (List Answer)) (old before new : D) →
         kind.faults old ≤ kind.faults before → Lived kind catalog db first last earlier old new →
-        EndsWithOwn first last.list (list_before earlier) (λ place own. LogEndsAsStopped every status place own last.receipted (change before new)) →
+        EndsWithOwn first last.list (list_before earlier) (λ place own. LogEndsAsStopped Strong every status place own last.receipted (change before new)) →
         AreAnswered requests first last.list (stop_over status limit first last before new) answers → length last.list ≤ room_from limit first →
         IsStoppedRunOver every limit catalog requests db first last earlier status
         (report_text catalog requests (weave missing requests answers) first last.list db (stop_over status limit first last old new)) old new

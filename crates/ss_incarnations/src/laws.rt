@@ -1,4 +1,4 @@
-//! What holds of a run over the faults of its disk.
+//! What holds of a run on a strong store, over the faults of its disk.
 
 ghost use Rattle.ss_incarnations.specs.Openings.{NoneIsTried, NoneIsOpened, OpenedAtLast};
 ghost use Rattle.ss_incarnations.specs.Pushes.{AcceptedAreConsecutive, AllAreAccepted, AllReportedAreAccepted};
@@ -9,7 +9,7 @@ use ss_disk::Disk;
 use ss_headline::few_stand_behind;
 use ss_model_laws::{kept_carries, replays_go_on, replays_have_orders};
 use ss_report_laws::answers_make_report;
-use ss_standing::{receipts_bound_fronts, stands_for_one};
+use ss_standing::stands_for_one;
 
 /// Where a store is opened only at a later try, none was opened before (`untried`, `none`), and on an honest disk it is
 /// opened as at the first (`at_last`).
@@ -31,7 +31,6 @@ pub fn incarnations_go_on<D: Disk>()
     ensures more { OneMoreIncarnation D.kind }
 {
     stands_for_one();
-    receipts_bound_fronts();
     few_stand_behind();
     replays_go_on();
     replays_have_orders();

@@ -1,4 +1,5 @@
-//! The headline over restarts, on the definitions alone: a run that goes on where its disk fails and is opened again.
+//! The headline over restarts, on the definitions alone: a run on a strong store that goes on where its disk fails and is
+//! opened again.
 //!
 //! A run over restarts is a list of incarnations, each from an opening of the disk to the close of the engine on it. Each has
 //! a list of its own, and this takes the place of the printed one at its moments: wherever a crash falls, it leaves a front

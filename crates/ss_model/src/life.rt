@@ -13,6 +13,7 @@ pub trait Life {
     ghost use Rattle.atomic_table.specs.Seated.{TableId};
     ghost use Rattle.ss_model.specs.declared.catalog.Catalog.{Catalog};
     ghost use Rattle.ss_model.specs.Database.{Database};
+    ghost use Rattle.ss_model.specs.Recovery.{Recovery};
 
     // the catalogue, and the database at the opening
     ghost catalog: { Catalog };
@@ -32,6 +33,9 @@ pub trait Life {
     // whether there are checkpoints, and then from how many entries behind the last one on the next is due
     ghost every: { Option ℕ };
 
+    // how the store is had again behind a crash
+    ghost recovery: { Recovery };
+
     // the table of the seats that tokens stand on, which is made before the name is picked
     ghost table: { TableId };
 
@@ -47,6 +51,7 @@ pub trait Life {
 
 impl Life for Brand {
     ghost use Rattle.std.specs.Prelude.{None};
+    ghost use Rattle.ss_model.specs.Recovery.{Strong};
     ghost use Rattle.ss_model.specs.Lives.{no_catalog, no_database, no_table, any_past};
 
     ghost catalog = { no_catalog };
@@ -62,6 +67,8 @@ impl Life for Brand {
     ghost clients = { 0 };
 
     ghost every = { None };
+
+    ghost recovery = { Strong };
 
     ghost table = { no_table };
 

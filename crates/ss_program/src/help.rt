@@ -15,18 +15,21 @@ sstore runs transactions and stream workflows on one database, and prints replie
 With --checkpoint 1..1000000 a run or a voter puts an image of the database in place of the log, each time so many entries
 behind the last one, so that recovery has less to replay.
 With --restarts 0..16 one whose disk failed opens it again and goes on, so often at most; 0 where nothing is said.
+With --recovery weak a store logs calls and pushes alone, and a recovery runs them again with their workflows; it has no
+restarts. A store keeps its mode: strong, where nothing is said, logs all executions.
 
 The first word is where the store is: a folder, which has to be there and is held by one process at a time, or - for
 memory, which ends with the program.
 
 Status: 0 done, 1 usage, 2 input refused, 3 read fault, 4 write fault, 5 disk fault or folder in use, 6 no memory,
-7 not a store, 8 a store of another catalogue, 9 the list is full, 12 an audit found the report wrong.
+7 not a store, 8 a store of another catalogue, 9 the list is full, 11 a store of the other mode of recovery,
+12 an audit found the report wrong.
 
 docs/TUTORIAL.md goes from an idea to a catalogue; docs/FORMATS.md says what may be written and what is printed.
 ";
 
 /// What `sstore --version` prints: the program's version, and the magic with which its stores begin.
-const VERSION: &str = "sstore 0.12, stores of format SSTORE1\n";
+const VERSION: &str = "sstore 0.12, stores of formats SSTORE1 and SSTOREW\n";
 
 /// What is printed for a word that stands alone and asks for it. No such word is a command, so none is lost.
 pub fn asked_text(words: &[String]) -> Option<&'static str> {
@@ -61,6 +64,9 @@ pub fn status_text(status: Status) -> Option<&'static str> {
             "the folder's files are no store, and nothing has run; FILE and AT are the first wrong byte",
         ),
         Status::OtherCatalog => Some("the store is of another catalogue, and nothing has run"),
+        Status::OtherMode => {
+            Some("the store is of the other mode of recovery, and nothing has run")
+        }
         Status::Limit => Some("the list is full; what was answered with list_full has not run"),
         Status::Differs => {
             Some(

@@ -4,6 +4,7 @@ use Rattle.ss_value.specs.FaultCounts.{Rose}
 use Rattle.ss_model.specs.declared.catalog.Catalog.{Catalog}
 use Rattle.ss_model.specs.declared.entry.Entry.{Entry}
 use Rattle.ss_model.specs.declared.entry.Listed.{Listed}
+use Rattle.ss_model.specs.Recovery.{Recovery}
 use Rattle.ss_model.specs.Database.{Database}
 use Rattle.ss_model.specs.Replays.{Replays}
 use Rattle.ss_disk.specs.Kinds.{DiskKind}
@@ -21,21 +22,22 @@ use Rattle.ss_receipts.specs.Holding.{HaltedAt, Holds, AreRest, KeeperView}
 use Rattle.ss_receipts.specs.Checkpointing.{IsCheckpointed}
 use Rattle.ss_receipts.specs.Durable.{IsDurable}
 use Rattle.ss_receipts.specs.Trimming.{IsTrimmed}
+use Rattle.ss_fronts.proofs.CallerLemmas.{grows}
 use Rattle.ss_receipts.proofs.Growing.{holds_on}
 
-module _ {D : Type 0} (every : Option ℕ) (catalog : Catalog) (db : Database) (first opened before : ℕ) (past : ℕ → List (List ℕ) → Type 0) (kind : DiskKind D) where
+module _ {D : Type 0} (recovery : Recovery) (every : Option ℕ) (catalog : Catalog) (db : Database) (first opened before : ℕ) (past : ℕ → List (List ℕ) → Type 0) (kind : DiskKind D) where
   -- the note has met the list
   pub keeper_on : (parts limit : ℕ) (log : CmdLog D) (count : ℕ) (note later : Known) → Follows catalog parts limit note later → note.role ≡ DiskRole → note.count ≡ count
-      → Holds every catalog db first opened before past kind (listed_of note.list) log count note.faults
-      → (later.role ≡ DiskRole) × (later.count ≡ count) × Holds every catalog db first opened before past kind (listed_of later.list) log count later.faults
+      → Holds recovery every catalog db first opened before past kind (listed_of note.list) log count note.faults
+      → (later.role ≡ DiskRole) × (later.count ≡ count) × Holds recovery every catalog db first opened before past kind (listed_of later.list) log count later.faults
   keeper_on parts limit log count note later f role counted h =
       let same = f.sees.disk role in
       let list : listed_of note.list ++ listed_of f.goes_on.rest ≡ listed_of later.list = sym (ap listed_of f.goes_on.is ∙ listed_of-append note.list f.goes_on.rest) in (
         f.role ∙ role,
         same.0 ∙ counted,
-        subst (λ (n : ℕ). Holds every catalog db first opened before past kind (listed_of later.list) log count n) (sym same.1)
-            (subst (λ (l : List Listed). Holds every catalog db first opened before past kind l log count note.faults) list
-            (holds_on every catalog db first opened before past kind (listed_of note.list) (listed_of f.goes_on.rest) log count note.faults h)),
+        subst (λ (n : ℕ). Holds recovery every catalog db first opened before past kind (listed_of later.list) log count n) (sym same.1)
+            (subst (λ (l : List Listed). Holds recovery every catalog db first opened before past kind l log count note.faults) list
+            (holds_on recovery every catalog db first opened before past kind grows (listed_of note.list) (listed_of f.goes_on.rest) log count note.faults h)),
       )
 
 -- the rest of the list that the note knows, where another word for the same was given

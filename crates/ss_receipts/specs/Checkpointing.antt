@@ -53,8 +53,9 @@ pub record StandAt (catalog : Catalog) (db : Database) (marks : List Known) (lis
   pub known : AllAt list marks
   pub of : IsOfDatabase catalog (after catalog db (listed_of list)) whole streams
 
--- the bytes are the image of what is kept behind all of a list, which ends at this place
+-- the bytes are the image of what is kept behind all of a list, which replays and ends at this place
 pub record IsImageBehind (catalog : Catalog) (db : Database) (first : ℕ) (list : List Listed) (place : ℕ) (bytes : List ℕ) : Type 0 where
+  pub replays : Replays catalog db list
   pub end : place ≡ first + length list
   pub small : place ≤ 2 ^ 60
   pub fits : FitsImage (kept catalog (after catalog db list))

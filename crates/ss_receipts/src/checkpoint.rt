@@ -19,13 +19,11 @@ use crate::rest::entries_of;
 use ss_cmdlog::{CmdLog, LogError};
 use ss_commitlog::{CommitLog, Marks};
 use ss_disk::Disk;
+use ss_fronts::{checkpoints_hold, checkpoints_keep_fronts, held_fronts_stand};
 use ss_model::{Catalog, Entry, Life};
 use ss_model_laws::whole_databases_stay;
 use ss_shard::Shard;
 use ss_snapshot::write_image;
-use ss_standing::{
-    checkpoints_stand, kept_counts_stand_on, lists_stand_over_checkpoints, log_receipts_tell,
-};
 use ss_stream::Streams;
 use ss_value::{NoMemory, Seq};
 use std::alloc::Global;
@@ -51,17 +49,16 @@ pub(crate) fn renew_log<I: Life, D: Disk + Drop>(
     requires opening { WholeDatabase I.catalog I.opening × HadAtMost I.first I.opening }
     requires going { log.old.halted ≡ None }
     requires image { (list : List Listed) × (fault : ℕ) × IsImageBehind I.catalog I.opening I.first list count image.now
-        × Holds I.every I.catalog I.opening I.first I.moment I.faults I.past D.kind list log.old count fault }
+        × Holds I.recovery I.every I.catalog I.opening I.first I.moment I.faults I.past D.kind list log.old count fault }
     ensures holds { (list : List Listed) (fault : ℕ) → IsImageBehind I.catalog I.opening I.first list count image.now
-        → Holds I.every I.catalog I.opening I.first I.moment I.faults I.past D.kind list log.old count fault
-        → Holds I.every I.catalog I.opening I.first I.moment I.faults I.past D.kind list log.new count result.faults }
+        → Holds I.recovery I.every I.catalog I.opening I.first I.moment I.faults I.past D.kind list log.old count fault
+        → Holds I.recovery I.every I.catalog I.opening I.first I.moment I.faults I.past D.kind list log.new count result.faults }
     ensures first { OnOk result.answer (log.new.first ≡ count) }
     ensures answer { IsCheckpointed count result.faults result.answer }
 {
-    checkpoints_stand();
-    lists_stand_over_checkpoints::<D>();
-    log_receipts_tell::<D>();
-    kept_counts_stand_on::<D>();
+    held_fronts_stand();
+    checkpoints_hold();
+    checkpoints_keep_fronts::<D>();
     match log.renew(image, count) {
         Ok(()) => Renewed {
             faults: 0,
@@ -158,6 +155,7 @@ fn imaged<I: Life, D: Disk + Drop>(
     ensures began { IfOk result (λ place. keeper.new.log.first ≡ place) }
 {
     whole_databases_stay();
+    keeper.note.knows_what_replays();
     let Ok(image) = write_image(alloc, catalog, whole, streams) else {
         return Err(DurableError::NoMemory);
     };

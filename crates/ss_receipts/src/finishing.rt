@@ -35,10 +35,10 @@ pub fn finish<I: Life, D: Disk + Drop>(
     requires small { I.first + length list.now ≤ 2 ^ 60 }
     requires replays { Replays I.catalog I.opening list.now }
     requires holds { (count : ℕ) × (fault : ℕ)
-        × Holds I.every I.catalog I.opening I.first I.moment I.faults I.past D.kind list.now log.old count fault }
+        × Holds I.recovery I.every I.catalog I.opening I.first I.moment I.faults I.past D.kind list.now log.old count fault }
     ensures { (count fault : ℕ)
-        → Holds I.every I.catalog I.opening I.first I.moment I.faults I.past D.kind list.now log.old count fault
-        → Finishes I.every I.catalog I.opening I.first I.moment I.faults I.past D.kind list.now log.new count fault result }
+        → Holds I.recovery I.every I.catalog I.opening I.first I.moment I.faults I.past D.kind list.now log.old count fault
+        → Finishes I.recovery I.every I.catalog I.opening I.first I.moment I.faults I.past D.kind list.now log.new count fault result }
 {
     if let Some(faults) = log.halted() {
         return Err(DurableError::Halted { faults });

@@ -8,12 +8,10 @@ ghost use Rattle.ss_receipts.specs.Holding.{Holds, AreRest};
 ghost use Rattle.ss_receipts.specs.Durable.{IsDurable};
 
 use crate::durable::DurableError;
-use ss_cmdlog::{
-    CmdLog, LogError, Receipt, first_groups_hold_the_first_entries, groups_hold_the_entries,
-};
+use ss_cmdlog::{CmdLog, LogError, Receipt, groups_hold_the_entries};
 use ss_disk::Disk;
+use ss_fronts::{flushes_keep_fronts, held_fronts_stand};
 use ss_model::{Entry, Life};
-use ss_standing::{generations_go_on, kept_counts_stand_on, log_receipts_tell, prefixes_go_on};
 use ss_value::Seq;
 
 /// What a flush has left.
@@ -35,20 +33,17 @@ pub(crate) fn flush_rest<I: Life, D: Disk + Drop>(
     requires accepted { Accepted I.catalog }
     requires going { log.old.halted ≡ None }
     requires rest { (list : List Listed) × (fault : ℕ) × AreRest I.catalog I.opening I.first list count entries.now
-        × Holds I.every I.catalog I.opening I.first I.moment I.faults I.past D.kind list log.old count fault }
+        × Holds I.recovery I.every I.catalog I.opening I.first I.moment I.faults I.past D.kind list log.old count fault }
     ensures holds { (list : List Listed) (fault : ℕ) → AreRest I.catalog I.opening I.first list count entries.now
-        → Holds I.every I.catalog I.opening I.first I.moment I.faults I.past D.kind list log.old count fault
-        → Holds I.every I.catalog I.opening I.first I.moment I.faults I.past D.kind list log.new result.count result.faults }
+        → Holds I.recovery I.every I.catalog I.opening I.first I.moment I.faults I.past D.kind list log.old count fault
+        → Holds I.recovery I.every I.catalog I.opening I.first I.moment I.faults I.past D.kind list log.new result.count result.faults }
     ensures more { count ≤ result.count }
     ensures going { OnOk result.answer (log.new.halted ≡ None) }
     ensures answer { IsDurable (count + length entries.now) result.count result.faults result.answer }
 {
     groups_hold_the_entries();
-    first_groups_hold_the_first_entries();
-    generations_go_on();
-    prefixes_go_on::<D>();
-    log_receipts_tell::<D>();
-    kept_counts_stand_on::<D>();
+    held_fronts_stand();
+    flushes_keep_fronts::<D>();
     match log.flush(entries) {
         Ok(receipt) => Flushed {
             count: receipt.count,

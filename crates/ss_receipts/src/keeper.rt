@@ -30,6 +30,6 @@ impl<I: Life, D: Disk + Drop> Model for Keeper<I, D> {
 
     ghost invariant = { λ k.
         (k.note.role ≡ DiskRole) × (k.note.count ≡ k.count)
-        × Holds I.every I.catalog I.opening I.first I.moment I.faults I.past D.kind
+        × Holds I.recovery I.every I.catalog I.opening I.first I.moment I.faults I.past D.kind
         (listed_of k.note.list) k.log k.count k.note.faults };
 }

@@ -43,9 +43,8 @@
 //! - `finish` (`Finishes`): as `ensure_durable`, of a list that is whole, for all of it.
 //! - `trim` (`Trims`): the log holds what it held, and fewer entries than are due stand behind the current generation's first
 //!   place, or there was no memory, or the disk has failed.
-//! - Laws: what a log holds of a list it holds of each that goes on from it (`holds_go_on`); each present image is a
-//!   front that ends at the count at least (`held_fronts_stand`), and all of the list where the count is at its end
-//!   (`all_stands`); the entries of a list that replays have records (`replayed_are_recordable`).
+//! - Laws: what a log holds of a list it holds of each that goes on from it (`holds_go_on`); the entries of a list that
+//!   replays have records (`replayed_are_recordable`).
 #![tactic(auto)]
 
 mod checkpoint;
@@ -60,8 +59,6 @@ mod trimming;
 
 pub use durable::DurableError;
 pub use finishing::finish;
-pub use laws::{
-    all_stands, held_fronts_stand, holds_go_on, replayed_are_recordable, the_past_is_of_the_disk,
-};
+pub use laws::{holds_go_on, replayed_are_recordable, the_past_is_of_the_disk};
 pub use receipts::Receipts;
 pub use trimming::trim;

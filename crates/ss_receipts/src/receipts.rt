@@ -41,7 +41,7 @@ impl<I: Life, D: Disk + Drop> Receipts<I, D> {
     pub fn new(log: CmdLog<D>, note: Note<I>, every: Option<u64>) -> Receipts<I, D>
         requires every { every ≡ I.every }
         requires note { note ≡ known DiskRole [] I.first 0 }
-        requires holds { Holds I.every I.catalog I.opening I.first I.moment I.faults I.past D.kind [] log I.first 0 }
+        requires holds { Holds I.recovery I.every I.catalog I.opening I.first I.moment I.faults I.past D.kind [] log I.first 0 }
     {
         let count = log.count();
         Receipts {
@@ -148,7 +148,7 @@ impl<I: Life, D: Disk + Drop> Receipts<I, D> {
     /// The log and the note, where nobody shares the lock any more. Takes no memory and waits for nobody.
     pub fn into_parts(self) -> (CmdLog<D>, Note<I>)
         ensures disk { result.1.role ≡ DiskRole }
-        ensures holds { Holds I.every I.catalog I.opening I.first I.moment I.faults I.past D.kind
+        ensures holds { Holds I.recovery I.every I.catalog I.opening I.first I.moment I.faults I.past D.kind
             (listed_of result.1.list) result.0 result.1.count result.1.faults }
     {
         let Receipts { keeper, .. } = self;

@@ -46,10 +46,10 @@ pub fn trim<I: Life, D: Disk + Drop>(
     requires opening { WholeDatabase I.catalog I.opening × HadAtMost I.first I.opening }
     requires every { 1 ≤ every }
     requires list { (list : List Listed) × (fault : ℕ)
-        × HoldsAll I.every I.catalog I.opening I.first I.moment I.faults I.past D.kind list log.old end fault whole.now streams.now.streams }
+        × HoldsAll I.recovery I.every I.catalog I.opening I.first I.moment I.faults I.past D.kind list log.old end fault whole.now streams.now.streams }
     ensures holds { (list : List Listed) (fault : ℕ)
-        → HoldsAll I.every I.catalog I.opening I.first I.moment I.faults I.past D.kind list log.old end fault whole.now streams.now.streams
-        → Trims I.every I.catalog I.opening I.first I.moment I.faults I.past D.kind list log.new end fault every result }
+        → HoldsAll I.recovery I.every I.catalog I.opening I.first I.moment I.faults I.past D.kind list log.old end fault whole.now streams.now.streams
+        → Trims I.recovery I.every I.catalog I.opening I.first I.moment I.faults I.past D.kind list log.new end fault every result }
 {
     if let Some(faults) = log.halted() {
         return Err(DurableError::Halted { faults });

@@ -8,13 +8,19 @@ use Rattle.ss_lemmas.proofs.LoopItem.{drop_at, some_at}
 use Rattle.ss_model.specs.declared.catalog.Catalog.{Catalog}
 use Rattle.ss_model.specs.declared.entry.Entry.{Entry}
 use Rattle.ss_model.specs.declared.entry.Listed.{Listed}
+use Rattle.ss_model.specs.declared.entry.Mode.{Mode}
+use Rattle.ss_model.specs.declared.entry.Mode.TheVariants.{Strong, Weak}
 use Rattle.ss_model.specs.declared.entry.Outcome.{Outcome}
+use Rattle.ss_model.specs.declared.entry.Outcome.TheVariants.{Done}
 use Rattle.ss_model.specs.Database.{Applied, Database as Model, apply}
-use Rattle.ss_model.specs.Replays.{Replays, after}
+use Rattle.ss_model.specs.Replays.{Replays, after, database_after}
 use Rattle.ss_model.specs.Settling.{SameKeptApplied, kept}
 use Rattle.ss_model.proofs.CallerLemmas.{goes_on}
 use Rattle.ss_model_kept.proofs.CallerLemmas.{kept_is_enough}
 use Rattle.ss_model_laws.proofs.CallerLemmas.{kept_carries}
+use Rattle.ss_weak_lists.specs.Stops.{PassesLast, StopsAt, WeakStopsOnce}
+use Rattle.ss_weak_lists.specs.Stops as weakly
+use Rattle.ss_weak_lists.specs.WeakLists.{KeptCarriesWeak}
 use Rattle.ss_disk.specs.Files.{Files}
 use Rattle.ss_cmdlog.specs.Generation.{Stood}
 use Rattle.ss_cmdlog.specs.Opening.{number_of, store_at}
@@ -22,8 +28,8 @@ use Rattle.ss_cmdlog.specs.Store.{IsEmpty, current_file, entries_of}
 use Rattle.ss_snapshot.specs.Images.{IsForeignAt, IsImageOf, HasOneKept, HasOneOffset, IsImageOrForeign}
 use Rattle.ss_standing.specs.Standing.{listed_entries}
 use Rattle.ss_standing.proofs.CallerLemmas.{entries_tell}
-use Rattle.ss_recover.specs.Faults.{ReadsAs, record_place, image_place}
-use Rattle.ss_recover.specs.Laws.{EmptyHasNoFault, StoreHasNoFault, StoreHasOneCatalog, HasOneFault}
+use Rattle.ss_recover.specs.Faults.{HasForeignEntry, HasForeignSettling, IsStore, ReadsAs, ReplaysAs, ReplaysAsTheyStand, StopsAfter, record_place, image_place}
+use Rattle.ss_recover.specs.Laws.{EmptyHasNoFault, HasOneFault, StoreHasNoFault, StoreIsOne}
 use Rattle.ss_replay.specs.Replaying.{DoesNotReplay, StopsBehind}
 
 -- ---- lists
@@ -62,6 +68,46 @@ module _ (catalog : Catalog) (d : Model) (first : ℕ) where
       (stops.before ∙ sym (ap (take (length a)) others.before ∙ take-take (length a) (length b) entries (omega (arith, shorter)))) shorter
       stops.entry (ap (λ (es : List Entry). slice_get es (length a)) others.before ∙ at_front entries (length b) (length a) shorter ∙ stops.there) stops.stops
 
+  same_length : (entries : List Entry) (a b : List Listed) → StopsBehind catalog d first entries a → StopsBehind catalog d first entries b → length a ≡ length b
+  same_length entries a b stops others = ⊎_elim
+      (λ (lt : length a < length b). absurd (one_stop entries a b stops others lt))
+      (λ (le : length b ≤ length a). ⊎_elim
+      (λ (lt : length b < length a). absurd (one_stop entries b a others stops lt))
+      (λ (ge : length a ≤ length b). omega (arith, le, ge))
+      (cases_lt (length b) (length a)))
+      (cases_lt (length a) (length b))
+
+  -- entries that replay as they stand don't stop
+  none_stops_so : (entries : List Entry) (front : List Listed) → ReplaysAsTheyStand catalog d first entries → StopsBehind catalog d first entries front → ⊥
+  none_stops_so entries front all stops =
+      let list = all.list in
+      let there = ap (λ (es : List Entry). slice_get es (length front)) all.entries_are ∙ stops.there in
+      let within = slice_get_within (listed_entries list) (length front) stops.entry there in
+      none_stops list front all.replays all.few stops.replays (stops.before ∙ ap (take (length front)) (sym all.entries_are)) (omega (arith, within, length-map list (λ (l : Listed). l.entry))) stops.entry there stops.stops
+
+-- ---- either mode
+
+module _ (once : WeakStopsOnce) (catalog : Catalog) (d : Model) (first : ℕ) (entries : List Entry) where
+  no_stop : (mode : Mode) (n : ℕ) → ReplaysAs mode catalog d first entries → StopsAfter mode catalog d first entries n → ⊥
+  no_stop Strong n all stops = (let (front, is, behind) = stops in none_stops_so catalog d first entries front all behind)
+  no_stop Weak n all stops = (once catalog d first entries).no_stop n all stops
+
+  one_place : (mode : Mode) (m n : ℕ) → StopsAfter mode catalog d first entries m → StopsAfter mode catalog d first entries n → m ≡ n
+  one_place Strong m n stops others =
+      let (a, is, behind) = stops in
+      let (b, is_other, other) = others in
+      is ∙ same_length catalog d first entries a b behind other ∙ sym is_other
+  one_place Weak m n stops others = (once catalog d first entries).one_stop m n stops others
+
+  -- where settling passes the last place, none of them replays, nor some of them
+  never : (mode : Mode) → mode ≡ Weak → PassesLast catalog d first → ReplaysAs mode catalog d first entries → ⊥
+  never mode weak passes all = (let replays : ReplaysAs Weak catalog d first entries = subst (λ (m : Mode). ReplaysAs m catalog d first entries) weak all in (once catalog d first entries).unsettled entries passes replays)
+
+  not_before : (mode : Mode) (n : ℕ) → mode ≡ Weak → PassesLast catalog d first → StopsAfter mode catalog d first entries n → ⊥
+  not_before mode n weak passes stops =
+      let stop : StopsAfter Weak catalog d first entries n = subst (λ (m : Mode). StopsAfter m catalog d first entries n) weak stops in
+      (once catalog d first entries).unsettled (take n entries) passes stop.before
+
 -- ---- databases of which the same is kept
 
 -- what has no value on the one has none on the other
@@ -86,6 +132,33 @@ stops_either catalog x y same first entries list stops =
       stops = ⊎_elim (λ (last : first + length list ≡ 2 ^ 60). inl last) (λ (none : apply catalog (after catalog x list) stops.entry ≡ None). inr (no_value_either catalog (after catalog x list) (after catalog y list) carried.after stops.entry none)) stops.stops;
     }
 
+module _ (carries : KeptCarriesWeak) (catalog : Catalog) where
+  passes_either : (x y : Model) → kept catalog x ≡ kept catalog y → (place : ℕ) → PassesLast catalog x place → PassesLast catalog y place
+  passes_either x y same place passes = record { steps = passes.steps; settles = (carries catalog x y same).settles passes.steps passes.settles; past = passes.past }
+
+  -- where an entry stops on the one it stops on the other
+  stops_at_either : (x y : Model) → kept catalog x ≡ kept catalog y → (place : ℕ) (e : Entry) → StopsAt catalog x place e → StopsAt catalog y place e
+  stops_at_either x y same place e stops = ⊎_elim
+      (λ (none : apply catalog x e ≡ None). inl (no_value_either catalog x y same e none))
+      (λ (passes : PassesLast catalog (database_after catalog x e) (place + 1)).
+      inr (passes_either (database_after catalog x e) (database_after catalog y e) (kept_carries catalog x y same (record { entry = e; outcome = Done [] } ∷ [])).after (place + 1) passes))
+      stops
+
+  weakly_either : (x y : Model) → kept catalog x ≡ kept catalog y → (first : ℕ) (entries : List Entry) (n : ℕ) → weakly.StopsBehind catalog x first entries n → weakly.StopsBehind catalog y first entries n
+  weakly_either x y same first entries n stops =
+      let front = stops.before in
+      let carried = kept_carries catalog x y same front.list in
+      record {
+        before = record { list = front.list; is_weak = (carries catalog x y same).weak (take n entries) (listed_entries front.list) front.is_weak; replays = carried.replays front.replays; few = front.few };
+        entry = stops.entry;
+        there = stops.there;
+        stops = stops_at_either (after catalog x front.list) (after catalog y front.list) carried.after (first + length front.list) stops.entry stops.stops;
+      }
+
+  after_either : (mode : Mode) (x y : Model) → kept catalog x ≡ kept catalog y → (first : ℕ) (entries : List Entry) (n : ℕ) → StopsAfter mode catalog x first entries n → StopsAfter mode catalog y first entries n
+  after_either Strong x y same first entries n stops = (let (list, is, behind) = stops in (list, is, stops_either catalog x y same first entries list behind))
+  after_either Weak x y same first entries n stops = weakly_either x y same first entries n stops
+
 -- ---- files
 
 ok_is : {A E : Type 0} (x y : A) → ◌≡◌ {A = Result A E} (Ok x) (Ok y) → x ≡ y
@@ -109,9 +182,10 @@ unselected disk which s empty reads = (let both : [] ≡ reads.byte ∷ [] = sym
 pub empty_no_fault : EmptyHasNoFault
 empty_no_fault disk which at empty (inl bytes) = bytes.0 empty
 empty_no_fault disk which at empty (inr (inl image)) = unselected disk which image.s empty image.reads
-empty_no_fault disk which at empty (inr (inr entry)) = unselected disk which entry.s empty entry.reads
+empty_no_fault disk which at empty (inr (inr (inl entry))) = unselected disk which entry.s empty entry.reads
+empty_no_fault disk which at empty (inr (inr (inr settling))) = unselected disk which settling.s empty settling.reads
 
-module _ (one : HasOneKept) (either : IsImageOrForeign) (offset : HasOneOffset) where
+module _ (one : HasOneKept) (either : IsImageOrForeign) (offset : HasOneOffset) (carries : KeptCarriesWeak) (once : WeakStopsOnce) where
   one_image : (disk : Files) (which other : ℕ) (s t : Stood) (a b : Catalog) (x y : Model) → ReadsAs disk which s → ReadsAs disk other t → IsImageOf s.image s.first a x → IsImageOf t.image t.first b y
       → (a ≡ b) × (kept a x ≡ kept b y)
   one_image disk which other s t a b x y reads others image images =
@@ -122,53 +196,76 @@ module _ (one : HasOneKept) (either : IsImageOrForeign) (offset : HasOneOffset) 
   image_not disk which other off s t a x reads others image foreign =
       either t.image t.first a x off (subst (λ (u : Stood). IsImageOf u.image u.first a x) (one_reading disk which other s t reads others).0 image) foreign
 
-  -- a list that stops behind the image of one generation does behind that of the other, which is the same
-  stops_there : (s t : Stood) (a b : Catalog) (x y : Model) (list : List Listed) → s ≡ t → (a ≡ b) × (kept a x ≡ kept b y) → StopsBehind a x s.first (entries_of s) list → StopsBehind b y t.first (entries_of t) list
-  stops_there s t a b x y list same alike stops =
-      stops_either b x y (ap (λ (c : Catalog). kept c x) (sym alike.0) ∙ alike.1) t.first (entries_of t) list
-      (subst (λ (c : Catalog). StopsBehind c x t.first (entries_of t) list) alike.0 (subst (λ (u : Stood). StopsBehind a x u.first (entries_of u) list) same stops))
+  -- what stops behind the image of one generation does behind that of the other, which is the same
+  stops_there : (s t : Stood) (a b : Catalog) (x y : Model) (n : ℕ) → s ≡ t → (a ≡ b) × (kept a x ≡ kept b y) → StopsAfter s.mode a x s.first (entries_of s) n → StopsAfter t.mode b y t.first (entries_of t) n
+  stops_there s t a b x y n same alike stops =
+      after_either carries b t.mode x y (ap (λ (c : Catalog). kept c x) (sym alike.0) ∙ alike.1) t.first (entries_of t) n
+      (subst (λ (c : Catalog). StopsAfter t.mode c x t.first (entries_of t) n) alike.0 (subst (λ (u : Stood). StopsAfter u.mode a x u.first (entries_of u) n) same stops))
+
+  -- and so does settling that passes the last place
+  passes_there : (s t : Stood) (a b : Catalog) (x y : Model) → s ≡ t → (a ≡ b) × (kept a x ≡ kept b y) → PassesLast a x s.first → PassesLast b y t.first
+  passes_there s t a b x y same alike passes =
+      passes_either carries b x y (ap (λ (c : Catalog). kept c x) (sym alike.0) ∙ alike.1) t.first
+      (subst (λ (c : Catalog). PassesLast c x t.first) alike.0 (subst (λ (u : Stood). PassesLast a x u.first) same passes))
+
+  -- a store's entries, as those of its generation
+  store_replays : (mode : Mode) (disk : Files) (catalog : Catalog) (store : IsStore mode disk catalog) → ReplaysAs store.s.mode catalog store.db store.s.first (entries_of store.s)
+  store_replays mode disk catalog store = subst (λ (m : Mode). ReplaysAs m catalog store.db store.s.first (entries_of store.s)) (sym store.of_mode) store.replays
 
   pub store_no_fault : StoreHasNoFault
-  store_no_fault disk catalog which at store (inl bytes) = unread disk store.which which at store.s store.reads bytes.1
-  store_no_fault disk catalog which at store (inr (inl image)) = image_not disk store.which which image.offset store.s image.s catalog store.db store.reads image.reads store.image image.foreign
-  store_no_fault disk catalog which at store (inr (inr entry)) =
+  store_no_fault mode disk catalog which at store (inl bytes) = unread disk store.which which at store.s store.reads bytes.1
+  store_no_fault mode disk catalog which at store (inr (inl image)) = image_not disk store.which which image.offset store.s image.s catalog store.db store.reads image.reads store.image image.foreign
+  store_no_fault mode disk catalog which at store (inr (inr (inl entry))) =
       let same = (one_reading disk which store.which entry.s store.s entry.reads store.reads).0 in
       let alike = one_image disk which store.which entry.s store.s entry.catalog catalog entry.db store.db entry.reads store.reads entry.image store.image in
-      let stops = stops_there entry.s store.s entry.catalog catalog entry.db store.db entry.list same alike entry.stops in
-      let there = ap (λ (es : List Entry). slice_get es (length entry.list)) store.entries ∙ stops.there in
-      let within = slice_get_within (listed_entries store.list) (length entry.list) stops.entry there in
-      none_stops catalog store.db store.s.first store.list entry.list store.replays store.few stops.replays (stops.before ∙ ap (take (length entry.list)) (sym store.entries))
-      (omega (arith, within, length-map store.list (λ (l : Listed). l.entry))) stops.entry there stops.stops
+      let stops = stops_there entry.s store.s entry.catalog catalog entry.db store.db entry.before same alike entry.stops in
+      no_stop once catalog store.db store.s.first (entries_of store.s) store.s.mode entry.before (store_replays mode disk catalog store) stops
+  store_no_fault mode disk catalog which at store (inr (inr (inr settling))) =
+      let same = (one_reading disk which store.which settling.s store.s settling.reads store.reads).0 in
+      let alike = one_image disk which store.which settling.s store.s settling.catalog catalog settling.db store.db settling.reads store.reads settling.image store.image in
+      let passes = passes_there settling.s store.s settling.catalog catalog settling.db store.db same alike settling.past in
+      never once catalog store.db store.s.first (entries_of store.s) store.s.mode (ap (λ (u : Stood). u.mode) (sym same) ∙ settling.of_mode) passes (store_replays mode disk catalog store)
 
-  pub store_one_catalog : StoreHasOneCatalog
-  store_one_catalog disk a b store other = (one_image disk store.which other.which store.s other.s a b store.db other.db store.reads other.reads store.image other.image).0
+  pub store_is_one : StoreIsOne
+  store_is_one m n disk a b store other = (
+    sym store.of_mode ∙ ap (λ (u : Stood). u.mode) (one_reading disk store.which other.which store.s other.s store.reads other.reads).0 ∙ other.of_mode,
+    (one_image disk store.which other.which store.s other.s a b store.db other.db store.reads other.reads store.image other.image).0,
+  )
 
-  same_length : (catalog : Catalog) (d : Model) (first : ℕ) (entries : List Entry) (a b : List Listed) → StopsBehind catalog d first entries a → StopsBehind catalog d first entries b → length a ≡ length b
-  same_length catalog d first entries a b stops others = ⊎_elim
-      (λ (lt : length a < length b). absurd (one_stop catalog d first entries a b stops others lt))
-      (λ (le : length b ≤ length a). ⊎_elim
-      (λ (lt : length b < length a). absurd (one_stop catalog d first entries b a others stops lt))
-      (λ (ge : length a ≤ length b). omega (arith, le, ge))
-      (cases_lt (length b) (length a)))
-      (cases_lt (length a) (length b))
+  -- an entry that stops and settling that passes the last place don't go together
+  entry_or_settling : (disk : Files) (which other at place : ℕ) → HasForeignEntry disk which at → HasForeignSettling disk other place → ⊥
+  entry_or_settling disk which other at place a b =
+      let same = (one_reading disk which other a.s b.s a.reads b.reads).0 in
+      let alike = one_image disk which other a.s b.s a.catalog b.catalog a.db b.db a.reads b.reads a.image b.image in
+      not_before once b.catalog b.db b.s.first (entries_of b.s) b.s.mode a.before b.of_mode b.past (stops_there a.s b.s a.catalog b.catalog a.db b.db a.before same alike a.stops)
+
+  one_entry : (disk : Files) (which other at place : ℕ) → HasForeignEntry disk which at → HasForeignEntry disk other place → (which ≡ other) × (at ≡ place)
+  one_entry disk which other at place a b =
+      let same = one_reading disk which other a.s b.s a.reads b.reads in
+      let alike = one_image disk which other a.s b.s a.catalog b.catalog a.db b.db a.reads b.reads a.image b.image in
+      let stops = stops_there a.s b.s a.catalog b.catalog a.db b.db a.before same.0 alike a.stops in
+      let lengths = one_place once b.catalog b.db b.s.first (entries_of b.s) b.s.mode a.before b.before stops b.stops in
+      (same.1, a.place ∙ (λ k. image_place + length (same.0 k).image + record_place (same.0 k).groups (lengths k)) ∙ sym b.place)
 
   pub one_fault : HasOneFault
   one_fault disk which at other place (inl a) (inl b) =
       let both = err_is (which, at) (other, place) (sym a.1 ∙ b.1) in
       (ap (λ (p : ℕ × ℕ). p.0) both, ap (λ (p : ℕ × ℕ). p.1) both)
   one_fault disk which at other place (inl a) (inr (inl b)) = absurd (unread disk other which at b.s b.reads a.1)
-  one_fault disk which at other place (inl a) (inr (inr b)) = absurd (unread disk other which at b.s b.reads a.1)
+  one_fault disk which at other place (inl a) (inr (inr (inl b))) = absurd (unread disk other which at b.s b.reads a.1)
+  one_fault disk which at other place (inl a) (inr (inr (inr b))) = absurd (unread disk other which at b.s b.reads a.1)
   one_fault disk which at other place (inr (inl a)) (inl b) = absurd (unread disk which other place a.s a.reads b.1)
-  one_fault disk which at other place (inr (inr a)) (inl b) = absurd (unread disk which other place a.s a.reads b.1)
-  one_fault disk which at other place (inr (inl a)) (inr (inr b)) = absurd (image_not disk other which a.offset b.s a.s b.catalog b.db b.reads a.reads b.image a.foreign)
-  one_fault disk which at other place (inr (inr a)) (inr (inl b)) = absurd (image_not disk which other b.offset a.s b.s a.catalog a.db a.reads b.reads a.image b.foreign)
+  one_fault disk which at other place (inr (inr (inl a))) (inl b) = absurd (unread disk which other place a.s a.reads b.1)
+  one_fault disk which at other place (inr (inr (inr a))) (inl b) = absurd (unread disk which other place a.s a.reads b.1)
+  one_fault disk which at other place (inr (inl a)) (inr (inr (inl b))) = absurd (image_not disk other which a.offset b.s a.s b.catalog b.db b.reads a.reads b.image a.foreign)
+  one_fault disk which at other place (inr (inl a)) (inr (inr (inr b))) = absurd (image_not disk other which a.offset b.s a.s b.catalog b.db b.reads a.reads b.image a.foreign)
+  one_fault disk which at other place (inr (inr (inl a))) (inr (inl b)) = absurd (image_not disk which other b.offset a.s b.s a.catalog a.db a.reads b.reads a.image b.foreign)
+  one_fault disk which at other place (inr (inr (inr a))) (inr (inl b)) = absurd (image_not disk which other b.offset a.s b.s a.catalog a.db a.reads b.reads a.image b.foreign)
   one_fault disk which at other place (inr (inl a)) (inr (inl b)) =
       let same = one_reading disk which other a.s b.s a.reads b.reads in
       let offsets = offset b.s.image b.s.first a.offset b.offset (subst (λ (u : Stood). IsForeignAt u.first u.image a.offset) same.0 a.foreign) b.foreign in
       (same.1, a.place ∙ ap (λ (n : ℕ). image_place + n) offsets ∙ sym b.place)
-  one_fault disk which at other place (inr (inr a)) (inr (inr b)) =
-      let same = one_reading disk which other a.s b.s a.reads b.reads in
-      let alike = one_image disk which other a.s b.s a.catalog b.catalog a.db b.db a.reads b.reads a.image b.image in
-      let stops = stops_there a.s b.s a.catalog b.catalog a.db b.db a.list same.0 alike a.stops in
-      let lengths = same_length b.catalog b.db b.s.first (entries_of b.s) a.list b.list stops b.stops in
-      (same.1, a.place ∙ (λ k. image_place + length (same.0 k).image + record_place (same.0 k).groups (lengths k)) ∙ sym b.place)
+  one_fault disk which at other place (inr (inr (inl a))) (inr (inr (inl b))) = one_entry disk which other at place a b
+  one_fault disk which at other place (inr (inr (inl a))) (inr (inr (inr b))) = absurd (entry_or_settling disk which other at place a b)
+  one_fault disk which at other place (inr (inr (inr a))) (inr (inr (inl b))) = absurd (entry_or_settling disk other which place at b a)
+  one_fault disk which at other place (inr (inr (inr a))) (inr (inr (inr b))) = ((one_reading disk which other a.s b.s a.reads b.reads).1, a.place ∙ sym b.place)

@@ -6,6 +6,8 @@ pub mod Images
 pub mod Places
 pub mod Told
 pub mod Alike
+pub mod Recoveries
+pub mod FreshStands
 pub mod Formed
 pub mod Restored
 pub mod Faulty

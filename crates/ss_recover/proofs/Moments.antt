@@ -3,12 +3,13 @@ use Rattle.std.proofs.Common.{◌≡◌, inl, inr, ⊎_elim, ℕ, ◌≤◌, Opt
 use Rattle.ss_value.specs.FaultCounts.{Rose}
 use Rattle.ss_disk.specs.Kinds.{DiskKind, present}
 use Rattle.ss_model.specs.declared.catalog.Catalog.{Catalog}
+use Rattle.ss_model.specs.declared.entry.Mode.{Mode}
 use Rattle.ss_disk.specs.Files.{Files}
 use Rattle.ss_disk.specs.Crash.{Only}
 use Rattle.ss_disk.specs.Moments.{LeavesOnly}
 use Rattle.ss_disk.proofs.CallerLemmas.{runs_join, leaves_less, stays_fewer}
 use Rattle.ss_cmdlog.specs.Opening.{OnlyReads}
-use Rattle.ss_standing.specs.Standing.{StandsForAtLeast}
+use Rattle.ss_fronts.specs.Fronts.{AtLeast, fresh_recovery}
 use Rattle.ss_recover.specs.Recovering.{LeavesOldOr, MayForm, MayHaveFormed}
 
 -- a count that rose since a later moment rose since an earlier one
@@ -26,11 +27,11 @@ module _ {D : Type 0} (kind : DiskKind D) where
       leaves_less kind.moment kind.images old new _ _ run (λ image either. ⊎_elim (λ (left : present kind old image). subst P (sym (only image left)) has) (λ (p : P image). p) either)
 
   -- nothing was made by a run that only read
-  pub read_formed : (told_by : kind.honest → kind.tells) (given : Option Catalog) (old new : D) → OnlyReads kind old new → kind.honest → MayHaveFormed kind given old new
-  read_formed told_by given old new reads true' = record {
+  pub read_formed : (told_by : kind.honest → kind.tells) (mode : Mode) (given : Option Catalog) (old new : D) → OnlyReads kind old new → kind.honest → MayHaveFormed kind mode given old new
+  read_formed told_by mode given old new reads true' = record {
     moments = old_or old new _ (reads.moments true');
     reads = inl (reads.same (told_by true'));
-    stands_on = λ catalog is n. stays_fewer kind.moment kind.images (StandsForAtLeast catalog n) (kind.moment old) new (reads.fewer true');
+    stands_on = λ catalog is list n. stays_fewer kind.moment kind.images (AtLeast (fresh_recovery mode catalog) catalog list n) (kind.moment old) new (reads.fewer true');
   }
 
   -- what a run left at its end it left at some moment
@@ -45,5 +46,5 @@ module _ {D : Type 0} (kind : DiskKind D) where
       (λ image either. ⊎_elim (λ (left : present kind mid image). inl (at_end old mid (present kind old) first image left)) (λ (p : P image). inr (more image p)) either))
 
 -- a store that is being made on the same files
-pub forms_since : (given : Option Catalog) (old mid image : Files) → mid ≡ old → MayForm given mid image → MayForm given old image
-forms_since given old mid image same forms = subst (λ (d : Files). MayForm given d image) same forms
+pub forms_since : (mode : Mode) (given : Option Catalog) (old mid image : Files) → mid ≡ old → MayForm mode given mid image → MayForm mode given old image
+forms_since mode given old mid image same forms = subst (λ (d : Files). MayForm mode given d image) same forms

@@ -1,18 +1,16 @@
 -- Where a record stands, by the groups and by how many entries they have.
-use Rattle.std.proofs.Common.{◌≡◌, ◌∙◌, ◌≤◌, ◌+◌, ◌-◌, ◌*◌, ℕ, suc, Bool, true, false, nat_lt, cond, List, [], ◌∷◌, ◌++◌, map, length, take, ap, arith, refl, length-append}
+use Rattle.std.proofs.Common.{◌≡◌, ◌∙◌, ◌≤◌, ◌+◌, ◌-◌, ◌*◌, ℕ, suc, Bool, true, false, nat_lt, cond, List, [], ◌∷◌, ◌++◌, map, length, take, ap, arith, refl, length-append, length-take-le}
 use Rattle.std.proofs.lemmas.Bool.{ltb-true, ltb-false}
-use Rattle.std.proofs.lemmas.List.{length-map, take_all, take-append-le}
+use Rattle.std.proofs.lemmas.List.{take_all, take-append-le}
 use Rattle.std.proofs.Math.Seq.{take-append-add}
 use Rattle.std.proofs.lemmas.Grind.{flat_map-append}
 use Rattle.std.specs.List.{flat_map}
 use Rattle.ss_model.specs.declared.entry.Entry.{Entry}
-use Rattle.ss_model.specs.declared.entry.Listed.{Listed}
 use Rattle.ss_record.specs.Spelling.{record_bytes, records}
 use Rattle.ss_cmdlog.specs.declared.open.Loaded.{Loaded}
 use Rattle.ss_cmdlog.specs.Generation.{Stood}
 use Rattle.ss_cmdlog.specs.Opening.{IsLoaded}
 use Rattle.ss_cmdlog.specs.Store.{entries_of}
-use Rattle.ss_standing.specs.Standing.{listed_entries}
 use Rattle.ss_recover.specs.Faults.{image_place, group_head, record_place}
 use Rattle.ss_recover.specs.Loading.{groups_begun, place_behind}
 
@@ -35,17 +33,17 @@ by_groups (es ∷ groups) n = by (nat_lt n (length es)) refl (by_groups groups (
         let whole = ap (λ (l : List Entry). length (records l)) (behind_first es (flat groups) n (ltb-false n (length es) test)) in
         omega (arith, rest, whole, ap (λ (l : List ℕ). length l) (flat_map-append record_bytes es (take (n - length es) (flat groups))), length-append (records es) (records (take (n - length es) (flat groups))))
 
--- the record behind those of a list's entries, which are the first of a generation
-pub placed_so : (loaded : Loaded) (s : Stood) → IsLoaded loaded s → (list : List Listed) → listed_entries list ≡ take (length list) loaded.entries
-    → place_behind (length loaded.image) loaded.sizes (listed_entries list) ≡ image_place + length s.image + record_place s.groups (length list)
-placed_so loaded s is list before =
-    let many : length (listed_entries list) ≡ length list = length-map list (λ (l : Listed). l.entry) in
-    let front : listed_entries list ≡ take (length list) (entries_of s) = before ∙ ap (take (length list)) is.entries in
-    let begun : groups_begun loaded.sizes (length (listed_entries list)) ≡ groups_begun (map length s.groups) (length list) = λ k. groups_begun (is.sizes k) (many k) in
+-- the record behind those of so many first entries
+pub placed_so : (loaded : Loaded) (s : Stood) → IsLoaded loaded s → (n : ℕ) → n ≤ length loaded.entries
+    → place_behind (length loaded.image) loaded.sizes (take n loaded.entries) ≡ image_place + length s.image + record_place s.groups n
+placed_so loaded s is n within =
+    let many : length (take n loaded.entries) ≡ n = length-take-le n loaded.entries within in
+    let front : take n loaded.entries ≡ take n (entries_of s) = ap (take n) is.entries in
+    let begun : groups_begun loaded.sizes (length (take n loaded.entries)) ≡ groups_begun (map length s.groups) n = λ k. groups_begun (is.sizes k) (many k) in
     omega (
       arith,
       ap (λ (l : List ℕ). length l) is.image,
-      by_groups s.groups (length list),
+      by_groups s.groups n,
       begun,
       ap (λ (l : List Entry). length (records l)) front,
     )

@@ -3,6 +3,8 @@ use Rattle.std.specs.Prelude.{◌≡◌, ◌≢◌, ◌⊎◌, ◌≤◌, ◌+�
 use Rattle.ss_model.specs.declared.catalog.Catalog.{Catalog}
 use Rattle.ss_model.specs.declared.entry.Entry.{Entry}
 use Rattle.ss_model.specs.declared.entry.Listed.{Listed}
+use Rattle.ss_model.specs.declared.entry.Mode.{Mode}
+use Rattle.ss_model.specs.declared.entry.Mode.TheVariants.{Strong, Weak}
 use Rattle.ss_model.specs.Accepted.{Accepted}
 use Rattle.ss_model.specs.Database.{Database as Model}
 use Rattle.ss_model.specs.Replays.{Replays}
@@ -14,10 +16,15 @@ use Rattle.ss_cmdlog.specs.Opening.{number_of, store_at}
 use Rattle.ss_snapshot.specs.Images.{IsImageOf, IsForeignAt}
 use Rattle.ss_standing.specs.Standing.{listed_entries}
 use Rattle.ss_replay.specs.Replaying.{StopsBehind}
+use Rattle.ss_weak_lists.specs.Stops as weakly
 
 -- in front of the image stand the magic, the first place and the image's length, of eight bytes each
 abbrev pub image_place : ℕ
 image_place = 24
+
+-- and in front of the first place the magic
+abbrev pub first_place : ℕ
+first_place = 8
 
 -- in front of the records of a group stand its gate and two numbers of four bytes
 abbrev pub group_head : ℕ
@@ -36,18 +43,39 @@ pub record ReadsAs (disk : Files) (which : ℕ) (s : Stood) : Type 0 where
   pub selector : disk.selector ≡ byte ∷ []
   pub named : which ≡ number_of (current_file byte)
 
--- the files are a store of this catalogue: the image is that of a database, and the entries replay on this one, each at its place
-pub record IsStore (disk : Files) (catalog : Catalog) : Type 0 where
+-- ---- how entries replay on a database, from a place on
+
+-- as they stand, each at its place
+pub record ReplaysAsTheyStand (catalog : Catalog) (db : Model) (first : ℕ) (entries : List Entry) : Type 0 where
+  pub list : List Listed
+  pub entries_are : listed_entries list ≡ entries
+  pub replays : Replays catalog db list
+  pub few : first + length list ≤ 2 ^ 60
+
+-- those of a strong log as they stand, and those of a weak one with the settlings between them
+abbrev pub ReplaysAs : Mode → Catalog → Model → ℕ → List Entry → Type 0
+ReplaysAs Strong catalog db first entries = ReplaysAsTheyStand catalog db first entries
+ReplaysAs Weak catalog db first entries = weakly.ReplaysWeakly catalog db first entries
+
+-- so many do, and the next one doesn't
+abbrev pub StopsAfter : Mode → Catalog → Model → ℕ → List Entry → ℕ → Type 0
+StopsAfter Strong catalog db first entries n = (list : List Listed) × (n ≡ length list) × StopsBehind catalog db first entries list
+StopsAfter Weak catalog db first entries n = weakly.StopsBehind catalog db first entries n
+
+-- ---- stores
+
+-- the files are a store of this mode and catalogue: the image is that of a database, and the entries replay on this one
+pub record IsStore (mode : Mode) (disk : Files) (catalog : Catalog) : Type 0 where
   pub which : ℕ
   pub s : Stood
   pub reads : ReadsAs disk which s
+  pub of_mode : s.mode ≡ mode
   pub accepted : Accepted catalog
   pub db : Model
   pub image : IsImageOf s.image s.first catalog db
-  pub list : List Listed
-  pub entries : listed_entries list ≡ entries_of s
-  pub replays : Replays catalog db list
-  pub few : s.first + length list ≤ 2 ^ 60
+  pub replays : ReplaysAs mode catalog db s.first (entries_of s)
+
+-- ---- the first fault
 
 -- the first pass: the bytes are no generation, whatever its image says
 abbrev pub HasForeignBytes : Files → ℕ → ℕ → Type 0
@@ -69,10 +97,23 @@ pub record HasForeignEntry (disk : Files) (which at : ℕ) : Type 0 where
   pub accepted : Accepted catalog
   pub db : Model
   pub image : IsImageOf s.image s.first catalog db
-  pub list : List Listed
-  pub stops : StopsBehind catalog db s.first (entries_of s) list
-  pub place : at ≡ image_place + length s.image + record_place s.groups (length list)
+  pub before : ℕ
+  pub stops : StopsAfter s.mode catalog db s.first (entries_of s) before
+  pub place : at ≡ image_place + length s.image + record_place s.groups before
+
+-- or settling the image of a weak store would pass the last place, and is told at the first place's first byte
+pub record HasForeignSettling (disk : Files) (which at : ℕ) : Type 0 where
+  pub s : Stood
+  pub reads : ReadsAs disk which s
+  pub of_mode : s.mode ≡ Weak
+  pub catalog : Catalog
+  pub accepted : Accepted catalog
+  pub db : Model
+  pub image : IsImageOf s.image s.first catalog db
+  pub past : weakly.PassesLast catalog db s.first
+  pub place : at ≡ first_place
 
 -- the first pass that finds a fault gives the place
 abbrev pub HasFaultAt : Files → ℕ → ℕ → Type 0
-HasFaultAt disk which at = HasForeignBytes disk which at ⊎ HasForeignImage disk which at ⊎ HasForeignEntry disk which at
+HasFaultAt disk which at =
+    HasForeignBytes disk which at ⊎ HasForeignImage disk which at ⊎ HasForeignEntry disk which at ⊎ HasForeignSettling disk which at

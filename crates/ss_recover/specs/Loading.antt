@@ -1,11 +1,14 @@
 -- What a store's contents come to, apart from its disk.
-use Rattle.std.specs.Prelude.{◌≡◌, ◌⊎◌, ◌≤◌, ◌+◌, ◌-◌, ◌*◌, ◌^◌, ℕ, suc, nat_lt, if◌then◌else◌, List, [], ◌∷◌, length}
+use Rattle.std.specs.Prelude.{◌≡◌, ◌⊎◌, ◌≤◌, ◌+◌, ◌-◌, ◌*◌, ◌^◌, ℕ, suc, nat_lt, if◌then◌else◌, List, [], ◌∷◌, length, take}
 use Rattle.ss_model.specs.declared.catalog.Catalog.{Catalog}
 use Rattle.ss_model.specs.declared.entry.Entry.{Entry}
 use Rattle.ss_model.specs.declared.entry.Listed.{Listed}
+use Rattle.ss_model.specs.declared.entry.Mode.{Mode}
+use Rattle.ss_model.specs.declared.entry.Mode.TheVariants.{Strong, Weak}
 use Rattle.ss_model.specs.Accepted.{Accepted}
 use Rattle.ss_model.specs.Database.{Database as Model}
 use Rattle.ss_model.specs.Replays.{Replays, after}
+use Rattle.ss_model.specs.Settling.{IsWeakList}
 use Rattle.ss_record.specs.Spelling.{records}
 use Rattle.ss_shard.specs.Databases.{StandsFor}
 use Rattle.ss_shard.specs.Parts.{IsWholeShard}
@@ -15,16 +18,21 @@ use Rattle.ss_standing.specs.Standing.{listed_entries}
 use Rattle.ss_recover.specs.declared.stored.Stored.{Stored}
 use Rattle.ss_recover.specs.declared.stored.StoredError.{StoredError}
 use Rattle.ss_recover.specs.declared.stored.StoredError.TheVariants.{NoMemory, Foreign}
-use Rattle.ss_recover.specs.Faults.{image_place, group_head}
+use Rattle.ss_recover.specs.Faults.{StopsAfter, first_place, group_head, image_place}
 use Rattle.ss_replay.specs.declared.entries.Replayed.{Replayed}
-use Rattle.ss_replay.specs.Replaying.{StopsBehind}
+use Rattle.ss_weak_lists.specs.Stops.{PassesLast}
+
+-- the list has the entries: those of a strong log as they stand, and of a weak one with the settlings between them
+abbrev pub IsListOf : Mode → Catalog → Model → List Entry → List Listed → Type 0
+IsListOf Strong catalog db entries list = listed_entries list ≡ entries
+IsListOf Weak catalog db entries list = IsWeakList catalog db entries (listed_entries list)
 
 -- the image is that of a database, and the entries replay on this one, up to the last place
 pub record IsStored (loaded : Loaded) (parts : ℕ) (r : Stored) : Type 0 where
   pub accepted : Accepted r.catalog
   pub db : Model
   pub image : IsImageOf loaded.image loaded.first r.catalog db
-  pub entries : listed_entries r.known ≡ loaded.entries
+  pub entries : IsListOf loaded.mode r.catalog db loaded.entries r.known
   pub replays : Replays r.catalog db r.known
   pub placed : r.first ≡ loaded.first + length r.known
   pub few : r.first ≤ 2 ^ 60
@@ -61,11 +69,22 @@ pub record HasOddEntry (loaded : Loaded) (at : ℕ) : Type 0 where
   pub accepted : Accepted catalog
   pub db : Model
   pub image : IsImageOf loaded.image loaded.first catalog db
-  pub list : List Listed
-  pub stops : StopsBehind catalog db loaded.first loaded.entries list
-  pub place : at ≡ place_behind (length loaded.image) loaded.sizes (listed_entries list)
+  pub before : ℕ
+  pub within : before ≤ length loaded.entries
+  pub stops : StopsAfter loaded.mode catalog db loaded.first loaded.entries before
+  pub place : at ≡ place_behind (length loaded.image) loaded.sizes (take before loaded.entries)
+
+-- or settling such an image would pass the last place
+pub record HasOddSettling (loaded : Loaded) (at : ℕ) : Type 0 where
+  pub of_mode : loaded.mode ≡ Weak
+  pub catalog : Catalog
+  pub accepted : Accepted catalog
+  pub db : Model
+  pub image : IsImageOf loaded.image loaded.first catalog db
+  pub past : PassesLast catalog db loaded.first
+  pub place : at ≡ first_place
 
 -- why contents are no store's: out of memory says nothing
 abbrev pub RefusesLoaded : Loaded → StoredError → Type 0
 RefusesLoaded loaded NoMemory = Unit {0}
-RefusesLoaded loaded (Foreign at) = HasOddImage loaded.first loaded.image at ⊎ HasOddEntry loaded at
+RefusesLoaded loaded (Foreign at) = HasOddImage loaded.first loaded.image at ⊎ HasOddEntry loaded at ⊎ HasOddSettling loaded at

@@ -1,12 +1,15 @@
 -- What recovery gives, and what it leaves of the disk.
-use Rattle.std.specs.Prelude.{◌≡◌, ◌≢◌, ◌⊎◌, ◌≤◌, ◌+◌, ◌-◌, ◌^◌, ◌++◌, ℕ, List, [], length, map, replicate, Option, Some, None, Result, MatchResult}
+use Rattle.std.specs.Prelude.{◌≡◌, ◌≢◌, ◌⊎◌, ◌≤◌, ◌+◌, ◌-◌, ◌^◌, ◌++◌, ℕ, List, [], length, map, drop, replicate, Option, Some, None, Result, Ok, Err, MatchResult}
 use Rattle.ss_disk.specs.Kinds.{DiskKind, present}
 use Rattle.ss_value.specs.FaultCounts.{Rose}
 use Rattle.ss_value.specs.Rows.{Rows}
 use Rattle.ss_model.specs.declared.catalog.Catalog.{Catalog}
 use Rattle.ss_model.specs.declared.entry.Listed.{Listed}
+use Rattle.ss_model.specs.declared.entry.Mode.{Mode}
+use Rattle.ss_model.specs.declared.entry.Mode.TheVariants as modes
 use Rattle.ss_model.specs.Accepted.{Accepted}
 use Rattle.ss_model.specs.Database.{Database as Model, empty_database}
+use Rattle.ss_model.specs.Recovery.{Origin, Recovery, Strong, Weak}
 use Rattle.ss_model.specs.Replays.{Replays, after}
 use Rattle.ss_model.specs.Settling.{Kept, kept}
 use Rattle.ss_model.specs.WholeDatabase.{WholeDatabase, HadAtMost}
@@ -18,15 +21,19 @@ use Rattle.ss_shard.specs.Databases.{StandsFor}
 use Rattle.ss_shard.specs.Parts.{IsWholeShard}
 use Rattle.ss_cmdlog.specs.Generation.{Stood}
 use Rattle.ss_cmdlog.specs.Log.{IsOpen}
-use Rattle.ss_cmdlog.specs.Opening.{OnlyReads}
+use Rattle.ss_cmdlog.specs.Opening.{OnlyReads, store_at}
 use Rattle.ss_cmdlog.specs.Store.{IsEmpty, entries_of}
 use Rattle.ss_snapshot.specs.Own.{IsReadFromItsText}
 use Rattle.ss_snapshot.specs.Held.{kept_held}
-use Rattle.ss_standing.specs.Standing.{listed_entries, IsImageAt, Replayed, Stands, StandsForReplayed, StandsOn}
+use Rattle.ss_standing.specs.Image.{text_bytes}
+use Rattle.ss_standing.specs.ImageForm.{kept_in, to_the_end}
+use Rattle.ss_standing.specs.Standing.{IsImageAt}
+use Rattle.ss_fronts.specs.Fronts.{BeganAt, FrontStands, HoldsFront, StandsOnBy, StoodAs, fresh_recovery}
 use Rattle.ss_recover.specs.declared.recovered.Recovered.{Recovered}
 use Rattle.ss_recover.specs.declared.error.RecoverError.{RecoverError}
-use Rattle.ss_recover.specs.declared.error.RecoverError.TheVariants.{NoMemory, DiskFault, Foreign, OtherCatalog, Nothing}
+use Rattle.ss_recover.specs.declared.error.RecoverError.TheVariants.{NoMemory, DiskFault, Foreign, OtherMode, OtherCatalog, Nothing}
 use Rattle.ss_recover.specs.Faults.{HasFaultAt, IsStore}
+use Rattle.ss_recover.specs.Loading.{IsListOf}
 
 -- a catalogue that is accepted, and is what its own text is read as
 abbrev pub IsOwnCatalog : Catalog → Type 0
@@ -42,21 +49,10 @@ pub record IsReady (catalog : Catalog) (parts : ℕ) (database : Database) (db :
 pub record LeadsTo (catalog : Catalog) (s : Stood) (list : List Listed) (place : ℕ) (db : Model) : Type 0 where
   pub opening : Model
   pub image : IsImageAt catalog s.first s.image opening
-  pub entries : listed_entries list ≡ entries_of s
+  pub entries : IsListOf s.mode catalog opening (entries_of s) list
   pub replays : Replays catalog opening list
   pub placed : place ≡ s.first + length list
   pub reached : kept catalog db ≡ kept catalog (after catalog opening list)
-
--- what was recovered stands for this database, and its log is open on a generation that stands for the same
-pub record GoesOn {D : Type 0} (kind : DiskKind D) (parts : ℕ) (r : Recovered D) (db : Model) : Type 0 where
-  pub ready : IsReady r.catalog parts r.database db
-  pub had : HadAtMost r.first db
-  pub few : r.first ≤ 2 ^ 60
-  pub s : Stood
-  pub log : IsOpen kind r.log s
-  pub count : r.log.count ≡ r.first
-  pub leads : LeadsTo r.catalog s r.known r.first db
-  pub generation : Replayed r.catalog s r.first (kept r.catalog db)
 
 -- items of which these are kept, behind as many blank ones as aren't
 abbrev pub behind_blanks : ℕ → List Rows → List Rows
@@ -75,55 +71,100 @@ database_of k = record {
 abbrev pub recovered_database : {D : Type 0} → Recovered D → Model
 recovered_database r = database_of (kept_held r.database.whole r.database.streams.streams)
 
+-- ---- how the store is had again
+
+-- what is kept of the database of which the bytes are the image at this place, and of the empty one where they are no image
+abbrev pub kept_by : Catalog → Result Kept ℕ → Kept
+kept_by catalog (Ok k) = k
+kept_by catalog (Err left) = kept catalog (empty_database catalog)
+
+abbrev pub image_kept : Catalog → Stood → Kept
+image_kept catalog s = kept_by catalog (to_the_end (kept_in catalog s.first) (drop (length (text_bytes catalog.text)) s.image))
+
+-- where the history of a run on these files begins: at the database of the image, with the list that the entries behind it led to
+abbrev pub origin_by : Catalog → List Listed → Result Stood (ℕ × ℕ) → Origin
+origin_by catalog known (Ok s) = record { place = s.first; db = database_of (image_kept catalog s); known = known }
+origin_by catalog known (Err fault) = record { place = 0; db = empty_database catalog; known = known }
+
+-- by the files of the log that goes on
+abbrev pub recovery_on : Mode → Catalog → Files → List Listed → Recovery
+recovery_on modes.Strong catalog seen known = Strong
+recovery_on modes.Weak catalog seen known = Weak (origin_by catalog known (store_at seen))
+
+-- how what was recovered in this mode is had again
+abbrev pub recovery_of : {D : Type 0} → DiskKind D → Mode → Recovered D → Recovery
+recovery_of kind mode r = recovery_on mode r.catalog (kind.seen r.log.disk) r.known
+
+-- what was recovered stands for this database, and its log is open on a generation behind which a run begins there
+pub record GoesOn {D : Type 0} (kind : DiskKind D) (mode : Mode) (parts : ℕ) (r : Recovered D) (db : Model) : Type 0 where
+  pub ready : IsReady r.catalog parts r.database db
+  pub had : HadAtMost r.first db
+  pub few : r.first ≤ 2 ^ 60
+  pub s : Stood
+  pub of_mode : s.mode ≡ mode
+  pub log : IsOpen kind r.log s
+  pub count : r.log.count ≡ r.first
+  pub leads : LeadsTo r.catalog s r.known r.first db
+  pub began : kind.tells → BeganAt (recovery_of kind mode r) r.catalog db r.first
+  pub held : kind.tells → HoldsFront (recovery_of kind mode r) r.catalog db r.first [] 0 s
+
 -- since then a crash leaves what it could leave at first, or what stands for so many executions and for what is kept after them
 abbrev pub LeavesOldOr : {D : Type 0} → DiskKind D → D → D → (Files → Type 0) → Type 0
 LeavesOldOr kind old new P = LeavesOnly kind.moment kind.images old new (λ image. present kind old image ⊎ P image)
 
--- an image stands for so many executions as were recovered, and for what is kept of the database after them
-abbrev pub StandsForIt : {D : Type 0} → Recovered D → Model → Files → Type 0
-StandsForIt r db image = Stands r.catalog image r.first (kept r.catalog db)
+-- an image is a front of no entries behind what was recovered: a strong one stands for as many executions, and for what is kept of the
+-- database after them; a weak one is read as what the recovery began at, with the calls and pushes that it read
+abbrev pub StandsForIt : {D : Type 0} → DiskKind D → Mode → Recovered D → Model → Files → Type 0
+StandsForIt kind mode r db image = FrontStands (recovery_of kind mode r) r.catalog db r.first [] r.first image
 
 -- a database was recovered from a disk, which stood for it, or made on an empty one; of the given catalogue, if there is one. What a
--- crash at some moment could not take, one at no later moment takes
-pub record IsRecovered {D : Type 0} (kind : DiskKind D)
+-- crash at some moment could not take, whatever a run is to list, one at no later moment takes
+pub record IsRecovered {D : Type 0} (kind : DiskKind D) (mode : Mode)
     (given : Option Catalog) (parts : ℕ) (old : D) (r : Recovered D) (db : Model) : Type 0 where
   pub own : IsOwnCatalog r.catalog
   pub given_one : (catalog : Catalog) → given ≡ Some catalog → r.catalog ≡ catalog
-  pub goes_on : GoesOn kind parts r db
-  pub was : kind.tells → IsEmpty (kind.seen old) ⊎ IsStore (kind.seen old) r.catalog
-  pub stood : kind.tells → StandsForIt r db (kind.seen old)
-  pub moments : kind.honest → LeavesOldOr kind old r.log.disk (StandsForIt r db)
-  pub stands_on : kind.honest → StandsOn r.catalog kind.moment kind.images (kind.moment old) r.log.disk
-  pub quiet : kind.honest → Only (kind.seen old) (present kind old) → LeavesOnly kind.moment kind.images old r.log.disk (StandsForIt r db)
+  pub goes_on : GoesOn kind mode parts r db
+  pub was : kind.tells → IsEmpty (kind.seen old) ⊎ IsStore mode (kind.seen old) r.catalog
+  pub stood : kind.tells → StoodAs (recovery_of kind mode r) r.catalog db r.first (kind.seen old)
+  pub moments : kind.honest → LeavesOldOr kind old r.log.disk (StandsForIt kind mode r db)
+  pub stands_on : kind.honest → (list : List Listed) → StandsOnBy (recovery_of kind mode r) r.catalog list kind.moment kind.images (kind.moment old) r.log.disk
+  pub quiet : kind.honest → Only (kind.seen old) (present kind old) → LeavesOnly kind.moment kind.images old r.log.disk (StandsForIt kind mode r db)
 
 -- some database was
-abbrev pub WasRecovered : {D : Type 0} → DiskKind D → Option Catalog → ℕ → D → Recovered D → Type 0
-WasRecovered kind given parts old r = (db : Model) × IsRecovered kind given parts old r db
+abbrev pub WasRecovered : {D : Type 0} → DiskKind D → Mode → Option Catalog → ℕ → D → Recovered D → Type 0
+WasRecovered kind mode given parts old r = (db : Model) × IsRecovered kind mode given parts old r db
 
 -- ---- refusals
 
--- an image of a disk on which a store of the given catalogue was being made
-abbrev pub MayForm : Option Catalog → Files → Files → Type 0
-MayForm None disk image = ⊥
-MayForm (Some catalog) disk image = IsEmpty disk × Stands catalog image 0 (kept catalog (empty_database catalog))
+-- an image of a disk on which a store of this mode and of the given catalogue was being made
+abbrev pub MayForm : Mode → Option Catalog → Files → Files → Type 0
+MayForm mode None disk image = ⊥
+MayForm mode (Some catalog) disk image = IsEmpty disk × StoodAs (fresh_recovery mode catalog) catalog (empty_database catalog) 0 image
 
 -- nothing was recovered, and on an empty disk a store of the given catalogue may have been made: what that leaves to a crash, what reads
--- give, and that what stood for so many executions does so on
-pub record MayHaveFormed {D : Type 0} (kind : DiskKind D) (given : Option Catalog) (old new : D) : Type 0 where
-  pub moments : LeavesOldOr kind old new (MayForm given (kind.seen old))
-  pub reads : (kind.seen new ≡ kind.seen old) ⊎ MayForm given (kind.seen old) (kind.seen new)
-  pub stands_on : (catalog : Catalog) → given ≡ Some catalog → StandsOn catalog kind.moment kind.images (kind.moment old) new
+-- give, and that what a crash could not take it doesn't take
+pub record MayHaveFormed {D : Type 0} (kind : DiskKind D) (mode : Mode) (given : Option Catalog) (old new : D) : Type 0 where
+  pub moments : LeavesOldOr kind old new (MayForm mode given (kind.seen old))
+  pub reads : (kind.seen new ≡ kind.seen old) ⊎ MayForm mode given (kind.seen old) (kind.seen new)
+  pub stands_on : (catalog : Catalog) → given ≡ Some catalog → (list : List Listed) →
+      StandsOnBy (fresh_recovery mode catalog) catalog list kind.moment kind.images (kind.moment old) new
 
--- so many executions were recovered of a catalogue with this text, which is another than the given one's
-pub record HasOtherText (tells : Type 0) (disk : Files) (given : Option Catalog) (stored text : List ℕ) : Type 0 where
+-- the store is of the mode that isn't asked
+pub record HasOtherMode (tells : Type 0) (mode : Mode) (disk : Files) (stored : Mode) : Type 0 where
+  pub another : stored ≢ mode
+  pub theirs : Catalog
+  pub own : IsOwnCatalog theirs
+  pub store : tells → IsStore stored disk theirs
+
+-- the store is of the mode that is asked, and of a catalogue with this text, which is another than the given one's
+pub record HasOtherText (tells : Type 0) (mode : Mode) (disk : Files) (given : Option Catalog) (stored text : List ℕ) : Type 0 where
   pub ours : Catalog
   pub is_given : given ≡ Some ours
   pub text_is : text ≡ ours.text
   pub theirs : Catalog
   pub own : IsOwnCatalog theirs
   pub stored_is : stored ≡ theirs.text
-  pub store : tells → IsStore disk theirs
-  pub stands : tells → (count : ℕ) × (k : Kept) × StandsForReplayed theirs disk count k
+  pub store : tells → IsStore mode disk theirs
   pub another : stored ≢ text
 
 -- a catalogue is given, and has another text
@@ -138,14 +179,16 @@ abbrev pub TellsFaults : {D : Type 0} → DiskKind D → D → Result (Recovered
 TellsFaults kind old result = MatchResult result (λ r. kind.faults r.log.disk ≡ kind.faults old) (λ refused. (refused.0 ≡ DiskFault → ⊥) → kind.faults refused.1 ≡ kind.faults old)
 
 -- a refusal, and what it leaves of the disk
-abbrev pub RefusesAsSaid : {D : Type 0} → DiskKind D → Option Catalog →
+abbrev pub RefusesAsSaid : {D : Type 0} → DiskKind D → Mode → Option Catalog →
     D → D → RecoverError → Type 0
-RefusesAsSaid kind given old new NoMemory = kind.honest → MayHaveFormed kind given old new
-RefusesAsSaid kind given old new DiskFault =
-    (kind.honest → MayHaveFormed kind given old new) × Rose (kind.faults old) (kind.faults new)
-RefusesAsSaid kind given old new (Foreign which at) =
+RefusesAsSaid kind mode given old new NoMemory = kind.honest → MayHaveFormed kind mode given old new
+RefusesAsSaid kind mode given old new DiskFault =
+    (kind.honest → MayHaveFormed kind mode given old new) × Rose (kind.faults old) (kind.faults new)
+RefusesAsSaid kind mode given old new (Foreign which at) =
     OnlyReads kind old new × (kind.tells → HasFaultAt (kind.seen old) which at)
-RefusesAsSaid kind given old new (OtherCatalog stored text) =
-    OnlyReads kind old new × HasOtherText kind.tells (kind.seen old) given stored text
-RefusesAsSaid kind given old new Nothing =
+RefusesAsSaid kind mode given old new (OtherMode stored) =
+    OnlyReads kind old new × HasOtherMode kind.tells mode (kind.seen old) stored
+RefusesAsSaid kind mode given old new (OtherCatalog stored text) =
+    OnlyReads kind old new × HasOtherText kind.tells mode (kind.seen old) given stored text
+RefusesAsSaid kind mode given old new Nothing =
     OnlyReads kind old new × (given ≡ None) × (kind.tells → IsEmpty (kind.seen old))

@@ -1,5 +1,6 @@
 //! Why nothing is recovered.
 
+use ss_model::Mode;
 use ss_value::{NoMemory, Seq};
 
 /// Why nothing is recovered.
@@ -11,6 +12,8 @@ pub enum RecoverError {
     DiskFault,
     /// The disk is neither empty nor a store: the file's number, and in it the first byte that can't be.
     Foreign { file: u8, at: u64 },
+    /// The store is of the other mode than the one that is asked.
+    OtherMode { stored: Mode },
     /// The store is of another catalogue: both texts.
     OtherCatalog { stored: Seq<u8>, given: Seq<u8> },
     /// The disk is empty, and no catalogue is given.

@@ -9,13 +9,15 @@ ghost use Rattle.ss_recover.specs.Recovering.{IsOwnCatalog, IsRecovered, Refuses
 
 use crate::error::RecoverError;
 use crate::recovered::Recovered;
-use ss_cmdlog::{CmdLog, LogError};
+use ss_cmdlog::{CmdLog, LogError, what_is_spelled_is_read};
 use ss_disk::Disk;
-use ss_model::Catalog;
+use ss_model::{Catalog, Mode};
+use ss_model_laws::wholeness_stays;
 use ss_shard::opening;
 use ss_snapshot::empty_image;
-use ss_standing::{forming_stands, one_thing_stands_on};
+use ss_standing::{forming_stands, images_are_exact, one_thing_stands_on};
 use ss_value::Seq;
+use ss_weak_lists::{kept_carries_weak, weak_lists_hold_asked};
 use std::alloc::Global;
 
 /// The refusal of a call that makes a store.
@@ -28,11 +30,12 @@ fn refusal(refused: LogError) -> RecoverError
     }
 }
 
-/// Makes a store of a catalogue's empty database on an empty disk of which nothing is unsynced.
+/// Makes a store of this mode and of a catalogue's empty database on an empty disk of which nothing is unsynced.
 pub(crate) fn form<D: Disk>(
     alloc: Global,
     disk: D,
     catalog: Catalog,
+    mode: Mode,
     partitions: u8,
 ) -> Result<Recovered<D>, (RecoverError, D)>
     requires own { IsOwnCatalog catalog }
@@ -40,13 +43,18 @@ pub(crate) fn form<D: Disk>(
     requires few { partitions ≤ 8 }
     requires empty { D.kind.tells → IsEmpty (D.kind.seen disk) }
     requires settled { D.kind.honest → IsSettled D.kind disk }
-    ensures recovered { IfOk result (λ r. IsRecovered D.kind (Some catalog) partitions disk r (empty_database catalog)) }
-    ensures refused { IfErr result (λ refused. RefusesAsSaid D.kind (Some catalog) disk refused.1 refused.0) }
+    ensures recovered { IfOk result (λ r. IsRecovered D.kind mode (Some catalog) partitions disk r (empty_database catalog)) }
+    ensures refused { IfErr result (λ refused. RefusesAsSaid D.kind mode (Some catalog) disk refused.1 refused.0) }
     ensures later { MatchResult result (λ r. D.kind.faults disk ≤ D.kind.faults r.log.disk) (λ refused. D.kind.faults disk ≤ D.kind.faults refused.1) }
     ensures told { TellsFaults D.kind disk result }
 {
     forming_stands();
+    images_are_exact();
+    kept_carries_weak();
     one_thing_stands_on::<D>();
+    weak_lists_hold_asked();
+    what_is_spelled_is_read();
+    wholeness_stays();
     let Ok(image) = empty_image(alloc, &catalog) else {
         return Err((RecoverError::NoMemory, disk));
     };
@@ -54,7 +62,7 @@ pub(crate) fn form<D: Disk>(
     let Ok(database) = opening(alloc, &catalog, partitions) else {
         return Err((RecoverError::NoMemory, disk));
     };
-    match CmdLog::format(alloc, disk, image.as_slice()) {
+    match CmdLog::format(alloc, disk, image.as_slice(), mode) {
         Ok(log) => Ok(Recovered {
             database,
             catalog,

@@ -16,6 +16,9 @@ use ss_record::record_of;
 use ss_value::NoMemory;
 use std::alloc::Global;
 
+/// In front of the first place stands the magic.
+pub(crate) const FIRST_PLACE: u64 = 8;
+
 /// In front of an image stand the magic, the first place and the image's length, of eight bytes each.
 const IMAGE_PLACE: u128 = 24;
 

@@ -15,7 +15,7 @@ pub struct Recovered<D: Disk> {
     pub catalog: Catalog,
     /// The place of the next execution: how many there have been since the store was made.
     pub first: u64,
-    /// The entries that were replayed, each with its outcome.
+    /// The entries that were replayed, each with its outcome: of a weak store with the steps that they set off.
     pub known: Seq<Listed>,
     /// The log, open behind them.
     pub log: CmdLog<D>,

@@ -12,7 +12,7 @@ use crate::forming::form;
 use crate::recovered::Recovered;
 use crate::restoring::restore;
 use ss_disk::{Disk, FileNo};
-use ss_model::Catalog;
+use ss_model::{Catalog, Mode};
 use ss_model_laws::wholeness_stays;
 use ss_proc::Runner;
 use ss_value::Failed;
@@ -36,17 +36,19 @@ fn is_empty<D: Disk>(disk: &mut D) -> Result<bool, Failed>
 
 /// Recovers what a disk stands for: the database, and the log that goes on behind its entries.
 ///
-/// It begins with a sync. A store is opened, its image is read, and its entries are replayed in their order with the triggers
-/// between executions off, as in strong recovery (Meehan et al., PVLDB 8, 2015, section 2.4): the executions that the store
-/// lists come to what they came to, and no others run. An empty disk is made a store of the given catalogue. The database is
-/// dealt to so many partitions, 1 to 8.
+/// It begins with a sync. A store is opened, its image is read, and its entries are replayed in their order, by the store's own
+/// mode: strong and weak recovery (Meehan et al., PVLDB 8, 2015, section 2.4). Those of a strong store are all executions, and
+/// come to what they came to, with the triggers between executions off. Those of a weak one are what clients asked for, and each
+/// sets off its steps anew, in the order of settling. An empty disk is made a store of the given catalogue, in the mode that is
+/// asked. The database is dealt to so many partitions, 1 to 8.
 ///
-/// Refuses `Nothing` where the disk is empty and no catalogue is given, unless a call fails, and `OtherCatalog` where the store is of
-/// another one than is given, by their texts. `Foreign` tells the first byte that can't be in a disk that is neither empty nor a
-/// store: of the generation, else of its image, else the record of the first entry that doesn't replay. `DiskFault` comes exactly
-/// where the disk counted a fault.
+/// Refuses `Nothing` where the disk is empty and no catalogue is given, unless a call fails, `OtherMode` where the store is of the
+/// mode that isn't asked, and else `OtherCatalog` where it is of another catalogue than is given, by their texts. `Foreign` tells
+/// the first byte that can't be in a disk that is neither empty nor a store of either mode: of the generation, else of its image,
+/// else the record of the first entry that doesn't replay, or byte 8 where settling the image would pass the last place.
+/// `DiskFault` comes exactly where the disk counted a fault.
 ///
-/// A crash at any moment leaves what it could leave before, or what stands for what is recovered. Behind `Foreign`,
+/// A crash at any moment leaves what it could leave before, or what stands for what is recovered. Behind `Foreign`, `OtherMode`,
 /// `OtherCatalog` and `Nothing` a read gives what it gave. Behind the other two an empty disk may have become a store of the
 /// given catalogue, before any execution; a crash leaves this or what it could leave before.
 ///
@@ -58,13 +60,14 @@ pub fn recover<N: Runner, D: Disk>(
     runner: &N,
     mut disk: D,
     catalog: Option<Catalog>,
+    mode: Mode,
     partitions: u8,
 ) -> Result<Recovered<D>, (RecoverError, D)>
     requires own { IfSome catalog IsOwnCatalog }
     requires some { 1 ≤ partitions }
     requires few { partitions ≤ 8 }
-    ensures recovered { IfOk result (λ r. IsRecovered D.kind catalog partitions disk r (recovered_database r)) }
-    ensures refused { IfErr result (λ refused. RefusesAsSaid D.kind catalog disk refused.1 refused.0) }
+    ensures recovered { IfOk result (λ r. IsRecovered D.kind mode catalog partitions disk r (recovered_database r)) }
+    ensures refused { IfErr result (λ refused. RefusesAsSaid D.kind mode catalog disk refused.1 refused.0) }
     ensures later { MatchResult result (λ r. D.kind.faults disk ≤ D.kind.faults r.log.disk) (λ refused. D.kind.faults disk ≤ D.kind.faults refused.1) }
     ensures told { TellsFaults D.kind disk result }
     ensures nothing { D.kind.tells → IsEmpty (D.kind.seen disk) → catalog ≡ None
@@ -75,10 +78,10 @@ pub fn recover<N: Runner, D: Disk>(
         return Err((RecoverError::DiskFault, disk));
     };
     if !empty {
-        return restore(alloc, runner, disk, catalog, partitions);
+        return restore(alloc, runner, disk, catalog, mode, partitions);
     }
     match catalog {
-        Some(catalog) => form(alloc, disk, catalog, partitions),
+        Some(catalog) => form(alloc, disk, catalog, mode, partitions),
         None => Err((RecoverError::Nothing, disk)),
     }
 }

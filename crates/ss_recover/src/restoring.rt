@@ -1,7 +1,10 @@
 //! An old store.
 
-ghost use Rattle.std.specs.Prelude.{◌≡◌, ◌≢◌, ◌≤◌, [], OnOk, IfOk, IfErr, IfSome, MatchResult};
+ghost use Rattle.std.specs.Prelude.{◌≡◌, ◌≢◌, ◌≤◌, ◌^◌, true, false, [], OnOk, IfOk, IfErr, IfSome, MatchResult};
 ghost use Rattle.ss_model.specs.declared.catalog.Catalog.{Catalog as CatalogValue};
+ghost use Rattle.ss_cmdlog.specs.Generation.{Stood};
+ghost use Rattle.ss_cmdlog.specs.Log.{IsOpen};
+ghost use Rattle.ss_cmdlog.specs.Store.{count_of};
 ghost use Rattle.ss_recover.specs.Errors.{opening_refusal, stored_refusal};
 ghost use Rattle.ss_recover.specs.Recovering.{DiffersFrom, IsOwnCatalog, RefusesAsSaid, TellsFaults, WasRecovered};
 
@@ -11,8 +14,11 @@ use crate::stored::{Stored, StoredError, stored_in};
 use ss_catalog::a_value_has_one_answer;
 use ss_cmdlog::{CmdLog, LogError};
 use ss_disk::Disk;
-use ss_model::Catalog;
+use ss_model::{Catalog, Mode};
+use ss_model_laws::wholeness_stays;
 use ss_proc::Runner;
+use ss_standing::images_are_exact;
+use ss_weak_lists::{kept_carries_weak, weak_lists_hold_asked};
 use std::alloc::Global;
 
 /// The refusal of a disk that isn't read as a generation.
@@ -36,6 +42,23 @@ fn unstored(file: u8, refused: StoredError) -> RecoverError
     }
 }
 
+/// Whether a store is of the other mode than the one that is asked.
+fn is_other(stored: Mode, asked: Mode) -> bool
+    ensures other { result ≡ true → stored ≢ asked }
+    ensures same { result ≡ false → stored ≡ asked }
+{
+    match stored {
+        Mode::Strong => match asked {
+            Mode::Strong => false,
+            Mode::Weak => true,
+        },
+        Mode::Weak => match asked {
+            Mode::Strong => true,
+            Mode::Weak => false,
+        },
+    }
+}
+
 /// The stored catalogue, where none is given or it has the text of the given one.
 fn agreed(stored: Catalog, given: Option<Catalog>) -> Result<Catalog, RecoverError>
     ensures ok { IfOk result (λ catalog. catalog ≡ stored) }
@@ -54,24 +77,45 @@ fn agreed(stored: Catalog, given: Option<Catalog>) -> Result<Catalog, RecoverErr
     })
 }
 
-/// Recovers what the store on a disk that isn't empty stands for.
+/// The log, which counts from the place that its store was recovered to. That of a strong store counts so already.
+fn counting_from<D: Disk>(mut log: CmdLog<D>, place: u64) -> CmdLog<D>
+    requires strong { log.mode ≡ Mode.Strong → log.count ≡ place }
+    requires fresh { D.kind.tells → (s : Stood) × IsOpen D.kind log s × (log.count ≡ count_of s) }
+    requires no_less { log.count ≤ place }
+    requires few { place ≤ 2 ^ 60 }
+    ensures same { result ≡ record log { count = place } }
+    ensures open { (s : Stood) → IsOpen D.kind log s → IsOpen D.kind result s }
+{
+    if log.mode() == Mode::Weak {
+        log.rebase(place);
+    }
+    log
+}
+
+/// Recovers what the store on a disk that isn't empty stands for. It is read and replayed by its own mode before that is compared
+/// with the one that is asked, so that what is no store of either mode is told as foreign.
 pub(crate) fn restore<N: Runner, D: Disk>(
     alloc: Global,
     runner: &N,
     disk: D,
     given: Option<Catalog>,
+    mode: Mode,
     partitions: u8,
 ) -> Result<Recovered<D>, (RecoverError, D)>
     requires own { IfSome given IsOwnCatalog }
     requires some { 1 ≤ partitions }
     requires few { partitions ≤ 8 }
     requires stored { D.kind.tells → (D.kind.seen disk).selector ≢ [] }
-    ensures recovered { IfOk result (WasRecovered D.kind given partitions disk) }
-    ensures refused { IfErr result (λ refused. RefusesAsSaid D.kind given disk refused.1 refused.0) }
+    ensures recovered { IfOk result (WasRecovered D.kind mode given partitions disk) }
+    ensures refused { IfErr result (λ refused. RefusesAsSaid D.kind mode given disk refused.1 refused.0) }
     ensures later { MatchResult result (λ r. D.kind.faults disk ≤ D.kind.faults r.log.disk) (λ refused. D.kind.faults disk ≤ D.kind.faults refused.1) }
     ensures told { TellsFaults D.kind disk result }
 {
     a_value_has_one_answer();
+    images_are_exact();
+    kept_carries_weak();
+    weak_lists_hold_asked();
+    wholeness_stays();
     let (log, loaded) = match CmdLog::open(alloc, disk) {
         Ok(opened) => opened,
         Err((refused, disk)) => return Err((unopened(refused), disk)),
@@ -85,13 +129,17 @@ pub(crate) fn restore<N: Runner, D: Disk>(
         Ok(stored) => stored,
         Err(refused) => return Err((unstored(log.file_number(), refused), log.into_disk())),
     };
+    if is_other(log.mode(), mode) {
+        let stored = log.mode();
+        return Err((RecoverError::OtherMode { stored }, log.into_disk()));
+    }
     match agreed(catalog, given) {
         Ok(catalog) => Ok(Recovered {
             database,
             catalog,
             first,
             known,
-            log,
+            log: counting_from(log, first),
         }),
         Err(refused) => Err((refused, log.into_disk())),
     }

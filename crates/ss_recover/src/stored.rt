@@ -2,20 +2,23 @@
 
 ghost use Rattle.std.specs.Prelude.{◌≡◌, ◌≤◌, ◌+◌, ◌^◌, ℕ, length, All, IfOk, IfErr};
 ghost use Rattle.ss_model.specs.Accepted.{Accepted};
+ghost use Rattle.ss_model.specs.Asked.{asked_of};
 ghost use Rattle.ss_record.specs.Bounds.{IsRecordable};
+ghost use Rattle.ss_cmdlog.specs.Logged.{logged};
 ghost use Rattle.ss_shard.specs.Databases.{IsWhole};
 ghost use Rattle.ss_shard.specs.Parts.{IsWholeShard};
 ghost use Rattle.ss_snapshot.specs.Images.{IsReadAs};
 ghost use Rattle.ss_recover.specs.Loading.{IsStored, RefusesImage, RefusesLoaded, stored_as};
 
-use crate::place::{image_byte, place_behind};
+use crate::place::{FIRST_PLACE, image_byte, place_behind};
 use ss_cmdlog::Loaded;
-use ss_model::{Catalog, Listed};
+use ss_model::{Catalog, Listed, Mode};
 use ss_proc::Runner;
 use ss_replay::{ReplayError, Replayed, replay};
 use ss_shard::Database;
 use ss_snapshot::{ImageError, read_image};
 use ss_value::{NoMemory, Seq};
+use ss_weak_replay::{WeakError, replay_weakly};
 use std::alloc::Global;
 
 /// The database that a store's entries lead to, and they with their outcomes.
@@ -91,7 +94,7 @@ fn loaded_image(
     }
 }
 
-/// Replays the entries of what was loaded on the database of its image.
+/// Replays the entries of what was loaded of a strong store on the database of its image.
 ///
 /// The catalogue is lent, so that a refusal lets it go in one place and not in each. A refused entry's record is sought by
 /// the records before it.
@@ -102,6 +105,7 @@ fn replay_loaded<N: Runner>(
     database: Database,
     loaded: Loaded,
 ) -> Result<Replayed, StoredError>
+    requires mode { loaded.mode ≡ Mode.Strong }
     requires accepted { Accepted catalog.now }
     requires image { IsReadAs loaded.image loaded.first (catalog.now, database) }
     requires whole { IsWhole catalog.now database }
@@ -117,6 +121,7 @@ fn replay_loaded<N: Runner>(
         image,
         entries,
         sizes,
+        ..
     } = loaded;
     match replay(alloc, catalog, runner, database, first, entries) {
         Ok(replayed) => Ok(replayed),
@@ -130,7 +135,74 @@ fn replay_loaded<N: Runner>(
     }
 }
 
-/// Reads the image and replays the entries, on a database that is dealt to so many partitions.
+/// Replays the calls and pushes of what was loaded of a weak store on the database of its image, with the steps that they set off.
+///
+/// The catalogue is lent, and a refused entry's record is sought, as in `replay_loaded`.
+fn replay_asked<N: Runner>(
+    alloc: Global,
+    catalog: &Catalog,
+    runner: &N,
+    database: Database,
+    loaded: Loaded,
+) -> Result<Replayed, StoredError>
+    requires mode { loaded.mode ≡ Mode.Weak }
+    requires accepted { Accepted catalog.now }
+    requires image { IsReadAs loaded.image loaded.first (catalog.now, database) }
+    requires whole { IsWhole catalog.now database }
+    requires first { loaded.first ≤ 2 ^ 60 }
+    requires recordable { All IsRecordable loaded.entries }
+    requires asked { asked_of loaded.entries ≡ loaded.entries }
+    ensures ok { IfOk result (λ r. (parts : ℕ) → IsWholeShard catalog.now parts database.whole
+        → IsStored loaded parts (stored_as catalog.now loaded.first r)) }
+    ensures placed { IfOk result (λ r. loaded.first + length r.list ≤ 2 ^ 60) }
+    ensures refused { IfErr result (RefusesLoaded loaded) }
+{
+    let Loaded {
+        first,
+        image,
+        entries,
+        sizes,
+        ..
+    } = loaded;
+    match replay_weakly(alloc, catalog, runner, database, first, entries) {
+        Ok(replayed) => Ok(replayed),
+        Err(WeakError::NoMemory) => Err(StoredError::NoMemory),
+        Err(WeakError::Unsettled) => Err(StoredError::Foreign { at: FIRST_PLACE }),
+        Err(WeakError::Foreign { before }) => {
+            let list = before.as_slice();
+            Err(StoredError::Foreign {
+                at: place_behind(alloc, image.len(), sizes.as_slice(), list)?,
+            })
+        }
+    }
+}
+
+/// Replays what was loaded, by its mode.
+fn replay_by_mode<N: Runner>(
+    alloc: Global,
+    catalog: &Catalog,
+    runner: &N,
+    database: Database,
+    loaded: Loaded,
+) -> Result<Replayed, StoredError>
+    requires accepted { Accepted catalog.now }
+    requires image { IsReadAs loaded.image loaded.first (catalog.now, database) }
+    requires whole { IsWhole catalog.now database }
+    requires first { loaded.first ≤ 2 ^ 60 }
+    requires recordable { All IsRecordable loaded.entries }
+    requires logged { logged loaded.mode loaded.entries ≡ loaded.entries }
+    ensures ok { IfOk result (λ r. (parts : ℕ) → IsWholeShard catalog.now parts database.whole
+        → IsStored loaded parts (stored_as catalog.now loaded.first r)) }
+    ensures placed { IfOk result (λ r. loaded.first + length r.list ≤ 2 ^ 60) }
+    ensures refused { IfErr result (RefusesLoaded loaded) }
+{
+    match loaded.mode {
+        Mode::Strong => replay_loaded(alloc, catalog, runner, database, loaded),
+        Mode::Weak => replay_asked(alloc, catalog, runner, database, loaded),
+    }
+}
+
+/// Reads the image and replays the entries by the mode, on a database that is dealt to so many partitions.
 ///
 /// Linear in the image, and costs an insert for each of its rows; and costs what the replay costs.
 pub(crate) fn stored_in<N: Runner>(
@@ -141,6 +213,7 @@ pub(crate) fn stored_in<N: Runner>(
 ) -> Result<Stored, StoredError>
     requires first { loaded.first ≤ 2 ^ 60 }
     requires recordable { All IsRecordable loaded.entries }
+    requires logged { logged loaded.mode loaded.entries ≡ loaded.entries }
     requires some { 1 ≤ partitions }
     requires few { partitions ≤ 8 }
     ensures ok { IfOk result (IsStored loaded partitions) }
@@ -148,7 +221,7 @@ pub(crate) fn stored_in<N: Runner>(
 {
     let (catalog, database) = loaded_image(alloc, &loaded, partitions)?;
     let first = loaded.first;
-    match replay_loaded(alloc, &catalog, runner, database, loaded) {
+    match replay_by_mode(alloc, &catalog, runner, database, loaded) {
         Ok(Replayed { list, database }) => Ok(Stored {
             database,
             catalog,

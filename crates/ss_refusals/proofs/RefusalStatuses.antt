@@ -7,7 +7,7 @@ use Rattle.ss_catalog_requests.specs.declared.request.RequestError.TheVariants a
 use Rattle.ss_refusals.specs.declared.input.InputError.{InputError}
 use Rattle.ss_refusals.specs.declared.input.InputError.TheVariants.{Line as OfLine, NoCatalog, Catalog as OfCatalog, Request as OfRequest}
 use Rattle.ss_refusals.specs.declared.status.Status.{Status}
-use Rattle.ss_refusals.specs.declared.status.Status.TheVariants.{Done, Usage, Input, ReadFault, WriteFault, Disk, NoMemory, Foreign, OtherCatalog, Limit, Differs}
+use Rattle.ss_refusals.specs.declared.status.Status.TheVariants.{Done, Usage, Input, ReadFault, WriteFault, Disk, NoMemory, Foreign, OtherCatalog, OtherMode, Limit, Differs}
 use Rattle.ss_refusals.specs.Statuses.{no_memory_text, read_fault_text, refusal_text, refusal_status}
 use Rattle.ss_refusals.specs.Sinks.{SinkChange, Writes, ExitsRefused, LeavesOfRefusedSource}
 
@@ -25,6 +25,7 @@ OfRefusal WriteFault = ⊥
 OfRefusal Disk = ⊥
 OfRefusal Foreign = ⊥
 OfRefusal OtherCatalog = ⊥
+OfRefusal OtherMode = ⊥
 OfRefusal Limit = ⊥
 
 pub refusals_have : (e : InputError) → OfRefusal (refusal_status e)

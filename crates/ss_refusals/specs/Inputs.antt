@@ -11,7 +11,7 @@ use Rattle.ss_catalog_requests.specs.declared.request.RequestError.TheVariants a
 use Rattle.ss_refusals.specs.declared.input.InputError.{InputError}
 use Rattle.ss_refusals.specs.declared.input.InputError.TheVariants.{Line as OfLine, Catalog as OfCatalog, Request as OfRequest}
 use Rattle.ss_refusals.specs.declared.status.Status.{Status}
-use Rattle.ss_refusals.specs.declared.status.Status.TheVariants.{Done, Input, ReadFault, NoMemory, Foreign, OtherCatalog, Limit}
+use Rattle.ss_refusals.specs.declared.status.Status.TheVariants.{Done, Input, ReadFault, NoMemory, Foreign, OtherCatalog, OtherMode, Limit}
 use Rattle.ss_refusals.specs.Refused.{IsRefusedBy}
 use Rattle.ss_refusals.specs.Starts.{Starts}
 use Rattle.ss_refusals.specs.Statuses.{refusal_status}
@@ -65,6 +65,7 @@ abbrev pub OfStarted : Status → Type 0
 OfStarted Done = Unit {0}
 OfStarted NoMemory = Unit {0}
 OfStarted Foreign = Unit {0}
+OfStarted OtherMode = Unit {0}
 OfStarted OtherCatalog = Unit {0}
 OfStarted Limit = Unit {0}
 OfStarted _ = ⊥

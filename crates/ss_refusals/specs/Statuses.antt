@@ -5,6 +5,8 @@ use Rattle.std.specs.declared.io.ErrorKind.TheVariants.{OutOfMemory}
 use Rattle.serde_json.specs.Data.{Data, string}
 use Rattle.ss_lines.specs.declared.line.LineError.{LineError}
 use Rattle.ss_lines.specs.declared.line.LineError.TheVariants as cause
+use Rattle.ss_model.specs.declared.entry.Mode.{Mode}
+use Rattle.ss_model.specs.declared.entry.Mode.TheVariants.{Strong, Weak}
 use Rattle.ss_model.specs.ReportLines.{array_of, count, line_text}
 use Rattle.ss_catalog_outline.specs.declared.limits.Counted.{Counted}
 use Rattle.ss_catalog_outline.specs.declared.limits.Counted.TheVariants.{Tables, Streams, Windows, Triggers, Procedures, Columns, Inputs, Statements, Steps}
@@ -15,7 +17,7 @@ use Rattle.ss_catalog_requests.specs.declared.request.RequestError.TheVariants a
 use Rattle.ss_refusals.specs.declared.input.InputError.{InputError}
 use Rattle.ss_refusals.specs.declared.input.InputError.TheVariants.{Line as OfLine, NoCatalog, Catalog as OfCatalog, Request as OfRequest}
 use Rattle.ss_refusals.specs.declared.status.Status.{Status}
-use Rattle.ss_refusals.specs.declared.status.Status.TheVariants.{Done, Usage, Input, ReadFault, WriteFault, Disk, NoMemory, Foreign, OtherCatalog, Limit, Differs}
+use Rattle.ss_refusals.specs.declared.status.Status.TheVariants.{Done, Usage, Input, ReadFault, WriteFault, Disk, NoMemory, Foreign, OtherCatalog, Limit, OtherMode, Differs}
 
 -- the program's exit status
 abbrev pub status_number : Status → ℕ
@@ -29,6 +31,7 @@ status_number NoMemory = 6
 status_number Foreign = 7
 status_number OtherCatalog = 8
 status_number Limit = 9
+status_number OtherMode = 11
 status_number Differs = 12
 
 -- ---- texts
@@ -60,6 +63,11 @@ foreign_text file at = line_text (array_of (string (codes "foreign") ∷ count f
 -- the bytes at status 8: the text of the stored catalogue and that of the given one
 abbrev pub other_catalog_text : List ℕ → List ℕ → List ℕ
 other_catalog_text stored given = line_text (array_of (string (codes "other_catalog") ∷ string stored ∷ string given ∷ []))
+
+-- the bytes at status 11: the mode of the store
+abbrev pub other_mode_text : Mode → List ℕ
+other_mode_text Strong = codes "[\"other_mode\",\"strong\"]\n"
+other_mode_text Weak = codes "[\"other_mode\",\"weak\"]\n"
 
 -- a refused line with its code, and what it is refused for
 abbrev pub input_text : ℕ → List ℕ → List Data → List ℕ

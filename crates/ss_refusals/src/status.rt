@@ -26,6 +26,8 @@ pub enum Status {
     OtherCatalog,
     /// 9: the list has as many entries as it may, and a request or a step was to follow.
     Limit,
+    /// 11: the disk holds a store of the mode of recovery that isn't asked, and nothing ran.
+    OtherMode,
     /// 12: of an audit: the report isn't that of a run of its script, and the first check and line that are wrong were told.
     Differs,
 }
@@ -46,6 +48,7 @@ impl Status {
             Status::Foreign => 7,
             Status::OtherCatalog => 8,
             Status::Limit => 9,
+            Status::OtherMode => 11,
             Status::Differs => 12,
         }
     }

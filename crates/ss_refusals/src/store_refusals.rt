@@ -2,13 +2,14 @@
 
 ghost use Rattle.std.specs.Prelude.{◌≡◌, ◌≤◌, IfOk, IsUtf8, MatchResult, string_bytes};
 ghost use Rattle.ss_refusals.specs.Sinks.{sink_of, ExitsAs};
-ghost use Rattle.ss_refusals.specs.Statuses.{foreign_text, no_memory_text, other_catalog_text};
+ghost use Rattle.ss_refusals.specs.Statuses.{foreign_text, no_memory_text, other_catalog_text, other_mode_text};
 ghost use Rattle.ss_refusals.specs.StoreRefusals.{HasTexts, TellsRefusal, ToldAs, WritesWhole};
 
 use crate::line::line_of;
 use crate::refusals::{NO_MEMORY, write_line};
 use crate::status::Status;
 use ss_lines::{Field, Sink, write_all};
+use ss_model::Mode;
 use ss_recover::RecoverError;
 use std::alloc::{AllocError, Global};
 use std::str;
@@ -16,8 +17,23 @@ use std::str;
 /// The text at status 5, of a fault of the disk before any client started.
 const DISK_FAULT: &str = "[\"disk_fault\"]\n";
 
+/// The text at status 11, by the mode of the store.
+const OTHER_STRONG: &str = "[\"other_mode\",\"strong\"]\n";
+
+const OTHER_WEAK: &str = "[\"other_mode\",\"weak\"]\n";
+
 /// The report on an empty disk.
 const NOTHING: &str = "[\"done\",0]\n";
+
+/// The text that tells the mode of the store. Constant.
+fn other_mode(stored: Mode) -> &'static str
+    ensures { result.now ≡ other_mode_text stored }
+{
+    match stored {
+        Mode::Strong => OTHER_STRONG,
+        Mode::Weak => OTHER_WEAK,
+    }
+}
 
 /// Writes a text of which all has to be written, and answers how the program ends. Takes no memory.
 pub fn write_whole<K: Sink>(sink: &mut K, text: &[u8]) -> Status
@@ -91,6 +107,10 @@ pub fn refuse_store<K: Sink>(alloc: Global, sink: &mut K, error: &RecoverError) 
         }
         RecoverError::Foreign { file, at } => {
             tell(sink, Status::Foreign, foreign_line(alloc, *file, *at))
+        }
+        RecoverError::OtherMode { stored } => {
+            write_line(sink, other_mode(*stored));
+            Status::OtherMode
         }
         RecoverError::OtherCatalog { stored, given } => tell(
             sink,

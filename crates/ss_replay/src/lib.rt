@@ -19,7 +19,8 @@
 //!   stands for (`replayed`); or those before the first entry that doesn't replay (`foreign`).
 //! - `replay_entry`: the outcome of an entry that has a value on each such database (`outcome`), and the database behind it
 //!   (`stands`).
-//! - `has_value`: whether an entry has a value on each such database. `entry_fits`: exactly the model's `fits_entry`.
+//! - `has_value`: whether an entry has a value on each such database. `replays`: whether it has one, and a place (`value`,
+//!   `placed`, `stops`). `entry_fits`: exactly the model's `fits_entry`.
 //!
 //! # Choices
 //!
@@ -37,4 +38,4 @@ mod values;
 pub use entries::{ReplayError, Replayed, replay};
 pub use entry::replay_entry;
 pub use fitting::entry_fits;
-pub use values::has_value;
+pub use values::{LAST_PLACE, has_value, replays};

@@ -12,7 +12,7 @@ use ss_sched::ready::ready;
 use ss_shard::Database;
 
 /// No execution stands at this place.
-const LAST_PLACE: u64 = 1 << 60;
+pub const LAST_PLACE: u64 = 1 << 60;
 
 /// Whether a step is ready: its procedure takes batches, this batch is its next one, and each input has it.
 fn is_next_step(catalog: &Catalog, database: &Database, procedure: u16, batch: u64) -> bool
@@ -50,7 +50,9 @@ pub fn has_value(catalog: &Catalog, database: &Database, entry: &Entry) -> bool
 ///
 /// The place is tested here, instead of by whoever opens the store, because place 2^60 is then one refusal among the
 /// others, with its record.
-pub(crate) fn replays(catalog: &Catalog, database: &Database, place: u64, entry: &Entry) -> bool
+///
+/// Costs what `has_value` costs.
+pub fn replays(catalog: &Catalog, database: &Database, place: u64, entry: &Entry) -> bool
     requires accepted { Accepted catalog.now }
     requires on { (d : Model) × IsOn catalog.now database.now d }
     requires place { place ≤ 2 ^ 60 }

@@ -5,7 +5,7 @@
 //!   and each run that leaves none of them out has the same list and the same report. So the bytes do not depend on how
 //!   many partitions run
 //! - `whole_runs`: both of a run that is done, in the words of `IsWholeRun` of `ss_headline`, and that the text of such a
-//!   run has one list
+//!   run has one list; be its store strong or weak
 //!
 //! `specs/Once`, `specs/OneClient` and `specs/WholeRun` state them; `proofs/worked` meets their premises at small
 //! catalogues.

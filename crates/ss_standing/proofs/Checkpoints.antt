@@ -42,6 +42,7 @@ images_are_read catalog first bytes db accepted is = (
 
 pub checkpoints_stand : CheckpointsStand
 checkpoints_stand catalog place db whole had fits = record {
+  strong = refl;
   opening = db;
   image = record { whole = whole; had = had; fits = fits; spelled = refl };
   list = [];

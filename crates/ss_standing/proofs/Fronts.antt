@@ -10,6 +10,7 @@ use Rattle.ss_value.specs.Order.{row_cmp}
 use Rattle.ss_model.specs.declared.catalog.Catalog.{Catalog}
 use Rattle.ss_model.specs.declared.entry.Entry.{Entry}
 use Rattle.ss_model.specs.declared.entry.Listed.{Listed}
+use Rattle.ss_model.specs.declared.entry.Mode.TheVariants.{Strong}
 use Rattle.ss_model.specs.Database.{Database, empty_database}
 use Rattle.ss_model.specs.Replays.{Replays, after, ReplaysGoOn}
 use Rattle.ss_model.specs.Settling.{kept, KeptCarries}
@@ -33,6 +34,7 @@ use Rattle.ss_standing.proofs.ImageTells.{no_numbers_fit}
 
 pub behind_goes_on : BehindGoesOn
 behind_goes_on old mid new some more h k = record {
+  mode = k.mode ∙ h.mode;
   first = k.first ∙ h.first;
   image = k.image ∙ h.image;
   entries = k.entries ∙ ap (λ es. es ++ more) h.entries ∙ append_assoc (entries_of old) some more;
@@ -40,12 +42,13 @@ behind_goes_on old mid new some more h k = record {
 
 -- groups behind those that a generation has
 pub groups_behind : (s : Stood) (groups : List (List Entry)) (added : List Entry) → flat_map (λ es. es) groups ≡ added → IsBehind s (with_groups s groups) added
-groups_behind s groups added is = record { first = refl; image = refl; entries = flat_map-append (λ (es : List Entry). es) s.groups groups ∙ ap (λ es. entries_of s ++ es) is }
+groups_behind s groups added is = record { mode = refl; first = refl; image = refl; entries = flat_map-append (λ (es : List Entry). es) s.groups groups ∙ ap (λ es. entries_of s ++ es) is }
 
 pub generation_goes_on : KeptCarries → ReplaysGoOn → GenerationsGoOn
 generation_goes_on carries goes_on catalog s new count db rest r replays behind =
     let carried = carries catalog db (after catalog r.opening r.list) r.kept_is rest in
     let goes = goes_on catalog r.opening r.list rest in record {
+      strong = behind.mode ∙ r.strong;
       opening = r.opening;
       image = record {
         whole = r.image.whole;
@@ -124,8 +127,9 @@ empty_had_none catalog = record {
   counts = λ q. omega (arith, get_or-alike {A = ℕ} (length catalog.procedures) q 0);
 }
 
-pub fresh_replayed : (catalog : Catalog) → WholeDatabase catalog (empty_database catalog) → Replayed catalog (fresh (empty_image_of catalog)) 0 (kept catalog (empty_database catalog))
+pub fresh_replayed : (catalog : Catalog) → WholeDatabase catalog (empty_database catalog) → Replayed catalog (fresh Strong (empty_image_of catalog)) 0 (kept catalog (empty_database catalog))
 fresh_replayed catalog whole = record {
+  strong = refl;
   opening = empty_database catalog;
   image = record { whole = whole; had = empty_had_none catalog; fits = empty_fits catalog; spelled = refl };
   list = [];
@@ -135,7 +139,7 @@ fresh_replayed catalog whole = record {
   kept_is = refl;
 }
 
-pub forming_stands : (catalog : Catalog) (image : Files) → WholeDatabase catalog (empty_database catalog) → IsEmpty image ⊎ StandsFor image (fresh (empty_image_of catalog))
+pub forming_stands : (catalog : Catalog) (image : Files) → WholeDatabase catalog (empty_database catalog) → IsEmpty image ⊎ StandsFor image (fresh Strong (empty_image_of catalog))
     → Stands catalog image 0 (kept catalog (empty_database catalog))
 forming_stands catalog image whole (inl empty) = inl (record { empty = empty; none = refl; nothing = refl })
-forming_stands catalog image whole (inr stands) = inr (record { stood = fresh (empty_image_of catalog); stands = stands; replayed = fresh_replayed catalog whole })
+forming_stands catalog image whole (inr stands) = inr (record { stood = fresh Strong (empty_image_of catalog); stands = stands; replayed = fresh_replayed catalog whole })

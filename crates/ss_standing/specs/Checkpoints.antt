@@ -2,6 +2,8 @@
 use Rattle.std.specs.Prelude.{◌≡◌, ◌⊎◌, ◌+◌, ◌++◌, ◌≤◌, ℕ, List, [], ◌∷◌, take, length, Ok}
 use Rattle.ss_model.specs.declared.catalog.Catalog.{Catalog}
 use Rattle.ss_model.specs.declared.entry.Listed.{Listed}
+use Rattle.ss_model.specs.declared.entry.Mode.{Mode}
+use Rattle.ss_model.specs.declared.entry.Mode.TheVariants.{Strong}
 use Rattle.ss_model.specs.Accepted.{Accepted}
 use Rattle.ss_model.specs.Database.{Database}
 use Rattle.ss_model.specs.Replays.{after}
@@ -19,9 +21,9 @@ use Rattle.ss_standing.specs.Readers.{IsExact}
 use Rattle.ss_standing.specs.Standing.{IsImageAt, Replayed, StandsForReplayed}
 use Rattle.ss_standing.specs.Keeping.{Keeps}
 
--- the generation of a database at a place: its image, and no entry behind it
-abbrev pub checkpoint_of : Catalog → ℕ → Database → Stood
-checkpoint_of catalog place db = record { first = place; image = image_bytes catalog (kept catalog db); groups = [] }
+-- the generation of a database at a place, in this mode: its image, and no entry behind it
+abbrev pub checkpoint_of : Mode → Catalog → ℕ → Database → Stood
+checkpoint_of mode catalog place db = record { mode = mode; first = place; image = image_bytes catalog (kept catalog db); groups = [] }
 
 -- the database behind the first entries of a list, so many
 abbrev pub after_first : Catalog → Database → List Listed → ℕ → Database
@@ -51,14 +53,14 @@ ImagesAreRead =
 abbrev pub CheckpointsStand : Type 0
 CheckpointsStand =
     (catalog : Catalog) (place : ℕ) (db : Database) → WholeDatabase catalog db → HadAtMost place db → FitsImage (kept catalog db) →
-    Replayed catalog (checkpoint_of catalog place db) place (kept catalog db)
+    Replayed catalog (checkpoint_of Strong catalog place db) place (kept catalog db)
 
 -- law: so does one of the database behind a front of a list, at the place behind it
 abbrev pub FrontCheckpointsStand : Type 0
 FrontCheckpointsStand =
     (catalog : Catalog) (db : Database) (first : ℕ) (list : List Listed) (held : ℕ) → Accepted catalog → WholeDatabase catalog db → HadAtMost first db →
     held ≤ length list → FitsImage (kept catalog (after_first catalog db list held)) →
-    Replayed catalog (checkpoint_of catalog (first + held) (after_first catalog db list held)) (first + held) (kept catalog (after_first catalog db list held))
+    Replayed catalog (checkpoint_of Strong catalog (first + held) (after_first catalog db list held)) (first + held) (kept catalog (after_first catalog db list held))
 
 -- law: while the one takes the place of the other, what a crash leaves stands for the same
 abbrev pub CheckpointsChangeNothing : Type 0

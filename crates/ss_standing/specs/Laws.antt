@@ -2,6 +2,7 @@
 use Rattle.std.specs.Prelude.{◌≡◌, ◌⊎◌, ℕ, ◌+◌, ◌^◌, ◌<◌, List, length}
 use Rattle.ss_model.specs.declared.catalog.Catalog.{Catalog}
 use Rattle.ss_model.specs.declared.entry.Listed.{Listed}
+use Rattle.ss_model.specs.declared.entry.Mode.TheVariants.{Strong}
 use Rattle.ss_model.specs.Database.{Database, empty_database}
 use Rattle.ss_model.specs.Replays.{Replays, after}
 use Rattle.ss_model.specs.Settling.{Kept, kept}
@@ -62,10 +63,10 @@ FrontsStand =
 abbrev pub FlushesLeaveFronts : Type 0
 FlushesLeaveFronts = (s : Stood) (list : List Listed) (image : Files) → StandsForPart s (groups_of (listed_entries list)) image → HasFront s list image
 
--- law: in mid-format a crash leaves what stands for the empty database
+-- law: in mid-format of a strong store a crash leaves what stands for the empty database
 abbrev pub FormingStands : Type 0
 FormingStands =
-    (catalog : Catalog) (image : Files) → Accepted catalog → IsEmpty image ⊎ StandsFor image (fresh (empty_image_of catalog)) →
+    (catalog : Catalog) (image : Files) → Accepted catalog → IsEmpty image ⊎ StandsFor image (fresh Strong (empty_image_of catalog)) →
     Stands catalog image 0 (kept catalog (empty_database catalog))
 
 -- law: a prefix of a list that stands for so many executions at least is a front that ends there at least

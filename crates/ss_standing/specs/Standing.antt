@@ -1,8 +1,9 @@
 -- What the files of a disk stand for: so many executions, and what is kept of the database after them.
-use Rattle.std.specs.Prelude.{◌≡◌, ◌⊎◌, ℕ, ◌+◌, ◌≤◌, List, map, length, take}
+use Rattle.std.specs.Prelude.{◌≡◌, ◌⊎◌, ℕ, ◌+◌, ◌≤◌, List, length, take}
 use Rattle.ss_model.specs.declared.catalog.Catalog.{Catalog}
-use Rattle.ss_model.specs.declared.entry.Entry.{Entry}
 use Rattle.ss_model.specs.declared.entry.Listed.{Listed}
+use Rattle.ss_model.specs.declared.entry.Mode.TheVariants.{Strong}
+pub use Rattle.ss_model.specs.Asked.{listed_entries}
 use Rattle.ss_model.specs.Database.{Database, empty_database}
 use Rattle.ss_model.specs.Replays.{Replays, after}
 use Rattle.ss_model.specs.Settling.{Kept, kept}
@@ -14,10 +15,6 @@ use Rattle.ss_cmdlog.specs.Store.{IsEmpty, StandsFor, entries_of}
 use Rattle.ss_standing.specs.Image.{image_bytes}
 use Rattle.ss_standing.specs.FitsImage.{FitsImage}
 
--- the entries of a list
-abbrev pub listed_entries : List Listed → List Entry
-listed_entries list = map (λ (l : Listed). l.entry) list
-
 -- a whole database of which the bytes are the image at this place: no stream has had more batches than there were executions
 pub record IsImageAt (catalog : Catalog) (first : ℕ) (bytes : List ℕ) (db : Database) : Type 0 where
   pub whole : WholeDatabase catalog db
@@ -25,8 +22,10 @@ pub record IsImageAt (catalog : Catalog) (first : ℕ) (bytes : List ℕ) (db : 
   pub fits : FitsImage (kept catalog db)
   pub spelled : bytes ≡ image_bytes catalog (kept catalog db)
 
--- a generation's image is that of a database, and its entries replay on this; after them there are so many executions, and so much is kept
+-- a strong generation's image is that of a database, and its entries replay on this; after them there are so many executions, and so much
+-- is kept
 pub record Replayed (catalog : Catalog) (s : Stood) (count : ℕ) (k : Kept) : Type 0 where
+  pub strong : s.mode ≡ Strong
   pub opening : Database
   pub image : IsImageAt catalog s.first s.image opening
   pub list : List Listed

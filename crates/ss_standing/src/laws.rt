@@ -64,7 +64,8 @@ pub fn flushes_leave_fronts()
     first_groups_hold_the_first_entries();
 }
 
-/// In mid-format a crash leaves an image of the empty database, or an empty disk, which stands for the same.
+/// In mid-format of a strong store a crash leaves an image of the empty database, or an empty disk, which stands for the
+/// same.
 pub fn forming_stands()
     ensures { FormingStands }
 {

@@ -26,8 +26,8 @@
 //!   moment to moment is executions too (`kept_counts_stand_on`, `one_thing_stands_on`).
 //! - Entries that replay, behind a generation, stand for the place after them (`generations_go_on`, `behind_goes_on`),
 //!   and the first entries of a list for that front of it (`fronts_stand`).
-//! - What a crash leaves in a format stands for the empty database (`forming_stands`), and in a flush for a front of
-//!   what is flushed (`flushes_leave_fronts`, `prefixes_go_on`), which ends behind what is receipted
+//! - What a crash leaves in a format of a strong store stands for the empty database (`forming_stands`), and in a flush
+//!   for a front of what is flushed (`flushes_leave_fronts`, `prefixes_go_on`), which ends behind what is receipted
 //!   (`receipts_bound_fronts`). A flush that is done leaves what stands for all of the list (`flushes_keep`).
 //! - Bytes are read as what is kept of one database at most, and the image of a database as what is kept of it
 //!   (`images_are_exact`).
@@ -53,6 +53,9 @@
 //! - Where several fields are tied, the rule stands in the test of the last of them: a stream's first kept batch is
 //!   judged at the count of the last procedure that takes the stream (`goes_with`). So the first byte that can't be is
 //!   known as soon as it is read.
+//! - A generation stands for something where its log is strong (`Replayed`), since a weak one has no steps: what its
+//!   entries come to is told by running the steps again, instead of by replaying what stands there. What it is read as
+//!   is told in `ss_fronts`.
 //! - Entries behind a generation aren't asked to be typed (`IsBehind`): a group has typed entries alone, so a
 //!   generation which files stand for has no others.
 #![tactic(auto)]

@@ -5,9 +5,11 @@ use Rattle.std.proofs.lemmas.List.{length-take-le}
 use Rattle.ss_model.specs.declared.catalog.Catalog.{Catalog}
 use Rattle.ss_model.specs.declared.entry.Answer.{Answer}
 use Rattle.ss_model.specs.declared.entry.Listed.{Listed}
+use Rattle.ss_model.specs.declared.entry.Mode.TheVariants as modes
 use Rattle.ss_model.specs.declared.entry.Request.{Request}
 use Rattle.ss_model.specs.Accepted.{Accepted}
 use Rattle.ss_model.specs.Database.{Database as Model}
+use Rattle.ss_model.specs.Recovery.{Strong}
 use Rattle.ss_report_laws.specs.Replies.{answers_of, requests_of}
 use Rattle.ss_report_laws.specs.Resuming.{AnswersResume, FirstAnswersStay, resume_at}
 use Rattle.ss_disk.specs.Kinds.{DiskKind}
@@ -26,7 +28,7 @@ use Rattle.ss_resume.specs.declared.past.Past.{Past}
 use Rattle.ss_resume.specs.Pasts.{JoinsAt, joined_lists}
 use Rattle.ss_resume.proofs.CallerLemmas.{each_joined, resume_within, starts_are}
 use Rattle.ss_refusals.specs.declared.status.Status.{Status}
-use Rattle.ss_refusals.specs.declared.status.Status.TheVariants.{Done, Usage, Input, ReadFault, WriteFault, Disk, NoMemory, Foreign, OtherCatalog, Limit, Differs}
+use Rattle.ss_refusals.specs.declared.status.Status.TheVariants.{Done, Usage, Input, ReadFault, WriteFault, Disk, NoMemory, Foreign, OtherMode, OtherCatalog, Limit, Differs}
 use Rattle.ss_refusals.specs.Sinks.{SinkChange}
 use Rattle.ss_refusals.specs.StoreRefusals.{WritesWhole}
 use Rattle.ss_top.specs.declared.over.Turn.{Turn}
@@ -54,7 +56,7 @@ starts_within place requests past may client =
 
 -- and then has as many answers as it made requests
 pub told_from : {D : Type 0} (kind : DiskKind D) (every : Option ℕ) (limit : ℕ) (catalog : Catalog) (db : Model) (place : ℕ) (requests : List Request) (past : Past) (log : CmdLog D) (finished : Finished D)
-    → RanFrom kind every limit catalog db place requests (map (resume_at place) past.answers) log finished → ToldFrom place past requests finished
+    → RanFrom kind Strong every limit catalog db place requests (map (resume_at place) past.answers) log finished → ToldFrom place past requests finished
 told_from kind every limit catalog db place requests past log finished ran client =
     subst (λ (n : ℕ). length (answers_of finished.closed.answers client) ≡ length (drop n (requests_of client requests))) (starts_are place past.answers client) (ran.1.ends.run.told client).many
 
@@ -80,7 +82,7 @@ goes_on place requests past new finished count from_first to_end may told small 
 
 -- ---- how a session is told over incarnations
 
-module _ {D : Type 0} (kind : DiskKind D) (every : Option ℕ) (limit again : ℕ) (printing : Printing) (catalog : Catalog) (requests : List Request) (w : SinkChange) (old new : D) (was : WasOf catalog (disk_of kind old new)) where
+module _ {D : Type 0} (kind : DiskKind D) (every : Option ℕ) (limit again : ℕ) (printing : Printing) (catalog : Catalog) (requests : List Request) (w : SinkChange) (old new : D) (was : WasOf modes.Strong catalog (disk_of kind old new)) where
   abbrev Came : Status → Type 0
   Came ended = CameOver kind every limit again printing catalog requests ended w old new
 
@@ -97,6 +99,7 @@ module _ {D : Type 0} (kind : DiskKind D) (every : Option ℕ) (limit again : �
   whole Disk text is wrote = absurd wrote
   whole NoMemory text is wrote = absurd wrote
   whole Foreign text is wrote = absurd wrote
+  whole OtherMode text is wrote = absurd wrote
   whole OtherCatalog text is wrote = absurd wrote
   whole Limit text is wrote = absurd wrote
 
@@ -111,27 +114,28 @@ module _ {D : Type 0} (kind : DiskKind D) (every : Option ℕ) (limit again : �
   over_told ReadFault text is ended tells = absurd is
   over_told WriteFault text is ended tells = absurd is
   over_told Foreign text is ended tells = absurd is
+  over_told OtherMode text is ended tells = absurd is
   over_told OtherCatalog text is ended tells = absurd is
 
 -- ---- no engine was opened on it
 
 module _ {D : Type 0} (kind : DiskKind D) (every : Option ℕ) (limit : ℕ) (printing : Printing) (requests : List Request) (last : Bool) (past : Past) (r : Recovered D) where
-  pub short_again : NoEngineIsOpened kind → RunsOverRestarts kind → (mid : D) → ServesAgain kind every limit printing r.catalog requests last past mid r (Short r.log.disk)
+  pub short_again : NoEngineIsOpened kind → RunsOverRestarts kind → (mid : D) → ServesAgain kind modes.Strong every limit printing r.catalog requests last past mid r (Short r.log.disk)
   short_again alone_law over_law mid again old before rose past_is later opened w ended tells =
-      later_short kind every limit printing r.catalog requests last again old r.log.disk (omega (arith, before, later)) so_far w ended tells (λ true'. inr (subst (λ (s : Status). CameOver kind every limit (suc again) printing r.catalog requests s w old r.log.disk) tells.is (came (past_is true') (opened true'))))
+      later_short kind modes.Strong every limit printing r.catalog requests last again old r.log.disk (omega (arith, before, later)) so_far w ended tells (λ true'. inr (subst (λ (s : Status). CameOver kind every limit (suc again) printing r.catalog requests s w old r.log.disk) tells.is (came (past_is true') (opened true'))))
     where
       so_far : RoseBy (suc again) (kind.faults old) (kind.faults r.log.disk)
       so_far = rose_keeps (suc again) (kind.faults old) (kind.faults mid) (kind.faults r.log.disk) rose later
 
-      came : IsPast kind limit r.catalog requests (suc again) old mid past → Opened r.catalog (recovered_database r) r.first (disk_of kind mid r.log.disk) → CameOver kind every limit (suc again) printing r.catalog requests ended w old r.log.disk
+      came : IsPast kind limit r.catalog requests (suc again) old mid past → Opened Strong r.catalog (recovered_database r) r.first (disk_of kind mid r.log.disk) → CameOver kind every limit (suc again) printing r.catalog requests ended w old r.log.disk
       came is opened' =
-          short_of kind every limit printing r.catalog requests again old mid past is over_law r.log.disk
+          short_of kind modes.Strong every limit printing r.catalog requests again old mid past is over_law r.log.disk
           (alone_law r.catalog is.db past.first is.last is.earlier (recovered_database r) r.first old mid r.log.disk is.lived opened') so_far is.was w ended tells
 
   -- one that was, and closed
   pub served_again : (accepted : Accepted r.catalog) (room : ℕ) → room ≡ limit - (r.first - past.first) → (starts : List ℕ) → starts ≡ map (resume_at r.first) past.answers → (finished : Finished D) (turn : Turn D)
-      → RanFrom kind every room r.catalog (recovered_database r) r.first requests starts r.log finished → ClosesAgain kind every limit printing r.catalog requests last past r.first finished turn
-      → (mid : D) → ServesAgain kind every limit printing r.catalog requests last past mid r turn
+      → RanFrom kind Strong every room r.catalog (recovered_database r) r.first requests starts r.log finished → ClosesAgain kind modes.Strong every limit printing r.catalog requests last past r.first finished turn
+      → (mid : D) → ServesAgain kind modes.Strong every limit printing r.catalog requests last past mid r turn
   served_again accepted room room_is starts starts_are' finished turn ran closes mid again old before rose past_is later opened = closes again old mid (recovered_database r) r.log (record {
     accepted = accepted;
     before = before;
@@ -140,8 +144,8 @@ module _ {D : Type 0} (kind : DiskKind D) (every : Option ℕ) (limit : ℕ) (pr
     later = later;
     opened = opened;
     clients = ran.0;
-    closed = subst (λ (n : ℕ). EndsOnDisk kind every r.catalog (recovered_database r) r.first (room_from n r.first) ran.0 requests (map (resume_at r.first) past.answers) r.log finished) room_is
-        (subst (λ (s : List ℕ). EndsOnDisk kind every r.catalog (recovered_database r) r.first (room_from room r.first) ran.0 requests s r.log finished) starts_are' ran.1);
+    closed = subst (λ (n : ℕ). EndsOnDisk kind Strong every r.catalog (recovered_database r) r.first (room_from n r.first) ran.0 requests (map (resume_at r.first) past.answers) r.log finished) room_is
+        (subst (λ (s : List ℕ). EndsOnDisk kind Strong every r.catalog (recovered_database r) r.first (room_from room r.first) ran.0 requests s r.log finished) starts_are' ran.1);
   })
 
 -- ---- the engine on it was closed
@@ -190,9 +194,9 @@ module _ {D : Type 0} (kind : DiskKind D) (every : Option ℕ) (limit : ℕ) (pr
     }
 
   -- there was no memory to join them
-  pub short_closed : ClosesAgain kind every limit printing catalog requests last past place finished (Short new)
+  pub short_closed : ClosesAgain kind modes.Strong every limit printing catalog requests last past place finished (Short new)
   short_closed again old mid from log o w ended tells =
-      later_short kind every limit printing catalog requests last again old new (least again old mid from log o) (so_far again old mid from log o) w ended tells
+      later_short kind modes.Strong every limit printing catalog requests last again old new (least again old mid from log o) (so_far again old mid from log o) w ended tells
       (λ true'. inr (silent again old mid from log o (joined_lists place past.answers finished.closed.answers) (each_joined place past.answers finished.closed.answers) true' w ended tells))
 
   module _ (joined : Past) (joins : JoinsAt place past finished.closed.list finished.closed.answers finished.receipted joined) where
@@ -203,7 +207,7 @@ module _ {D : Type 0} (kind : DiskKind D) (every : Option ℕ) (limit : ℕ) (pr
         ∙ ap (λ (n : ℕ). record { list = take (place - past.first) past.list ++ finished.closed.list; first = past.first; answers = joined.answers; receipted = n }) joins.receipted_is)
 
     -- the disk has failed, and another opening may follow
-    pub failed_closed : is_some finished.log.halted ≡ true → ((f : ℕ) → finished.log.halted ≡ Some f → f < 2 ^ 64) → ClosesAgain kind every limit printing catalog requests last past place finished (Failed (Some joined) new)
+    pub failed_closed : is_some finished.log.halted ≡ true → ((f : ℕ) → finished.log.halted ≡ Some f → f < 2 ^ 64) → ClosesAgain kind modes.Strong every limit printing catalog requests last past place finished (Failed (Some joined) new)
     failed_closed some small again old mid from log o = (
       least again old mid from log o,
       one_more again old mid from log o some,
@@ -282,9 +286,9 @@ module _ {D : Type 0} (kind : DiskKind D) (every : Option ℕ) (limit : ℕ) (pr
         came status None said' tells =
             subst (λ (s : Status). CameOver kind every limit (suc again) printing catalog requests s w old new) (sym tells.is) (silent again old mid from log o joined.answers joins.answers_are honest w ended tells)
 
-      pub over_closed : ClosesAgain kind every limit printing catalog requests last past place finished (Over reported)
+      pub over_closed : ClosesAgain kind modes.Strong every limit printing catalog requests last past place finished (Over reported)
       over_closed again old mid from log o w ended tells =
-          subst (λ (d : D). Comes kind every limit printing catalog requests (suc again) last ended w old d) (sym is_new)
-          (later_over kind every limit printing catalog requests last reported.status reported.text (said_may printing requests joined.first all reported.status reported.text said) at_last old new
+          subst (λ (d : D). Comes kind modes.Strong every limit printing catalog requests (suc again) last ended w old d) (sym is_new)
+          (later_over kind modes.Strong every limit printing catalog requests last reported.status reported.text (said_may printing requests joined.first all reported.status reported.text said) at_last old new
           (least again old mid from log o) again (so_far again old mid from log o) (λ is. one_more again old mid from log o (said_failed printing requests joined.first all reported.status reported.text said is)) w ended tells
           (λ true'. inr (came again old mid from log o true' w ended reported.status reported.text said tells)))

@@ -8,6 +8,7 @@ use Rattle.std.proofs.lemmas.Option.{IfSome_then}
 use Rattle.ss_lines.specs.Causes.{TakesAtMost}
 use Rattle.ss_lines.specs.Lines.{max_input}
 use Rattle.ss_model.specs.declared.catalog.Catalog.{Catalog}
+use Rattle.ss_model.specs.declared.entry.Mode.{Mode}
 use Rattle.ss_model.specs.declared.entry.Request.{Request}
 use Rattle.ss_model.specs.Accepted.{Accepted}
 use Rattle.ss_catalog.specs.Answers.{HasOneCatalog}
@@ -21,10 +22,10 @@ use Rattle.ss_words.specs.Words.{IsCommand, AsksFor, words_of}
 use Rattle.ss_words.proofs.CallerLemmas.{asks_is_command, asks_for_one}
 use Rattle.ss_disk.specs.Kinds.{DiskKind}
 use Rattle.ss_headline.specs.Disks.{DiskChange, disk_of}
-use Rattle.ss_recover.specs.Laws.{EmptyHasNoFault, StoreHasNoFault, StoreHasOneCatalog}
+use Rattle.ss_recover.specs.Laws.{EmptyHasNoFault, StoreHasNoFault, StoreIsOne}
 use Rattle.ss_refusals.specs.declared.input.InputError.{InputError}
 use Rattle.ss_refusals.specs.declared.status.Status.{Status}
-use Rattle.ss_refusals.specs.declared.status.Status.TheVariants.{Done, Usage, Input, ReadFault, WriteFault, Disk, NoMemory, Foreign, OtherCatalog, Limit, Differs}
+use Rattle.ss_refusals.specs.declared.status.Status.TheVariants.{Done, Usage, Input, ReadFault, WriteFault, Disk, NoMemory, Foreign, OtherMode, OtherCatalog, Limit, Differs}
 use Rattle.ss_refusals.specs.Inputs.{LeavesOfSource, HasOneStart, StartsOrRefused, HasOneRefusal, ExitsAsRefused, ExitsAsStarted, DidNotRise, OfStarted}
 use Rattle.ss_refusals.specs.Refused.{IsRefusedBy}
 use Rattle.ss_refusals.proofs.CallerLemmas.{OfRefusal, refusals_have, never, memory_text_is, read_fault_text_is, fault_rose, leaves_so, refused_ends_refused, refused_ends_started}
@@ -39,7 +40,7 @@ use Rattle.ss_top.specs.Stores.{CameTo, RecoveredTo}
 use Rattle.ss_top.specs.Serving.{ComesToShow, RecoversTo, HasServedCause, HasStoreCause, TellsStoreFaults}
 use Rattle.ss_top.specs.Runs.{TellsDiskFault}
 use Rattle.ss_top.specs.Shows.{ShowEnds, show_requests}
-use Rattle.ss_top.specs.Top.{Ends, EndsRun, EndsVoter, RunEndsSo, RunEnds, RanInput, HasCause, IsComplete, TellsFaults, WritesOnly, DiskHeld}
+use Rattle.ss_top.specs.Top.{Ends, EndsRecover, EndsRun, EndsVoter, RunEndsSo, RunEnds, RanInput, HasCause, IsComplete, TellsFaults, WritesOnly, DiskHeld}
 use Rattle.ss_top.proofs.Completing.{over_complete, recovered_complete, show_complete}
 
 -- what holds of each holds of one that may be there
@@ -66,45 +67,47 @@ short Differs of started = absurd of
 short WriteFault of started = absurd of
 short Disk of started = absurd of
 short Foreign of started = absurd of
+short OtherMode of started = absurd of
 short OtherCatalog of started = absurd of
 short Limit of started = absurd of
 
 -- ---- what runs over restarts end with
 
-came_may : {D : Type 0} (kind : DiskKind D) (every : Option ℕ) (limit : ℕ) (printing : Printing) (catalog : Catalog) (requests : List Request) (w : SinkChange) (old new : D) (status : Status)
-    → CameTo every limit printing catalog requests status w (disk_of kind old new) → MayEnd status
-came_may kind every limit printing catalog requests w old new Done came = tt
-came_may kind every limit printing catalog requests w old new WriteFault came = tt
-came_may kind every limit printing catalog requests w old new Disk came = tt
-came_may kind every limit printing catalog requests w old new NoMemory came = tt
-came_may kind every limit printing catalog requests w old new Foreign came = tt
-came_may kind every limit printing catalog requests w old new OtherCatalog came = tt
-came_may kind every limit printing catalog requests w old new Limit came = tt
-came_may kind every limit printing catalog requests w old new Usage came = came
-came_may kind every limit printing catalog requests w old new Differs came = came
-came_may kind every limit printing catalog requests w old new Input came = came
-came_may kind every limit printing catalog requests w old new ReadFault came = came
+came_may : {D : Type 0} (kind : DiskKind D) (mode : Mode) (every : Option ℕ) (limit : ℕ) (printing : Printing) (catalog : Catalog) (requests : List Request) (w : SinkChange) (old new : D) (status : Status)
+    → CameTo mode every limit printing catalog requests status w (disk_of kind old new) → MayEnd status
+came_may kind mode every limit printing catalog requests w old new Done came = tt
+came_may kind mode every limit printing catalog requests w old new WriteFault came = tt
+came_may kind mode every limit printing catalog requests w old new Disk came = tt
+came_may kind mode every limit printing catalog requests w old new NoMemory came = tt
+came_may kind mode every limit printing catalog requests w old new Foreign came = tt
+came_may kind mode every limit printing catalog requests w old new OtherMode came = tt
+came_may kind mode every limit printing catalog requests w old new OtherCatalog came = tt
+came_may kind mode every limit printing catalog requests w old new Limit came = tt
+came_may kind mode every limit printing catalog requests w old new Usage came = came
+came_may kind mode every limit printing catalog requests w old new Differs came = came
+came_may kind mode every limit printing catalog requests w old new Input came = came
+came_may kind mode every limit printing catalog requests w old new ReadFault came = came
 
-comes_may : {D : Type 0} (kind : DiskKind D) (every : Option ℕ) (limit restarts : ℕ) (printing : Printing) (catalog : Catalog) (requests : List Request) (w : SinkChange) (old new : D) (status : Status)
-    → ComesOver kind every limit restarts printing catalog requests status w old new → MayEnd status
-comes_may kind every limit restarts printing catalog requests w old new status (inl came) = came_may kind every limit printing catalog requests w old new status came
-comes_may kind every limit restarts printing catalog requests w old new status (inr over) = over.2.may
+comes_may : {D : Type 0} (kind : DiskKind D) (mode : Mode) (every : Option ℕ) (limit restarts : ℕ) (printing : Printing) (catalog : Catalog) (requests : List Request) (w : SinkChange) (old new : D) (status : Status)
+    → ComesOver kind mode every limit restarts printing catalog requests status w old new → MayEnd status
+comes_may kind mode every limit restarts printing catalog requests w old new status (inl came) = came_may kind mode every limit printing catalog requests w old new status came
+comes_may kind mode every limit restarts printing catalog requests w old new status (inr over) = over.3.may
 
 -- ---- the command run
 
-module _ {D : Type 0} (kind : DiskKind D) (old new : D) (every : Option ℕ) (limit restarts : ℕ) (s : SourceChange) (w : SinkChange) where
+module _ {D : Type 0} (kind : DiskKind D) (old new : D) (mode : Mode) (every : Option ℕ) (limit restarts : ℕ) (s : SourceChange) (w : SinkChange) where
   abbrev disk : DiskChange
   disk = disk_of kind old new
 
   abbrev EndsSo : Status → Type 0
-  EndsSo = RunEndsSo kind old new every limit restarts s w
+  EndsSo = RunEndsSo kind old new mode every limit restarts s w
 
   -- ---- the input is refused
 
   module _ (one : HasOneRefusal) (either : StartsOrRefused) (uncalled : disk.uncalled) (e : InputError) (first : IfSome s.before (λ input. IsRefusedBy input e))
       (leaves : LeavesOfRefusedSource e s.faults_before s.faults_now s.before s.now) where
     -- the statuses that a refusal has
-    refused_so : (status : Status) → refusal_status e ≡ status → Writes (refusal_text e) w → RunEnds kind old new every limit restarts s.before status w
+    refused_so : (status : Status) → refusal_status e ≡ status → Writes (refusal_text e) w → RunEnds kind old new mode every limit restarts s.before status w
     refused_so Input is reported = record { refused = record { refusal = e; first = first; is = is; reported = reported }; uncalled = uncalled }
     refused_so ReadFault is reported = uncalled
     refused_so NoMemory is reported = inl (record { uncalled = uncalled; written = subst (λ text. Writes text w) (memory_text_is e is) reported })
@@ -114,6 +117,7 @@ module _ {D : Type 0} (kind : DiskKind D) (old new : D) (every : Option ℕ) (li
     refused_so WriteFault is reported = never e WriteFault is (λ of. of)
     refused_so Disk is reported = never e Disk is (λ of. of)
     refused_so Foreign is reported = never e Foreign is (λ of. of)
+    refused_so OtherMode is reported = never e OtherMode is (λ of. of)
     refused_so OtherCatalog is reported = never e OtherCatalog is (λ of. of)
     refused_so Limit is reported = never e Limit is (λ of. of)
 
@@ -128,6 +132,7 @@ module _ {D : Type 0} (kind : DiskKind D) (old new : D) (every : Option ℕ) (li
     only_so Disk is reported = tt
     only_so NoMemory is reported = tt
     only_so Foreign is reported = tt
+    only_so OtherMode is reported = tt
     only_so OtherCatalog is reported = tt
     only_so Limit is reported = tt
 
@@ -141,6 +146,7 @@ module _ {D : Type 0} (kind : DiskKind D) (old new : D) (every : Option ℕ) (li
     cause_so Input is = tt
     cause_so NoMemory is = tt
     cause_so Foreign is = tt
+    cause_so OtherMode is = tt
     cause_so OtherCatalog is = tt
     cause_so Limit is = tt
 
@@ -184,24 +190,25 @@ module _ {D : Type 0} (kind : DiskKind D) (old new : D) (every : Option ℕ) (li
 
   -- ---- what the input asks for ran
 
-  module _ (one : HasOneStart) (either : StartsOrRefused) (no_fault : EmptyHasNoFault) (store_has_none : StoreHasNoFault) (one_catalog : StoreHasOneCatalog) (catalog : Catalog) (requests : List Request) (starts : IfSome s.before (λ input. Starts input catalog requests)) (accepted : Accepted catalog)
+  module _ (one : HasOneStart) (either : StartsOrRefused) (no_fault : EmptyHasNoFault) (store_has_none : StoreHasNoFault) (one_store : StoreIsOne) (catalog : Catalog) (requests : List Request) (starts : IfSome s.before (λ input. Starts input catalog requests)) (accepted : Accepted catalog)
       (left : IsAtEnd s.now) where
-    over_may : (status : Status) → ComesOver kind every limit restarts InFull catalog requests status w old new → MayEnd status
-    over_may status came = comes_may kind every limit restarts InFull catalog requests w old new status came
+    over_may : (status : Status) → ComesOver kind mode every limit restarts InFull catalog requests status w old new → MayEnd status
+    over_may status came = comes_may kind mode every limit restarts InFull catalog requests w old new status came
 
     -- an input that starts has no refusal
     not_refused : (ended : Status) → IfSome s.before (λ input. ExitsAsRefused input ended)
     not_refused ended = IfSome_then s.before starts (λ input start e has. absurd (false≢true (sym has.says ∙ either input catalog requests e start has.first)))
 
-    ran : (status : Status) → ComesOver kind every limit restarts InFull catalog requests status w old new → RanInput kind old new every limit restarts s.before status w
+    ran : (status : Status) → ComesOver kind mode every limit restarts InFull catalog requests status w old new → RanInput kind old new mode every limit restarts s.before status w
     ran status came = record { catalog = catalog; requests = requests; starts = starts; accepted = accepted; came = came }
 
-    came_so : (ended : Status) → ComesOver kind every limit restarts InFull catalog requests ended w old new → RunEnds kind old new every limit restarts s.before ended w
+    came_so : (ended : Status) → ComesOver kind mode every limit restarts InFull catalog requests ended w old new → RunEnds kind old new mode every limit restarts s.before ended w
     came_so Done came = ran Done came
     came_so WriteFault came = ran WriteFault came
     came_so Disk came = ran Disk came
     came_so NoMemory came = inr (ran NoMemory came)
     came_so Foreign came = ran Foreign came
+    came_so OtherMode came = ran OtherMode came
     came_so OtherCatalog came = ran OtherCatalog came
     came_so Limit came = ran Limit came
     came_so Usage came = absurd (over_may Usage came)
@@ -209,7 +216,7 @@ module _ {D : Type 0} (kind : DiskKind D) (old new : D) (every : Option ℕ) (li
     came_so Input came = absurd (over_may Input came)
     came_so ReadFault came = absurd (over_may ReadFault came)
 
-    left_so : (ended : Status) → ComesOver kind every limit restarts InFull catalog requests ended w old new → LeavesOfSource ended s.before s.now
+    left_so : (ended : Status) → ComesOver kind mode every limit restarts InFull catalog requests ended w old new → LeavesOfSource ended s.before s.now
     left_so Usage came = absurd (over_may Usage came)
     left_so Differs came = absurd (over_may Differs came)
     left_so Input came = absurd (over_may Input came)
@@ -219,10 +226,11 @@ module _ {D : Type 0} (kind : DiskKind D) (old new : D) (every : Option ℕ) (li
     left_so WriteFault came = left
     left_so Disk came = left
     left_so Foreign came = left
+    left_so OtherMode came = left
     left_so OtherCatalog came = left
     left_so Limit came = left
 
-    started_so : (ended : Status) → ComesOver kind every limit restarts InFull catalog requests ended w old new → HasCause ended s w disk → SinkHeld w → DiskHeld disk → OfStarted ended
+    started_so : (ended : Status) → ComesOver kind mode every limit restarts InFull catalog requests ended w old new → HasCause ended s w disk → SinkHeld w → DiskHeld disk → OfStarted ended
     started_so Usage came cause calm still = absurd (over_may Usage came)
     started_so Differs came cause calm still = absurd (over_may Differs came)
     started_so Input came cause calm still = absurd (over_may Input came)
@@ -232,10 +240,11 @@ module _ {D : Type 0} (kind : DiskKind D) (old new : D) (every : Option ℕ) (li
     started_so NoMemory came cause calm still = tt
     started_so Done came cause calm still = tt
     started_so Foreign came cause calm still = tt
+    started_so OtherMode came cause calm still = tt
     started_so OtherCatalog came cause calm still = tt
     started_so Limit came cause calm still = tt
 
-    cause_ran : (ended : Status) → ComesOver kind every limit restarts InFull catalog requests ended w old new → HasServedCause restarts ended w disk → HasCause ended s w disk
+    cause_ran : (ended : Status) → ComesOver kind mode every limit restarts InFull catalog requests ended w old new → HasServedCause restarts ended w disk → HasCause ended s w disk
     cause_ran Usage came cause = absurd (over_may Usage came)
     cause_ran Differs came cause = absurd (over_may Differs came)
     cause_ran Input came cause = absurd (over_may Input came)
@@ -245,10 +254,11 @@ module _ {D : Type 0} (kind : DiskKind D) (old new : D) (every : Option ℕ) (li
     cause_ran Done came cause = tt
     cause_ran NoMemory came cause = tt
     cause_ran Foreign came cause = tt
+    cause_ran OtherMode came cause = tt
     cause_ran OtherCatalog came cause = tt
     cause_ran Limit came cause = tt
 
-    only_ran : (ended : Status) → ComesOver kind every limit restarts InFull catalog requests ended w old new → WritesOnly ended w
+    only_ran : (ended : Status) → ComesOver kind mode every limit restarts InFull catalog requests ended w old new → WritesOnly ended w
     only_ran Usage came = absurd (over_may Usage came)
     only_ran Differs came = absurd (over_may Differs came)
     only_ran ReadFault came = absurd (over_may ReadFault came)
@@ -258,16 +268,17 @@ module _ {D : Type 0} (kind : DiskKind D) (old new : D) (every : Option ℕ) (li
     only_ran Disk came = tt
     only_ran NoMemory came = tt
     only_ran Foreign came = tt
+    only_ran OtherMode came = tt
     only_ran OtherCatalog came = tt
     only_ran Limit came = tt
 
-    complete_so : (ended : Status) → ComesOver kind every limit restarts InFull catalog requests ended w old new → HasServedCause restarts ended w disk → SinkHeld w → DiskHeld disk → IfSome s.before (λ input. IsComplete kind old new limit input ended)
+    complete_so : (ended : Status) → ComesOver kind mode every limit restarts InFull catalog requests ended w old new → HasServedCause restarts ended w disk → SinkHeld w → DiskHeld disk → IfSome s.before (λ input. IsComplete kind old new mode limit input ended)
     complete_so ended came cause calm still = IfSome_then s.before starts (λ input start c rs other room.
         let same = one input catalog c requests rs start other in
-        over_complete kind old new limit restarts w no_fault store_has_none one_catalog calm still every InFull catalog requests ended came cause
-        (subst (λ c'. HasRoom limit c' requests disk) (sym same.0) (subst (λ rs'. HasRoom limit c rs' disk) (sym same.1) room)))
+        over_complete kind old new mode limit restarts w no_fault store_has_none one_store calm still every InFull catalog requests ended came cause
+        (subst (λ c'. HasRoom mode limit c' requests disk) (sym same.0) (subst (λ rs'. HasRoom mode limit c rs' disk) (sym same.1) room)))
 
-    pub run_came : (ended : Status) → ComesOver kind every limit restarts InFull catalog requests ended w old new → HasServedCause restarts ended w disk → EndsSo ended
+    pub run_came : (ended : Status) → ComesOver kind mode every limit restarts InFull catalog requests ended w old new → HasServedCause restarts ended w disk → EndsSo ended
     run_came ended came store_cause = let cause = cause_ran ended came store_cause in record {
       ends = record {
         came = came_so ended came;
@@ -279,7 +290,7 @@ module _ {D : Type 0} (kind : DiskKind D) (old new : D) (every : Option ℕ) (li
       };
       only = only_ran ended came;
       cause = cause;
-      no_usage = λ is. over_may Usage (subst (λ status. ComesOver kind every limit restarts InFull catalog requests status w old new) is came);
+      no_usage = λ is. over_may Usage (subst (λ status. ComesOver kind mode every limit restarts InFull catalog requests status w old new) is came);
     }
 
 -- ---- the whole call
@@ -328,11 +339,11 @@ module _ {D : Type 0} (kind : DiskKind D) (old new : D) (limit : ℕ) (words : L
     other_command a b other asks more = ap (λ (l : CommandLine). l.command) (asks_for_one (words_of words) (record { command = a; options = what }) (record { command = b; options = other }) asks more)
 
     pub ends_run : AsksFor (words_of words) (record { command = Run; options = what }) → TakesAtMost (max_input + 1) s.before s.now
-        → (ended : Status) → RunEndsSo kind old new what.every limit what.restarts s w ended → TellsSourceFault ended s.faults_before s.faults_now → (what.restarts ≡ 0 → TellsDiskFault ended change.faults_before change.faults_now)
+        → (ended : Status) → RunEndsSo kind old new what.mode what.every limit what.restarts s w ended → TellsSourceFault ended s.faults_before s.faults_now → (what.restarts ≡ 0 → TellsDiskFault ended change.faults_before change.faults_now)
         → (ended ≡ Done → w.faults_now ≡ w.faults_before) → Ends kind old new limit words s w ended
     ends_run asks taken ended so source store sink = record {
       usage = (λ is. absurd (so.no_usage is), λ none. absurd (none (asks_is_command _ _ asks)));
-      run = λ other more. subst (λ (l : CommandLine). EndsRun kind old new l.options.every limit l.options.restarts s w ended) (asks_for_one (words_of words) (record { command = Run; options = what }) (record { command = Run; options = other }) asks more) so.ends;
+      run = λ other more. subst (λ (l : CommandLine). EndsRun kind old new l.options.mode l.options.every limit l.options.restarts s w ended) (asks_for_one (words_of words) (record { command = Run; options = what }) (record { command = Run; options = other }) asks more) so.ends;
       recover = λ other more. let no : Run ≡ Recover = other_command Run Recover other asks more in absurd cc;
       voter = λ other show more. let wrong : Run ≡ Voter show = other_command Run (Voter show) other asks more in absurd cc;
       audit = λ other more. let no : Run ≡ Audit = other_command Run Audit other asks more in absurd cc;
@@ -341,13 +352,13 @@ module _ {D : Type 0} (kind : DiskKind D) (old new : D) (limit : ℕ) (words : L
       only = so.only;
       counts = counts;
       cause = so.cause;
-      told = λ line more. tells_so line.options.restarts ended (λ is. subst (λ status. RunEnds kind old new what.every limit what.restarts s.before status w) is so.ends.came) source
+      told = λ line more. tells_so line.options.restarts ended (λ is. subst (λ status. RunEnds kind old new what.mode what.every limit what.restarts s.before status w) is so.ends.came) source
           (subst (λ (l : CommandLine). l.options.restarts ≡ 0 → TellsDiskFault ended change.faults_before change.faults_now) (asks_for_one (words_of words) (record { command = Run; options = what }) line asks more) store) sink;
       taken = taken;
     }
 
     -- a recovery has no status of an input, and none of the words
-    recovered_so : (ended : Status) → RecoveredTo limit ended w change → WritesOnly ended w
+    recovered_so : (ended : Status) → RecoveredTo what.mode limit ended w change → WritesOnly ended w
     recovered_so Usage came = absurd came
     recovered_so Differs came = absurd came
     recovered_so ReadFault came = absurd came
@@ -357,10 +368,11 @@ module _ {D : Type 0} (kind : DiskKind D) (old new : D) (limit : ℕ) (words : L
     recovered_so Disk came = tt
     recovered_so NoMemory came = tt
     recovered_so Foreign came = tt
+    recovered_so OtherMode came = tt
     recovered_so OtherCatalog came = tt
     recovered_so Limit came = tt
 
-    recovered_cause : (ended : Status) → RecoveredTo limit ended w change → HasStoreCause ended w change → HasCause ended s w change
+    recovered_cause : (ended : Status) → RecoveredTo what.mode limit ended w change → HasStoreCause ended w change → HasCause ended s w change
     recovered_cause Usage came cause = absurd came
     recovered_cause Differs came cause = absurd came
     recovered_cause Input came cause = absurd came
@@ -370,43 +382,46 @@ module _ {D : Type 0} (kind : DiskKind D) (old new : D) (limit : ℕ) (words : L
     recovered_cause Done came cause = tt
     recovered_cause NoMemory came cause = tt
     recovered_cause Foreign came cause = tt
+    recovered_cause OtherMode came cause = tt
     recovered_cause OtherCatalog came cause = tt
     recovered_cause Limit came cause = tt
 
-    pub ends_recover : EmptyHasNoFault → StoreHasNoFault → StoreHasOneCatalog → AsksFor (words_of words) (record { command = Recover; options = what }) → s.now ≡ s.before → s.faults_now ≡ s.faults_before
-        → (ended : Status) → RecoversTo limit ended w change → TellsStoreFaults ended w change → Ends kind old new limit words s w ended
-    ends_recover no_fault store_has_none one_catalog asks same unmoved ended so told = let came = so.came in record {
-      usage = (λ is. absurd (subst (λ status. RecoveredTo limit status w change) is came), λ none. absurd (none (asks_is_command _ _ asks)));
+    pub ends_recover : EmptyHasNoFault → StoreHasNoFault → StoreIsOne → AsksFor (words_of words) (record { command = Recover; options = what }) → s.now ≡ s.before → s.faults_now ≡ s.faults_before
+        → (ended : Status) → RecoversTo what.mode limit ended w change → TellsStoreFaults ended w change → Ends kind old new limit words s w ended
+    ends_recover no_fault store_has_none one_store asks same unmoved ended so told = let came = so.came in record {
+      usage = (λ is. absurd (subst (λ status. RecoveredTo what.mode limit status w change) is came), λ none. absurd (none (asks_is_command _ _ asks)));
       run = λ other more. let no : Recover ≡ Run = other_command Recover Run other asks more in absurd cc;
-      recover = λ other more. record {
-        came = came;
-        complete = λ calm still catalog room. recovered_complete limit w change no_fault store_has_none one_catalog calm still catalog ended came so.cause room;
-        unread = (same, unmoved);
-      };
+      recover = λ other more. subst (λ (l : CommandLine). EndsRecover l.options.mode limit s w change ended)
+          (asks_for_one (words_of words) (record { command = Recover; options = what }) (record { command = Recover; options = other }) asks more) (record {
+            came = came;
+            complete = λ calm still catalog room. recovered_complete what.mode limit w change no_fault store_has_none one_store calm still catalog ended came so.cause room;
+            unread = (same, unmoved);
+          });
       voter = λ other show more. let wrong : Recover ≡ Voter show = other_command Recover (Voter show) other asks more in absurd cc;
       audit = λ other more. let no : Recover ≡ Audit = other_command Recover Audit other asks more in absurd cc;
       unread = λ is. (same, unmoved);
-      untouched = λ is. absurd (subst (λ status. RecoveredTo limit status w change) is came);
+      untouched = λ is. absurd (subst (λ status. RecoveredTo what.mode limit status w change) is came);
       only = recovered_so ended came;
       counts = counts;
       cause = recovered_cause ended came so.cause;
-      told = λ line more. tells_so line.options.restarts ended (λ is. subst (λ status. RecoveredTo limit status w change) is came) (inr unmoved) (λ once. told.store) told.sink;
+      told = λ line more. tells_so line.options.restarts ended (λ is. subst (λ status. RecoveredTo what.mode limit status w change) is came) (inr unmoved) (λ once. told.store) told.sink;
       taken = takes_nothing (max_input + 1) s.before s.now same;
     }
 
     -- a show has no status of an input, and none of the words
-    show_so : (restarts : ℕ) (show : Show) (ended : Status) → ShowEnds kind what.every limit restarts show ended w old new → MayEnd ended
+    show_so : (restarts : ℕ) (show : Show) (ended : Status) → ShowEnds kind what.mode what.every limit restarts show ended w old new → MayEnd ended
     show_so restarts show Done ends = tt
     show_so restarts show WriteFault ends = tt
     show_so restarts show Disk ends = tt
     show_so restarts show NoMemory ends = tt
     show_so restarts show Foreign ends = tt
+    show_so restarts show OtherMode ends = tt
     show_so restarts show OtherCatalog ends = tt
     show_so restarts show Limit ends = tt
-    show_so restarts show Usage ends = comes_may kind what.every limit restarts (Summary show.votes) ends.catalog (show_requests show) w old new Usage ends.came
-    show_so restarts show Differs ends = comes_may kind what.every limit restarts (Summary show.votes) ends.catalog (show_requests show) w old new Differs ends.came
-    show_so restarts show Input ends = comes_may kind what.every limit restarts (Summary show.votes) ends.catalog (show_requests show) w old new Input ends.came
-    show_so restarts show ReadFault ends = comes_may kind what.every limit restarts (Summary show.votes) ends.catalog (show_requests show) w old new ReadFault ends.came
+    show_so restarts show Usage ends = comes_may kind what.mode what.every limit restarts (Summary show.votes) ends.catalog (show_requests show) w old new Usage ends.came
+    show_so restarts show Differs ends = comes_may kind what.mode what.every limit restarts (Summary show.votes) ends.catalog (show_requests show) w old new Differs ends.came
+    show_so restarts show Input ends = comes_may kind what.mode what.every limit restarts (Summary show.votes) ends.catalog (show_requests show) w old new Input ends.came
+    show_so restarts show ReadFault ends = comes_may kind what.mode what.every limit restarts (Summary show.votes) ends.catalog (show_requests show) w old new ReadFault ends.came
 
     may_only : (ended : Status) → MayEnd ended → WritesOnly ended w
     may_only Done may = tt
@@ -414,6 +429,7 @@ module _ {D : Type 0} (kind : DiskKind D) (old new : D) (limit : ℕ) (words : L
     may_only Disk may = tt
     may_only NoMemory may = tt
     may_only Foreign may = tt
+    may_only OtherMode may = tt
     may_only OtherCatalog may = tt
     may_only Limit may = tt
     may_only Input may = tt
@@ -427,6 +443,7 @@ module _ {D : Type 0} (kind : DiskKind D) (old new : D) (limit : ℕ) (words : L
     served_cause restarts Done may cause = tt
     served_cause restarts NoMemory may cause = tt
     served_cause restarts Foreign may cause = tt
+    served_cause restarts OtherMode may cause = tt
     served_cause restarts OtherCatalog may cause = tt
     served_cause restarts Limit may cause = tt
     served_cause restarts Usage may cause = absurd may
@@ -434,9 +451,9 @@ module _ {D : Type 0} (kind : DiskKind D) (old new : D) (limit : ℕ) (words : L
     served_cause restarts Input may cause = absurd may
     served_cause restarts ReadFault may cause = absurd may
 
-    pub ends_voter : HasOneCatalog → EmptyHasNoFault → StoreHasNoFault → StoreHasOneCatalog → (show : Show) → AsksFor (words_of words) (record { command = Voter show; options = what })
-        → s.now ≡ s.before → s.faults_now ≡ s.faults_before → (ended : Status) → ComesToShow kind what.every limit what.restarts show ended w old new → Ends kind old new limit words s w ended
-    ends_voter one no_fault store_has_none one_catalog show asks same unmoved ended so =
+    pub ends_voter : HasOneCatalog → EmptyHasNoFault → StoreHasNoFault → StoreIsOne → (show : Show) → AsksFor (words_of words) (record { command = Voter show; options = what })
+        → s.now ≡ s.before → s.faults_now ≡ s.faults_before → (ended : Status) → ComesToShow kind what.mode what.every limit what.restarts show ended w old new → Ends kind old new limit words s w ended
+    ends_voter one no_fault store_has_none one_store show asks same unmoved ended so =
         let came = so.came in
         let may = show_so what.restarts show ended came in
         let no_usage : ended ≡ Usage → ⊥ = λ is. subst MayEnd is may in
@@ -449,11 +466,11 @@ module _ {D : Type 0} (kind : DiskKind D) (old new : D) (limit : ℕ) (words : L
               let is_show : show ≡ another = cc in
               let line = asks_for_one (words_of words) (record { command = Voter show; options = what }) (record { command = Voter show; options = other }) asks
               (subst (λ (x : Show). AsksFor (words_of words) (record { command = Voter x; options = other })) (sym is_show) more) in
-              subst (λ (x : Show). EndsVoter kind old new other.every limit other.restarts x s w ended) is_show
-              (subst (λ (l : CommandLine). EndsVoter kind old new l.options.every limit l.options.restarts show s w ended) line (record {
+              subst (λ (x : Show). EndsVoter kind old new other.mode other.every limit other.restarts x s w ended) is_show
+              (subst (λ (l : CommandLine). EndsVoter kind old new l.options.mode l.options.every limit l.options.restarts show s w ended) line (record {
                 came = came;
                 used_up = λ is'. subst (λ status. HasServedCause what.restarts status w change) is' so.cause;
-                complete = λ calm still. show_complete kind old new limit what.restarts w no_fault store_has_none one_catalog calm still what.every one show ended came so.cause;
+                complete = λ calm still. show_complete kind old new what.mode limit what.restarts w no_fault store_has_none one_store calm still what.every one show ended came so.cause;
                 unread = (same, unmoved);
               }));
           audit = λ other more. let wrong : Voter show ≡ Audit = other_command (Voter show) Audit other asks more in absurd cc;
@@ -478,6 +495,7 @@ module _ {D : Type 0} (kind : DiskKind D) (old new : D) (limit : ℕ) (words : L
     audit_only Disk came = tt
     audit_only NoMemory came = tt
     audit_only Foreign came = tt
+    audit_only OtherMode came = tt
     audit_only OtherCatalog came = tt
     audit_only Limit came = tt
     audit_only Differs came = tt
@@ -491,6 +509,7 @@ module _ {D : Type 0} (kind : DiskKind D) (old new : D) (limit : ℕ) (words : L
     audit_cause Input came cause = tt
     audit_cause NoMemory came cause = tt
     audit_cause Foreign came cause = tt
+    audit_cause OtherMode came cause = tt
     audit_cause OtherCatalog came cause = tt
     audit_cause Limit came cause = tt
     audit_cause Differs came cause = tt

@@ -8,15 +8,14 @@ use Rattle.ss_model.specs.declared.catalog.Catalog.{Catalog}
 use Rattle.ss_model.specs.declared.entry.Listed.{Listed}
 use Rattle.ss_model.specs.declared.entry.Request.{Request}
 use Rattle.ss_model.specs.Database.{Database as Model}
+use Rattle.ss_model.specs.Recovery.{Recovery}
 use Rattle.ss_model.specs.Replays.{after}
-use Rattle.ss_model.specs.Settling.{Drained, kept}
+use Rattle.ss_model.specs.Settling.{Drained}
 use Rattle.ss_report_laws.specs.Replies.{mine}
-use Rattle.ss_disk.specs.Files.{Files}
 use Rattle.ss_disk.specs.Kinds.{DiskKind}
 use Rattle.ss_cmdlog.specs.declared.log.CmdLog.{CmdLog}
 use Rattle.ss_cmdlog.specs.declared.log.Receipt.{Receipt}
 use Rattle.ss_cmdlog.proofs.CallerLemmas.{open_stands}
-use Rattle.ss_standing.specs.Standing.{StandsForAll, StandsForAtLeast}
 use Rattle.ss_receipts.specs.declared.durable.DurableError.{DurableError}
 use Rattle.ss_receipts.specs.Durable.{IsDurable}
 use Rattle.ss_receipts.specs.Holding.{HaltedAt}
@@ -41,32 +40,32 @@ module _ {D : Type 0} (kind : DiskKind D) where
   abbrev change : D → D → DiskChange
   change = disk_of kind
 
-  module _ (every : Option ℕ) (catalog : Catalog) (db : Model) (first room clients : ℕ) (requests : List Request) (starts : List ℕ) (log : CmdLog D) (ended : Finished D)
-      (e : EndsOnDisk kind every catalog db first room clients requests starts log ended) where
+  module _ (recovery : Recovery) (every : Option ℕ) (catalog : Catalog) (db : Model) (first room clients : ℕ) (requests : List Request) (starts : List ℕ) (log : CmdLog D) (ended : Finished D)
+      (e : EndsOnDisk kind recovery every catalog db first room clients requests starts log ended) where
     abbrev list : List Listed
     list = ended.closed.list
 
     abbrev new : D
     new = ended.log.disk
 
-    pub was_closed : Closed catalog db first list (change log.disk new)
+    pub was_closed : Closed recovery catalog db first list (change log.disk new)
     was_closed = record { replays = e.ends.run.replays; orders = e.ends.run.orders; crashes = e.crashes; receipts_stay = e.stands_on }
 
     few_of : (client : ℕ) → FewOpen (mine client first list) ended.receipted 16 → FewUnreceipted client first list ended.receipted
     few_of client f = record { receipted = f.safe; others = f.unsafe; parts = f.parts; below = f.below; few = f.few }
 
-    pub was_receipted : Receipted catalog first list ended.receipted (change log.disk new)
+    pub was_receipted : Receipted recovery catalog db first list ended.receipted (change log.disk new)
     was_receipted = record {
       from_first = e.ends.begun;
       within = omega (arith, e.ends.within, e.ends.holds.within);
-      receipt = e.receipt;
+      receipt = e.ends.fronts;
       few = λ client. few_of client (e.ends.run.few_behind client);
     }
 
     -- ---- what the log ends with
 
     -- a log that wasn't halted has a front of the list up to its count
-    front_logged : ended.log.halted ≡ None → kind.tells → LogEndsAs every (take (e.ends.count - first) list) (kind.seen new)
+    front_logged : ended.log.halted ≡ None → kind.tells → LogEndsAs recovery every (take (e.ends.count - first) list) (kind.seen new)
     front_logged going told =
         let goes = e.ends.holds.going going in record {
           stood = goes.generation;
@@ -74,13 +73,13 @@ module _ {D : Type 0} (kind : DiskKind D) where
           ends = goes.ends told;
         }
 
-    pub going_ends : ended.log.halted ≡ None → (status : ℕ) → LogEndsAsStopped every status first list ended.receipted (change log.disk new)
+    pub going_ends : ended.log.halted ≡ None → (status : ℕ) → LogEndsAsStopped recovery every status first list ended.receipted (change log.disk new)
     going_ends going status told =
         let held = e.ends.holds.within in
         let told_of = e.ends.within in
         inl (record { some = e.ends.count - first; within = omega (arith, held); enough = omega (arith, told_of); logged = front_logged going told })
 
-    pub failed_ends : is_some ended.log.halted ≡ true → (status : ℕ) → (status ≡ 5) ⊎ (status ≡ 6) → LogEndsAsStopped every status first list ended.receipted (change log.disk new)
+    pub failed_ends : is_some ended.log.halted ≡ true → (status : ℕ) → (status ≡ 5) ⊎ (status ≡ 6) → LogEndsAsStopped recovery every status first list ended.receipted (change log.disk new)
     failed_ends some status is told = inr (record { status_is = is; rose = rose_at (kind.faults log.disk) (kind.faults new) ended.log.halted e.ends.fault e.ends.holds.halt some })
 
     -- ---- all is written
@@ -92,8 +91,8 @@ module _ {D : Type 0} (kind : DiskKind D) where
       whole_front : take (e.ends.count - first) list ≡ list
       whole_front = take_all (e.ends.count - first) list (omega (arith, at_end))
 
-      ends : kind.tells → LogEndsAs every list (kind.seen new)
-      ends told = subst (λ (l : List Listed). LogEndsAs every l (kind.seen new)) whole_front (front_logged going told)
+      ends : kind.tells → LogEndsAs recovery every list (kind.seen new)
+      ends told = subst (λ (l : List Listed). LogEndsAs recovery every l (kind.seen new)) whole_front (front_logged going told)
 
       -- with checkpoints, the generation on the disk began near the end
       began : kind.tells → (k : ℕ) → every ≡ Some k → BeginsNear k (first + length list) (kind.seen new)
@@ -106,15 +105,12 @@ module _ {D : Type 0} (kind : DiskKind D) where
             near = omega (arith, place, near);
           }
 
-      pub was_logged : kind.tells → Logged every first list (kind.seen new)
+      pub was_logged : kind.tells → Logged recovery every first list (kind.seen new)
       was_logged told = by every refl (ends told)
         where
-          by : (o : Option ℕ) → every ≡ o → LogEndsAs o list (kind.seen new) → Logged o first list (kind.seen new)
+          by : (o : Option ℕ) → every ≡ o → LogEndsAs recovery o list (kind.seen new) → Logged recovery o first list (kind.seen new)
           by None is ends' = ends'
           by (Some k) is ends' = (ends', began told k is)
 
-      all : (image : Files) → StandsForAll catalog db first list image → StandsForAtLeast catalog (first + length list) image
-      all image stands = record { count = first + length list; k = kept catalog (after catalog db list); stands = stands; enough = omega arith }
-
-      pub was_settled : Drained catalog (after catalog db list) → Settled every catalog db first list (change log.disk new)
-      was_settled drained = record { drained = drained; receipt = λ true' image left. all image (e.ends.all_stands ok true' image left); logged = was_logged }
+      pub was_settled : Drained catalog (after catalog db list) → Settled recovery every catalog db first list (change log.disk new)
+      was_settled drained = record { drained = drained; receipt = e.ends.all_stands ok; logged = was_logged }

@@ -7,6 +7,7 @@ use Rattle.ss_model.specs.declared.entry.Answer.TheVariants.{NoMemory as NoMemor
 use Rattle.ss_model.specs.declared.entry.Listed.{Listed}
 use Rattle.ss_model.specs.declared.entry.Request.{Request}
 use Rattle.ss_model.specs.Database.{Database as Model}
+use Rattle.ss_model.specs.Recovery.{Strong}
 use Rattle.ss_model.specs.Replays.{after}
 use Rattle.ss_model.specs.Report.{End, Stop, Unlisted, Whole, report_text}
 use Rattle.ss_model.specs.Settling.{Drained, kept}
@@ -88,7 +89,7 @@ module _ {D : Type 0} (kind : DiskKind D) (every : Option ℕ) (limit : ℕ) (ca
     faults_after = cond (status == 5) (kind.faults new) 0;
   }
 
-  stopped_run : (status : Status) → EndsWithOwn first list c.past_is.last.list (λ n l. LogEndsAsStopped every (status_number status) n l ended.receipted (disk_of kind old new))
+  stopped_run : (status : Status) → EndsWithOwn first list c.past_is.last.list (λ n l. LogEndsAsStopped Strong every (status_number status) n l ended.receipted (disk_of kind old new))
       → (told : List (List Answer)) → AreAnswered requests first list (stop (status_number status)) told → (missing : Answer) (text : List ℕ)
       → text ≡ report_text catalog requests (weave missing requests told) first list db (stop (status_number status)) → StoppedRunOver kind every limit again catalog requests status text old new
   stopped_run status logged told answered missing text is = record {
@@ -106,13 +107,13 @@ module _ {D : Type 0} (kind : DiskKind D) (every : Option ℕ) (limit : ℕ) (ca
   abbrev stop_end : ℕ → ℕ → report.End
   stop_end status n = written.Stopped status ended.receipted n
 
-  written_stop : (status : Status) → EndsWithOwn first list c.past_is.last.list (λ n l. LogEndsAsStopped every (status_number status) n l ended.receipted (disk_of kind old new))
+  written_stop : (status : Status) → EndsWithOwn first list c.past_is.last.list (λ n l. LogEndsAsStopped Strong every (status_number status) n l ended.receipted (disk_of kind old new))
       → AreAnswered requests first list (stop (status_number status)) answers → (n : ℕ) (text : List ℕ) → IsReportOf catalog requests answers first list (stop_end (status_number status) n) text
       → StoppedRunOver kind every limit again catalog requests status text old new
   written_stop status logged answered n text is =
       stopped_run status logged answers answered (missing_answer (stop_end (status_number status) n)) text (is db (stop_record (status_number status)) refl refl)
 
-  going : (status : ℕ) → ended.log.halted ≡ None → EndsWithOwn first list c.past_is.last.list (λ n l. LogEndsAsStopped every status n l ended.receipted (disk_of kind old new))
+  going : (status : ℕ) → ended.log.halted ≡ None → EndsWithOwn first list c.past_is.last.list (λ n l. LogEndsAsStopped Strong every status n l ended.receipted (disk_of kind old new))
   going = going_stopped kind every limit catalog requests past again old mid from place clients log ended c resume_law stay_law
 
   calm : (end : End) → Unlisted end NoMemoryAnswer → ended.log.halted ≡ None → some_say_full answers ≡ false → AreAnswered requests first list end answers
@@ -230,6 +231,6 @@ module _ {D : Type 0} (kind : DiskKind D) (every : Option ℕ) (limit : ℕ) (ca
       stopped_run NoMemory (logged_at (is_some ended.log.halted) refl) (all_without_memory answers)
       (answered_silent kind every limit catalog requests past again old mid from place clients log ended c resume_law stay_law answers are (stop 6) tt) NoMemoryAnswer _ refl
     where
-      logged_at : (failed : Bool) → is_some ended.log.halted ≡ failed → EndsWithOwn first list c.past_is.last.list (λ n l. LogEndsAsStopped every 6 n l ended.receipted (disk_of kind old new))
+      logged_at : (failed : Bool) → is_some ended.log.halted ≡ failed → EndsWithOwn first list c.past_is.last.list (λ n l. LogEndsAsStopped Strong every 6 n l ended.receipted (disk_of kind old new))
       logged_at true is = failed_stopped kind every limit catalog requests past again old mid from place clients log ended c resume_law stay_law 6 (inr refl) is
       logged_at false is = going 6 (not_halted ended.log.halted is)

@@ -12,6 +12,7 @@ use Rattle.ss_model.specs.declared.entry.Listed.{Listed}
 use Rattle.ss_model.specs.declared.entry.Request.{Request}
 use Rattle.ss_model.specs.Accepted.{Accepted}
 use Rattle.ss_model.specs.Database.{Database as Model}
+use Rattle.ss_model.specs.Recovery.{Strong}
 use Rattle.ss_model.specs.Replays.{after}
 use Rattle.ss_model.specs.Report.{End, Unlisted}
 use Rattle.ss_model.specs.Settling.{Drained, kept}
@@ -78,8 +79,8 @@ pub record ClosedAgain {D : Type 0} (kind : DiskKind D) (every : Option ℕ) (li
   pub before : kind.faults old ≤ kind.faults mid
   pub from_first : past.first ≤ place
   pub to_end : place ≤ past.first + length past.list
-  pub opened : Opened catalog from place (disk_of kind mid log.disk)
-  pub closed : EndsOnDisk kind every catalog from place (room_from (limit - (place - past.first)) place) clients requests (map (resume_at place) past.answers) log ended
+  pub opened : Opened Strong catalog from place (disk_of kind mid log.disk)
+  pub closed : EndsOnDisk kind Strong every catalog from place (room_from (limit - (place - past.first)) place) clients requests (map (resume_at place) past.answers) log ended
 
 module _ {D : Type 0} (kind : DiskKind D) (every : Option ℕ) (limit : ℕ) (catalog : Catalog) (requests : List Request) (past : Past) (again : ℕ) (old mid : D) (from : Model)
     (place clients : ℕ) (log : CmdLog D) (ended : Finished D) (c : ClosedAgain kind every limit catalog requests past again old mid from place clients log ended)
@@ -232,26 +233,26 @@ module _ {D : Type 0} (kind : DiskKind D) (every : Option ℕ) (limit : ℕ) (ca
     says = subst (λ (n : ℕ). P n own) (sym place_is) says;
   }
 
-  pub joined_logged : IsOk ended.flushed → ended.log.halted ≡ None → kind.tells → EndsWithOwn first joined c.past_is.last.list (λ n l. Logged every n l (kind.seen new))
-  joined_logged ok going told = with_own (λ n l. Logged every n l (kind.seen new)) (was_logged kind every catalog from place room clients requests (map (resume_at place) past.answers) log ended c.closed ok going told)
+  pub joined_logged : IsOk ended.flushed → ended.log.halted ≡ None → kind.tells → EndsWithOwn first joined c.past_is.last.list (λ n l. Logged Strong every n l (kind.seen new))
+  joined_logged ok going told = with_own (λ n l. Logged Strong every n l (kind.seen new)) (was_logged kind Strong every catalog from place room clients requests (map (resume_at place) past.answers) log ended c.closed ok going told)
 
-  stopped_with : (status : ℕ) → LogEndsAsStopped every status place own ended.receipted (disk_of kind log.disk new) → EndsWithOwn first joined c.past_is.last.list (λ n l. LogEndsAsStopped every status n l ended.receipted (disk_of kind old new))
+  stopped_with : (status : ℕ) → LogEndsAsStopped Strong every status place own ended.receipted (disk_of kind log.disk new) → EndsWithOwn first joined c.past_is.last.list (λ n l. LogEndsAsStopped Strong every status n l ended.receipted (disk_of kind old new))
   stopped_with status ends = let later = c.opened.faults in let before = c.before in
-      with_own (λ n l. LogEndsAsStopped every status n l ended.receipted (disk_of kind old new)) (failed_since kind every status place own ended.receipted old log.disk new (omega (arith, later, before)) ends)
+      with_own (λ n l. LogEndsAsStopped Strong every status n l ended.receipted (disk_of kind old new)) (failed_since kind Strong every status place own ended.receipted old log.disk new (omega (arith, later, before)) ends)
 
-  pub going_stopped : (status : ℕ) → ended.log.halted ≡ None → EndsWithOwn first joined c.past_is.last.list (λ n l. LogEndsAsStopped every status n l ended.receipted (disk_of kind old new))
-  going_stopped status going = stopped_with status (going_ends kind every catalog from place room clients requests (map (resume_at place) past.answers) log ended c.closed going status)
+  pub going_stopped : (status : ℕ) → ended.log.halted ≡ None → EndsWithOwn first joined c.past_is.last.list (λ n l. LogEndsAsStopped Strong every status n l ended.receipted (disk_of kind old new))
+  going_stopped status going = stopped_with status (going_ends kind Strong every catalog from place room clients requests (map (resume_at place) past.answers) log ended c.closed going status)
 
-  pub failed_stopped : (status : ℕ) → (status ≡ 5) ⊎ (status ≡ 6) → is_some ended.log.halted ≡ true → EndsWithOwn first joined c.past_is.last.list (λ n l. LogEndsAsStopped every status n l ended.receipted (disk_of kind old new))
-  failed_stopped status is some = stopped_with status (failed_ends kind every catalog from place room clients requests (map (resume_at place) past.answers) log ended c.closed some status is)
+  pub failed_stopped : (status : ℕ) → (status ≡ 5) ⊎ (status ≡ 6) → is_some ended.log.halted ≡ true → EndsWithOwn first joined c.past_is.last.list (λ n l. LogEndsAsStopped Strong every status n l ended.receipted (disk_of kind old new))
+  failed_stopped status is some = stopped_with status (failed_ends kind Strong every catalog from place room clients requests (map (resume_at place) past.answers) log ended c.closed some status is)
 
   -- ---- one more incarnation
 
   module _ (honest : kind.honest) (more_law : OneMoreIncarnation kind) where
-    module _ (count : ℕ) (receipted : Receipted catalog place own count (disk_of kind log.disk new)) where
+    module _ (count : ℕ) (receipted : Receipted Strong catalog from place own count (disk_of kind log.disk new)) where
       pub on : LivesOn kind catalog c.past_is.db first c.past_is.last c.past_is.earlier from place own count (kind.moment log.disk) old new
       on = more_law catalog c.accepted c.past_is.db first c.past_is.last c.past_is.earlier from place own count old mid log.disk new honest c.past_is.lived c.opened
-          (was_closed kind every catalog from place room clients requests (map (resume_at place) past.answers) log ended c.closed) receipted
+          (was_closed kind Strong every catalog from place room clients requests (map (resume_at place) past.answers) log ended c.closed) receipted
 
       same_list : take on.stayed c.past_is.last.list ++ own ≡ joined
       same_list = ap (λ (l : List Listed). l ++ own) (ap (take on.stayed) (sym c.past_is.list_is) ∙ ap (λ (n : ℕ). take n past.list) (let is = on.place_is in omega (arith, is, place_is)))
@@ -267,14 +268,14 @@ module _ {D : Type 0} (kind : DiskKind D) (every : Option ℕ) (limit : ℕ) (ca
       joined_drained drained = subst (λ (l : List Listed). Drained catalog (after catalog c.past_is.db l)) same_list (on.lists.drained drained)
 
     -- with what clients have receipts of
-    pub at_receipts : Receipted catalog place own ended.receipted (disk_of kind log.disk new)
-    at_receipts = was_receipted kind every catalog from place room clients requests (map (resume_at place) past.answers) log ended c.closed
+    pub at_receipts : Receipted Strong catalog from place own ended.receipted (disk_of kind log.disk new)
+    at_receipts = was_receipted kind Strong every catalog from place room clients requests (map (resume_at place) past.answers) log ended c.closed
 
     -- with all of it, where the last flush went well
-    pub at_the_end : IsOk ended.flushed → Receipted catalog place own (place + length own) (disk_of kind log.disk new)
+    pub at_the_end : IsOk ended.flushed → Receipted Strong catalog from place own (place + length own) (disk_of kind log.disk new)
     at_the_end ok = record {
       from_first = omega arith;
       within = omega arith;
-      receipt = λ true' image left. record { count = place + length own; k = kept catalog (after catalog from own); stands = c.closed.ends.all_stands ok true' image left; enough = omega arith };
+      receipt = c.closed.ends.all_stands ok;
       few = λ client. record { receipted = mine client place own; others = []; parts = sym (append-nil (mine client place own)); below = mine_below client place (place + length own) own (omega arith); few = omega arith };
     }

@@ -16,6 +16,7 @@ use Rattle.ss_model.specs.Database.{Database as Model}
 use Rattle.ss_model.specs.Accepted.{Accepted}
 use Rattle.ss_model.specs.InStep.{IsInStep}
 use Rattle.ss_model.specs.Settled.{NoneReady}
+use Rattle.ss_model.specs.Recovery.{Recovery}
 use Rattle.ss_model.specs.Replays.{after}
 use Rattle.ss_model.specs.Report.{End, Stop, Whole, Unlisted, report_text}
 use Rattle.ss_model.specs.Settling.{Drained}
@@ -27,6 +28,7 @@ use Rattle.ss_report.specs.Reported.{IsReportOf, HasEndTables, missing_answer}
 use Rattle.ss_report.specs.Readable.{HasReadableLines}
 use Rattle.ss_shard.specs.declared.database.Database.{Database}
 use Rattle.ss_cmdlog.specs.declared.log.CmdLog.{CmdLog}
+use Rattle.ss_fronts.specs.Fronts.{mode_of}
 use Rattle.ss_receipts.specs.Holding.{HaltedAt}
 use Rattle.ss_headline.specs.Disks.{DiskChange, disk_of}
 use Rattle.ss_headline.specs.Owed.{ListsAsked, FullListsHaveAll, outside, owed}
@@ -42,7 +44,7 @@ use Rattle.ss_engine.specs.Clients.{AreListedOr, IsUnlisted}
 use Rattle.ss_engine.specs.Closings.{EndedWith, SomeReady}
 use Rattle.ss_engine.specs.Sessions.{EndsOnDisk, IsLeftOver}
 use Rattle.ss_refusals.specs.declared.status.Status.{Status}
-use Rattle.ss_refusals.specs.declared.status.Status.TheVariants.{Done, Usage, Input, ReadFault, WriteFault, Disk, NoMemory, Foreign, OtherCatalog, Limit, Differs}
+use Rattle.ss_refusals.specs.declared.status.Status.TheVariants.{Done, Usage, Input, ReadFault, WriteFault, Disk, NoMemory, Foreign, OtherMode, OtherCatalog, Limit, Differs}
 use Rattle.ss_refusals.specs.Statuses.{status_number}
 use Rattle.ss_top.specs.declared.session.Printing.{Printing}
 use Rattle.ss_top.specs.declared.session.Printing.TheVariants.{InFull, Summary}
@@ -124,8 +126,8 @@ module _ {D : Type 0} (kind : DiskKind D) where
   abbrev change : D → D → DiskChange
   change = disk_of kind
 
-  module _ (every : Option ℕ) (limit : ℕ) (printing : Printing) (catalog : Catalog) (db : Model) (first clients : ℕ) (requests : List Request) (old : D) (log : CmdLog D) (ended : Finished D) (few : first ≤ 2 ^ 60) (accepted : Accepted catalog) (in_step : IsInStep catalog db)
-      (opened : Opened catalog db first (change old log.disk)) (e : EndsOnDisk kind every catalog db first (room_from limit first) clients requests [] log ended) (small : e.ends.fault < 2 ^ 64) where
+  module _ (recovery : Recovery) (every : Option ℕ) (limit : ℕ) (printing : Printing) (catalog : Catalog) (db : Model) (first clients : ℕ) (requests : List Request) (old : D) (log : CmdLog D) (ended : Finished D) (few : first ≤ 2 ^ 60) (accepted : Accepted catalog) (in_step : IsInStep catalog db)
+      (opened : Opened recovery catalog db first (change old log.disk)) (e : EndsOnDisk kind recovery every catalog db first (room_from limit first) clients requests [] log ended) (small : e.ends.fault < 2 ^ 64) where
     abbrev list : List Listed
     list = ended.closed.list
 
@@ -139,20 +141,20 @@ module _ {D : Type 0} (kind : DiskKind D) where
     told_all : (client : ℕ) → AreToldTo client 0 first list (requests_of client requests) (answers_of answers client)
     told_all client = e.ends.run.told client
 
-    closed : Closed catalog db first list (change log.disk new)
-    closed = was_closed kind every catalog db first (room_from limit first) clients requests [] log ended e
+    closed : Closed recovery catalog db first list (change log.disk new)
+    closed = was_closed kind recovery every catalog db first (room_from limit first) clients requests [] log ended e
 
-    receipted : Receipted catalog first list ended.receipted (change log.disk new)
-    receipted = was_receipted kind every catalog db first (room_from limit first) clients requests [] log ended e
+    receipted : Receipted recovery catalog db first list ended.receipted (change log.disk new)
+    receipted = was_receipted kind recovery every catalog db first (room_from limit first) clients requests [] log ended e
 
-    goes_as_stopped : ended.log.halted ≡ None → (status : ℕ) → LogEndsAsStopped every status first list ended.receipted (change log.disk new)
-    goes_as_stopped = going_ends kind every catalog db first (room_from limit first) clients requests [] log ended e
+    goes_as_stopped : ended.log.halted ≡ None → (status : ℕ) → LogEndsAsStopped recovery every status first list ended.receipted (change log.disk new)
+    goes_as_stopped = going_ends kind recovery every catalog db first (room_from limit first) clients requests [] log ended e
 
-    failed_as_stopped : is_some ended.log.halted ≡ true → (status : ℕ) → (status ≡ 5) ⊎ (status ≡ 6) → LogEndsAsStopped every status first list ended.receipted (change log.disk new)
-    failed_as_stopped = failed_ends kind every catalog db first (room_from limit first) clients requests [] log ended e
+    failed_as_stopped : is_some ended.log.halted ≡ true → (status : ℕ) → (status ≡ 5) ⊎ (status ≡ 6) → LogEndsAsStopped recovery every status first list ended.receipted (change log.disk new)
+    failed_as_stopped = failed_ends kind recovery every catalog db first (room_from limit first) clients requests [] log ended e
 
-    settled : IsOk ended.flushed → ended.log.halted ≡ None → Drained catalog (after catalog db list) → Settled every catalog db first list (change log.disk new)
-    settled = was_settled kind every catalog db first (room_from limit first) clients requests [] log ended e
+    settled : IsOk ended.flushed → ended.log.halted ≡ None → Drained catalog (after catalog db list) → Settled recovery every catalog db first list (change log.disk new)
+    settled = was_settled kind recovery every catalog db first (room_from limit first) clients requests [] log ended e
 
     -- ---- what is answered
 
@@ -207,9 +209,9 @@ module _ {D : Type 0} (kind : DiskKind D) where
     module _ (whole_law : WholeRuns change) (stopped_law : StoppedRuns change) (full_law : FullListsHaveAll) where
       -- ---- a stopped run
 
-      module _ (status : ℕ) (logged_so : LogEndsAsStopped every status first list ended.receipted (change log.disk new)) (told : List (List Answer)) (answered : AreAnswered requests first list (stop_since log.disk status) told) where
-        run_stopped : (missing : Answer) → IsStoppedRun every limit catalog requests db first list status ended.receipted (report_text catalog requests (weave missing requests told) first list db (stop_since old status)) (change old new)
-        run_stopped missing = stopped_law every limit catalog requests db first list status ended.receipted missing told old log.disk new opened closed receipted logged_so answered e.ends.run.within
+      module _ (status : ℕ) (logged_so : LogEndsAsStopped recovery every status first list ended.receipted (change log.disk new)) (told : List (List Answer)) (answered : AreAnswered requests first list (stop_since log.disk status) told) where
+        run_stopped : (missing : Answer) → IsStoppedRun recovery every limit catalog requests db first list status ended.receipted (report_text catalog requests (weave missing requests told) first list db (stop_since old status)) (change old new)
+        run_stopped missing = stopped_law recovery every limit catalog requests db first list status ended.receipted missing told old log.disk new opened closed receipted logged_so answered e.ends.run.within
 
       -- as it is written
       abbrev stop_end : ℕ → ℕ → report.End
@@ -224,15 +226,17 @@ module _ {D : Type 0} (kind : DiskKind D) where
         faults_after = cond (status == 5) (kind.faults new) 0;
       }
 
-      stopped_run : (status : Status) → LogEndsAsStopped every (status_number status) first list ended.receipted (change log.disk new) → AreAnswered requests first list (stop_since log.disk (status_number status)) answers
-          → (n : ℕ) (text : List ℕ) → IsReportOf catalog requests answers first list (stop_end (status_number status) n) text → StoppedRun every limit catalog requests status text (change old new)
+      stopped_run : (status : Status) → LogEndsAsStopped recovery every (status_number status) first list ended.receipted (change log.disk new) → AreAnswered requests first list (stop_since log.disk (status_number status)) answers
+          → (n : ℕ) (text : List ℕ) → IsReportOf catalog requests answers first list (stop_end (status_number status) n) text → StoppedRun (mode_of recovery) every limit catalog requests status text (change old new)
       stopped_run status logged_so answered n text is =
           let number = status_number status in record {
+            recovery = recovery;
+            of_mode = refl;
             opening = db;
             first = first;
             list = list;
             count = ended.receipted;
-            run = subst (λ t. IsStoppedRun every limit catalog requests db first list number ended.receipted t (change old new)) (sym (is db (stop_record number) refl refl))
+            run = subst (λ t. IsStoppedRun recovery every limit catalog requests db first list number ended.receipted t (change old new)) (sym (is db (stop_record number) refl refl))
                 (run_stopped number logged_so answers answered (missing_answer (stop_end number n)));
           }
 
@@ -267,7 +271,7 @@ module _ {D : Type 0} (kind : DiskKind D) where
       outside_or (inr ready) = inr ready
 
       full_run : ended.log.halted ≡ None → length list ≡ room_from limit first → (some_say_full answers ≡ true) ⊎ SomeReady catalog (after catalog db list) → (n : ℕ) (text : List ℕ)
-          → IsReportOf catalog requests answers first list (stop_end 9 n) text → FullRun every limit catalog requests text (change old new)
+          → IsReportOf catalog requests answers first list (stop_end 9 n) text → FullRun (mode_of recovery) every limit catalog requests text (change old new)
       unfolding stopped_run
       full_run going full more n text is = record {
         stopped = stopped_run Limit (goes_as_stopped going 9) (answered_full log.disk going) n text is;
@@ -285,14 +289,16 @@ module _ {D : Type 0} (kind : DiskKind D) where
       whole_text = report_text catalog requests (weave NoMemoryAnswer requests answers) first list db Whole
 
       whole_run : ended.log.halted ≡ None → some_say_full answers ≡ false → IsOk ended.flushed → Drained catalog (after catalog db list) → (text : List ℕ) → IsPrinted printing list whole_text text
-          → IsReadAgain printing catalog requests db first list whole_text → WholeRun every limit printing catalog requests text (change old new)
+          → IsReadAgain printing catalog requests db first list whole_text → WholeRun (mode_of recovery) every limit printing catalog requests text (change old new)
       whole_run going none ok drained text printed read_again =
           record {
+            recovery = recovery;
+            of_mode = refl;
             opening = db;
             first = first;
             list = list;
             report = whole_text;
-            run = whole_law every limit catalog requests db first list NoMemoryAnswer answers old log.disk new opened closed (settled ok going drained) (answered_calm Whole tt going none) e.ends.run.within;
+            run = whole_law recovery every limit catalog requests db first list NoMemoryAnswer answers old log.disk new opened closed (settled ok going drained) (answered_calm Whole tt going none) e.ends.run.within;
             printed = printed;
             read_again = read_again;
           }
@@ -316,7 +322,7 @@ module _ {D : Type 0} (kind : DiskKind D) where
       IsWritten status n text = IsWrittenReport catalog requests answers first list (end_for status printing ended.closed.database ended.receipted n) text
 
       abbrev Is : Status → List ℕ → Type 0
-      Is status text = RanAs every limit printing catalog requests status text (change old new)
+      Is status text = RanAs (mode_of recovery) every limit printing catalog requests status text (change old new)
 
       by_database : ended.log.halted ≡ None → some_say_full answers ≡ false → IsOk ended.flushed → Drained catalog (after catalog db list) → ended.closed.settling ≡ Ok tt
           → (o : Option Database) → ended.closed.database ≡ o → IfNone o (ended.closed.settling ≡ Err unlisted.NoMemory) → IfSome o (IsLeftOver catalog (after catalog db list)) → (n : ℕ) (text : List ℕ)
@@ -343,7 +349,7 @@ module _ {D : Type 0} (kind : DiskKind D) where
 
       -- the status and the report that was written of it
       pub reported : (failed : Bool) → is_some ended.log.halted ≡ failed → (flushed : Bool) → (flushed ≡ true → IsOk ended.flushed) → (status : Status) → status ≡ session_status failed answers ended.closed.settling flushed
-          → (n : ℕ) (text : List ℕ) → IsWritten status n text → Reports every limit printing catalog requests status (Some text) (change old new)
+          → (n : ℕ) (text : List ℕ) → IsWritten status n text → Reports (mode_of recovery) every limit printing catalog requests status (Some text) (change old new)
       reported failed is flushed ok status told n text written' = record {
         whole = text;
         ran = subst (λ s. Is s text) (sym told) (by_failed failed is flushed ok n text (subst (λ s. IsWritten s n text) told written'));
@@ -364,10 +370,10 @@ module _ {D : Type 0} (kind : DiskKind D) where
           by_status false none disk = absurd (not_disk (some_say_full answers) flushed ended.closed.settling disk)
 
       -- there was no memory for a report
-      pub unreported : Reports every limit printing catalog requests NoMemory None (change old new)
+      pub unreported : Reports (mode_of recovery) every limit printing catalog requests NoMemory None (change old new)
       unreported = record {
         whole = report_text catalog requests (weave NoMemoryAnswer requests told) first list db (stop_since old 6);
-        ran = record { opening = db; first = first; list = list; count = ended.receipted; run = run_stopped 6 (logged_at (is_some ended.log.halted) refl) told answered NoMemoryAnswer };
+        ran = record { recovery = recovery; of_mode = refl; opening = db; first = first; list = list; count = ended.receipted; run = run_stopped 6 (logged_at (is_some ended.log.halted) refl) told answered NoMemoryAnswer };
         written = tt;
         unwritten = refl;
         rose = λ disk. let no : ⊥ = cc in absurd no;
@@ -380,7 +386,7 @@ module _ {D : Type 0} (kind : DiskKind D) where
           answered : AreAnswered requests first list (stop_since log.disk 6) told
           answered = answered_without_memory requests first list (stop_since log.disk 6) answers tt (λ client. (told_all client).many) (λ client. (told_all client).each)
 
-          logged_at : (failed : Bool) → is_some ended.log.halted ≡ failed → LogEndsAsStopped every 6 first list ended.receipted (change log.disk new)
+          logged_at : (failed : Bool) → is_some ended.log.halted ≡ failed → LogEndsAsStopped recovery every 6 first list ended.receipted (change log.disk new)
           logged_at true is = failed_as_stopped is 6 (inr refl)
           logged_at false is = goes_as_stopped (not_halted ended.log.halted is) 6
 
@@ -401,6 +407,7 @@ end_tables catalog d WriteFault printing database count n left = tt
 end_tables catalog d Disk printing database count n left = tt
 end_tables catalog d NoMemory printing database count n left = tt
 end_tables catalog d Foreign printing database count n left = tt
+end_tables catalog d OtherMode printing database count n left = tt
 end_tables catalog d OtherCatalog printing database count n left = tt
 end_tables catalog d Limit printing database count n left = tt
 

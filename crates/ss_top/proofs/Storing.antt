@@ -5,20 +5,23 @@ use Rattle.std.specs.Prelude.{Option, IfSome, IsUtf8}
 use Rattle.ss_value.specs.FaultCounts.{Rose}
 use Rattle.ss_model.specs.declared.catalog.Catalog.{Catalog}
 use Rattle.ss_model.specs.declared.entry.Answer.{Answer}
+use Rattle.ss_model.specs.declared.entry.Mode.{Mode}
+use Rattle.ss_model.specs.declared.entry.Mode.TheVariants as modes
 use Rattle.ss_model.specs.declared.entry.Request.{Request}
 use Rattle.ss_model.specs.Accepted.{Accepted}
 use Rattle.ss_disk.specs.Files.{Files}
 use Rattle.ss_disk.proofs.CallerLemmas.{leaves_less}
 use Rattle.ss_cmdlog.specs.Store.{IsEmpty}
 use Rattle.ss_cmdlog.specs.Opening.{OnlyReads}
+use Rattle.ss_fronts.specs.Fronts.{mode_of}
 use Rattle.ss_headline.specs.Disks.{DiskChange, disk_of, AsBefore, NothingRan, OnlyRead}
 use Rattle.ss_recover.specs.declared.error.RecoverError.{RecoverError}
 use Rattle.ss_recover.specs.declared.error.RecoverError.TheVariants as recovery
 use Rattle.ss_recover.specs.declared.recovered.Recovered.{Recovered}
 use Rattle.ss_recover.specs.Faults.{IsStore}
-use Rattle.ss_recover.specs.Recovering.{IsOwnCatalog, IsRecovered, LeavesOldOr, MayForm, RefusesAsSaid, recovered_database}
+use Rattle.ss_recover.specs.Recovering.{IsOwnCatalog, IsRecovered, LeavesOldOr, MayForm, RefusesAsSaid, recovered_database, recovery_of}
 use Rattle.ss_refusals.specs.declared.status.Status.{Status}
-use Rattle.ss_refusals.specs.declared.status.Status.TheVariants.{Done, Usage, Input, ReadFault, WriteFault, Disk, NoMemory, Foreign, OtherCatalog, Limit, Differs}
+use Rattle.ss_refusals.specs.declared.status.Status.TheVariants.{Done, Usage, Input, ReadFault, WriteFault, Disk, NoMemory, Foreign, OtherMode, OtherCatalog, Limit, Differs}
 use Rattle.ss_refusals.specs.Sinks.{SinkChange, Writes}
 use Rattle.ss_refusals.specs.Statuses.{no_memory_text, nothing_text, other_catalog_text}
 use Rattle.ss_refusals.specs.StoreRefusals.{TellsRefusal, WritesWhole, HasTexts}
@@ -37,14 +40,14 @@ use Rattle.ss_top.specs.Stores.{CameTo, RecoveredTo, Ran, RanAs, WasOf}
 
 -- ---- a session was reported
 
-module _ (every : Option ℕ) (limit : ℕ) (printing : Printing) (catalog : Catalog) (requests : List Request) (disk : DiskChange) (was : WasOf catalog disk) (w : SinkChange) where
+module _ (mode : Mode) (every : Option ℕ) (limit : ℕ) (printing : Printing) (catalog : Catalog) (requests : List Request) (disk : DiskChange) (was : WasOf mode catalog disk) (w : SinkChange) where
   abbrev Came : Status → Type 0
-  Came ended = ComesTo every limit printing catalog requests ended w disk
+  Came ended = ComesTo mode every limit printing catalog requests ended w disk
 
-  ran : {written : List ℕ → Type 0} (status : Status) (text : List ℕ) → RanAs every limit printing catalog requests status text disk → written text → Ran every limit printing catalog requests status written disk
+  ran : {written : List ℕ → Type 0} (status : Status) (text : List ℕ) → RanAs mode every limit printing catalog requests status text disk → written text → Ran mode every limit printing catalog requests status written disk
   ran status text is wrote = record { was = was; text = text; ran = is; wrote = wrote }
 
-  whole : (ended : Status) (text : List ℕ) → RanAs every limit printing catalog requests Done text disk → WritesWhole ended text w → Came ended
+  whole : (ended : Status) (text : List ℕ) → RanAs mode every limit printing catalog requests Done text disk → WritesWhole ended text w → Came ended
   whole Done text is wrote = record { came = ran Done text is wrote.0; cause = tt }
   whole WriteFault text is wrote = record { came = ran Done text is wrote.0; cause = wrote.1 }
   whole Usage text is wrote = absurd wrote
@@ -54,11 +57,12 @@ module _ (every : Option ℕ) (limit : ℕ) (printing : Printing) (catalog : Cat
   whole Disk text is wrote = absurd wrote
   whole NoMemory text is wrote = absurd wrote
   whole Foreign text is wrote = absurd wrote
+  whole OtherMode text is wrote = absurd wrote
   whole OtherCatalog text is wrote = absurd wrote
   whole Limit text is wrote = absurd wrote
 
   -- by the status of the session
-  told : (status : Status) (text : List ℕ) → RanAs every limit printing catalog requests status text disk → (status ≡ Disk → Rose disk.faults_before disk.faults_now) → (ended : Status) → TellsReport status (Some text) ended w → Came ended
+  told : (status : Status) (text : List ℕ) → RanAs mode every limit printing catalog requests status text disk → (status ≡ Disk → Rose disk.faults_before disk.faults_now) → (ended : Status) → TellsReport status (Some text) ended w → Came ended
   told Done text is rose ended tells = whole ended text is tells
   told Disk text is rose ended tells = subst Came (sym tells.is) (record { came = inr (ran Disk text is tells.reported); cause = rose refl })
   told NoMemory text is rose ended tells = subst Came (sym tells.is) (record { came = inr (inr (ran NoMemory text is (inl tells.reported))); cause = tt })
@@ -69,12 +73,13 @@ module _ (every : Option ℕ) (limit : ℕ) (printing : Printing) (catalog : Cat
   told ReadFault text is rose ended tells = absurd is
   told WriteFault text is rose ended tells = absurd is
   told Foreign text is rose ended tells = absurd is
+  told OtherMode text is rose ended tells = absurd is
   told OtherCatalog text is rose ended tells = absurd is
 
-  pub session_told : (status : Status) (text : Option (List ℕ)) → Reports every limit printing catalog requests status text disk → (ended : Status) → TellsReport status text ended w → Came ended
-  session_told status (Some text) r ended tells = told status text (subst (λ t. RanAs every limit printing catalog requests status t disk) (sym r.written) r.ran) r.rose ended tells
+  pub session_told : (status : Status) (text : Option (List ℕ)) → Reports mode every limit printing catalog requests status text disk → (ended : Status) → TellsReport status text ended w → Came ended
+  session_told status (Some text) r ended tells = told status text (subst (λ t. RanAs mode every limit printing catalog requests status t disk) (sym r.written) r.ran) r.rose ended tells
   session_told status None r ended tells =
-      subst Came (sym tells.is) (record { came = inr (inr (ran NoMemory r.whole (subst (λ s. RanAs every limit printing catalog requests s r.whole disk) r.unwritten r.ran) (inr tells.reported))); cause = tt })
+      subst Came (sym tells.is) (record { came = inr (inr (ran NoMemory r.whole (subst (λ s. RanAs mode every limit printing catalog requests s r.whole disk) r.unwritten r.ran) (inr tells.reported))); cause = tt })
 
 -- ---- faults are told
 
@@ -95,6 +100,7 @@ module _ (w : SinkChange) (text : List ℕ) (ended : Status) where
   store_by_text ReadFault tells before now told = told_as ReadFault tells.is before now told
   store_by_text WriteFault tells before now told = told_as WriteFault tells.is before now told
   store_by_text Foreign tells before now told = told_as Foreign tells.is before now told
+  store_by_text OtherMode tells before now told = told_as OtherMode tells.is before now told
   store_by_text OtherCatalog tells before now told = told_as OtherCatalog tells.is before now told
   store_by_text Limit tells before now told = told_as Limit tells.is before now told
 
@@ -108,6 +114,7 @@ module _ (w : SinkChange) (text : List ℕ) (ended : Status) where
   sink_by_text ReadFault tells is = let no : ReadFault ≡ Done = sym tells.is ∙ is in absurd (cc)
   sink_by_text WriteFault tells is = let no : WriteFault ≡ Done = sym tells.is ∙ is in absurd (cc)
   sink_by_text Foreign tells is = let no : Foreign ≡ Done = sym tells.is ∙ is in absurd (cc)
+  sink_by_text OtherMode tells is = let no : OtherMode ≡ Done = sym tells.is ∙ is in absurd (cc)
   sink_by_text OtherCatalog tells is = let no : OtherCatalog ≡ Done = sym tells.is ∙ is in absurd (cc)
   sink_by_text Limit tells is = let no : Limit ≡ Done = sym tells.is ∙ is in absurd (cc)
 
@@ -130,6 +137,7 @@ module _ (w : SinkChange) (disk : DiskChange) (ended : Status) where
   refusal_tells recovery.DiskFault t still = record { store = inl t.is; sink = λ done. let no : Disk ≡ Done = sym t.is ∙ done in absurd (cc) }
   refusal_tells (recovery.Foreign file at) (inl t) still = held_at Foreign t.is (λ no. cc) (still (λ no. cc))
   refusal_tells (recovery.Foreign file at) (inr t) still = held_at NoMemory t.is (λ no. cc) (still (λ no. cc))
+  refusal_tells (recovery.OtherMode stored) t still = held_at OtherMode t.is (λ no. cc) (still (λ no. cc))
   refusal_tells (recovery.OtherCatalog stored given) (inl t) still = held_at OtherCatalog t.is (λ no. cc) (still (λ no. cc))
   refusal_tells (recovery.OtherCatalog stored given) (inr t) still = held_at NoMemory t.is (λ no. cc) (still (λ no. cc))
   refusal_tells recovery.Nothing t still = record { store = inr (inr (still (λ no. cc))); sink = λ done. (subst (λ e. WritesWhole e nothing_text w) done t).1 }
@@ -146,6 +154,7 @@ told_own w status (Some text) ended own tells other = by status own tells
     whole : (e : Status) → e ≡ OtherCatalog → WritesWhole e text w → ⊥
     whole Done is wrote = cc
     whole WriteFault is wrote = cc
+    whole OtherMode is wrote = wrote
     whole OtherCatalog is wrote = wrote
     whole Usage is wrote = cc
     whole Differs is wrote = cc
@@ -162,6 +171,7 @@ told_own w status (Some text) ended own tells other = by status own tells
     by Disk own' tells' = let wrong : Disk ≡ OtherCatalog = sym tells'.is ∙ other in cc
     by NoMemory own' tells' = let wrong : NoMemory ≡ OtherCatalog = sym tells'.is ∙ other in cc
     by Limit own' tells' = let wrong : Limit ≡ OtherCatalog = sym tells'.is ∙ other in cc
+    by OtherMode own' tells' = let wrong : OtherMode ≡ OtherCatalog = sym tells'.is ∙ other in cc
     by Usage own' tells' = let wrong : Usage ≡ OtherCatalog = sym tells'.is ∙ other in cc
     by Differs own' tells' = let wrong : Differs ≡ OtherCatalog = sym tells'.is ∙ other in cc
     by Input own' tells' = let wrong : Input ≡ OtherCatalog = sym tells'.is ∙ other in cc
@@ -183,7 +193,7 @@ session_own failed answers end flushed status is other = by failed (some_say_ful
 
 -- ---- nothing was recovered
 
-module _ {D : Type 0} (kind : DiskKind D) (every : Option ℕ) (limit : ℕ) (printing : Printing) (w : SinkChange) (old new : D) where
+module _ {D : Type 0} (kind : DiskKind D) (mode : Mode) (every : Option ℕ) (limit : ℕ) (printing : Printing) (w : SinkChange) (old new : D) where
   abbrev change : DiskChange
   change = disk_of kind old new
 
@@ -191,23 +201,36 @@ module _ {D : Type 0} (kind : DiskKind D) (every : Option ℕ) (limit : ℕ) (pr
   was_read : OnlyReads kind old new → OnlyRead change
   was_read reads = record { as_before = reads.moments; reads = reads.same }
 
-  as_before_ran_nothing : (catalog : Catalog) → AsBefore change → NothingRan catalog change
+  as_before_ran_nothing : (catalog : Catalog) → AsBefore change → NothingRan mode catalog change
   as_before_ran_nothing catalog before true' = leaves_less kind.moment kind.images old new (present kind old) _ (before true') (λ image left. inl left)
 
   module _ (catalog : Catalog) (requests : List Request) where
     abbrev CameSo : Status → Type 0
-    CameSo ended = ComesTo every limit printing catalog requests ended w change
+    CameSo ended = ComesTo mode every limit printing catalog requests ended w change
 
     short_of_memory : AsBefore change → Writes no_memory_text w → CameSo NoMemory
     short_of_memory before reported = record { came = inl (record { nothing_ran = as_before_ran_nothing catalog before; written = reported }); cause = tt }
 
     -- a refusal of a run on this catalogue
-    pub run_refused : (error : RecoverError) → RefusesAsSaid kind (Some catalog) old new error → (ended : Status) → TellsRefusal error ended w → CameSo ended
+    pub run_refused : (error : RecoverError) → RefusesAsSaid kind mode (Some catalog) old new error → (ended : Status) → TellsRefusal error ended w → CameSo ended
     run_refused recovery.NoMemory refuses ended t = subst CameSo (sym t.is) (record { came = inl (record { nothing_ran = λ true'. (refuses true').moments; written = t.reported }); cause = tt })
     run_refused recovery.DiskFault refuses ended t = subst CameSo (sym t.is) (record { came = inl (record { nothing_ran = λ true'. (refuses.0 true').moments; written = t.reported }); cause = refuses.1 })
     run_refused (recovery.Foreign file at) refuses ended (inl t) =
         subst CameSo (sym t.is) (record { came = record { file = file; place = at; fault = refuses.1; ends = record { only_read = was_read refuses.0; written = t.reported } }; cause = tt })
     run_refused (recovery.Foreign file at) refuses ended (inr t) = subst CameSo (sym t.is) (short_of_memory refuses.0.moments t.reported)
+    run_refused (recovery.OtherMode stored) refuses ended t =
+        let other = refuses.1 in
+        subst CameSo (sym t.is) (record {
+          came = record {
+            stored = stored;
+            another = other.another;
+            catalog = other.theirs;
+            accepted = other.own.0;
+            store = other.store;
+            ends = record { only_read = was_read refuses.0; written = t.reported };
+          };
+          cause = tt;
+        })
     run_refused (recovery.OtherCatalog stored given) refuses ended (inl t) =
         let other = refuses.1 in
         let ours : other.ours ≡ catalog = (let same : Some other.ours ≡ Some catalog = sym other.is_given in cc) in
@@ -230,13 +253,13 @@ module _ {D : Type 0} (kind : DiskKind D) (every : Option ℕ) (limit : ℕ) (pr
 
   -- a refusal of a recovery
   abbrev RecoveredSo : Status → Type 0
-  RecoveredSo ended = RecoversTo limit ended w change
+  RecoveredSo ended = RecoversTo mode limit ended w change
 
   -- where no catalogue is given no store is made
-  as_before_read : (kind.honest → LeavesOldOr kind old new (MayForm None (kind.seen old))) → AsBefore change
+  as_before_read : (kind.honest → LeavesOldOr kind old new (MayForm mode None (kind.seen old))) → AsBefore change
   as_before_read left true' = leaves_less kind.moment kind.images old new _ (present kind old) (left true') (λ image either. by image either)
     where
-      by : (image : Files) → present kind old image ⊎ MayForm None (kind.seen old) image → present kind old image
+      by : (image : Files) → present kind old image ⊎ MayForm mode None (kind.seen old) image → present kind old image
       by image (inl stays) = stays
       by image (inr made) = absurd made
 
@@ -250,46 +273,67 @@ module _ {D : Type 0} (kind : DiskKind D) (every : Option ℕ) (limit : ℕ) (pr
   nothing_told Disk empty before wrote = absurd wrote
   nothing_told NoMemory empty before wrote = absurd wrote
   nothing_told Foreign empty before wrote = absurd wrote
+  nothing_told OtherMode empty before wrote = absurd wrote
   nothing_told OtherCatalog empty before wrote = absurd wrote
   nothing_told Limit empty before wrote = absurd wrote
 
-  pub recovery_refused : (error : RecoverError) → RefusesAsSaid kind None old new error → (ended : Status) → TellsRefusal error ended w → RecoveredSo ended
+  pub recovery_refused : (error : RecoverError) → RefusesAsSaid kind mode None old new error → (ended : Status) → TellsRefusal error ended w → RecoveredSo ended
   recovery_refused recovery.NoMemory refuses ended t = subst RecoveredSo (sym t.is) (record { came = inl (record { as_before = as_before_read (λ true'. (refuses true').moments); written = t.reported }); cause = tt })
   recovery_refused recovery.DiskFault refuses ended t = subst RecoveredSo (sym t.is) (record { came = inl (record { as_before = as_before_read (λ true'. (refuses.0 true').moments); written = t.reported }); cause = refuses.1 })
   recovery_refused (recovery.Foreign file at) refuses ended (inl t) =
       subst RecoveredSo (sym t.is) (record { came = record { file = file; place = at; fault = refuses.1; ends = record { only_read = was_read refuses.0; written = t.reported } }; cause = tt })
   recovery_refused (recovery.Foreign file at) refuses ended (inr t) = subst RecoveredSo (sym t.is) (record { came = inl (record { as_before = refuses.0.moments; written = t.reported }); cause = tt })
+  recovery_refused (recovery.OtherMode stored) refuses ended t =
+      let other = refuses.1 in
+      subst RecoveredSo (sym t.is) (record {
+        came = record {
+          stored = stored;
+          another = other.another;
+          catalog = other.theirs;
+          accepted = other.own.0;
+          store = other.store;
+          ends = record { only_read = was_read refuses.0; written = t.reported };
+        };
+        cause = tt;
+      })
   recovery_refused (recovery.OtherCatalog stored given) refuses ended t = let no : None ≡ Some refuses.1.ours = refuses.1.is_given in absurd (cc)
   recovery_refused recovery.Nothing refuses ended t = nothing_told ended refuses.2 (was_read refuses.0) t
 
 -- the texts that are told of a refusal are UTF-8
-pub texts_told : {D : Type 0} (kind : DiskKind D) (given : Option Catalog) (old new : D) (error : RecoverError)
-    → RefusesAsSaid kind given old new error → IfSome given IsOwnCatalog → HasTexts error
-texts_told kind given old new recovery.NoMemory refuses own = tt
-texts_told kind given old new recovery.DiskFault refuses own = tt
-texts_told kind given old new (recovery.Foreign file at) refuses own = tt
-texts_told kind given old new (recovery.OtherCatalog stored text) refuses own =
+pub texts_told : {D : Type 0} (kind : DiskKind D) (mode : Mode) (given : Option Catalog) (old new : D) (error : RecoverError)
+    → RefusesAsSaid kind mode given old new error → IfSome given IsOwnCatalog → HasTexts error
+texts_told kind mode given old new recovery.NoMemory refuses own = tt
+texts_told kind mode given old new recovery.DiskFault refuses own = tt
+texts_told kind mode given old new (recovery.Foreign file at) refuses own = tt
+texts_told kind mode given old new (recovery.OtherMode stored) refuses own = tt
+texts_told kind mode given old new (recovery.OtherCatalog stored text) refuses own =
     let other = refuses.1 in
     let ours : IsOwnCatalog other.ours = subst (λ o. IfSome o IsOwnCatalog) other.is_given own in
     (subst IsUtf8 (sym other.stored_is) other.own.1.utf8, subst IsUtf8 (sym other.text_is) ours.1.utf8)
-texts_told kind given old new recovery.Nothing refuses own = tt
+texts_told kind mode given old new recovery.Nothing refuses own = tt
+
+-- what was recovered in a mode is had again in that
+pub recovered_mode : {D : Type 0} (kind : DiskKind D) (mode : Mode) (r : Recovered D) → mode_of (recovery_of kind mode r) ≡ mode
+recovered_mode kind modes.Strong r = refl
+recovered_mode kind modes.Weak r = refl
 
 -- the same where no client started
-pub unstarted : {D : Type 0} (kind : DiskKind D) (every : Option ℕ) (limit : ℕ) (printing : Printing) (requests : List Request) (w : SinkChange) (old new : D) (r : Recovered D)
-    → new ≡ r.log.disk → IsOpenedFor kind old r → Writes no_memory_text w → ComesTo every limit printing r.catalog requests NoMemory w (disk_of kind old new)
-unstarted kind every limit printing requests w old new r same opened reported =
-    subst (λ disk. ComesTo every limit printing r.catalog requests NoMemory w (disk_of kind old disk)) (sym same)
-    (record { came = inr (inl (record { db = recovered_database r; first = r.first; opened = opened.opened; written = reported })); cause = tt })
+pub unstarted : {D : Type 0} (kind : DiskKind D) (mode : Mode) (every : Option ℕ) (limit : ℕ) (printing : Printing) (requests : List Request) (w : SinkChange) (old new : D) (r : Recovered D)
+    → new ≡ r.log.disk → IsOpenedFor kind mode old r → Writes no_memory_text w → ComesTo mode every limit printing r.catalog requests NoMemory w (disk_of kind old new)
+unstarted kind mode every limit printing requests w old new r same opened reported =
+    subst (λ disk. ComesTo mode every limit printing r.catalog requests NoMemory w (disk_of kind old disk)) (sym same)
+    (record { came = inr (inl (record { recovery = recovery_of kind mode r; of_mode = recovered_mode kind mode r; db = recovered_database r; first = r.first; opened = opened.opened; written = reported })); cause = tt })
 
 -- what was recovered is opened
-pub recovered_opened : {D : Type 0} (kind : DiskKind D) (given : Option Catalog) (parts : ℕ) (old : D) (r : Recovered D)
-    → IsRecovered kind given parts old r (recovered_database r) → kind.faults old ≤ kind.faults r.log.disk → IsOpenedFor kind old r
-recovered_opened kind given parts old r is later = record {
+pub recovered_opened : {D : Type 0} (kind : DiskKind D) (mode : Mode) (given : Option Catalog) (parts : ℕ) (old : D) (r : Recovered D)
+    → IsRecovered kind mode given parts old r (recovered_database r) → kind.faults old ≤ kind.faults r.log.disk → IsOpenedFor kind mode old r
+recovered_opened kind mode given parts old r is later = record {
   opened = record {
     whole = is.goes_on.ready.whole;
+    began = is.goes_on.began;
     stood = is.stood;
     crashes = is.moments;
-    receipts_stay = is.stands_on;
+    receipts_stay = λ list honestly. is.stands_on honestly list;
     settled = is.goes_on.log.only;
     faults = later;
   };
@@ -297,26 +341,27 @@ recovered_opened kind given parts old r is later = record {
 }
 
 -- a store that was recovered without a catalogue was there before
-pub was_stored : {D : Type 0} (kind : DiskKind D) (parts : ℕ) (old : D) (r : Recovered D) (e : IsRecovered kind None parts old r (recovered_database r))
-    → (kind.tells → IsEmpty (kind.seen old) → ⊥) → kind.tells → IsStore (kind.seen old) r.catalog
-was_stored kind parts old r is not_empty told = by (is.was told)
+pub was_stored : {D : Type 0} (kind : DiskKind D) (mode : Mode) (parts : ℕ) (old : D) (r : Recovered D) (e : IsRecovered kind mode None parts old r (recovered_database r))
+    → (kind.tells → IsEmpty (kind.seen old) → ⊥) → kind.tells → IsStore mode (kind.seen old) r.catalog
+was_stored kind mode parts old r is not_empty told = by (is.was told)
   where
-    by : IsEmpty (kind.seen old) ⊎ IsStore (kind.seen old) r.catalog → IsStore (kind.seen old) r.catalog
+    by : IsEmpty (kind.seen old) ⊎ IsStore mode (kind.seen old) r.catalog → IsStore mode (kind.seen old) r.catalog
     by (inl empty) = absurd (not_empty told empty)
     by (inr store) = store
 
 -- a recovered store is what a recovery came to
-pub store_recovered : (limit : ℕ) (catalog : Catalog) (disk : DiskChange) (w : SinkChange) → Accepted catalog → (disk.tells → IsStore disk.seen_before catalog) → (ended : Status) → (ended ≡ OtherCatalog → ⊥)
-    → (requests : List Request) → requests ≡ [] → ComesTo None limit InFull catalog requests ended w disk → RecoversTo limit ended w disk
-store_recovered limit catalog disk w accepted stored ended own requests none came = record { came = by ended own (subst (λ rs. CameTo None limit InFull catalog rs ended w disk) none came.came); cause = came.cause }
+pub store_recovered : (mode : Mode) (limit : ℕ) (catalog : Catalog) (disk : DiskChange) (w : SinkChange) → Accepted catalog → (disk.tells → IsStore mode disk.seen_before catalog) → (ended : Status) → (ended ≡ OtherCatalog → ⊥)
+    → (requests : List Request) → requests ≡ [] → ComesTo mode None limit InFull catalog requests ended w disk → RecoversTo mode limit ended w disk
+store_recovered mode limit catalog disk w accepted stored ended own requests none came = record { came = by ended own (subst (λ rs. CameTo mode None limit InFull catalog rs ended w disk) none came.came); cause = came.cause }
   where
-    by : (s : Status) → (s ≡ OtherCatalog → ⊥) → CameTo None limit InFull catalog [] s w disk → RecoveredTo limit s w disk
+    by : (s : Status) → (s ≡ OtherCatalog → ⊥) → CameTo mode None limit InFull catalog [] s w disk → RecoveredTo mode limit s w disk
     by Done own came = inr (record { catalog = catalog; accepted = accepted; stored = stored; came = came })
     by WriteFault own came = inr (record { catalog = catalog; accepted = accepted; stored = stored; came = came })
     by Disk own came = inr (record { catalog = catalog; accepted = accepted; stored = stored; came = came })
     by NoMemory own came = inr (record { catalog = catalog; accepted = accepted; stored = stored; came = came })
     by Limit own came = record { catalog = catalog; accepted = accepted; stored = stored; came = came }
     by Foreign own came = came
+    by OtherMode own came = came
     by OtherCatalog own came = absurd (own refl)
     by Usage own came = absurd came
     by Differs own came = absurd came
@@ -324,23 +369,24 @@ store_recovered limit catalog disk w accepted stored ended own requests none cam
     by ReadFault own came = absurd came
 
 -- what was recovered is of the given catalogue
-pub of_given : {every : Option ℕ} {limit : ℕ} {printing : Printing} {stored given : Catalog} {requests : List Request} {ended : Status} {w : SinkChange} {disk : DiskChange} → stored ≡ given → ComesTo every limit printing stored requests ended w disk → ComesTo every limit printing given requests ended w disk
-of_given {every} {limit} {printing} {stored} {given} {requests} {ended} {w} {disk} same came = subst (λ catalog. ComesTo every limit printing catalog requests ended w disk) same came
+pub of_given : {mode : Mode} {every : Option ℕ} {limit : ℕ} {printing : Printing} {stored given : Catalog} {requests : List Request} {ended : Status} {w : SinkChange} {disk : DiskChange} → stored ≡ given → ComesTo mode every limit printing stored requests ended w disk → ComesTo mode every limit printing given requests ended w disk
+of_given {mode} {every} {limit} {printing} {stored} {given} {requests} {ended} {w} {disk} same came = subst (λ catalog. ComesTo mode every limit printing catalog requests ended w disk) same came
 
 -- ---- a show ran
 
-pub show_came : {D : Type 0} (kind : DiskKind D) (every : Option ℕ) (limit restarts : ℕ) (show : Show) (catalog : Catalog) (requests : List Request) (w : SinkChange) (old new : D) → IsVoter catalog → Accepted catalog
-    → requests ≡ show_requests show → (ended : Status) → ServesTo kind every limit restarts (Summary show.votes) catalog requests ended w old new → ComesToShow kind every limit restarts show ended w old new
-show_came kind every limit restarts show catalog requests w old new voter accepted are ended serves = record { came = by ended serves.came; cause = serves.cause; told = serves.told; sink = serves.sink }
+pub show_came : {D : Type 0} (kind : DiskKind D) (mode : Mode) (every : Option ℕ) (limit restarts : ℕ) (show : Show) (catalog : Catalog) (requests : List Request) (w : SinkChange) (old new : D) → IsVoter catalog → Accepted catalog
+    → requests ≡ show_requests show → (ended : Status) → ServesTo kind mode every limit restarts (Summary show.votes) catalog requests ended w old new → ComesToShow kind mode every limit restarts show ended w old new
+show_came kind mode every limit restarts show catalog requests w old new voter accepted are ended serves = record { came = by ended serves.came; cause = serves.cause; told = serves.told; sink = serves.sink }
   where
-    ran : (status : Status) → ComesOver kind every limit restarts (Summary show.votes) catalog requests status w old new → RanShow kind every limit restarts show status w old new
-    ran status came = record { catalog = catalog; voter = voter; accepted = accepted; came = subst (λ rs. ComesOver kind every limit restarts (Summary show.votes) catalog rs status w old new) are came }
+    ran : (status : Status) → ComesOver kind mode every limit restarts (Summary show.votes) catalog requests status w old new → RanShow kind mode every limit restarts show status w old new
+    ran status came = record { catalog = catalog; voter = voter; accepted = accepted; came = subst (λ rs. ComesOver kind mode every limit restarts (Summary show.votes) catalog rs status w old new) are came }
 
-    by : (status : Status) → ComesOver kind every limit restarts (Summary show.votes) catalog requests status w old new → ShowEnds kind every limit restarts show status w old new
+    by : (status : Status) → ComesOver kind mode every limit restarts (Summary show.votes) catalog requests status w old new → ShowEnds kind mode every limit restarts show status w old new
     by Done came = ran Done came
     by WriteFault came = ran WriteFault came
     by Disk came = ran Disk came
     by Foreign came = ran Foreign came
+    by OtherMode came = ran OtherMode came
     by OtherCatalog came = ran OtherCatalog came
     by Limit came = ran Limit came
     by Usage came = ran Usage came

@@ -7,8 +7,11 @@ use Rattle.ss_model.specs.declared.catalog.Catalog.{Catalog}
 use Rattle.ss_model.specs.declared.entry.Answer.{Answer}
 use Rattle.ss_model.specs.declared.entry.Answer.TheVariants.{Listed as ListedAnswer, NoMemory as NoMemoryAnswer, ListFull, Halted}
 use Rattle.ss_model.specs.declared.entry.Listed.{Listed}
+use Rattle.ss_model.specs.declared.entry.Mode.{Mode}
+use Rattle.ss_model.specs.declared.entry.Mode.TheVariants as modes
 use Rattle.ss_model.specs.declared.entry.Request.{Request}
 use Rattle.ss_model.specs.Database.{Database as Model}
+use Rattle.ss_model.specs.Recovery.{Strong}
 use Rattle.ss_model.specs.Report.{Unlisted, report_text}
 use Rattle.ss_report_laws.specs.Replies.{AreAnswered, IsListedOr, answers_of, expected_entries, mine, requests_of, weave}
 use Rattle.ss_disk.specs.Kinds.{DiskKind}
@@ -26,7 +29,7 @@ use Rattle.ss_engine.specs.declared.session.run.Finished.{Finished}
 use Rattle.ss_engine.specs.Sessions.{EndsOnDisk}
 use Rattle.ss_resume.specs.declared.past.Past.{Past}
 use Rattle.ss_refusals.specs.declared.status.Status.{Status}
-use Rattle.ss_refusals.specs.declared.status.Status.TheVariants.{Done, Usage, Input, ReadFault, WriteFault, Disk, NoMemory, Foreign, OtherCatalog, Limit, Differs}
+use Rattle.ss_refusals.specs.declared.status.Status.TheVariants.{Done, Usage, Input, ReadFault, WriteFault, Disk, NoMemory, Foreign, OtherMode, OtherCatalog, Limit, Differs}
 use Rattle.ss_refusals.specs.Sinks.{SinkChange}
 use Rattle.ss_refusals.specs.StoreRefusals.{WritesWhole}
 use Rattle.ss_refusals.specs.Statuses.{status_number}
@@ -91,6 +94,7 @@ told_may w Done (Some text) ended may tells = whole ended tells
     whole Disk wrote = tt
     whole NoMemory wrote = tt
     whole Foreign wrote = tt
+    whole OtherMode wrote = tt
     whole OtherCatalog wrote = tt
     whole Limit wrote = tt
 told_may w Disk (Some text) ended may tells = subst MayEnd (sym tells.is) tt
@@ -101,6 +105,7 @@ told_may w Input (Some text) ended may tells = absurd may
 told_may w ReadFault (Some text) ended may tells = absurd may
 told_may w WriteFault (Some text) ended may tells = absurd may
 told_may w Foreign (Some text) ended may tells = absurd may
+told_may w OtherMode (Some text) ended may tells = absurd may
 told_may w OtherCatalog (Some text) ended may tells = absurd may
 told_may w Differs (Some text) ended may tells = absurd may
 
@@ -116,6 +121,7 @@ told_disk w status (Some text) ended tells is = by status tells
     by Limit tells' = sym tells'.is ∙ is
     by WriteFault tells' = sym tells'.is ∙ is
     by Foreign tells' = sym tells'.is ∙ is
+    by OtherMode tells' = sym tells'.is ∙ is
     by OtherCatalog tells' = sym tells'.is ∙ is
     by Usage tells' = sym tells'.is ∙ is
     by Input tells' = sym tells'.is ∙ is
@@ -174,6 +180,7 @@ served_of again Input w disk by_disk by_sink = tt
 served_of again ReadFault w disk by_disk by_sink = tt
 served_of again NoMemory w disk by_disk by_sink = tt
 served_of again Foreign w disk by_disk by_sink = tt
+served_of again OtherMode w disk by_disk by_sink = tt
 served_of again OtherCatalog w disk by_disk by_sink = tt
 served_of again Limit w disk by_disk by_sink = tt
 served_of again Differs w disk by_disk by_sink = tt
@@ -190,21 +197,22 @@ sink_cause w Input (Some text) ended may tells is = absurd may
 sink_cause w ReadFault (Some text) ended may tells is = absurd may
 sink_cause w WriteFault (Some text) ended may tells is = absurd may
 sink_cause w Foreign (Some text) ended may tells is = absurd may
+sink_cause w OtherMode (Some text) ended may tells is = absurd may
 sink_cause w OtherCatalog (Some text) ended may tells is = absurd may
 sink_cause w Differs (Some text) ended may tells is = absurd may
 
-module _ {D : Type 0} (kind : DiskKind D) (every : Option ℕ) (limit : ℕ) (printing : Printing) (catalog : Catalog) (requests : List Request) where
+module _ {D : Type 0} (kind : DiskKind D) (mode : Mode) (every : Option ℕ) (limit : ℕ) (printing : Printing) (catalog : Catalog) (requests : List Request) where
   abbrev change : D → D → DiskChange
   change = disk_of kind
 
   -- ---- there was no memory
 
   abbrev Stops : ℕ → Bool → SinkChange → D → D → Status → Type 0
-  Stops again last w old new ended = Comes kind every limit printing catalog requests again last ended w old new
+  Stops again last w old new ended = Comes kind mode every limit printing catalog requests again last ended w old new
 
   -- on the disk as it was given
   pub once_short : (last : Bool) (old new : D) → kind.faults old ≤ kind.faults new → (w : SinkChange) (ended : Status) → TellsReport NoMemory None ended w
-      → CameTo every limit printing catalog requests NoMemory w (change old new) → Comes kind every limit printing catalog requests zero last ended w old new
+      → CameTo mode every limit printing catalog requests NoMemory w (change old new) → Comes kind mode every limit printing catalog requests zero last ended w old new
   once_short last old new later w ended tells came = subst (Stops zero last w old new) (sym tells.is) (record {
     came = came;
     cause = tt;
@@ -217,8 +225,8 @@ module _ {D : Type 0} (kind : DiskKind D) (every : Option ℕ) (limit : ℕ) (pr
   -- on one that was tried before, or on which an engine had run
   pub later_short : (last : Bool) (again : ℕ) (old new : D) → kind.faults old ≤ kind.faults new → RoseBy (suc again) (kind.faults old) (kind.faults new) → (w : SinkChange) (ended : Status)
       → TellsReport NoMemory None ended w
-      → (kind.honest → CameTo every limit printing catalog requests NoMemory w (change old new) ⊎ CameOver kind every limit (suc again) printing catalog requests NoMemory w old new)
-      → Comes kind every limit printing catalog requests (suc again) last ended w old new
+      → (kind.honest → CameTo modes.Strong every limit printing catalog requests NoMemory w (change old new) ⊎ CameOver kind every limit (suc again) printing catalog requests NoMemory w old new)
+      → Comes kind mode every limit printing catalog requests (suc again) last ended w old new
   later_short last again old new later rose w ended tells came = subst (Stops (suc again) last w old new) (sym tells.is) (record {
     came = record { some = omega arith; rose = rose; may = tt; came = λ true'. elim (came true') [ inl once ↦ inl once | inr over ↦ inr (inr over) ] };
     cause = tt;
@@ -230,8 +238,8 @@ module _ {D : Type 0} (kind : DiskKind D) (every : Option ℕ) (limit : ℕ) (pr
 
   -- ---- a past of one engine
 
-  module _ (again : ℕ) (old : D) (db : Model) (first clients : ℕ) (log : CmdLog D) (ended : Finished D) (was : WasOf catalog (change old log.disk)) (opened : Opened catalog db first (change old log.disk))
-      (e : EndsOnDisk kind every catalog db first (room_from limit first) clients requests [] log ended) (first_law : FirstIncarnation kind) where
+  module _ (again : ℕ) (old : D) (db : Model) (first clients : ℕ) (log : CmdLog D) (ended : Finished D) (was : WasOf modes.Strong catalog (change old log.disk)) (opened : Opened Strong catalog db first (change old log.disk))
+      (e : EndsOnDisk kind Strong every catalog db first (room_from limit first) clients requests [] log ended) (first_law : FirstIncarnation kind) where
     abbrev new : D
     new = ended.log.disk
 
@@ -246,7 +254,7 @@ module _ {D : Type 0} (kind : DiskKind D) (every : Option ℕ) (limit : ℕ) (pr
       last = last;
       earlier = [];
       lived = first_law catalog db first ended.closed.list ended.receipted old log.disk new opened
-          (was_closed kind every catalog db first (room_from limit first) clients requests [] log ended e) (was_receipted kind every catalog db first (room_from limit first) clients requests [] log ended e);
+          (was_closed kind Strong every catalog db first (room_from limit first) clients requests [] log ended e) (was_receipted kind Strong every catalog db first (room_from limit first) clients requests [] log ended e);
       list_is = refl;
       receipted_is = refl;
       few = omega arith;
@@ -278,7 +286,7 @@ module _ {D : Type 0} (kind : DiskKind D) (every : Option ℕ) (limit : ℕ) (pr
         few = let few = p.few in omega (arith, few);
         run = subst (λ (t : List ℕ). IsStoppedRunOver kind every limit catalog requests p.db past.first p.last p.earlier (status_number status) t old new) (sym text_is)
             (over_law.stopped every limit catalog requests p.db past.first p.last p.earlier (status_number status) missing told old old new (omega arith) lived
-            (own_of_all past.first p.last.list (list_before p.earlier) (λ n l. LogEndsAsStopped every (status_number status) n l p.last.receipted (change old new)) (λ told'. inr (record { status_is = is; rose = rose_once again (kind.faults old) (kind.faults new) rose })))
+            (own_of_all past.first p.last.list (list_before p.earlier) (λ n l. LogEndsAsStopped Strong every (status_number status) n l p.last.receipted (change old new)) (λ told'. inr (record { status_is = is; rose = rose_once again (kind.faults old) (kind.faults new) rose })))
             answered within);
       }
 
@@ -289,7 +297,7 @@ module _ {D : Type 0} (kind : DiskKind D) (every : Option ℕ) (limit : ℕ) (pr
       AreAnsweredOf l client = mine client past.first l ≡ expected_entries client 0 (requests_of client requests) (answers_of past.answers client)
 
       -- there was no memory for more
-      pub short_of : WasOf catalog (change old new) → (w : SinkChange) (ended : Status) → TellsReport NoMemory None ended w → CameOver kind every limit (suc again) printing catalog requests ended w old new
+      pub short_of : WasOf modes.Strong catalog (change old new) → (w : SinkChange) (ended : Status) → TellsReport NoMemory None ended w → CameOver kind every limit (suc again) printing catalog requests ended w old new
       short_of was w ended tells = subst (λ (s : Status). CameOver kind every limit (suc again) printing catalog requests s w old new) (sym tells.is) (record {
         was = was;
         text = silent_text;
@@ -304,10 +312,10 @@ module _ {D : Type 0} (kind : DiskKind D) (every : Option ℕ) (limit : ℕ) (pr
   module _ (last : Bool) (status : Status) (text : Option (List ℕ)) (may : MayBeSession status) (at_last : status ≡ Disk → last ≡ true) (old new : D)
       (later : kind.faults old ≤ kind.faults new) where
     -- on the disk as it was given
-    pub once_over : WasOf catalog (change old new) → Reports every limit printing catalog requests status text (change old new) → TellsDiskFault status (kind.faults old) (kind.faults new)
-        → (w : SinkChange) (ended : Status) → TellsReport status text ended w → Comes kind every limit printing catalog requests zero last ended w old new
+    pub once_over : WasOf mode catalog (change old new) → Reports mode every limit printing catalog requests status text (change old new) → TellsDiskFault status (kind.faults old) (kind.faults new)
+        → (w : SinkChange) (ended : Status) → TellsReport status text ended w → Comes kind mode every limit printing catalog requests zero last ended w old new
     once_over was reports told w ended tells = record {
-      came = (session_told every limit printing catalog requests (change old new) was w status text reports ended tells).came;
+      came = (session_told mode every limit printing catalog requests (change old new) was w status text reports ended tells).came;
       cause = served_of zero ended w (change old new) (λ is. reports.rose (told_disk w status text ended tells is)) (sink_cause w status text ended may tells);
       at_last = λ is. at_last (told_disk w status text ended tells is);
       told = λ none all. store_by_report w status text ended tells (kind.faults old) (kind.faults new) told;
@@ -318,8 +326,8 @@ module _ {D : Type 0} (kind : DiskKind D) (every : Option ℕ) (limit : ℕ) (pr
     -- on one that was tried before, or on which an engine had run
     pub later_over : (again : ℕ) → RoseBy (suc again) (kind.faults old) (kind.faults new) → (status ≡ Disk → RoseBy (suc (suc again)) (kind.faults old) (kind.faults new))
         → (w : SinkChange) (ended : Status) → TellsReport status text ended w
-        → (kind.honest → CameTo every limit printing catalog requests ended w (change old new) ⊎ CameOver kind every limit (suc again) printing catalog requests ended w old new)
-        → Comes kind every limit printing catalog requests (suc again) last ended w old new
+        → (kind.honest → CameTo modes.Strong every limit printing catalog requests ended w (change old new) ⊎ CameOver kind every limit (suc again) printing catalog requests ended w old new)
+        → Comes kind mode every limit printing catalog requests (suc again) last ended w old new
     later_over again rose more w ended tells came = record {
       came = record { some = omega arith; rose = rose; may = told_may w status text ended may tells; came = λ true'. elim (came true') [ inl once ↦ inl once | inr over ↦ inr (inr over) ] };
       cause = served_of (suc again) ended w (change old new) (λ is. more (told_disk w status text ended tells is)) (sink_cause w status text ended may tells);

@@ -1,7 +1,9 @@
--- A run whose disk was opened again behind faults: what it has come to, by the status with which the program ends.
+-- A run whose disk was opened again behind faults, as a strong store's may be: what it has come to, by the status with which the program ends.
 use Rattle.std.specs.Prelude.{◌≡◌, ◌⊎◌, ◌+◌, ◌-◌, ◌^◌, ◌≤◌, min, ℕ, true, List, length, Option}
 use Rattle.ss_model.specs.declared.catalog.Catalog.{Catalog}
 use Rattle.ss_model.specs.declared.entry.Answer.{Answer}
+use Rattle.ss_model.specs.declared.entry.Mode.{Mode}
+use Rattle.ss_model.specs.declared.entry.Mode.TheVariants.{Strong}
 use Rattle.ss_model.specs.declared.entry.Request.{Request}
 use Rattle.ss_model.specs.Database.{Database}
 use Rattle.ss_model.specs.Replays.{after}
@@ -14,16 +16,20 @@ use Rattle.ss_incarnations.specs.Openings.{NotOpened}
 use Rattle.ss_incarnations.specs.Runs.{IsStoppedRunOver, IsWholeRunOver, stop_over}
 use Rattle.ss_engine.specs.Closings.{SomeReady}
 use Rattle.ss_refusals.specs.declared.status.Status.{Status}
-use Rattle.ss_refusals.specs.declared.status.Status.TheVariants.{Done, WriteFault, Disk, NoMemory, Foreign, OtherCatalog, Limit}
+use Rattle.ss_refusals.specs.declared.status.Status.TheVariants.{Done, WriteFault, Disk, NoMemory, Foreign, OtherMode, OtherCatalog, Limit}
 use Rattle.ss_refusals.specs.Sinks.{SinkChange, WritesAll, WritesPrefix}
 use Rattle.ss_refusals.specs.Statuses.{status_number}
 use Rattle.ss_top.specs.declared.session.Printing.{Printing}
-use Rattle.ss_top.specs.Stores.{CameTo, IsForeign, IsOther, IsPrinted, IsReadAgain, WasOf, WritesStop}
+use Rattle.ss_top.specs.Stores.{CameTo, IsForeign, IsOfOtherMode, IsOther, IsPrinted, IsReadAgain, WasOf, WritesStop}
 use Rattle.ss_top.specs.Told.{WereTold, some_say_full}
 
 -- a count of faults rose by so many, or is at the greatest number of 64 bits
 abbrev pub RoseBy : ℕ → ℕ → ℕ → Type 0
 RoseBy by before now = min (before + by) (2 ^ 64 - 1) ≤ now
+
+-- a disk may be opened so often again: only that of a strong store at all
+abbrev pub MayRestart : Mode → ℕ → Type 0
+MayRestart mode restarts = (restarts ≡ 0) ⊎ (mode ≡ Strong)
 
 -- the statuses of a run whose input was read
 abbrev pub MayEnd : Status → Type 0
@@ -32,6 +38,7 @@ MayEnd WriteFault = Unit {0}
 MayEnd Disk = Unit {0}
 MayEnd NoMemory = Unit {0}
 MayEnd Foreign = Unit {0}
+MayEnd OtherMode = Unit {0}
 MayEnd OtherCatalog = Unit {0}
 MayEnd Limit = Unit {0}
 MayEnd _ = ⊥
@@ -82,7 +89,7 @@ module _ {D : Type 0} (kind : DiskKind D) where
 
     -- a session on an empty disk or a store of this catalogue ended with the first status, of whose report this was written
     pub record RanOver (printing : Printing) (catalog : Catalog) (requests : List Request) (status : Status) (written : List ℕ → Type 0) (old new : D) : Type 0 where
-      pub was : WasOf catalog (change old new)
+      pub was : WasOf Strong catalog (change old new)
       pub text : List ℕ
       pub ran : RanAsOver printing catalog requests status text old new
       pub wrote : written text
@@ -99,7 +106,8 @@ module _ {D : Type 0} (kind : DiskKind D) where
   -- nothing had run, and the disk was then found to hold something else
   abbrev pub FoundLater : Catalog → Status → SinkChange → D → D → Type 0
   FoundLater catalog Foreign w old new = (mid : D) × NotOpened catalog (change old mid) × IsForeign w (change mid new)
-  FoundLater catalog OtherCatalog w old new = (mid : D) × NotOpened catalog (change old mid) × IsOther catalog.text w (change mid new)
+  FoundLater catalog OtherMode w old new = (mid : D) × NotOpened catalog (change old mid) × IsOfOtherMode Strong w (change mid new)
+  FoundLater catalog OtherCatalog w old new = (mid : D) × NotOpened catalog (change old mid) × IsOther Strong catalog.text w (change mid new)
   FoundLater catalog _ w old new = ⊥
 
   -- The disk was opened so often again, behind as many faults, and on an honest disk the run has come to what one comes to that opens its disk
@@ -110,10 +118,12 @@ module _ {D : Type 0} (kind : DiskKind D) where
     pub rose : RoseBy again (kind.faults old) (kind.faults new)
     pub may : MayEnd status
     pub came : kind.honest →
-        CameTo every limit printing catalog requests status w (change old new) ⊎ FoundLater catalog status w old new ⊎ CameOver every limit again printing catalog requests status w old new
+        CameTo Strong every limit printing catalog requests status w (change old new) ⊎ FoundLater catalog status w old new
+        ⊎ CameOver every limit again printing catalog requests status w old new
 
-  -- running these requests over so many restarts at most
-  abbrev pub ComesOver : Option ℕ → ℕ → ℕ → Printing → Catalog → List Request → Status → SinkChange → D → D → Type 0
-  ComesOver every limit restarts printing catalog requests status w old new =
-      CameTo every limit printing catalog requests status w (change old new)
-      ⊎ ((again : ℕ) × (again ≤ restarts) × CameAgain every limit again printing catalog requests status w old new)
+  -- running these requests on a store of this mode, over so many restarts at most
+  abbrev pub ComesOver : Mode → Option ℕ → ℕ → ℕ → Printing → Catalog → List Request → Status → SinkChange → D → D → Type 0
+  ComesOver mode every limit restarts printing catalog requests status w old new =
+      CameTo mode every limit printing catalog requests status w (change old new)
+      ⊎ ((again : ℕ) × (again ≤ restarts) × (mode ≡ Strong) ×
+      CameAgain every limit again printing catalog requests status w old new)

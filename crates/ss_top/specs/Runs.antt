@@ -6,11 +6,14 @@ use Rattle.ss_value.specs.FaultCounts.{Rose}
 use Rattle.ss_model.specs.declared.catalog.Catalog.{Catalog}
 use Rattle.ss_model.specs.declared.entry.Answer.{Answer}
 use Rattle.ss_model.specs.declared.entry.Listed.{Listed}
+use Rattle.ss_model.specs.declared.entry.Mode.{Mode}
 use Rattle.ss_model.specs.declared.entry.Request.{Request}
 use Rattle.ss_model.specs.Accepted.{Accepted}
 use Rattle.ss_model.specs.Database.{Database as Model}
 use Rattle.ss_model.specs.InStep.{IsInStep}
+use Rattle.ss_model.specs.Recovery.{Recovery}
 use Rattle.ss_cmdlog.specs.declared.log.CmdLog.{CmdLog}
+use Rattle.ss_fronts.specs.Fronts.{mode_of}
 use Rattle.ss_headline.specs.Disks.{DiskChange, disk_of}
 use Rattle.ss_headline.specs.Layers.{Opened}
 use Rattle.ss_headline.specs.Sentences.{room_from}
@@ -52,9 +55,10 @@ end_for Done (Summary votes) database count faults = report.Voter votes
 end_for status printing database count faults = report.Stopped (status_number status) count faults
 
 -- a session ended with this status, and this is its report, where there was memory for one; else it stopped for want of memory
-pub record Reports (every : Option ℕ) (limit : ℕ) (printing : Printing) (catalog : Catalog) (requests : List Request) (status : Status) (text : Option (List ℕ)) (disk : DiskChange) : Type 0 where
+pub record Reports (mode : Mode) (every : Option ℕ) (limit : ℕ) (printing : Printing) (catalog : Catalog) (requests : List Request) (status : Status)
+    (text : Option (List ℕ)) (disk : DiskChange) : Type 0 where
   pub whole : List ℕ
-  pub ran : RanAs every limit printing catalog requests status whole disk
+  pub ran : RanAs mode every limit printing catalog requests status whole disk
   pub written : IfSome text (λ some. some ≡ whole)
   pub unwritten : IfNone text (status ≡ NoMemory)
   pub rose : status ≡ Disk → Rose disk.faults_before disk.faults_now
@@ -90,15 +94,16 @@ TellsReport status (Some text) ended w = ExitsAs status ended text w
 -- the report of a finished session, wherever it began: the status and the text are those of its run on the disk that was opened for it
 abbrev pub ReportsFinished : {D : Type 0} → DiskKind D → Printing → List Request → ℕ → Finished D → Reported D → Type 0
 ReportsFinished {D} kind printing requests first finished reported =
-    (every : Option ℕ) (limit clients : ℕ) (catalog : Catalog) (db : Model) (old : D) (log : CmdLog D) → first ≤ 2 ^ 60 → Accepted catalog → IsInStep catalog db →
-    Opened catalog db first (disk_of kind old log.disk) →
-    EndsOnDisk kind every catalog db first (room_from limit first) clients requests [] log finished →
-    Reports every limit printing catalog requests reported.status reported.text (disk_of kind old reported.disk)
+    (recovery : Recovery) (every : Option ℕ) (limit clients : ℕ) (catalog : Catalog) (db : Model) (old : D) (log : CmdLog D) → first ≤ 2 ^ 60 →
+    Accepted catalog → IsInStep catalog db → Opened recovery catalog db first (disk_of kind old log.disk) →
+    EndsOnDisk kind recovery every catalog db first (room_from limit first) clients requests [] log finished →
+    Reports (mode_of recovery) every limit printing catalog requests reported.status reported.text (disk_of kind old reported.disk)
 
 -- and it tells whether the disk has failed since then
 abbrev pub TellsFinished : {D : Type 0} → DiskKind D → List Request → ℕ → Finished D → Reported D → Type 0
 TellsFinished {D} kind requests first finished reported =
-    (every : Option ℕ) (limit clients : ℕ) (starts : List ℕ) (catalog : Catalog) (db : Model) (log : CmdLog D) → EndsOnDisk kind every catalog db first limit clients requests starts log finished →
+    (recovery : Recovery) (every : Option ℕ) (limit clients : ℕ) (starts : List ℕ) (catalog : Catalog) (db : Model) (log : CmdLog D) →
+    EndsOnDisk kind recovery every catalog db first limit clients requests starts log finished →
     TellsDiskFault reported.status (kind.faults log.disk) (kind.faults reported.disk)
 
 -- what could be said of a past was written as the report of a run that stopped because the disk has failed, or there was no memory for one

@@ -3,11 +3,12 @@ use Rattle.std.specs.Prelude.{◌≡◌, ℕ, suc, List, Option}
 use Rattle.ss_disk.specs.Kinds.{DiskKind}
 use Rattle.ss_value.specs.FaultCounts.{Rose}
 use Rattle.ss_model.specs.declared.catalog.Catalog.{Catalog}
+use Rattle.ss_model.specs.declared.entry.Mode.{Mode}
 use Rattle.ss_model.specs.declared.entry.Request.{Request}
 use Rattle.ss_headline.specs.Disks.{DiskChange, disk_of}
 use Rattle.ss_headline.specs.Layers.{Opened}
 use Rattle.ss_recover.specs.declared.recovered.Recovered.{Recovered}
-use Rattle.ss_recover.specs.Recovering.{recovered_database}
+use Rattle.ss_recover.specs.Recovering.{recovered_database, recovery_of}
 use Rattle.ss_words.specs.declared.names.Show.{Show}
 use Rattle.ss_refusals.specs.declared.status.Status.{Status}
 use Rattle.ss_refusals.specs.declared.status.Status.TheVariants.{Done, WriteFault, Disk}
@@ -36,31 +37,34 @@ HasServedCause restarts Disk w disk = RoseBy (suc restarts) disk.faults_before d
 HasServedCause restarts _ w disk = Unit {0}
 
 -- running these requests of this catalogue, over so many restarts at most
-pub record ServesTo {D : Type 0} (kind : DiskKind D) (every : Option ℕ) (limit restarts : ℕ) (printing : Printing) (catalog : Catalog) (requests : List Request) (status : Status) (w : SinkChange) (old new : D) : Type 0 where
-  pub came : ComesOver kind every limit restarts printing catalog requests status w old new
+pub record ServesTo {D : Type 0} (kind : DiskKind D) (mode : Mode) (every : Option ℕ) (limit restarts : ℕ) (printing : Printing) (catalog : Catalog)
+    (requests : List Request) (status : Status) (w : SinkChange) (old new : D) : Type 0 where
+  pub came : ComesOver kind mode every limit restarts printing catalog requests status w old new
   pub cause : HasServedCause restarts status w (disk_of kind old new)
   -- a fault that isn't told is one behind which the disk was opened again
   pub told : restarts ≡ 0 → TellsStoreFaults status w (disk_of kind old new)
   pub sink : status ≡ Done → w.faults_now ≡ w.faults_before
 
 -- running these requests of this catalogue
-pub record ComesTo (every : Option ℕ) (limit : ℕ) (printing : Printing) (catalog : Catalog) (requests : List Request) (status : Status) (w : SinkChange) (disk : DiskChange) : Type 0 where
-  pub came : CameTo every limit printing catalog requests status w disk
+pub record ComesTo (mode : Mode) (every : Option ℕ) (limit : ℕ) (printing : Printing) (catalog : Catalog) (requests : List Request) (status : Status)
+    (w : SinkChange) (disk : DiskChange) : Type 0 where
+  pub came : CameTo mode every limit printing catalog requests status w disk
   pub cause : HasStoreCause status w disk
 
 -- a recovery
-pub record RecoversTo (limit : ℕ) (status : Status) (w : SinkChange) (disk : DiskChange) : Type 0 where
-  pub came : RecoveredTo limit status w disk
+pub record RecoversTo (mode : Mode) (limit : ℕ) (status : Status) (w : SinkChange) (disk : DiskChange) : Type 0 where
+  pub came : RecoveredTo mode limit status w disk
   pub cause : HasStoreCause status w disk
 
 -- a show
-pub record ComesToShow {D : Type 0} (kind : DiskKind D) (every : Option ℕ) (limit restarts : ℕ) (show : Show) (status : Status) (w : SinkChange) (old new : D) : Type 0 where
-  pub came : ShowEnds kind every limit restarts show status w old new
+pub record ComesToShow {D : Type 0} (kind : DiskKind D) (mode : Mode) (every : Option ℕ) (limit restarts : ℕ) (show : Show) (status : Status) (w : SinkChange)
+    (old new : D) : Type 0 where
+  pub came : ShowEnds kind mode every limit restarts show status w old new
   pub cause : HasServedCause restarts status w (disk_of kind old new)
   pub told : restarts ≡ 0 → TellsStoreFaults status w (disk_of kind old new)
   pub sink : status ≡ Done → w.faults_now ≡ w.faults_before
 
--- the store was opened on this disk, or made on it
-pub record IsOpenedFor {D : Type 0} (kind : DiskKind D) (old : D) (r : Recovered D) : Type 0 where
-  pub opened : Opened r.catalog (recovered_database r) r.first (disk_of kind old r.log.disk)
-  pub was : WasOf r.catalog (disk_of kind old r.log.disk)
+-- the store was opened on this disk, or made on it, in this mode
+pub record IsOpenedFor {D : Type 0} (kind : DiskKind D) (mode : Mode) (old : D) (r : Recovered D) : Type 0 where
+  pub opened : Opened (recovery_of kind mode r) r.catalog (recovered_database r) r.first (disk_of kind old r.log.disk)
+  pub was : WasOf mode r.catalog (disk_of kind old r.log.disk)

@@ -1,6 +1,7 @@
 -- What the command `voter` promises: it runs the script of a show on the benchmark's catalogue, and prints what sums up the list.
 use Rattle.std.specs.Prelude.{◌⊎◌, ℕ, List, Option}
 use Rattle.ss_model.specs.declared.catalog.Catalog.{Catalog}
+use Rattle.ss_model.specs.declared.entry.Mode.{Mode}
 use Rattle.ss_model.specs.declared.entry.Request.{Request}
 use Rattle.ss_model.specs.Accepted.{Accepted}
 use Rattle.ss_voter.specs.Script.{vote_requests}
@@ -21,13 +22,13 @@ use Rattle.ss_top.specs.Stores.{EndsUncalled}
 abbrev pub show_requests : Show → List Request
 show_requests show = vote_requests show.seed show.votes show.clients
 
-module _ {D : Type 0} (kind : DiskKind D) (every : Option ℕ) (limit restarts : ℕ) (show : Show) where
+module _ {D : Type 0} (kind : DiskKind D) (mode : Mode) (every : Option ℕ) (limit restarts : ℕ) (show : Show) where
   -- running a show on the benchmark's catalogue has come to this
   pub record RanShow (status : Status) (w : SinkChange) (old new : D) : Type 0 where
     pub catalog : Catalog
     pub voter : IsVoter catalog
     pub accepted : Accepted catalog
-    pub came : ComesOver kind every limit restarts (Summary show.votes) catalog (show_requests show) status w old new
+    pub came : ComesOver kind mode every limit restarts (Summary show.votes) catalog (show_requests show) status w old new
 
   -- what the command voter has come to
   abbrev pub ShowEnds : Status → SinkChange → D → D → Type 0
@@ -35,5 +36,5 @@ module _ {D : Type 0} (kind : DiskKind D) (every : Option ℕ) (limit restarts :
   ShowEnds status w old new = RanShow status w old new
 
 -- where there is room for all that a show owes it is done, or there was no memory
-abbrev pub IsCompleteShow : ℕ → Show → DiskChange → Status → Type 0
-IsCompleteShow limit show disk ended = (catalog : Catalog) → IsVoter catalog → HasRoom limit catalog (show_requests show) disk → IsDoneOrShort ended
+abbrev pub IsCompleteShow : Mode → ℕ → Show → DiskChange → Status → Type 0
+IsCompleteShow mode limit show disk ended = (catalog : Catalog) → IsVoter catalog → HasRoom mode limit catalog (show_requests show) disk → IsDoneOrShort ended

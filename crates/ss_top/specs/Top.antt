@@ -5,6 +5,7 @@ use Rattle.ss_value.specs.FaultCounts.{Rose}
 use Rattle.ss_lines.specs.Causes.{TakesAtMost}
 use Rattle.ss_lines.specs.Lines.{max_input}
 use Rattle.ss_model.specs.declared.catalog.Catalog.{Catalog}
+use Rattle.ss_model.specs.declared.entry.Mode.{Mode}
 use Rattle.ss_model.specs.declared.entry.Request.{Request}
 use Rattle.ss_model.specs.Accepted.{Accepted}
 use Rattle.ss_disk.specs.Kinds.{DiskKind}
@@ -67,12 +68,12 @@ module _ {D : Type 0} (kind : DiskKind D) (old new : D) where
 
   -- there is a catalogue that is accepted, and requests, which are what the input says where its bytes are known, and running them on the
   -- disk has come to this
-  pub record RanInput (every : Option ℕ) (limit restarts : ℕ) (input : Option (List ℕ)) (status : Status) (w : SinkChange) : Type 0 where
+  pub record RanInput (mode : Mode) (every : Option ℕ) (limit restarts : ℕ) (input : Option (List ℕ)) (status : Status) (w : SinkChange) : Type 0 where
     pub catalog : Catalog
     pub requests : List Request
     pub starts : IfSome input (λ bytes. Starts bytes catalog requests)
     pub accepted : Accepted catalog
-    pub came : ComesOver kind every limit restarts InFull catalog requests status w old new
+    pub came : ComesOver kind mode every limit restarts InFull catalog requests status w old new
 
   -- the input's first refusal was written, and no call has reached the disk
   pub record RefusedInput (input : Option (List ℕ)) (w : SinkChange) : Type 0 where
@@ -80,22 +81,23 @@ module _ {D : Type 0} (kind : DiskKind D) (old new : D) where
     pub uncalled : changed.uncalled
 
   -- what the command run has come to on this input, whose bytes may not be known
-  abbrev pub RunEnds : Option ℕ → ℕ → ℕ → Option (List ℕ) → Status → SinkChange → Type 0
-  RunEnds every limit restarts input Usage w = ⊥
-  RunEnds every limit restarts input Differs w = ⊥
-  RunEnds every limit restarts input Input w = RefusedInput input w
-  RunEnds every limit restarts input ReadFault w = changed.uncalled
-  RunEnds every limit restarts input NoMemory w = EndsUncalled no_memory_text w changed ⊎ RanInput every limit restarts input NoMemory w
-  RunEnds every limit restarts input status w = RanInput every limit restarts input status w
+  abbrev pub RunEnds : Mode → Option ℕ → ℕ → ℕ → Option (List ℕ) → Status → SinkChange → Type 0
+  RunEnds mode every limit restarts input Usage w = ⊥
+  RunEnds mode every limit restarts input Differs w = ⊥
+  RunEnds mode every limit restarts input Input w = RefusedInput input w
+  RunEnds mode every limit restarts input ReadFault w = changed.uncalled
+  RunEnds mode every limit restarts input NoMemory w = EndsUncalled no_memory_text w changed ⊎ RanInput mode every limit restarts input NoMemory w
+  RunEnds mode every limit restarts input status w = RanInput mode every limit restarts input status w
 
   -- an input that starts, on a disk with room for all that is owed, ends as done or at out of memory
-  abbrev pub IsComplete : ℕ → List ℕ → Status → Type 0
-  IsComplete limit input ended = (catalog : Catalog) (requests : List Request) → Starts input catalog requests → HasRoom limit catalog requests changed → IsDoneOrShort ended
+  abbrev pub IsComplete : Mode → ℕ → List ℕ → Status → Type 0
+  IsComplete mode limit input ended =
+      (catalog : Catalog) (requests : List Request) → Starts input catalog requests → HasRoom mode limit catalog requests changed → IsDoneOrShort ended
 
   -- what the command run promises
-  pub record EndsRun (every : Option ℕ) (limit restarts : ℕ) (s : SourceChange) (w : SinkChange) (ended : Status) : Type 0 where
+  pub record EndsRun (mode : Mode) (every : Option ℕ) (limit restarts : ℕ) (s : SourceChange) (w : SinkChange) (ended : Status) : Type 0 where
     -- the headline
-    pub came : RunEnds every limit restarts s.before ended w
+    pub came : RunEnds mode every limit restarts s.before ended w
     -- the disk was opened again as often as it may be before its fault is answered
     pub used_up : UsesUp restarts ended changed
     -- how much of the source is left
@@ -104,27 +106,27 @@ module _ {D : Type 0} (kind : DiskKind D) (old new : D) where
     pub refused : SourceHeld s → IfSome s.before (λ input. ExitsAsRefused input ended)
     pub started : SourceHeld s → SinkHeld w → DiskHeld changed → IfSome s.before (λ input. ExitsAsStarted input ended)
     -- where there is room for all that is owed it is done
-    pub complete : SourceHeld s → SinkHeld w → DiskHeld changed → IfSome s.before (λ input. IsComplete limit input ended)
+    pub complete : SourceHeld s → SinkHeld w → DiskHeld changed → IfSome s.before (λ input. IsComplete mode limit input ended)
 
   -- what a run promises, with the causes of its status and what is written of it alone
-  pub record RunEndsSo (every : Option ℕ) (limit restarts : ℕ) (s : SourceChange) (w : SinkChange) (ended : Status) : Type 0 where
-    pub ends : EndsRun every limit restarts s w ended
+  pub record RunEndsSo (mode : Mode) (every : Option ℕ) (limit restarts : ℕ) (s : SourceChange) (w : SinkChange) (ended : Status) : Type 0 where
+    pub ends : EndsRun mode every limit restarts s w ended
     pub only : WritesOnly ended w
     pub cause : HasCause ended s w changed
     pub no_usage : ended ≡ Usage → ⊥
 
   -- what the command voter promises: the headline of its script, that it does all of it where there is room for it, and that it reads
   -- nothing
-  pub record EndsVoter (every : Option ℕ) (limit restarts : ℕ) (show : Show) (s : SourceChange) (w : SinkChange) (ended : Status) : Type 0 where
-    pub came : ShowEnds kind every limit restarts show ended w old new
+  pub record EndsVoter (mode : Mode) (every : Option ℕ) (limit restarts : ℕ) (show : Show) (s : SourceChange) (w : SinkChange) (ended : Status) : Type 0 where
+    pub came : ShowEnds kind mode every limit restarts show ended w old new
     pub used_up : UsesUp restarts ended changed
-    pub complete : SinkHeld w → DiskHeld changed → IsCompleteShow limit show changed ended
+    pub complete : SinkHeld w → DiskHeld changed → IsCompleteShow mode limit show changed ended
     pub unread : (s.now ≡ s.before) × (s.faults_now ≡ s.faults_before)
 
 -- what the command recover promises: the headline, that it does what is pending where there is room for it, and that it reads nothing
-pub record EndsRecover (limit : ℕ) (s : SourceChange) (w : SinkChange) (disk : DiskChange) (ended : Status) : Type 0 where
-  pub came : RecoveredTo limit ended w disk
-  pub complete : SinkHeld w → DiskHeld disk → (catalog : Catalog) → HasRoom limit catalog [] disk → IsDoneOrShort ended
+pub record EndsRecover (mode : Mode) (limit : ℕ) (s : SourceChange) (w : SinkChange) (disk : DiskChange) (ended : Status) : Type 0 where
+  pub came : RecoveredTo mode limit ended w disk
+  pub complete : SinkHeld w → DiskHeld disk → (catalog : Catalog) → HasRoom mode limit catalog [] disk → IsDoneOrShort ended
   pub unread : (s.now ≡ s.before) × (s.faults_now ≡ s.faults_before)
 
 -- what the command audit promises: the verdict of the report for the script that stands before it, or the input's first refusal; that
@@ -139,9 +141,12 @@ pub record EndsAudit (s : SourceChange) (w : SinkChange) (disk : DiskChange) (en
 pub record Ends {D : Type 0} (kind : DiskKind D) (old new : D) (limit : ℕ) (words : List (String Global)) (s : SourceChange) (w : SinkChange) (ended : Status) : Type 0 where
   -- the words alone decide whether they are a command, and which
   pub usage : (ended ≡ Usage) ↔ ¬ (IsCommand (words_of words))
-  pub run : (what : Options) → AsksFor (words_of words) (record { command = Run; options = what }) → EndsRun kind old new what.every limit what.restarts s w ended
-  pub recover : (what : Options) → AsksFor (words_of words) (record { command = Recover; options = what }) → EndsRecover limit s w (disk_of kind old new) ended
-  pub voter : (what : Options) (show : Show) → AsksFor (words_of words) (record { command = Voter show; options = what }) → EndsVoter kind old new what.every limit what.restarts show s w ended
+  pub run : (what : Options) → AsksFor (words_of words) (record { command = Run; options = what }) →
+      EndsRun kind old new what.mode what.every limit what.restarts s w ended
+  pub recover : (what : Options) → AsksFor (words_of words) (record { command = Recover; options = what }) →
+      EndsRecover what.mode limit s w (disk_of kind old new) ended
+  pub voter : (what : Options) (show : Show) → AsksFor (words_of words) (record { command = Voter show; options = what }) →
+      EndsVoter kind old new what.mode what.every limit what.restarts show s w ended
   pub audit : (what : Options) → AsksFor (words_of words) (record { command = Audit; options = what }) → EndsAudit s w (disk_of kind old new) ended
   -- where they are none nothing is read, and no call reaches the disk
   pub unread : ended ≡ Usage → (s.now ≡ s.before) × (s.faults_now ≡ s.faults_before)

@@ -1,9 +1,12 @@
 -- What each opening of a disk, with the engine on it, has come to, and where a run goes on behind a fault.
-use Rattle.std.specs.Prelude.{◌≡◌, ◌≢◌, ◌+◌, ◌-◌, ◌^◌, ◌≤◌, ℕ, zero, suc, Bool, true, false, List, drop, length, map, Option, Some, None, IfSome}
+use Rattle.std.specs.Prelude.{◌≡◌, ◌≢◌, ◌+◌, ◌-◌, ◌^◌, ◌≤◌, ◌⊎◌, ℕ, zero, suc, Bool, true, false, List, drop, length, map, Option, Some, None, IfSome}
 use Rattle.ss_model.specs.declared.catalog.Catalog.{Catalog}
+use Rattle.ss_model.specs.declared.entry.Mode.{Mode}
+use Rattle.ss_model.specs.declared.entry.Mode.TheVariants as modes
 use Rattle.ss_model.specs.declared.entry.Request.{Request}
 use Rattle.ss_model.specs.Database.{Database}
 use Rattle.ss_model.specs.Accepted.{Accepted}
+use Rattle.ss_model.specs.Recovery.{Recovery, Strong}
 use Rattle.ss_report_laws.specs.Replies.{AreAnswered, answers_of, requests_of}
 use Rattle.ss_report_laws.specs.Resuming.{NoneBehindStop, resume_at}
 use Rattle.ss_disk.specs.Kinds.{DiskKind}
@@ -16,11 +19,11 @@ use Rattle.ss_incarnations.specs.Openings.{NotOpened}
 use Rattle.ss_incarnations.specs.Reopening.{Lived}
 use Rattle.ss_incarnations.specs.Runs.{stop_over}
 use Rattle.ss_engine.specs.declared.session.run.Finished.{Finished}
-use Rattle.ss_engine.specs.Sessions.{EndsOnDisk}
+use Rattle.ss_engine.specs.Sessions.{Beginning, EndsOnDisk}
 use Rattle.ss_recover.specs.declared.error.RecoverError.{RecoverError}
 use Rattle.ss_recover.specs.declared.error.RecoverError.TheVariants as recovery
 use Rattle.ss_recover.specs.declared.recovered.Recovered.{Recovered}
-use Rattle.ss_recover.specs.Recovering.{recovered_database}
+use Rattle.ss_recover.specs.Recovering.{GoesOn, recovered_database, recovery_of}
 use Rattle.ss_resume.specs.declared.past.Past.{Past}
 use Rattle.ss_refusals.specs.declared.status.Status.{Status}
 use Rattle.ss_refusals.specs.declared.status.Status.TheVariants.{Done, Disk, NoMemory, OtherCatalog}
@@ -29,7 +32,7 @@ use Rattle.ss_refusals.specs.StoreRefusals.{HasTexts, TellsRefusal}
 use Rattle.ss_top.specs.declared.over.Turn.{Turn}
 use Rattle.ss_top.specs.declared.over.Turn.TheVariants.{Over, Short, Refused, Failed}
 use Rattle.ss_top.specs.declared.session.Printing.{Printing}
-use Rattle.ss_top.specs.Over.{CameAgain, RoseBy}
+use Rattle.ss_top.specs.Over.{CameAgain, MayRestart, RoseBy}
 use Rattle.ss_top.specs.Runs.{ReportsPast, TellsDiskFault, TellsReport}
 use Rattle.ss_top.specs.Serving.{HasServedCause, IsOpenedFor}
 use Rattle.ss_top.specs.Stores.{CameTo, WasOf}
@@ -60,7 +63,7 @@ module _ {D : Type 0} (kind : DiskKind D) (limit : ℕ) (catalog : Catalog) (req
   -- stopped because the disk has failed.
   pub record IsPast (again : ℕ) (old now : D) (past : Past) : Type 0 where
     pub db : Database
-    pub was : WasOf catalog (change old now)
+    pub was : WasOf modes.Strong catalog (change old now)
     pub last : Incarnation
     pub earlier : List Incarnation
     pub lived : Lived kind catalog db past.first last earlier old now
@@ -83,21 +86,22 @@ module _ {D : Type 0} (kind : DiskKind D) (limit : ℕ) (catalog : Catalog) (req
       (kind.faults old ≤ kind.faults now) × RoseBy (suc again) (kind.faults old) (kind.faults now) × (kind.honest → CameSoFar (suc again) old now past)
 
 -- behind so many faults of an old disk a store was opened behind this past, and the engine on it was closed
-pub record ReopensFor {D : Type 0} (kind : DiskKind D) (every : Option ℕ) (limit : ℕ) (catalog : Catalog) (requests : List Request) (past : Past) (again : ℕ) (old mid : D) (from : Database)
-    (place : ℕ) (log : CmdLog D) (finished : Finished D) : Type 0 where
+pub record ReopensFor {D : Type 0} (kind : DiskKind D) (every : Option ℕ) (limit : ℕ) (catalog : Catalog) (requests : List Request) (past : Past) (again : ℕ)
+    (old mid : D) (from : Database) (place : ℕ) (log : CmdLog D) (finished : Finished D) : Type 0 where
   pub accepted : Accepted catalog
   pub before : kind.faults old ≤ kind.faults mid
   pub rose : RoseBy (suc again) (kind.faults old) (kind.faults mid)
   pub past_is : kind.honest → IsPast kind limit catalog requests (suc again) old mid past
   pub later : kind.faults mid ≤ kind.faults log.disk
-  pub opened : kind.honest → Opened catalog from place (disk_of kind mid log.disk)
+  pub opened : kind.honest → Opened Strong catalog from place (disk_of kind mid log.disk)
   pub clients : ℕ
-  pub closed : EndsOnDisk kind every catalog from place (room_from (limit - (place - past.first)) place) clients requests (map (resume_at place) past.answers) log finished
+  pub closed : EndsOnDisk kind Strong every catalog from place (room_from (limit - (place - past.first)) place) clients requests
+      (map (resume_at place) past.answers) log finished
 
-module _ {D : Type 0} (kind : DiskKind D) (every : Option ℕ) (limit : ℕ) (printing : Printing) (catalog : Catalog) (requests : List Request) where
+module _ {D : Type 0} (kind : DiskKind D) (mode : Mode) (every : Option ℕ) (limit : ℕ) (printing : Printing) (catalog : Catalog) (requests : List Request) where
   -- a run whose disk was opened so often again and that ended with this status has come to this
   abbrev pub CameAt : ℕ → Status → SinkChange → D → D → Type 0
-  CameAt zero status w old new = CameTo every limit printing catalog requests status w (disk_of kind old new)
+  CameAt zero status w old new = CameTo mode every limit printing catalog requests status w (disk_of kind old new)
   CameAt (suc again) status w old new = CameAgain kind every limit (suc again) printing catalog requests status w old new
 
   -- and status 5 tells of one fault more, at the last opening alone; one of the sink tells that it has failed
@@ -116,38 +120,56 @@ module _ {D : Type 0} (kind : DiskKind D) (every : Option ℕ) (limit : ℕ) (pr
 
   -- ---- what is run on a store that was opened
 
-  -- the first one that could be: of the disk as it was given, or, behind so many faults, of one that is honest
+  -- the first one that could be: of the disk as it was given, or, behind so many faults, of one that is honest, as a strong store
   pub record ServesNew (last : Bool) (r : Recovered D) (turn : Turn D) : Type 0 where
-    pub once : (old : D) → IsOpenedFor kind old r → kind.faults r.log.disk ≡ kind.faults old → TurnComes zero last old turn
-    pub later : (again : ℕ) (old : D) → kind.faults old ≤ kind.faults r.log.disk → RoseBy (suc again) (kind.faults old) (kind.faults r.log.disk) →
-        (kind.honest → IsOpenedFor kind old r) → TurnComes (suc again) last old turn
+    pub once : (old : D) → IsOpenedFor kind mode old r → kind.faults r.log.disk ≡ kind.faults old → TurnComes zero last old turn
+    pub later : mode ≡ modes.Strong → (again : ℕ) (old : D) → kind.faults old ≤ kind.faults r.log.disk →
+        RoseBy (suc again) (kind.faults old) (kind.faults r.log.disk) → (kind.honest → IsOpenedFor kind modes.Strong old r) →
+        TurnComes (suc again) last old turn
 
-  -- one that was opened behind an engine that ran
+  -- one that was opened behind an engine that ran, as a strong store
   abbrev pub ServesAgain : Bool → Past → D → Recovered D → Turn D → Type 0
   ServesAgain last past mid r turn =
       (again : ℕ) (old : D) → kind.faults old ≤ kind.faults mid → RoseBy (suc again) (kind.faults old) (kind.faults mid) →
       (kind.honest → IsPast kind limit catalog requests (suc again) old mid past) → kind.faults mid ≤ kind.faults r.log.disk →
-      (kind.honest → Opened catalog (recovered_database r) r.first (disk_of kind mid r.log.disk)) → TurnComes (suc again) last old turn
+      (kind.honest → Opened Strong catalog (recovered_database r) r.first (disk_of kind mid r.log.disk)) → TurnComes (suc again) last old turn
 
   -- one whose engine was closed
   abbrev pub ClosesAgain : Bool → Past → ℕ → Finished D → Turn D → Type 0
   ClosesAgain last past place finished turn =
-      (again : ℕ) (old mid : D) (from : Database) (log : CmdLog D) → ReopensFor kind every limit catalog requests past again old mid from place log finished → TurnComes (suc again) last old turn
+      (again : ℕ) (old mid : D) (from : Database) (log : CmdLog D) → ReopensFor kind every limit catalog requests past again old mid from place log finished →
+      TurnComes (suc again) last old turn
 
 -- whichever catalogue, limit and checkpoints it was opened for
 abbrev pub ClosesEach : {D : Type 0} → DiskKind D → Printing → List Request → Bool → Past → ℕ → Finished D → Turn D → Type 0
 ClosesEach kind printing requests last past place finished turn =
-    (every : Option ℕ) (limit : ℕ) (catalog : Catalog) → ClosesAgain kind every limit printing catalog requests last past place finished turn
+    (every : Option ℕ) (limit : ℕ) (catalog : Catalog) → ClosesAgain kind modes.Strong every limit printing catalog requests last past place finished turn
 
 -- what one more opening of this disk has come to, whatever has come before
-abbrev pub ComesFrom : {D : Type 0} → DiskKind D → Option ℕ → ℕ → Printing → Catalog → List Request → Bool → D → Option Past → Turn D → Type 0
-ComesFrom {D} kind every limit printing catalog requests last disk past turn =
-    (again : ℕ) (old : D) → HasCome kind limit catalog requests again old disk past → TurnComes kind every limit printing catalog requests again last old turn
+abbrev pub ComesFrom : {D : Type 0} → DiskKind D → Mode → Option ℕ → ℕ → Printing → Catalog → List Request → Bool → D → Option Past → Turn D → Type 0
+ComesFrom {D} kind mode every limit printing catalog requests last disk past turn =
+    (again : ℕ) (old : D) → MayRestart mode again → HasCome kind limit catalog requests again old disk past →
+    TurnComes kind mode every limit printing catalog requests again last old turn
+
+-- what was recovered goes on in some mode, and where this opening isn't the last one, as a strong store
+abbrev pub GoesOnOnce : {D : Type 0} → DiskKind D → ℕ → Bool → Recovered D → Type 0
+GoesOnOnce kind parts last r = (mode : Mode) × GoesOn kind mode parts r (recovered_database r) × ((last ≡ true) ⊎ (mode ≡ modes.Strong))
+
+-- what the first opening has come to, in the mode in which it goes on
+abbrev pub ServesFirst : {D : Type 0} → DiskKind D → ℕ → Option ℕ → ℕ → Printing → List Request → Bool → Recovered D → Turn D → Type 0
+ServesFirst kind parts every limit printing requests last r turn =
+    (mode : Mode) → GoesOn kind mode parts r (recovered_database r) → ServesNew kind mode every limit printing r.catalog requests last r turn
+
+-- what was recovered goes on at this database, whichever mode the store is of, and the store is had again so
+pub record GoesOnWith {D : Type 0} (kind : DiskKind D) (parts : ℕ) (r : Recovered D) (begins : Beginning) : Type 0 where
+  pub mode : Mode
+  pub goes_on : GoesOn kind mode parts r begins.db
+  pub had_again : recovery_of kind mode r ≡ begins.recovery
 
 -- a session ran these requests, of each client from its first one here on, on what was opened
-abbrev pub RanFrom : {D : Type 0} → DiskKind D → Option ℕ → ℕ → Catalog → Database → ℕ → List Request → List ℕ → CmdLog D → Finished D → Type 0
-RanFrom kind every limit catalog db first requests starts log finished =
-    (clients : ℕ) × EndsOnDisk kind every catalog db first (room_from limit first) clients requests starts log finished
+abbrev pub RanFrom : {D : Type 0} → DiskKind D → Recovery → Option ℕ → ℕ → Catalog → Database → ℕ → List Request → List ℕ → CmdLog D → Finished D → Type 0
+RanFrom kind recovery every limit catalog db first requests starts log finished =
+    (clients : ℕ) × EndsOnDisk kind recovery every catalog db first (room_from limit first) clients requests starts log finished
 
 -- each client has an answer to each request that it made behind a past
 abbrev pub ToldFrom : {D : Type 0} → ℕ → Past → List Request → Finished D → Type 0
@@ -180,13 +202,15 @@ abbrev pub LeavesPast : {D : Type 0} → Finished D → ℕ → Turn D → Type 
 LeavesPast finished first turn = turn ≡ Failed (Some (record { list = finished.closed.list; first = first; answers = finished.closed.answers; receipted = finished.receipted })) finished.log.disk
 
 -- a run that is over has come to this, at one of its openings: at the last one alone with the disk's fault
-pub record ComesAtLast {D : Type 0} (kind : DiskKind D) (every : Option ℕ) (limit restarts : ℕ) (printing : Printing) (catalog : Catalog) (requests : List Request) (old : D) (turn : Turn D) : Type 0 where
+pub record ComesAtLast {D : Type 0} (kind : DiskKind D) (mode : Mode) (every : Option ℕ) (limit restarts : ℕ) (printing : Printing) (catalog : Catalog)
+    (requests : List Request) (old : D) (turn : Turn D) : Type 0 where
   pub again : ℕ
   pub within : again ≤ restarts
+  pub may : MayRestart mode again
   pub last : Bool
   pub at_last : last ≡ true → again ≡ restarts
   pub not_before : again ≡ restarts → last ≡ true
-  pub comes : TurnComes kind every limit printing catalog requests again last old turn
+  pub comes : TurnComes kind mode every limit printing catalog requests again last old turn
   pub over : IsOver turn
 
 -- whether a refusal is for a fault of the disk

@@ -1,19 +1,23 @@
 //! A run over the faults of its disk: one incarnation after another, each on the disk that was opened again.
+//!
+//! Only a strong store is opened again in a run. A weak one is run once.
 
-ghost use Rattle.std.specs.Prelude.{◌≡◌, ◌≤◌, ◌+◌, ◌^◌, ℕ, Some, true, length, IfSome};
+ghost use Rattle.std.specs.Prelude.{◌≡◌, ◌⊎◌, ◌≤◌, ◌+◌, ◌^◌, ℕ, None, Some, true, length, IfSome};
+ghost use Rattle.ss_model.specs.declared.entry.Mode.TheVariants.{Strong};
 ghost use Rattle.ss_model.specs.Accepted.{Accepted};
 ghost use Rattle.ss_model.specs.Database.{Database as Model};
 ghost use Rattle.ss_engine.specs.Sessions.{IsLeftOver};
 ghost use Rattle.ss_recover.specs.Recovering.{GoesOn, IsOwnCatalog, recovered_database};
 ghost use Rattle.ss_engine.specs.Clients.{AllFit};
 ghost use Rattle.ss_refusals.specs.StoreRefusals.{HasTexts};
-ghost use Rattle.ss_top.specs.Turns.{MayGoOn, ServesNew, ServesAgain, ClosesEach, ComesFrom, ToldFrom, ComesAtLast, IsOver, LeavesToGoOn, HasServed, HasTurnTexts, LeavesPast, LeavesUnopened, is_fault};
+ghost use Rattle.ss_top.specs.Over.{MayRestart};
+ghost use Rattle.ss_top.specs.Turns.{MayGoOn, GoesOnOnce, ServesFirst, ServesAgain, ClosesEach, ComesFrom, ToldFrom, ComesAtLast, IsOver, LeavesToGoOn, HasServed, HasTurnTexts, LeavesPast, LeavesUnopened, is_fault};
 
 use crate::session::{Printing, Reported, has_failed, report_past, report_session, run_recovered};
 use ss_disk::Disk;
 use ss_engine::{Closed, Finished, Gate};
 use ss_incarnations::{incarnations_go_on, opened_at_last, runs_over_restarts};
-use ss_model::{Catalog, Request, copy_catalog};
+use ss_model::{Catalog, Mode, Request, copy_catalog};
 use ss_proc::PlainRunner;
 use ss_recover::{RecoverError, Recovered, recover};
 use ss_report_laws::answers_resume;
@@ -56,7 +60,8 @@ fn failed<D: Disk + Drop>(finished: Finished<D>, first: u64) -> Turn<D>
     Turn::Failed(Some(past), log.into_disk())
 }
 
-/// Runs requests on the first store that could be opened. Where `last` says so, a fault of the disk ends the run.
+/// Runs requests on the first store that could be opened. Where `last` says so, a fault of the disk ends the run, as it always does
+/// on a weak store.
 pub(crate) fn serve_new<D: Disk + Drop + Send, G: Gate + Drop + Sync, R: Threads + Wait + Sync>(
     rt: &R,
     alloc: Global,
@@ -70,11 +75,11 @@ pub(crate) fn serve_new<D: Disk + Drop + Send, G: Gate + Drop + Sync, R: Threads
     last: bool,
 ) -> Turn<D>
     requires accepted { Accepted recovered.catalog }
-    requires goes_on { GoesOn D.kind partitions recovered (recovered_database recovered) }
+    requires goes_on { GoesOnOnce D.kind partitions last recovered }
     requires fit { AllFit recovered.catalog requests.now }
     requires partitions { (1 ≤ partitions) × (partitions ≤ 8) }
     requires every { (k : ℕ) → every ≡ Some k → 1 ≤ k }
-    ensures new { ServesNew D.kind every limit printing recovered.catalog requests.now last recovered result }
+    ensures new { ServesFirst D.kind partitions every limit printing requests.now last recovered result }
     ensures on { LeavesToGoOn requests.now result }
     ensures over { last ≡ true → IsOver result }
     ensures served { HasServed result }
@@ -155,7 +160,7 @@ fn close_again<D: Disk + Drop>(
     Turn::Over(report_session(alloc, joined, requests, first, printing))
 }
 
-/// Runs what has no answer that stays on what was recovered behind a past.
+/// Runs what has no answer that stays on what was recovered behind a past, as a strong store.
 fn serve_again<D: Disk + Drop + Send, G: Gate + Drop + Sync, R: Threads + Wait + Sync>(
     rt: &R,
     alloc: Global,
@@ -170,12 +175,12 @@ fn serve_again<D: Disk + Drop + Send, G: Gate + Drop + Sync, R: Threads + Wait +
     last: bool,
 ) -> Turn<D>
     requires accepted { Accepted recovered.catalog }
-    requires goes_on { GoesOn D.kind partitions recovered (recovered_database recovered) }
+    requires goes_on { GoesOn D.kind Strong partitions recovered (recovered_database recovered) }
     requires fit { AllFit recovered.catalog requests.now }
     requires partitions { (1 ≤ partitions) × (partitions ≤ 8) }
     requires every { (k : ℕ) → every ≡ Some k → 1 ≤ k }
     requires on { MayGoOn requests.now past }
-    ensures again { (mid : D) → ServesAgain D.kind every limit printing recovered.catalog requests.now last past mid recovered result }
+    ensures again { (mid : D) → ServesAgain D.kind Strong every limit printing recovered.catalog requests.now last past mid recovered result }
     ensures on { LeavesToGoOn requests.now result }
     ensures over { last ≡ true → IsOver result }
     ensures served { HasServed result }
@@ -240,14 +245,15 @@ fn unopened<D: Disk + Drop>(
     }
 }
 
-/// Opens the store of a catalogue, or makes one on an empty disk, and runs what the past leaves to be run. Where `last` says so, a
-/// fault of the disk ends the run.
+/// Opens the store of a catalogue in a mode, or makes one on an empty disk, and runs what the past leaves to be run. Where `last` says
+/// so, a fault of the disk ends the run. A weak store has no past, and is opened for the last time.
 fn incarnate<D: Disk + Drop + Send, G: Gate + Drop + Sync, R: Threads + Wait + Sync>(
     rt: &R,
     alloc: Global,
     disk: D,
     past: Option<Past>,
     catalog: &Catalog,
+    mode: Mode,
     requests: &Seq<Request>,
     partitions: u8,
     gate: G,
@@ -261,7 +267,8 @@ fn incarnate<D: Disk + Drop + Send, G: Gate + Drop + Sync, R: Threads + Wait + S
     requires partitions { (1 ≤ partitions) × (partitions ≤ 8) }
     requires every { (k : ℕ) → every ≡ Some k → 1 ≤ k }
     requires on { IfSome past (MayGoOn requests.now) }
-    ensures comes { ComesFrom D.kind every limit printing catalog.now requests.now last disk past result }
+    requires alone { ((last ≡ true) × (past ≡ None)) ⊎ (mode ≡ Strong) }
+    ensures comes { ComesFrom D.kind mode every limit printing catalog.now requests.now last disk past result }
     ensures on { LeavesToGoOn requests.now result }
     ensures over { last ≡ true → IsOver result }
     ensures texts { HasTurnTexts result }
@@ -274,7 +281,7 @@ fn incarnate<D: Disk + Drop + Send, G: Gate + Drop + Sync, R: Threads + Wait + S
     let Ok(copy) = copy_catalog(alloc, catalog) else {
         return Turn::Short(disk);
     };
-    match recover(alloc, &PlainRunner, disk, Some(copy), partitions) {
+    match recover(alloc, &PlainRunner, disk, Some(copy), mode, partitions) {
         Ok(recovered) => match past {
             None => serve_new(
                 rt, alloc, recovered, requests, partitions, gate, every, limit, printing, last,
@@ -293,12 +300,13 @@ fn incarnate<D: Disk + Drop + Send, G: Gate + Drop + Sync, R: Threads + Wait + S
     }
 }
 
-/// Runs requests on the store of a disk, which is opened again behind each fault of it, so many times at most.
+/// Runs requests on the store of a disk in a mode, which is opened again behind each fault of it, so many times at most.
 pub(crate) fn run_over<D: Disk + Drop + Send, G: Gate + Drop + Sync, R: Threads + Wait + Sync>(
     rt: &R,
     alloc: Global,
     disk: D,
     catalog: &Catalog,
+    mode: Mode,
     requests: &Seq<Request>,
     partitions: u8,
     gate: G,
@@ -311,15 +319,16 @@ pub(crate) fn run_over<D: Disk + Drop + Send, G: Gate + Drop + Sync, R: Threads 
     requires fit { AllFit catalog.now requests.now }
     requires partitions { (1 ≤ partitions) × (partitions ≤ 8) }
     requires every { (k : ℕ) → every ≡ Some k → 1 ≤ k }
-    ensures comes { ComesAtLast D.kind every limit restarts printing catalog.now requests.now disk result }
+    requires restarts { MayRestart mode restarts }
+    ensures comes { ComesAtLast D.kind mode every limit restarts printing catalog.now requests.now disk result }
     ensures texts { HasTurnTexts result }
 {
     let mut past = None;
     let mut left = disk;
     for _ in 0..restarts {
         match incarnate(
-            rt, alloc, left, past, catalog, requests, partitions, &gate, every, limit, printing,
-            false,
+            rt, alloc, left, past, catalog, mode, requests, partitions, &gate, every, limit,
+            printing, false,
         ) {
             Turn::Failed(so_far, failed) => {
                 past = so_far;
@@ -329,6 +338,7 @@ pub(crate) fn run_over<D: Disk + Drop + Send, G: Gate + Drop + Sync, R: Threads 
         }
     }
     incarnate(
-        rt, alloc, left, past, catalog, requests, partitions, gate, every, limit, printing, true,
+        rt, alloc, left, past, catalog, mode, requests, partitions, gate, every, limit, printing,
+        true,
     )
 }

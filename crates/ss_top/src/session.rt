@@ -9,13 +9,12 @@ ghost use Rattle.ss_model.specs.Database.{Database as Model};
 ghost use Rattle.ss_headline.specs.Disks.{disk_of};
 ghost use Rattle.ss_headline.specs.Layers.{Opened};
 ghost use Rattle.ss_headline.specs.Sentences.{room_from};
-ghost use Rattle.ss_recover.specs.Recovering.{GoesOn};
 ghost use Rattle.ss_report.specs.Readable.{HasReadableLines};
 ghost use Rattle.ss_report.specs.Reported.{IsReportOf};
 ghost use Rattle.ss_engine.specs.Clients.{AllFit, StartWithin};
-ghost use Rattle.ss_engine.specs.Sessions.{AreOfClients, IsLeftOver};
+ghost use Rattle.ss_engine.specs.Sessions.{AreOfClients, Beginning, IsLeftOver};
 ghost use Rattle.ss_top.specs.Runs.{settled_status, session_status, end_for, ReportsAs, ReportsFinished, ReportsPast, TellsFinished};
-ghost use Rattle.ss_top.specs.Turns.{RanFrom};
+ghost use Rattle.ss_top.specs.Turns.{GoesOnWith, RanFrom};
 ghost use Rattle.ss_top.specs.Told.{says_full, say_full, some_say_full};
 
 use ss_cmdlog::CmdLog;
@@ -297,8 +296,8 @@ pub(crate) fn report_past<D: Disk>(
     }
 }
 
-/// Runs requests on what was recovered, each client's from the number on that `starts` says of it, in a thread of its own, on so many
-/// partitions. A checkpoint is due from `every` entries behind the last one on, and none is made where that is none.
+/// Runs requests on what was recovered, as a store of either mode, each client's from the number on that `starts` says of it, in a
+/// thread of its own, on so many partitions. A checkpoint is due from `every` entries behind the last one on, and none is made where that is none.
 /// Hands the disk back where there was no memory to begin.
 pub(crate) fn run_recovered<D: Disk + Drop + Send, G: Gate + Drop + Sync, R: Threads + Wait + Sync>(
     rt: &R,
@@ -311,14 +310,15 @@ pub(crate) fn run_recovered<D: Disk + Drop + Send, G: Gate + Drop + Sync, R: Thr
     every: Option<u64>,
     limit: u64,
 ) -> Result<Finished<D>, D>
-    ghost db: { Model }
+    ghost begins: { Beginning }
     requires accepted { Accepted recovered.catalog }
-    requires goes_on { GoesOn D.kind partitions recovered db }
+    requires goes_on { GoesOnWith D.kind partitions recovered begins }
     requires fit { AllFit recovered.catalog requests.now }
     requires starts { StartWithin starts.now requests.now }
     requires partitions { (1 ≤ partitions) × (partitions ≤ 8) }
     requires every { (k : ℕ) → every ≡ Some k → 1 ≤ k }
-    ensures ran { IfOk result (RanFrom D.kind every limit recovered.catalog db recovered.first requests.now starts.now recovered.log) }
+    ensures ran { IfOk result (RanFrom D.kind begins.recovery every limit recovered.catalog begins.db
+        recovered.first requests.now starts.now recovered.log) }
     ensures unstarted { IfErr result (λ disk. disk ≡ recovered.log.disk) }
 {
     let clients = client_count(requests.as_slice());

@@ -5,6 +5,7 @@ ghost use Rattle.ss_headline.specs.Disks.{disk_of};
 ghost use Rattle.ss_recover.specs.Recovering.{IsOwnCatalog};
 ghost use Rattle.ss_engine.specs.Clients.{AllFit};
 ghost use Rattle.ss_refusals.specs.Sinks.{sink_of};
+ghost use Rattle.ss_top.specs.Over.{MayRestart};
 ghost use Rattle.ss_top.specs.Runs.{TellsReport};
 ghost use Rattle.ss_top.specs.Serving.{RecoversTo, ServesTo, TellsStoreFaults};
 ghost use Rattle.ss_top.specs.Turns.{HasTurnTexts, IsOver, TellsTurn, disk_left};
@@ -14,7 +15,7 @@ use crate::session::{Printing, Reported};
 use ss_disk::Disk;
 use ss_engine::Gate;
 use ss_lines::{Sink, write_all};
-use ss_model::{Catalog, Request};
+use ss_model::{Catalog, Mode, Request};
 use ss_proc::PlainRunner;
 use ss_recover::recover;
 use ss_refusals::{NO_MEMORY, Status, refuse_store, write_line, write_whole};
@@ -58,8 +59,8 @@ fn write_turn<K: Sink, D: Disk>(alloc: Global, sink: &mut K, turn: Turn<D>) -> (
     }
 }
 
-/// Opens the store of a catalogue, or makes one on an empty disk, runs requests on it, and writes the report. Behind a fault of the
-/// disk it is opened again, so often at most.
+/// Opens the store of a catalogue in a mode, or makes one on an empty disk, runs requests on it, and writes the report. Behind a fault
+/// of the disk a strong store is opened again, so often at most.
 pub(crate) fn run_on_store<
     K: Sink,
     D: Disk + Drop + Send,
@@ -71,6 +72,7 @@ pub(crate) fn run_on_store<
     sink: &mut K,
     disk: D,
     catalog: &Catalog,
+    mode: Mode,
     requests: &Seq<Request>,
     partitions: u8,
     gate: G,
@@ -83,32 +85,43 @@ pub(crate) fn run_on_store<
     requires fit { AllFit catalog.now requests.now }
     requires partitions { (1 ≤ partitions) × (partitions ≤ 8) }
     requires every { (k : ℕ) → every ≡ Some k → 1 ≤ k }
-    ensures came { ServesTo D.kind every limit restarts printing catalog.now requests.now result.0 (sink_of K.kind sink.old sink.new) disk result.1 }
+    requires restarts { MayRestart mode restarts }
+    ensures came { ServesTo D.kind mode every limit restarts printing catalog.now requests.now result.0 (sink_of K.kind sink.old sink.new) disk result.1 }
     ensures counts { (K.kind.faults sink.old ≤ K.kind.faults sink.new) × (D.kind.faults disk ≤ D.kind.faults result.1) }
 {
     let turn = run_over(
-        rt, alloc, disk, catalog, requests, partitions, gate, every, limit, printing, restarts,
+        rt, alloc, disk, catalog, mode, requests, partitions, gate, every, limit, printing,
+        restarts,
     );
     write_turn(alloc, sink, turn)
 }
 
-/// Opens the store of a disk, runs what is pending on it, and writes the report; of an empty disk it reports that there is
-/// nothing.
+/// Opens the store of a disk in a mode, runs what is pending on it, and writes the report; of an empty disk it reports that there
+/// is nothing.
 pub(crate) fn recover_store<
     K: Sink,
     D: Disk + Drop + Send,
     G: Gate + Drop + Sync,
     R: Threads + Wait + Sync,
->(rt: &R, alloc: Global, sink: &mut K, disk: D, partitions: u8, gate: G, limit: u64) -> (Status, D)
+>(
+    rt: &R,
+    alloc: Global,
+    sink: &mut K,
+    disk: D,
+    mode: Mode,
+    partitions: u8,
+    gate: G,
+    limit: u64,
+) -> (Status, D)
     requires partitions { (1 ≤ partitions) × (partitions ≤ 8) }
-    ensures came { RecoversTo limit result.0
+    ensures came { RecoversTo mode limit result.0
         (sink_of K.kind sink.old sink.new)
         (disk_of D.kind disk result.1) }
     ensures told { TellsStoreFaults result.0 (sink_of K.kind sink.old sink.new) (disk_of D.kind disk result.1) }
     ensures counts { (K.kind.faults sink.old ≤ K.kind.faults sink.new) × (D.kind.faults disk ≤ D.kind.faults result.1) }
 {
     let requests = Seq::new(alloc);
-    match recover(alloc, &PlainRunner, disk, None, partitions) {
+    match recover(alloc, &PlainRunner, disk, None, mode, partitions) {
         Ok(recovered) => {
             let turn = serve_new(
                 rt,

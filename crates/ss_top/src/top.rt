@@ -5,6 +5,7 @@ ghost use Rattle.ss_lines.specs.Causes.{TakesAtMost};
 ghost use Rattle.ss_lines.specs.Lines.{max_input};
 ghost use Rattle.ss_headline.specs.Disks.{disk_of};
 ghost use Rattle.ss_refusals.specs.Sinks.{source_of, sink_of, TellsSourceFault};
+ghost use Rattle.ss_top.specs.Over.{MayRestart};
 ghost use Rattle.ss_top.specs.Serving.{ComesToShow, TellsStoreFaults};
 ghost use Rattle.ss_top.specs.Top.{Ends, RunEndsSo, most_entries};
 
@@ -16,6 +17,7 @@ use ss_catalog::a_value_has_one_answer;
 use ss_disk::Disk;
 use ss_engine::Gate;
 use ss_lines::{Sink, Source};
+use ss_model::Mode;
 use ss_recover::a_disk_has_one_fault;
 use ss_refusals::{
     NO_MEMORY, ParsedInput, Status, USAGE, an_input_has_one_answer, read_input, refuse, write_line,
@@ -35,6 +37,7 @@ fn run<S: Source, K: Sink, D: Disk + Drop + Send, G: Gate + Drop + Sync, R: Thre
     source: &mut S,
     sink: &mut K,
     disk: D,
+    mode: Mode,
     partitions: u8,
     gate: G,
     every: Option<u64>,
@@ -43,7 +46,9 @@ fn run<S: Source, K: Sink, D: Disk + Drop + Send, G: Gate + Drop + Sync, R: Thre
 ) -> (Status, D)
     requires partitions { (1 ≤ partitions) × (partitions ≤ 8) }
     requires every { (k : ℕ) → every ≡ Some k → 1 ≤ k }
-    ensures ends { RunEndsSo D.kind disk result.1 every limit restarts (source_of S.kind source.old source.new) (sink_of K.kind sink.old sink.new) result.0 }
+    requires restarts { MayRestart mode restarts }
+    ensures ends { RunEndsSo D.kind disk result.1 mode every limit restarts
+        (source_of S.kind source.old source.new) (sink_of K.kind sink.old sink.new) result.0 }
     ensures source { TellsSourceFault result.0 (S.kind.faults source.old) (S.kind.faults source.new) }
     ensures told { restarts ≡ 0 → TellsStoreFaults result.0 (sink_of K.kind sink.old sink.new) (disk_of D.kind disk result.1) }
     ensures sink { result.0 ≡ Status.Done → K.kind.faults sink.new ≡ K.kind.faults sink.old }
@@ -61,6 +66,7 @@ fn run<S: Source, K: Sink, D: Disk + Drop + Send, G: Gate + Drop + Sync, R: Thre
             sink,
             disk,
             &catalog,
+            mode,
             &requests,
             partitions,
             gate,
@@ -80,6 +86,7 @@ fn voter<K: Sink, D: Disk + Drop + Send, G: Gate + Drop + Sync, R: Threads + Wai
     sink: &mut K,
     disk: D,
     show: &Show,
+    mode: Mode,
     partitions: u8,
     gate: G,
     every: Option<u64>,
@@ -88,9 +95,10 @@ fn voter<K: Sink, D: Disk + Drop + Send, G: Gate + Drop + Sync, R: Threads + Wai
 ) -> (Status, D)
     requires partitions { (1 ≤ partitions) × (partitions ≤ 8) }
     requires every { (k : ℕ) → every ≡ Some k → 1 ≤ k }
+    requires restarts { MayRestart mode restarts }
     requires few { show.now.votes ≤ 200000 }
     requires clients { (1 ≤ show.now.clients) × (show.now.clients ≤ 8) }
-    ensures came { ComesToShow D.kind every limit restarts show.now result.0 (sink_of K.kind sink.old sink.new) disk result.1 }
+    ensures came { ComesToShow D.kind mode every limit restarts show.now result.0 (sink_of K.kind sink.old sink.new) disk result.1 }
     ensures counts { (K.kind.faults sink.old ≤ K.kind.faults sink.new) × (D.kind.faults disk ≤ D.kind.faults result.1) }
 {
     let Ok(ParsedInput { catalog, requests }) = show_input(alloc, show) else {
@@ -99,7 +107,7 @@ fn voter<K: Sink, D: Disk + Drop + Send, G: Gate + Drop + Sync, R: Threads + Wai
     };
     let printing = Printing::Summary { votes: show.votes };
     run_on_store(
-        rt, alloc, sink, disk, &catalog, &requests, partitions, gate, every, limit, restarts,
+        rt, alloc, sink, disk, &catalog, mode, &requests, partitions, gate, every, limit, restarts,
         printing,
     )
 }
@@ -107,6 +115,9 @@ fn voter<K: Sink, D: Disk + Drop + Send, G: Gate + Drop + Sync, R: Threads + Wai
 /// Does all that the program does, on the store that a disk holds: for the command `run` it reads a catalogue and requests from the
 /// source, runs them behind what the store has, and reports; for `recover` it runs what is pending there, and reports; for `voter`
 /// it runs the script of a show, and sums it up. A session's list has at most `limit` entries.
+///
+/// The options say in which mode the store is kept and had again, strong or weak; a store of the other mode is refused. Behind a fault
+/// of the disk only a strong store is opened again.
 ///
 /// As many clients as ask run at the same time, and a thread for each partition; a receipt is asked for once in 16 answers of a
 /// client, and one flush writes what all of them wait for. Costs time linear in the bytes of the input, of the store and of the
@@ -139,17 +150,18 @@ pub fn sstore_limited<
     };
     let Options {
         partitions,
+        mode,
         every,
         restarts,
     } = options;
     match command {
         Command::Run => run(
-            rt, alloc, source, sink, disk, partitions, gate, every, limit, restarts,
+            rt, alloc, source, sink, disk, mode, partitions, gate, every, limit, restarts,
         ),
         Command::Audit => (audit_input(alloc, source, sink), disk),
-        Command::Recover => recover_store(rt, alloc, sink, disk, partitions, gate, limit),
+        Command::Recover => recover_store(rt, alloc, sink, disk, mode, partitions, gate, limit),
         Command::Voter(show) => voter(
-            rt, alloc, sink, disk, &show, partitions, gate, every, limit, restarts,
+            rt, alloc, sink, disk, &show, mode, partitions, gate, every, limit, restarts,
         ),
     }
 }

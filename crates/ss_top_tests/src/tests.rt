@@ -7,6 +7,7 @@ mod gates;
 mod restarts;
 mod scripts;
 mod stores;
+mod weak;
 
 use ss_disk::MemoryDisk;
 use ss_engine::{Gate, NoGate};

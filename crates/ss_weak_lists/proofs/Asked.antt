@@ -14,7 +14,7 @@ use Rattle.ss_model.specs.Database.{Database, Applied, apply, fits_entry, Applie
 use Rattle.ss_model.specs.Replays.{Replays, database_after}
 use Rattle.ss_model.specs.Report.{is_step}
 use Rattle.ss_model.specs.Settled.{IsAskable}
-use Rattle.ss_weak_lists.specs.Asked.{listed_entries, asked_of, pushes_among}
+use Rattle.ss_model.specs.Asked.{listed_entries, asked_of, pushes_among}
 
 -- of one list behind another they are those of the one and of the other
 pub asked_append : (one other : List Entry) → asked_of (one ++ other) ≡ asked_of one ++ asked_of other

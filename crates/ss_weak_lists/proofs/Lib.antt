@@ -3,4 +3,5 @@ pub mod Asked
 pub mod Pushes
 pub mod WeakLists
 pub mod Recovered
+pub mod Stops
 pub mod worked

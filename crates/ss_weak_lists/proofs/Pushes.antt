@@ -13,7 +13,8 @@ use Rattle.ss_model.specs.declared.entry.Outcome.{Outcome}
 use Rattle.ss_model.specs.declared.entry.Outcome.TheVariants.{Done, Duplicate, Gap}
 use Rattle.ss_model.specs.Database.{Database, NextNumbers, Applied, apply, apply_call, apply_step, call_fits, push_fits, is_ready, only_when, next_number, numbered_push, accept_batch, run_procedure, stepped_on, input_batches}
 use Rattle.ss_model.specs.Replays.{Replays, database_after, entry_outcome, after}
-use Rattle.ss_weak_lists.specs.Asked.{listed_entries, pushes_among, pushes_of, SamePushes}
+use Rattle.ss_model.specs.Asked.{listed_entries, pushes_among, pushes_of}
+use Rattle.ss_weak_lists.specs.Pushes.{SamePushes}
 
 -- ---- pushes by the next numbers alone
 

@@ -9,7 +9,7 @@ use Rattle.ss_model.specs.Orders.{ReplaysHaveOrders}
 use Rattle.ss_model.specs.Replays.{Replays}
 use Rattle.ss_model.specs.Settled.{WeakListsExist}
 use Rattle.ss_model.specs.Settling.{Drained, after_entries, IsWeakList}
-use Rattle.ss_weak_lists.specs.Asked.{listed_entries, asked_of, pushes_among}
+use Rattle.ss_model.specs.Asked.{listed_entries, asked_of, pushes_among}
 use Rattle.ss_weak_lists.specs.WeakLists.{RecoversWeakly}
 use Rattle.ss_weak_lists.proofs.Asked.{askable, asked_are, pushes_asked}
 use Rattle.ss_weak_lists.proofs.Pushes.{same_pushes}

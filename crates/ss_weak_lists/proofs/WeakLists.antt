@@ -13,7 +13,7 @@ use Rattle.ss_model.specs.Orders.{procedure_has}
 use Rattle.ss_model.specs.Replays.{database_after, after}
 use Rattle.ss_model.specs.Settling.{Settles, after_entries, IsWeakList, kept, KeptCarries, next_settled, lower_rank, procedure_numbers, is_ready_now}
 use Rattle.ss_model_kept.proofs.CallerLemmas.{from_kept}
-use Rattle.ss_weak_lists.specs.Asked.{listed_entries, asked_of}
+use Rattle.ss_model.specs.Asked.{listed_entries, asked_of}
 use Rattle.ss_weak_lists.specs.WeakLists.{WeakCarried}
 use Rattle.ss_weak_lists.proofs.Asked.{asked_append, one_asked}
 

@@ -1,2 +1,3 @@
-pub mod Asked
+pub mod Pushes
+pub mod Stops
 pub mod WeakLists

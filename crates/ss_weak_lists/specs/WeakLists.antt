@@ -11,7 +11,7 @@ use Rattle.ss_model.specs.InStep.{IsInStep}
 use Rattle.ss_model.specs.Orders.{Orders}
 use Rattle.ss_model.specs.Replays.{Replays, database_after, after}
 use Rattle.ss_model.specs.Settling.{Drained, Settles, after_entries, IsWeakList, kept}
-use Rattle.ss_weak_lists.specs.Asked.{listed_entries, asked_of, pushes_of}
+use Rattle.ss_model.specs.Asked.{listed_entries, asked_of, pushes_of}
 
 -- law: of calls and pushes a weak list holds just these, in their order
 abbrev pub WeakListsHoldAsked : Type 0

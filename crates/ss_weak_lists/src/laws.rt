@@ -1,9 +1,12 @@
 //! What holds of weak lists, and of the pushes in them.
 
-ghost use Rattle.ss_weak_lists.specs.Asked.{PushesNeedNumbers};
+ghost use Rattle.ss_weak_lists.specs.Pushes.{PushesNeedNumbers};
+ghost use Rattle.ss_weak_lists.specs.Stops.{LoopsPassLast, WeakStopsOnce};
 ghost use Rattle.ss_weak_lists.specs.WeakLists.{KeptCarriesWeak, RunsRecoverWeakly, WeakListsGrow, WeakListsHoldAsked};
 
-use ss_model_laws::{applied_fits, kept_carries, replays_have_orders, weak_lists_exist};
+use ss_model_laws::{
+    applied_fits, kept_carries, replays_have_orders, settling_terminates, weak_lists_exist,
+};
 
 /// What pushes come to, whether accepted, duplicates or gaps, depends on the next numbers and on the pushes before them
 /// alone: in two lists that replay, from the same next numbers and with the same pushes in the same order, the pushes have
@@ -39,3 +42,17 @@ pub fn runs_recover_weakly()
     replays_have_orders();
     weak_lists_exist();
 }
+
+/// Where steps of settling have all places that are left, and there is a next one, settling passes the last place. So whoever
+/// settles step by step need not look ahead: it stops where it has no place for a step.
+pub fn loops_pass_last()
+    ensures { LoopsPassLast }
+{
+    settling_terminates();
+}
+
+/// Entries replay weakly, or stop at one of them, or settling what is before them passes the last place, and never two of
+/// these; nor do they stop at two of them.
+pub fn weak_stops_once()
+    ensures { WeakStopsOnce }
+{}

@@ -5,8 +5,10 @@
 //! them with a settling behind it. Other than a list that is logged whole, it may have its steps elsewhere than the run
 //! had them, and its calls may come to something else. These laws say what stays all the same.
 //!
-//! - `specs/Asked`: what clients asked for among entries (`asked_of`), the pushes of a list, and what these need
+//! - `specs/Pushes`: what the pushes of a list come to, and what this depends on. What clients asked for among entries
+//!   (`asked_of`) is a word of `ss_model`
 //! - `specs/WeakLists`: what a weak list holds, how it grows, and what a run is recovered to (`RecoversWeakly`)
+//! - `specs/Stops`: where a weak replay stops, since no execution has a place from 2^60 on (`StopsBehind`, `PassesLast`)
 //! - `laws`: that this is so. Each is the contract of a function that does nothing; `proofs/worked` meets their premises
 //!
 //! # Choices
@@ -15,7 +17,8 @@
 //!   opens a store asks for all of them, of one list.
 //! - What a push comes to is told by its source's next number, which no call and no step changes. So the law of pushes is of
 //!   any two lists with the same ones, of which a weak list may be one; nothing in it needs settling or ranks.
-//! - `specs/Asked` has its own `listed_entries`, as `ss_standing` has one, which stands above.
+//! - A weak replay is said to stop at an entry also where the steps behind it would pass the last place, because an entry and
+//!   its steps are one unit of recovery: without them the list isn't the weak one of the entries so far.
 //! - What a weak list begins at is a whole database, of which an image keeps less; `KeptCarriesWeak` says that it doesn't
 //!   matter which one is named.
 #![tactic(auto)]
@@ -23,6 +26,6 @@
 mod laws;
 
 pub use laws::{
-    kept_carries_weak, pushes_need_numbers, runs_recover_weakly, weak_lists_grow,
-    weak_lists_hold_asked,
+    kept_carries_weak, loops_pass_last, pushes_need_numbers, runs_recover_weakly, weak_lists_grow,
+    weak_lists_hold_asked, weak_stops_once,
 };

@@ -1,16 +1,17 @@
 -- What a command asks for is one thing, and within its ranges.
-use Rattle.std.proofs.Common.{◌≡◌, ◌≤◌, ◌==◌, [], ◌∷◌, ◌∙◌, List, ℕ, codes, Bool, true, false, true≢false, cond, Option, Some, None, unwrap_or, refl, sym, ap, ap₂, subst, arith, leb-true}
+use Rattle.std.proofs.Common.{◌≡◌, ◌≤◌, ◌==◌, [], ◌∷◌, ◌∙◌, List, ℕ, codes, Bool, true, false, true≢false, cond, Option, Some, None, unwrap_or, inl, inr, refl, sym, ap, ap₂, subst, arith, leb-true}
 use Rattle.std.specs.List.{AllByRecursion}
 use Rattle.std.specs.Str.Parse.{digits_value}
 use Rattle.std.proofs.lemmas.Bool.{and_parts}
 use Rattle.ss_lemmas.proofs.Bools.{some_same}
+use Rattle.ss_model.specs.declared.entry.Mode.{Mode}
 use Rattle.ss_words.specs.declared.names.OptionName.{OptionName}
 use Rattle.ss_words.specs.declared.names.OptionName.TheVariants.{Partitions, Recovery, Seed, Votes, Clients, Checkpoint, Restarts}
 use Rattle.ss_words.specs.declared.names.Command.{Command}
 use Rattle.ss_words.specs.declared.names.Command.TheVariants.{Run, Recover, Audit, Voter}
 use Rattle.ss_words.specs.declared.names.Show.{Show}
 use Rattle.ss_words.specs.declared.command.CommandLine.{CommandLine}
-use Rattle.ss_words.specs.Words.{Asked, asked, fits, is_named, is_number_within, AreOptions, IsCommand, IsMadeFrom, IsShowAsked, AsksFor, command_word, number_asked, partitions_asked, restarts_asked}
+use Rattle.ss_words.specs.Words.{Asked, asked, fits, is_named, is_number_within, AreOptions, IsCommand, IsMadeFrom, IsShowAsked, AsksFor, GoTogether, command_word, mode_asked, number_asked, partitions_asked, restarts_asked}
 use Rattle.ss_words.proofs.Reading.{one_spelling}
 
 pub asks_is_command : (words : List (List ℕ)) (line : CommandLine) → AsksFor words line → IsCommand words
@@ -61,13 +62,15 @@ asks_for_one words line other h k =
     let first : command_word line.command ≡ command_word other.command = cc in
     let same = one_spelling h.rest k.asks.options h.asks.options (subst (λ w. AreOptions w k.asks.options) behind k.asks.are.are).spelled h.asks.are.are.spelled in
     let partitions : line.options.partitions ≡ other.options.partitions = h.asks.partitions ∙ ap partitions_asked (sym same) ∙ sym k.asks.partitions in
+    let mode : line.options.mode ≡ other.options.mode = h.asks.mode ∙ ap mode_asked (sym same) ∙ sym k.asks.mode in
     let every : line.options.every ≡ other.options.every = h.asks.every ∙ ap (number_asked Checkpoint) (sym same) ∙ sym k.asks.every in
     let restarts : line.options.restarts ≡ other.options.restarts = h.asks.restarts ∙ ap restarts_asked (sym same) ∙ sym k.asks.restarts in
     let command = same_command line.command other.command h.asks.options first h.asks.show (subst (IsMadeFrom other.command) same k.asks.show) in
-    let of : Command → ℕ → Option ℕ → ℕ → CommandLine = λ c n o r. record { command = c; options = record { partitions = n; every = o; restarts = r } } in
-    let both : of line.command line.options.partitions ≡ of other.command other.options.partitions = ap₂ of command partitions in
-    let three : of line.command line.options.partitions line.options.every ≡ of other.command other.options.partitions other.options.every = ap₂ (λ (f : Option ℕ → ℕ → CommandLine) (o : Option ℕ). f o) both every in
-    ap₂ (λ (f : ℕ → CommandLine) (r : ℕ). f r) three restarts
+    let of : Command → ℕ → Mode → Option ℕ → ℕ → CommandLine = λ c n m o r. record { command = c; options = record { partitions = n; mode = m; every = o; restarts = r } } in
+    let two : of line.command line.options.partitions ≡ of other.command other.options.partitions = ap₂ of command partitions in
+    let three : of line.command line.options.partitions line.options.mode ≡ of other.command other.options.partitions other.options.mode = ap₂ (λ (f : Mode → Option ℕ → ℕ → CommandLine) (m : Mode). f m) two mode in
+    let four : of line.command line.options.partitions line.options.mode line.options.every ≡ of other.command other.options.partitions other.options.mode other.options.every = ap₂ (λ (f : Option ℕ → ℕ → CommandLine) (o : Option ℕ). f o) three every in
+    ap₂ (λ (f : ℕ → CommandLine) (r : ℕ). f r) four restarts
 
 -- ---- within its ranges
 
@@ -123,6 +126,14 @@ pub restarts_are_few : (words : List (List ℕ)) (line : CommandLine) → AsksFo
 restarts_are_few words line h =
     let few = or_else 0 16 0 (omega arith, omega arith) (number_asked Restarts h.asks.options) (number_fits Restarts 0 16 (λ value fit. fit) h.asks.options h.asks.are.are.fit) in
     (subst (IsWithin 0 16) (sym h.asks.restarts) few).1
+
+-- a run over restarts is strong
+pub restarts_are_strong : (words : List (List ℕ)) (line : CommandLine) → AsksFor words line → GoTogether line.options.restarts line.options.mode
+restarts_are_strong words line h = by h.asks.are.go_together
+  where
+    by : GoTogether (restarts_asked h.asks.options) (mode_asked h.asks.options) → GoTogether line.options.restarts line.options.mode
+    by (inl none) = inl (h.asks.restarts ∙ none)
+    by (inr strong) = inr (h.asks.mode ∙ strong)
 
 pub show_is_small : (words : List (List ℕ)) (line : CommandLine) (show : Show) → line.command ≡ Voter show → AsksFor words line
     → (show.seed ≤ 9999999) × (1 ≤ show.votes) × (show.votes ≤ 200000) × (1 ≤ show.clients) × (show.clients ≤ 8)

@@ -1,10 +1,11 @@
 -- The options of a command are those that were found for it.
 use Rattle.std.specs.declared.alloc.Global.{Global}
-use Rattle.std.proofs.Common.{◌≡◌, ◌∙◌, ◌||◌, String, string_bytes, List, [], ◌∷◌, ℕ, Bool, true, false, Option, Some, None, is_some, unwrap_or, if◌then◌else◌, refl, sym, ap, subst}
+use Rattle.std.proofs.Common.{◌≡◌, ◌∙◌, ◌||◌, String, string_bytes, List, [], ◌∷◌, ℕ, Bool, true, false, Option, Some, None, is_some, unwrap_or, if◌then◌else◌, inl, inr, refl, sym, ap, subst}
 use Rattle.std.specs.List.{AllByRecursion, list_any}
 use Rattle.std.specs.Str.Parse.{digits_value}
 use Rattle.std.proofs.lemmas.Bool.{or_parts, or_from}
 use Rattle.ss_lemmas.proofs.EachOf.{all_with, all_such, all_three, none_passes}
+use Rattle.ss_model.specs.declared.entry.Mode.TheVariants.{Strong}
 use Rattle.ss_words.specs.declared.names.OptionName.{OptionName}
 use Rattle.ss_words.specs.declared.names.OptionName.TheVariants.{Partitions, Recovery, Seed, Votes, Clients, Checkpoint, Restarts}
 use Rattle.ss_words.specs.declared.names.Command.{Command}
@@ -12,7 +13,7 @@ use Rattle.ss_words.specs.declared.names.Command.TheVariants.{Run, Recover, Audi
 use Rattle.ss_words.specs.declared.names.Show.{Show}
 use Rattle.ss_words.specs.declared.command.CommandLine.{CommandLine}
 use Rattle.ss_words.specs.declared.found.Found.{Found}
-use Rattle.ss_words.specs.Words.{Asked, asked, is_named, is_among, belongs, number_asked, command_word, IsMadeFrom, AreOptionsOf, IsCommand, AsksFor, words_of}
+use Rattle.ss_words.specs.Words.{Asked, asked, is_named, is_among, belongs, number_asked, recovery_asked, restarts_asked, mode_said, mode_asked, GoTogether, command_word, IsMadeFrom, AreOptionsOf, IsCommand, AsksFor, words_of}
 use Rattle.ss_words.specs.Found.{HaveFound, HasWhatItNeeds, Suits, is_any, is_for_run, is_for_show}
 use Rattle.ss_words.proofs.Reading.{one_spelling}
 
@@ -24,6 +25,15 @@ asked_is name (option ∷ others) = by (is_named name option) (asked_is name oth
   where
     by : (b : Bool) → is_some (number_asked name others) ≡ is_among others name
         → is_some (if b then Some (digits_value 10 option.value) else number_asked name others) ≡ b || is_among others name
+    by true e = refl
+    by false e = e
+
+recovery_there : (options : List Asked) → is_some (recovery_asked options) ≡ is_among options Recovery
+recovery_there [] = refl
+recovery_there (option ∷ others) = by (is_named Recovery option) (recovery_there others)
+  where
+    by : (b : Bool) → is_some (recovery_asked others) ≡ is_among others Recovery
+        → is_some (if b then Some (mode_said option.value) else recovery_asked others) ≡ b || is_among others Recovery
     by true e = refl
     by false e = e
 
@@ -127,6 +137,9 @@ module _ (words : List (List ℕ)) (found : Found) (h : HaveFound words found) w
   every_is : is_some found.every ≡ is_among h.options Checkpoint
   every_is = ap (λ o. is_some o) h.every ∙ asked_is Checkpoint h.options
 
+  recovery_is : is_some found.recovery ≡ is_among h.options Recovery
+  recovery_is = ap (λ o. is_some o) h.recovery ∙ recovery_there h.options
+
   restarts_is : is_some found.restarts ≡ is_among h.options Restarts
   restarts_is = ap (λ o. is_some o) h.restarts ∙ asked_is Restarts h.options
 
@@ -134,17 +147,17 @@ module _ (words : List (List ℕ)) (found : Found) (h : HaveFound words found) w
   nothing_there : is_any found ≡ false → h.options ≡ []
   nothing_there e = none_there h.options each
     where
-      both : (is_some found.partitions || found.recovery || is_for_run found ≡ false) × (is_for_show found ≡ false)
-      both = or_parts (is_some found.partitions || found.recovery || is_for_run found) (is_for_show found) e
+      both : (is_some found.partitions || is_some found.recovery || is_for_run found ≡ false) × (is_for_show found ≡ false)
+      both = or_parts (is_some found.partitions || is_some found.recovery || is_for_run found) (is_for_show found) e
 
-      three : (is_some found.partitions || found.recovery ≡ false) × (is_for_run found ≡ false)
-      three = or_parts (is_some found.partitions || found.recovery) (is_for_run found) both.0
+      three : (is_some found.partitions || is_some found.recovery ≡ false) × (is_for_run found ≡ false)
+      three = or_parts (is_some found.partitions || is_some found.recovery) (is_for_run found) both.0
 
       run : (is_some found.every ≡ false) × (is_some found.restarts ≡ false)
       run = or_parts (is_some found.every) (is_some found.restarts) three.1
 
-      first : (is_some found.partitions ≡ false) × (found.recovery ≡ false)
-      first = or_parts (is_some found.partitions) found.recovery three.0
+      first : (is_some found.partitions ≡ false) × (is_some found.recovery ≡ false)
+      first = or_parts (is_some found.partitions) (is_some found.recovery) three.0
 
       show : (is_some found.seed || is_some found.votes ≡ false) × (is_some found.clients ≡ false)
       show = or_parts (is_some found.seed || is_some found.votes) (is_some found.clients) both.1
@@ -154,7 +167,7 @@ module _ (words : List (List ℕ)) (found : Found) (h : HaveFound words found) w
 
       each : (name : OptionName) → is_among h.options name ≡ false
       each Partitions = sym partitions_is ∙ first.0
-      each Recovery = sym h.recovery ∙ first.1
+      each Recovery = sym recovery_is ∙ first.1
       each Seed = sym seed_is ∙ numbers.0
       each Votes = sym votes_is ∙ numbers.1
       each Clients = sym clients_is ∙ show.1
@@ -165,10 +178,10 @@ module _ (words : List (List ℕ)) (found : Found) (h : HaveFound words found) w
   found_nothing e =
       let none : (name : OptionName) → is_among h.options name ≡ false = λ name. ap (λ (options : List Asked). is_among options name) e in
       let show = or_from (is_some found.seed || is_some found.votes) (is_some found.clients) (or_from (is_some found.seed) (is_some found.votes) (seed_is ∙ none Seed) (votes_is ∙ none Votes)) (clients_is ∙ none Clients) in
-      let first = or_from (is_some found.partitions) found.recovery (partitions_is ∙ none Partitions) (h.recovery ∙ none Recovery) in
+      let first = or_from (is_some found.partitions) (is_some found.recovery) (partitions_is ∙ none Partitions) (recovery_is ∙ none Recovery) in
       let run = or_from (is_some found.every) (is_some found.restarts) (every_is ∙ none Checkpoint) (restarts_is ∙ none Restarts) in
-      let three = or_from (is_some found.partitions || found.recovery) (is_for_run found) first run in
-      or_from (is_some found.partitions || found.recovery || is_for_run found) (is_for_show found) three show
+      let three = or_from (is_some found.partitions || is_some found.recovery) (is_for_run found) first run in
+      or_from (is_some found.partitions || is_some found.recovery || is_for_run found) (is_for_show found) three show
 
   -- nothing of a show was found just where each option belongs to run
   all_belong : is_for_show found ≡ false → Belong Run
@@ -206,14 +219,36 @@ module _ (words : List (List ℕ)) (found : Found) (h : HaveFound words found) w
       let none = or_from (is_some found.every) (is_some found.restarts) (every_is ∙ none_any (is_named Checkpoint) h.options every) (restarts_is ∙ none_any (is_named Restarts) h.options restarts) in
       (none, none_of_show run)
 
-  are_of : (command : Command) → HasWhatItNeeds found command → AreOptionsOf command words h.options
-  are_of Run n = record { are = h.are; belong = all_belong n; complete = tt }
-  are_of Recover n = record { are = h.are; belong = all_recover n; complete = tt }
-  are_of Audit n = record { are = h.are; belong = subst (AllByRecursion (λ option. belongs Audit option ≡ true)) (sym (nothing_there n)) tt; complete = tt }
-  are_of (Voter show) n = record {
+  -- what was found goes together just where what they ask for does
+  restarts_same : unwrap_or found.restarts 0 ≡ restarts_asked h.options
+  restarts_same = ap (λ o. unwrap_or o 0) h.restarts
+
+  mode_same : unwrap_or found.recovery Strong ≡ mode_asked h.options
+  mode_same = ap (λ o. unwrap_or o Strong) h.recovery
+
+  abbrev FoundTogether : Type 0
+  FoundTogether = GoTogether (unwrap_or found.restarts 0) (unwrap_or found.recovery Strong)
+
+  abbrev AskedTogether : Type 0
+  AskedTogether = GoTogether (restarts_asked h.options) (mode_asked h.options)
+
+  asked_together : FoundTogether → AskedTogether
+  asked_together (inl none) = inl (sym restarts_same ∙ none)
+  asked_together (inr strong) = inr (sym mode_same ∙ strong)
+
+  found_together : AskedTogether → FoundTogether
+  found_together (inl none) = inl (restarts_same ∙ none)
+  found_together (inr strong) = inr (mode_same ∙ strong)
+
+  are_of : (command : Command) → HasWhatItNeeds found command → AskedTogether → AreOptionsOf command words h.options
+  are_of Run n t = record { are = h.are; belong = all_belong n; complete = tt; go_together = t }
+  are_of Recover n t = record { are = h.are; belong = all_recover n; complete = tt; go_together = t }
+  are_of Audit n t = record { are = h.are; belong = subst (AllByRecursion (λ option. belongs Audit option ≡ true)) (sym (nothing_there n)) tt; complete = tt; go_together = t }
+  are_of (Voter show) n t = record {
     are = h.are;
     belong = all_such _ (λ option. of_voter show option.name option.value) h.options;
     complete = (sym seed_is ∙ ap (λ o. is_some o) n.seed, (sym votes_is ∙ ap (λ o. is_some o) n.votes, (sym clients_is ∙ ap (λ o. is_some o) n.clients, tt)));
+    go_together = t;
   }
 
   is_made : (command : Command) → HasWhatItNeeds found command → IsMadeFrom command h.options
@@ -254,20 +289,22 @@ module _ (all : List (List ℕ)) (word : List ℕ) (rest : List (List ℕ)) (e :
     suits_none none k =
         let b = behind k in
         let same = one_spelling rest b.1 h.options b.3.are.spelled h.are.spelled in
-        let has = has_needs rest found h b.0 (subst (AreOptionsOf b.0 rest) same b.3) in
-        none has.0 (record { named = b.2 ∙ has.1; needs = has.2 })
+        let are = subst (AreOptionsOf b.0 rest) same b.3 in
+        let has = has_needs rest found h b.0 are in
+        none has.0 (record { named = b.2 ∙ has.1; needs = has.2; go_together = found_together rest found h are.go_together })
 
-    pub suits_asks : (line : CommandLine) → Suits word found line.command → line.options.partitions ≡ unwrap_or found.partitions 1 → line.options.every ≡ found.every
+    pub suits_asks : (line : CommandLine) → Suits word found line.command → line.options.partitions ≡ unwrap_or found.partitions 1 → line.options.mode ≡ unwrap_or found.recovery Strong → line.options.every ≡ found.every
         → line.options.restarts ≡ unwrap_or found.restarts 0 → AsksFor all line
-    suits_asks line s is every restarts = record {
+    suits_asks line s is mode every restarts = record {
       rest = rest;
       begins = e ∙ ap (λ (w : List ℕ). w ∷ rest) s.named;
       asks = record {
         options = h.options;
-        are = are_of rest found h line.command s.needs;
+        are = are_of rest found h line.command s.needs (asked_together rest found h s.go_together);
         partitions = is ∙ ap (λ o. unwrap_or o 1) h.partitions;
+        mode = mode ∙ mode_same rest found h;
         every = every ∙ h.every;
-        restarts = restarts ∙ ap (λ o. unwrap_or o 0) h.restarts;
+        restarts = restarts ∙ restarts_same rest found h;
         show = is_made rest found h line.command s.needs;
       };
     }

@@ -8,10 +8,11 @@ use Rattle.std.proofs.lemmas.List.{length-map}
 use Rattle.std.proofs.lemmas.Bool.{and_parts, and_from, or_parts, or_from, not-true}
 use Rattle.ss_lemmas.proofs.Bools.{some_same}
 use Rattle.ss_lemmas.proofs.EachOf.{all_with, all_such, all_both}
+use Rattle.ss_model.specs.declared.entry.Mode.{Mode}
 use Rattle.ss_words.specs.declared.names.OptionName.{OptionName}
 use Rattle.ss_words.specs.declared.names.OptionName.TheVariants.{Partitions, Recovery, Seed, Votes, Clients, Checkpoint, Restarts}
 use Rattle.ss_words.specs.declared.found.Found.{Found}
-use Rattle.ss_words.specs.Words.{Asked, asked, is_among, is_named, StartsWith, Spells, AreOptions, AreNoOptions, number_asked, words_of}
+use Rattle.ss_words.specs.Words.{Asked, asked, is_named, mode_said, StartsWith, Spells, AreOptions, AreNoOptions, number_asked, recovery_asked, words_of}
 use Rattle.ss_words.specs.Found.{HaveFound, nothing_found, was_found, with_value, with_option, can_take}
 use Rattle.ss_words.proofs.Cuts.{one_option, starts_with_some}
 
@@ -20,9 +21,9 @@ pub record MayFollow (found : Found) (words : List (List ℕ)) (options : List A
   pub are : AreOptions words options
   pub new : AllByRecursion (λ option. was_found found option.name ≡ false) options
 
--- the numbers of what was found and of these options, of partitions, a seed, votes, clients, checkpoints and restarts, and whether recovery is among them
+-- the numbers of what was found and of these options, of partitions, a seed, votes, clients, checkpoints and restarts, and the mode of recovery
 abbrev pub Numbers : Type 0
-Numbers = Option ℕ × Option ℕ × Option ℕ × Option ℕ × Option ℕ × Option ℕ × Bool
+Numbers = Option ℕ × Option ℕ × Option ℕ × Option ℕ × Option ℕ × Option ℕ × Option Mode
 
 abbrev pub numbers_with : Found → List Asked → Numbers
 numbers_with found options = (
@@ -32,7 +33,7 @@ numbers_with found options = (
   option_or found.clients (number_asked Clients options),
   option_or found.every (number_asked Checkpoint options),
   option_or found.restarts (number_asked Restarts options),
-  found.recovery || is_among options Recovery,
+  option_or found.recovery (recovery_asked options),
 )
 
 -- an option more is a line in the first and the third of these, and two in the second
@@ -61,21 +62,13 @@ found_with found Checkpoint other value = refl
 found_with found Restarts Restarts value = refl
 found_with found Restarts other value = refl
 
-number_first : (o p : Option ℕ) → is_some o ≡ false → option_or o p ≡ p
+number_first : {X : Type 0} (o p : Option X) → is_some o ≡ false → option_or o p ≡ p
 number_first None p e = refl
 number_first (Some n) p e = absurd cc
 
-number_last : (o : Option ℕ) → option_or o None ≡ o
+number_last : {X : Type 0} (o : Option X) → option_or o None ≡ o
 number_last None = refl
 number_last (Some n) = refl
-
-either_true : (b : Bool) → (b || true) ≡ true
-either_true true = refl
-either_true false = refl
-
-either_last : (b : Bool) → (b || false) ≡ b
-either_last true = refl
-either_last false = refl
 
 module _ (found : Found) (value : List ℕ) (options : List Asked) where
   abbrev number : Option ℕ
@@ -86,7 +79,7 @@ module _ (found : Found) (value : List ℕ) (options : List Asked) where
 
   numbers_first : (name : OptionName) → was_found found name ≡ false → numbers_with found (asked name value ∷ options) ≡ numbers_with (with_value found name value) options
   numbers_first Partitions e = ap (λ (n : Option ℕ). (n, old.1, old.2, old.3, old.4, old.5, old.6)) (number_first found.partitions number e)
-  numbers_first Recovery e = ap (λ (b : Bool). (old.0, old.1, old.2, old.3, old.4, old.5, b)) (either_true found.recovery)
+  numbers_first Recovery e = ap (λ (mode : Option Mode). (old.0, old.1, old.2, old.3, old.4, old.5, mode)) (number_first found.recovery (Some (mode_said value)) e)
   numbers_first Seed e = ap (λ (n : Option ℕ). (old.0, n, old.2, old.3, old.4, old.5, old.6)) (number_first found.seed number e)
   numbers_first Votes e = ap (λ (n : Option ℕ). (old.0, old.1, n, old.3, old.4, old.5, old.6)) (number_first found.votes number e)
   numbers_first Clients e = ap (λ (n : Option ℕ). (old.0, old.1, old.2, n, old.4, old.5, old.6)) (number_first found.clients number e)
@@ -191,7 +184,7 @@ module _ (all : List (List ℕ)) (found : Found) (words : List (List ℕ)) (h : 
         clients = sym (ap (λ (n : Numbers). n.3) k.2 ∙ number_last found.clients);
         every = sym (ap (λ (n : Numbers). n.4) k.2 ∙ number_last found.every);
         restarts = sym (ap (λ (n : Numbers). n.5) k.2 ∙ number_last found.restarts);
-        recovery = sym (ap (λ (n : Numbers). n.6) k.2 ∙ either_last found.recovery);
+        recovery = sym (ap (λ (n : Numbers). n.6) k.2 ∙ number_last found.recovery);
       }
 
 -- ---- what the loop over the words has at hand

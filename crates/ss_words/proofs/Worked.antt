@@ -1,12 +1,13 @@
 -- The definition, computed at some words: what is a command, and what is none.
-use Rattle.std.proofs.Common.{◌≡◌, List, [], ◌∷◌, ℕ, true, true≢false, codes, Some, None, inl, inr, refl, sym, subst, ◌∙◌}
+use Rattle.std.proofs.Common.{◌≡◌, ◌+◌, List, [], ◌∷◌, ℕ, true, true≢false, codes, Some, None, inl, inr, refl, sym, subst, ◌∙◌, arith}
 use Rattle.std.specs.List.{AllByRecursion, IsDistinct}
 use Rattle.ss_lemmas.proofs.Bools.{some_same}
+use Rattle.ss_model.specs.declared.entry.Mode.TheVariants.{Strong, Weak}
 use Rattle.ss_words.specs.declared.names.OptionName.TheVariants.{Partitions, Recovery, Seed, Votes, Clients, Checkpoint, Restarts}
 use Rattle.ss_words.specs.declared.names.Command.{Command}
 use Rattle.ss_words.specs.declared.names.Command.TheVariants.{Run, Recover, Audit, Voter}
 use Rattle.ss_words.specs.declared.command.CommandLine.{CommandLine}
-use Rattle.ss_words.specs.Words.{Asked, asked, is_among, belongs, required, AreOptionsOf, IsCommand, AsksFor, command_word}
+use Rattle.ss_words.specs.Words.{Asked, asked, is_among, belongs, required, AreOptionsOf, IsCommand, AsksFor, GoTogether, command_word}
 use Rattle.ss_words.proofs.Asking.{audit_is_no_show}
 use Rattle.ss_words.proofs.Reading.{read, read_is}
 
@@ -17,10 +18,14 @@ abbrev voter : List (List ℕ) → List (List ℕ)
 voter words = codes "voter" ∷ words
 
 abbrev on : ℕ → CommandLine
-on partitions = record { command = Run; options = record { partitions = partitions; every = None; restarts = 0 } }
+on partitions = record { command = Run; options = record { partitions = partitions; mode = Strong; every = None; restarts = 0 } }
 
 abbrev show_of : ℕ → ℕ → ℕ → ℕ → CommandLine
-show_of partitions seed votes clients = record { command = Voter (record { seed = seed; votes = votes; clients = clients }); options = record { partitions = partitions; every = None; restarts = 0 } }
+show_of partitions seed votes clients = record { command = Voter (record { seed = seed; votes = votes; clients = clients }); options = record { partitions = partitions; mode = Strong; every = None; restarts = 0 } }
+
+-- on one partition in weak mode
+abbrev weakly : Command → CommandLine
+weakly command = record { command = command; options = record { partitions = 1; mode = Weak; every = None; restarts = 0 } }
 
 -- ---- commands
 
@@ -29,7 +34,7 @@ unfolding IsDistinct
 alone = record {
   rest = [];
   begins = refl;
-  asks = record { options = []; are = record { are = record { spelled = refl; once = tt; fit = tt }; belong = tt; complete = tt }; partitions = refl; every = refl; restarts = refl; show = tt };
+  asks = record { options = []; are = record { are = record { spelled = refl; once = tt; fit = tt }; belong = tt; complete = tt; go_together = inl refl }; partitions = refl; mode = refl; every = refl; restarts = refl; show = tt };
 }
 
 eight : AsksFor (run (codes "--partitions" ∷ codes "8" ∷ [])) (on 8)
@@ -39,8 +44,9 @@ eight = record {
   begins = refl;
   asks = record {
     options = asked Partitions (codes "8") ∷ [];
-    are = record { are = record { spelled = ([], inl (refl, refl), refl); once = (tt, tt); fit = (refl, tt) }; belong = (refl, tt); complete = tt };
+    are = record { are = record { spelled = ([], inl (refl, refl), refl); once = (tt, tt); fit = (refl, tt) }; belong = (refl, tt); complete = tt; go_together = inl refl };
     partitions = refl;
+    mode = refl;
     every = refl;
     restarts = refl;
     show = tt;
@@ -54,8 +60,9 @@ seven_digits = record {
   begins = refl;
   asks = record {
     options = asked Partitions (codes "0000007") ∷ [];
-    are = record { are = record { spelled = ([], inr refl, refl); once = (tt, tt); fit = (refl, tt) }; belong = (refl, tt); complete = tt };
+    are = record { are = record { spelled = ([], inr refl, refl); once = (tt, tt); fit = (refl, tt) }; belong = (refl, tt); complete = tt; go_together = inl refl };
     partitions = refl;
+    mode = refl;
     every = refl;
     restarts = refl;
     show = tt;
@@ -73,15 +80,17 @@ strong_first = record {
       are = record { spelled = (codes "--partitions" ∷ codes "3" ∷ [], inr refl, ([], inl (refl, refl), refl)); once = ((refl, tt), (tt, tt)); fit = (refl, (refl, tt)) };
       belong = (refl, (refl, tt));
       complete = tt;
+      go_together = inl refl;
     };
     partitions = refl;
+    mode = refl;
     every = refl;
     restarts = refl;
     show = tt;
   };
 }
 
-recovery : AsksFor (codes "recover" ∷ codes "--partitions=08" ∷ codes "--recovery" ∷ codes "strong" ∷ []) (record { command = Recover; options = record { partitions = 8; every = None; restarts = 0 } })
+recovery : AsksFor (codes "recover" ∷ codes "--partitions=08" ∷ codes "--recovery" ∷ codes "strong" ∷ []) (record { command = Recover; options = record { partitions = 8; mode = Strong; every = None; restarts = 0 } })
 unfolding IsDistinct
 recovery = record {
   rest = _;
@@ -92,20 +101,22 @@ recovery = record {
       are = record { spelled = (codes "--recovery" ∷ codes "strong" ∷ [], inr refl, ([], inl (refl, refl), refl)); once = ((refl, tt), (tt, tt)); fit = (refl, (refl, tt)) };
       belong = (refl, (refl, tt));
       complete = tt;
+      go_together = inl refl;
     };
     partitions = refl;
+    mode = refl;
     every = refl;
     restarts = refl;
     show = tt;
   };
 }
 
-an_audit : AsksFor (codes "audit" ∷ []) (record { command = Audit; options = record { partitions = 1; every = None; restarts = 0 } })
+an_audit : AsksFor (codes "audit" ∷ []) (record { command = Audit; options = record { partitions = 1; mode = Strong; every = None; restarts = 0 } })
 unfolding IsDistinct
 an_audit = record {
   rest = [];
   begins = refl;
-  asks = record { options = []; are = record { are = record { spelled = refl; once = tt; fit = tt }; belong = tt; complete = tt }; partitions = refl; every = refl; restarts = refl; show = tt };
+  asks = record { options = []; are = record { are = record { spelled = refl; once = tt; fit = tt }; belong = tt; complete = tt; go_together = inl refl }; partitions = refl; mode = refl; every = refl; restarts = refl; show = tt };
 }
 
 a_show : AsksFor (voter (codes "--seed" ∷ codes "0" ∷ codes "--votes" ∷ codes "200000" ∷ codes "--clients" ∷ codes "8" ∷ [])) (show_of 1 0 200000 8)
@@ -127,8 +138,10 @@ a_show = record {
       };
       belong = (refl, (refl, (refl, tt)));
       complete = (refl, (refl, (refl, tt)));
+      go_together = inl refl;
     };
     partitions = refl;
+    mode = refl;
     every = refl;
     restarts = refl;
     show = record { seed = refl; votes = refl; clients = refl };
@@ -154,30 +167,33 @@ show_on_two = record {
       };
       belong = (refl, (refl, (refl, (refl, tt))));
       complete = (refl, (refl, (refl, tt)));
+      go_together = inl refl;
     };
     partitions = refl;
+    mode = refl;
     every = refl;
     restarts = refl;
     show = record { seed = refl; votes = refl; clients = refl };
   };
 }
 
-checkpoints : AsksFor (run (codes "--checkpoint=1000000" ∷ [])) (record { command = Run; options = record { partitions = 1; every = Some 1000000; restarts = 0 } })
+checkpoints : AsksFor (run (codes "--checkpoint=1000000" ∷ [])) (record { command = Run; options = record { partitions = 1; mode = Strong; every = Some 1000000; restarts = 0 } })
 unfolding IsDistinct
 checkpoints = record {
   rest = _;
   begins = refl;
   asks = record {
     options = asked Checkpoint (codes "1000000") ∷ [];
-    are = record { are = record { spelled = ([], inr refl, refl); once = (tt, tt); fit = (refl, tt) }; belong = (refl, tt); complete = tt };
+    are = record { are = record { spelled = ([], inr refl, refl); once = (tt, tt); fit = (refl, tt) }; belong = (refl, tt); complete = tt; go_together = inl refl };
     partitions = refl;
+    mode = refl;
     every = refl;
     restarts = refl;
     show = tt;
   };
 }
 
-restarts : AsksFor (run (codes "--restarts" ∷ codes "16" ∷ codes "--checkpoint=5" ∷ [])) (record { command = Run; options = record { partitions = 1; every = Some 5; restarts = 16 } })
+restarts : AsksFor (run (codes "--restarts" ∷ codes "16" ∷ codes "--checkpoint=5" ∷ [])) (record { command = Run; options = record { partitions = 1; mode = Strong; every = Some 5; restarts = 16 } })
 unfolding IsDistinct
 restarts = record {
   rest = _;
@@ -188,8 +204,10 @@ restarts = record {
       are = record { spelled = (codes "--checkpoint=5" ∷ [], inl (refl, refl), ([], inr refl, refl)); once = ((refl, tt), (tt, tt)); fit = (refl, (refl, tt)) };
       belong = (refl, (refl, tt));
       complete = tt;
+      go_together = inr refl;
     };
     partitions = refl;
+    mode = refl;
     every = refl;
     restarts = refl;
     show = tt;
@@ -203,8 +221,91 @@ no_restart = record {
   begins = refl;
   asks = record {
     options = asked Restarts (codes "0") ∷ [];
-    are = record { are = record { spelled = ([], inr refl, refl); once = (tt, tt); fit = (refl, tt) }; belong = (refl, tt); complete = tt };
+    are = record { are = record { spelled = ([], inr refl, refl); once = (tt, tt); fit = (refl, tt) }; belong = (refl, tt); complete = tt; go_together = inl refl };
     partitions = refl;
+    mode = refl;
+    every = refl;
+    restarts = refl;
+    show = tt;
+  };
+}
+
+weak : AsksFor (run (codes "--recovery" ∷ codes "weak" ∷ [])) (weakly Run)
+unfolding IsDistinct
+weak = record {
+  rest = _;
+  begins = refl;
+  asks = record {
+    options = asked Recovery (codes "weak") ∷ [];
+    are = record { are = record { spelled = ([], inl (refl, refl), refl); once = (tt, tt); fit = (refl, tt) }; belong = (refl, tt); complete = tt; go_together = inl refl };
+    partitions = refl;
+    mode = refl;
+    every = refl;
+    restarts = refl;
+    show = tt;
+  };
+}
+
+weak_recovery : AsksFor (codes "recover" ∷ codes "--recovery=weak" ∷ []) (weakly Recover)
+unfolding IsDistinct
+weak_recovery = record {
+  rest = _;
+  begins = refl;
+  asks = record {
+    options = asked Recovery (codes "weak") ∷ [];
+    are = record { are = record { spelled = ([], inr refl, refl); once = (tt, tt); fit = (refl, tt) }; belong = (refl, tt); complete = tt; go_together = inl refl };
+    partitions = refl;
+    mode = refl;
+    every = refl;
+    restarts = refl;
+    show = tt;
+  };
+}
+
+weak_show : AsksFor (voter (codes "--recovery=weak" ∷ codes "--seed=1" ∷ codes "--votes=2" ∷ codes "--clients=3" ∷ [])) (weakly (Voter (record { seed = 1; votes = 2; clients = 3 })))
+unfolding IsDistinct
+weak_show = record {
+  rest = _;
+  begins = refl;
+  asks = record {
+    options = asked Recovery (codes "weak") ∷ asked Seed (codes "1") ∷ asked Votes (codes "2") ∷ asked Clients (codes "3") ∷ [];
+    are = record {
+      are = record {
+        spelled = (
+          codes "--seed=1" ∷ codes "--votes=2" ∷ codes "--clients=3" ∷ [],
+          inr refl,
+          (codes "--votes=2" ∷ codes "--clients=3" ∷ [], inr refl, (codes "--clients=3" ∷ [], inr refl, ([], inr refl, refl))),
+        );
+        once = ((refl, (refl, (refl, tt))), ((refl, (refl, tt)), ((refl, tt), (tt, tt))));
+        fit = (refl, (refl, (refl, (refl, tt))));
+      };
+      belong = (refl, (refl, (refl, (refl, tt))));
+      complete = (refl, (refl, (refl, tt)));
+      go_together = inl refl;
+    };
+    partitions = refl;
+    mode = refl;
+    every = refl;
+    restarts = refl;
+    show = record { seed = refl; votes = refl; clients = refl };
+  };
+}
+
+weak_without_restarts : AsksFor (run (codes "--restarts" ∷ codes "0" ∷ codes "--recovery" ∷ codes "weak" ∷ [])) (weakly Run)
+unfolding IsDistinct
+weak_without_restarts = record {
+  rest = _;
+  begins = refl;
+  asks = record {
+    options = asked Restarts (codes "0") ∷ asked Recovery (codes "weak") ∷ [];
+    are = record {
+      are = record { spelled = (codes "--recovery" ∷ codes "weak" ∷ [], inl (refl, refl), ([], inl (refl, refl), refl)); once = ((refl, tt), (tt, tt)); fit = (refl, (refl, tt)) };
+      belong = (refl, (refl, tt));
+      complete = tt;
+      go_together = inl refl;
+    };
+    partitions = refl;
+    mode = refl;
     every = refl;
     restarts = refl;
     show = tt;
@@ -286,8 +387,28 @@ dashes = unspelled _ _ refl
 another_word : ¬ (IsCommand (run (codes "x" ∷ [])))
 another_word = unspelled _ _ refl
 
-weak : ¬ (IsCommand (run (codes "--recovery" ∷ codes "weak" ∷ [])))
-weak = unlike _ _ (asked Recovery (codes "weak") ∷ []) refl (λ w. true≢false (sym w.2.are.fit.0))
+another_mode : ¬ (IsCommand (run (codes "--recovery" ∷ codes "none" ∷ [])))
+another_mode = unlike _ _ (asked Recovery (codes "none") ∷ []) refl (λ w. true≢false (sym w.2.are.fit.0))
+
+both_modes : ¬ (IsCommand (run (codes "--recovery=weak" ∷ codes "--recovery=strong" ∷ [])))
+unfolding IsDistinct
+both_modes = unlike _ _ (asked Recovery (codes "weak") ∷ asked Recovery (codes "strong") ∷ []) refl (λ w. true≢false w.2.are.once.0.0)
+
+-- restarts in weak mode, in either order, and of a show
+not_together : (n : ℕ) → ¬ (GoTogether (1 + n) Weak)
+not_together n (inl none) = omega (arith, none)
+not_together n (inr strong) = cc
+
+weak_with_a_restart : ¬ (IsCommand (run (codes "--restarts" ∷ codes "1" ∷ codes "--recovery" ∷ codes "weak" ∷ [])))
+weak_with_a_restart = unlike _ _ (asked Restarts (codes "1") ∷ asked Recovery (codes "weak") ∷ []) refl (λ w. not_together 0 w.2.go_together)
+
+weak_before_a_restart : ¬ (IsCommand (run (codes "--recovery=weak" ∷ codes "--restarts=1" ∷ [])))
+weak_before_a_restart = unlike _ _ (asked Recovery (codes "weak") ∷ asked Restarts (codes "1") ∷ []) refl (λ w. not_together 0 w.2.go_together)
+
+weak_show_with_restarts : ¬ (IsCommand (voter (codes "--seed=1" ∷ codes "--votes=2" ∷ codes "--clients=3" ∷ codes "--recovery=weak" ∷ codes "--restarts=16" ∷ [])))
+weak_show_with_restarts =
+    let options = asked Seed (codes "1") ∷ asked Votes (codes "2") ∷ asked Clients (codes "3") ∷ asked Recovery (codes "weak") ∷ asked Restarts (codes "16") ∷ [] in
+    unlike _ _ options refl (λ w. not_together 15 w.2.go_together)
 
 -- an option of a show behind another command
 seed_of_run : ¬ (IsCommand (run (codes "--seed=1" ∷ [])))

@@ -1,9 +1,11 @@
 -- Which words of a command line are a command, and what its options ask for.
-use Rattle.std.specs.Prelude.{◌≡◌, ◌⊎◌, ◌&&◌, ◌++◌, ℕ, List, [], ◌∷◌, length, map, Bool, true, false, Option, None, Some, unwrap_or, codes, bytes_eq, nat_le, String, string_bytes, if◌then◌else◌}
+use Rattle.std.specs.Prelude.{◌≡◌, ◌⊎◌, ◌&&◌, ◌||◌, ◌++◌, ℕ, List, [], ◌∷◌, length, map, Bool, true, false, Option, None, Some, unwrap_or, codes, bytes_eq, nat_le, String, string_bytes, if◌then◌else◌}
 use Rattle.std.specs.List.{AllByRecursion, IsDistinct, list_any}
 use Rattle.std.specs.Str.{all_ascii_digits}
 use Rattle.std.specs.Str.Parse.{digits_value, starts_with_minus}
 use Rattle.std.specs.declared.alloc.Global.{Global}
+use Rattle.ss_model.specs.declared.entry.Mode.{Mode}
+use Rattle.ss_model.specs.declared.entry.Mode.TheVariants.{Strong, Weak}
 use Rattle.ss_words.specs.declared.names.OptionName.{OptionName}
 use Rattle.ss_words.specs.declared.names.OptionName.TheVariants.{Partitions, Recovery, Seed, Votes, Clients, Checkpoint, Restarts}
 use Rattle.ss_words.specs.declared.names.Command.{Command}
@@ -31,7 +33,7 @@ is_number_within least most value =
 -- whether a value fits an option
 abbrev pub fits : OptionName → List ℕ → Bool
 fits Partitions value = is_number_within 1 8 value
-fits Recovery value = bytes_eq value (codes "strong")
+fits Recovery value = bytes_eq value (codes "strong") || bytes_eq value (codes "weak")
 fits Seed value = is_number_within 0 9999999 value
 fits Votes value = is_number_within 1 200000 value
 fits Clients value = is_number_within 1 8 value
@@ -96,6 +98,23 @@ partitions_asked options = unwrap_or (number_asked Partitions options) 1
 abbrev pub restarts_asked : List Asked → ℕ
 restarts_asked options = unwrap_or (number_asked Restarts options) 0
 
+-- the mode that a value of `--recovery` says, which is one of two words
+abbrev pub mode_said : List ℕ → Mode
+mode_said value = if bytes_eq value (codes "weak") then Weak else Strong
+
+-- the mode of the option of recovery, where it is among them
+abbrev pub recovery_asked : List Asked → Option Mode
+recovery_asked [] = None
+recovery_asked (option ∷ others) = if is_named Recovery option then Some (mode_said option.value) else recovery_asked others
+
+-- the mode that is asked for: strong where no option says it
+abbrev pub mode_asked : List Asked → Mode
+mode_asked options = unwrap_or (recovery_asked options) Strong
+
+-- a run over restarts is strong alone
+abbrev pub GoTogether : ℕ → Mode → Type 0
+GoTogether restarts mode = (restarts ≡ 0) ⊎ (mode ≡ Strong)
+
 -- the show is the one that is asked for
 pub record IsShowAsked (options : List Asked) (show : Show) : Type 0 where
   pub seed : number_asked Seed options ≡ Some show.seed
@@ -140,11 +159,12 @@ belongs command option = list_any (λ name. is_named name option) (required comm
 abbrev pub is_among : List Asked → OptionName → Bool
 is_among options name = list_any (is_named name) options
 
--- the words are options, each belongs to the command, and none is missing that it must have
+-- the words are options, each belongs to the command, none is missing that it must have, and what they ask for goes together
 pub record AreOptionsOf (command : Command) (words : List (List ℕ)) (options : List Asked) : Type 0 where
   pub are : AreOptions words options
   pub belong : AllByRecursion (λ option. belongs command option ≡ true) options
   pub complete : AllByRecursion (λ name. is_among options name ≡ true) (required command)
+  pub go_together : GoTogether (restarts_asked options) (mode_asked options)
 
 -- the words are a command, of whatever show, and behind it its options
 pub record IsCommand (words : List (List ℕ)) : Type 0 where
@@ -159,6 +179,7 @@ pub record OptionsAskFor (words : List (List ℕ)) (line : CommandLine) : Type 0
   pub options : List Asked
   pub are : AreOptionsOf line.command words options
   pub partitions : line.options.partitions ≡ partitions_asked options
+  pub mode : line.options.mode ≡ mode_asked options
   pub every : line.options.every ≡ number_asked Checkpoint options
   pub restarts : line.options.restarts ≡ restarts_asked options
   pub show : IsMadeFrom line.command options

@@ -6,14 +6,15 @@ ghost use Rattle.ss_words.specs.Found.{HaveFound};
 
 use crate::found::Found;
 use crate::names::{Command, OptionName, option_named};
+use ss_model::Mode;
 
 /// What the options of a command ask for.
-///
-/// Recovery is strong in every run so far, so that no field says it.
 #[derive(Clone, Copy, Debug, PartialEq, Eq, Drop)]
 pub struct Options {
     /// Into how many partitions the database is split: 1 to 8, and 1 where no option says it.
     pub partitions: u8,
+    /// What the store logs, and how it is had again: strong where no option says it, and in a run over restarts.
+    pub mode: Mode,
     /// From how many entries behind the last checkpoint on the next is due: 1 to 1000000, and none is made where no option says it.
     pub every: Option<u64>,
     /// How often at most a run whose disk failed opens it again and goes on: 0 to 16, and never where no option says it.
@@ -71,6 +72,7 @@ pub fn command_line(words: &[String]) -> Option<CommandLine>
     let command = found.command(word.as_str())?;
     let options = Options {
         partitions: found.partitions.unwrap_or(1),
+        mode: found.recovery.unwrap_or(Mode::Strong),
         every: found.every,
         restarts: found.restarts.unwrap_or(0),
     };

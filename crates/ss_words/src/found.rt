@@ -1,19 +1,22 @@
 //! The options that were found so far, and the command that they suit.
 
-ghost use Rattle.std.specs.Prelude.{◌≡◌, if◌then◌else◌, MatchOption};
-ghost use Rattle.ss_words.specs.Words.{asked};
+ghost use Rattle.std.specs.Prelude.{◌≡◌, ◌↔◌, if◌then◌else◌, unwrap_or, MatchOption};
+ghost use Rattle.std.specs.Bool.{IsTrue};
+ghost use Rattle.ss_model.specs.declared.entry.Mode.TheVariants.{Strong};
+ghost use Rattle.ss_words.specs.Words.{asked, GoTogether};
 ghost use Rattle.ss_words.specs.Found.{nothing_found, can_take, with_option, is_any, is_for_run, is_for_show, HasShow, Suits};
 
-use crate::names::{Command, OptionName, Show};
+use crate::names::{Command, OptionName, Show, mode_named};
 use crate::numbers::number_within;
+use ss_model::Mode;
 
 /// What each option was found with: a field for each.
 #[derive(Clone, Copy, Drop)]
 pub(crate) struct Found {
     /// The number of partitions.
     pub(crate) partitions: Option<u8>,
-    /// Whether recovery was named. Its one word says nothing that the default doesn't.
-    pub(crate) recovery: bool,
+    /// The mode of recovery.
+    pub(crate) recovery: Option<Mode>,
     /// The seed of a show.
     pub(crate) seed: Option<u64>,
     /// The number of its votes.
@@ -33,7 +36,7 @@ impl Found {
     {
         Found {
             partitions: None,
-            recovery: false,
+            recovery: None,
             seed: None,
             votes: None,
             clients: None,
@@ -50,8 +53,8 @@ impl Found {
             OptionName::Partitions if self.partitions.is_none() => {
                 self.partitions = Some(number_within(value, 1, 8)? as u8);
             }
-            OptionName::Recovery if !self.recovery && value == "strong" => {
-                self.recovery = true;
+            OptionName::Recovery if self.recovery.is_none() => {
+                self.recovery = Some(mode_named(value)?);
             }
             OptionName::Seed if self.seed.is_none() => {
                 self.seed = Some(u64::from(number_within(value, 0, 9_999_999)?));
@@ -91,7 +94,22 @@ impl Found {
     fn is_any(self) -> bool
         ensures { result ≡ is_any self }
     {
-        self.partitions.is_some() || self.recovery || self.is_for_run() || self.is_for_show()
+        self.partitions.is_some()
+            || self.recovery.is_some()
+            || self.is_for_run()
+            || self.is_for_show()
+    }
+
+    /// Whether what was found goes together: a run over restarts is strong alone.
+    ///
+    /// A weak run's history begins at an origin, and no law carries an origin over an opening in mid-run.
+    fn go_together(self) -> bool
+        ensures { IsTrue result ↔ GoTogether (unwrap_or self.restarts 0) (unwrap_or self.recovery Strong) }
+    {
+        match self.recovery {
+            Some(Mode::Weak) => self.restarts.unwrap_or(0) == 0,
+            _ => true,
+        }
     }
 
     /// The show of these options, where each was found that a show must have.
@@ -105,10 +123,15 @@ impl Found {
         })
     }
 
-    /// The command with this word, where these are options of it, and all that it must have. Constant in time.
+    /// The command with this word, where these are options of it that go together, and all that it must have. Constant in time.
+    ///
+    /// Whether they go together is seen here and not where an option is found, since either of the two may come first.
     pub(crate) fn command(self, word: &str) -> Option<Command>
         ensures { MatchOption result ((command : Command) → ¬ (Suits word.now self command)) (Suits word.now self) }
     {
+        if !self.go_together() {
+            return None;
+        }
         match word {
             "run" if !self.is_for_show() => Some(Command::Run),
             "recover" if !self.is_for_run() && !self.is_for_show() => Some(Command::Recover),

@@ -1,7 +1,10 @@
 //! The commands and the options, by name.
 
-ghost use Rattle.std.specs.Prelude.{◌≡◌, ◌≢◌, MatchOption};
-ghost use Rattle.ss_words.specs.Words.{dashed};
+ghost use Rattle.std.specs.Prelude.{◌≡◌, ◌≢◌, if◌then◌else◌, MatchOption};
+ghost use Rattle.ss_words.specs.declared.names.OptionName.TheVariants.{Recovery};
+ghost use Rattle.ss_words.specs.Words.{dashed, fits, mode_said};
+
+use ss_model::Mode;
 
 /// What a show of the benchmark is made from.
 ///
@@ -35,7 +38,7 @@ pub enum Command {
 pub enum OptionName {
     /// `--partitions`: a number from 1 to 8.
     Partitions,
-    /// `--recovery`: the word `strong`.
+    /// `--recovery`: the word `strong` or `weak`.
     Recovery,
     /// `--seed`: a number from 0 to 9999999.
     Seed,
@@ -61,6 +64,17 @@ pub(crate) fn option_named(word: &str) -> Option<OptionName>
         "--clients" => Some(OptionName::Clients),
         "--checkpoint" => Some(OptionName::Checkpoint),
         "--restarts" => Some(OptionName::Restarts),
+        _ => None,
+    }
+}
+
+/// The mode of recovery that this word says, where it is one of the two. Constant in time.
+pub(crate) fn mode_named(word: &str) -> Option<Mode>
+    ensures { result ≡ if fits Recovery word.now then Some (mode_said word.now) else None }
+{
+    match word {
+        "strong" => Some(Mode::Strong),
+        "weak" => Some(Mode::Weak),
         _ => None,
     }
 }

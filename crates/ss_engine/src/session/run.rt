@@ -3,7 +3,7 @@
 
 ghost use Rattle.std.specs.Prelude.{◌≡◌, ◌≤◌, ◌+◌, ◌^◌, ℕ, [], length, Some, IfOk, IfErr, IfSome};
 ghost use Rattle.ss_model.specs.Accepted.{Accepted};
-ghost use Rattle.ss_model.specs.Database.{Database as ModelDatabase, stream_batches};
+ghost use Rattle.ss_model.specs.Database.{stream_batches};
 ghost use Rattle.ss_model.specs.Orders.{MatchesCounts};
 ghost use Rattle.ss_model.specs.Replays.{Replays, after};
 ghost use Rattle.ss_model.specs.WholeDatabase.{WholeDatabase, HadAtMost};
@@ -14,7 +14,7 @@ ghost use Rattle.ss_commitlog.specs.Committing.{IsOpening};
 ghost use Rattle.ss_receipts.specs.Holding.{Holds};
 ghost use Rattle.ss_engine.specs.Clients.{AllFit, StartWithin};
 ghost use Rattle.ss_engine.specs.Engines.{AllowsCheckpoints};
-ghost use Rattle.ss_engine.specs.Sessions.{AreOfClients, Ends, EndsOnDisk, IsFlushed, IsLeftOver, IsTrimmedTo, OpensOn};
+ghost use Rattle.ss_engine.specs.Sessions.{AreOfClients, Beginning, Ends, EndsOnDisk, IsFlushed, IsLeftOver, IsTrimmedTo, OpensOn};
 
 use crate::engine::Engine;
 use crate::session::close::Closed;
@@ -23,12 +23,11 @@ use crate::session::threads::run_clients;
 use ss_cmdlog::{CmdLog, Receipt};
 use ss_commitlog::{Blank, Opening};
 use ss_disk::Disk;
+use ss_fronts::held_fronts_stand;
 use ss_lanes::with_room;
 use ss_model::{Catalog, Life, Request};
 use ss_proc::Runner;
-use ss_receipts::{
-    DurableError, Receipts, all_stands, finish, held_fronts_stand, holds_go_on, trim,
-};
+use ss_receipts::{DurableError, Receipts, finish, holds_go_on, trim};
 use ss_settle::Gate;
 use ss_shard::{Database, Shard};
 use ss_stream::Streams;
@@ -89,11 +88,11 @@ fn incarnation<
     requires few { (s : ℕ) → length (stream_batches I.opening s) ≤ opening.first }
     requires every { every ≡ I.every }
     requires checkpoints { AllowsCheckpoints I.catalog I.opening I.first I.every }
-    requires log { Holds I.every I.catalog I.opening I.first I.moment I.faults I.past D.kind [] command_log I.first 0 }
+    requires log { Holds I.recovery I.every I.catalog I.opening I.first I.moment I.faults I.past D.kind [] command_log I.first 0 }
     requires fit { AllFit I.catalog requests.now }
     requires asked { AreOfClients I.clients requests.now }
     requires starts { StartWithin starts.now requests.now }
-    ensures ok { IfOk result (Ends D.kind I.every I.catalog I.opening I.first
+    ensures ok { IfOk result (Ends D.kind I.recovery I.every I.catalog I.opening I.first
         I.limit I.clients I.moment I.faults I.past requests.now starts.now) }
     ensures err { IfErr result (λ e. e.1 ≡ command_log) }
 {
@@ -112,10 +111,8 @@ fn incarnation<
     let Ok(ready) = with_room(alloc, lanes, requests.as_slice(), starts) else {
         return Err((NoMemory, command_log));
     };
-    // Laws of what a log holds, which do nothing.
+    // A law of what a log holds, which does nothing.
     holds_go_on::<I, D>();
-    held_fronts_stand::<I, D>();
-    all_stands::<I, D>();
     let receipts = Receipts::new(command_log, disk_note, every);
     let lanes = run_clients(
         rt,
@@ -158,10 +155,10 @@ fn trimmed<I: Life, D: Disk + Drop>(
     requires left { IfSome closed.now.database (IsLeftOver I.catalog (after I.catalog I.opening closed.now.list)) }
     requires all { receipt.count ≡ I.first + length closed.now.list }
     requires holds { (fault : ℕ)
-        × Holds I.every I.catalog I.opening I.first I.moment I.faults I.past D.kind closed.now.list log.old receipt.count fault }
+        × Holds I.recovery I.every I.catalog I.opening I.first I.moment I.faults I.past D.kind closed.now.list log.old receipt.count fault }
     ensures { (fault : ℕ)
-        → Holds I.every I.catalog I.opening I.first I.moment I.faults I.past D.kind closed.now.list log.old receipt.count fault
-        → IsTrimmedTo D.kind I.every I.catalog I.opening I.first I.moment I.faults I.past closed.now.list receipt fault log.new result }
+        → Holds I.recovery I.every I.catalog I.opening I.first I.moment I.faults I.past D.kind closed.now.list log.old receipt.count fault
+        → IsTrimmedTo D.kind I.recovery I.every I.catalog I.opening I.first I.moment I.faults I.past closed.now.list receipt fault log.new result }
 {
     let Some(every) = every else {
         return Ok(receipt);
@@ -202,11 +199,11 @@ fn flushed_at_last<I: Life, D: Disk + Drop>(
     requires catalog { closed.catalog ≡ I.catalog }
     requires left { IfSome closed.database (IsLeftOver I.catalog (after I.catalog I.opening closed.list)) }
     requires holds { (fault : ℕ)
-        × Holds I.every I.catalog I.opening I.first I.moment I.faults I.past D.kind closed.list command_log receipted fault }
+        × Holds I.recovery I.every I.catalog I.opening I.first I.moment I.faults I.past D.kind closed.list command_log receipted fault }
     ensures closed { result.closed ≡ closed }
     ensures flushed { (fault : ℕ)
-        → Holds I.every I.catalog I.opening I.first I.moment I.faults I.past D.kind closed.list command_log receipted fault
-        → IsFlushed D.kind I.every I.catalog I.opening I.first
+        → Holds I.recovery I.every I.catalog I.opening I.first I.moment I.faults I.past D.kind closed.list command_log receipted fault
+        → IsFlushed D.kind I.recovery I.every I.catalog I.opening I.first
         I.moment I.faults I.past receipted fault result }
 {
     match finish::<I, D>(alloc, &mut command_log, &closed.list, first) {
@@ -275,27 +272,28 @@ pub fn run_session<
     opening: Opening,
     every: Option<u64>,
 ) -> Result<Finished<D>, (NoMemory, CmdLog<D>)>
-    ghost db: { ModelDatabase }
+    ghost begins: { Beginning }
     requires accepted { Accepted catalog }
     requires parts { (1 ≤ opening.parts) × (opening.parts ≤ 8) }
     requires clients { (1 ≤ opening.clients) × (opening.clients ≤ 8) }
     requires small { opening.first + opening.limit ≤ 2 ^ 60 }
-    requires matches { MatchesCounts catalog db }
-    requires few { (s : ℕ) → length (stream_batches db s) ≤ opening.first }
-    requires whole_database { WholeDatabase catalog db }
-    requires had { HadAtMost opening.first db }
+    requires matches { MatchesCounts catalog begins.db }
+    requires few { (s : ℕ) → length (stream_batches begins.db s) ≤ opening.first }
+    requires whole_database { WholeDatabase catalog begins.db }
+    requires had { HadAtMost opening.first begins.db }
     requires every { (k : ℕ) → every ≡ Some k → 1 ≤ k }
     requires whole { IsWholeShard catalog opening.parts whole }
-    requires holds { HoldsDatabase catalog whole db }
-    requires streams { AreStreamsOf catalog db streams.streams }
-    requires log { OpensOn D.kind catalog db opening.first command_log }
+    requires holds { HoldsDatabase catalog whole begins.db }
+    requires streams { AreStreamsOf catalog begins.db streams.streams }
+    requires log { OpensOn D.kind begins.recovery catalog begins.db opening.first command_log }
     requires fit { AllFit catalog requests.now }
     requires asked { AreOfClients opening.clients requests.now }
     requires starts { StartWithin starts.now requests.now }
-    ensures ok { IfOk result (EndsOnDisk D.kind every catalog db opening.first
+    ensures ok { IfOk result (EndsOnDisk D.kind begins.recovery every catalog begins.db opening.first
         opening.limit opening.clients requests.now starts.now command_log) }
     ensures err { IfErr result (λ e. e.1 ≡ command_log) }
 {
+    held_fronts_stand();
     let Ok(blank) = Blank::new(alloc, &opening) else {
         return Err((NoMemory, command_log));
     };

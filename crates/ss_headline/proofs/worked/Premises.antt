@@ -11,11 +11,13 @@ use Rattle.ss_model.specs.declared.entry.Asked.TheVariants.{Push as PushAsked}
 use Rattle.ss_model.specs.declared.entry.Entry.{Entry}
 use Rattle.ss_model.specs.declared.entry.Entry.TheVariants.{Push, Step as StepEntry}
 use Rattle.ss_model.specs.declared.entry.Listed.{Listed}
+use Rattle.ss_model.specs.declared.entry.Mode.TheVariants as modes
 use Rattle.ss_model.specs.declared.entry.Outcome.TheVariants.{Done, Aborted}
 use Rattle.ss_model.specs.declared.entry.Reason.TheVariants.{Raised}
 use Rattle.ss_model.specs.declared.entry.Request.{Request}
 use Rattle.ss_model.specs.Database.{Database, empty_database}
 use Rattle.ss_model.specs.Orders.{MatchesCounts}
+use Rattle.ss_model.specs.Recovery.{Strong}
 use Rattle.ss_model.specs.Replays.{after}
 use Rattle.ss_model.specs.Report.{End, Whole, Report, Rising, client_index, report_text}
 use Rattle.ss_model.specs.Settled.{NoneReady}
@@ -29,11 +31,13 @@ use Rattle.ss_disk.proofs.CallerLemmas.{no_call, one_call, stays_none}
 use Rattle.ss_cmdlog.specs.Generation.{Stood, IsGroup, front_bytes}
 use Rattle.ss_cmdlog.specs.Formatting.{fresh}
 use Rattle.ss_cmdlog.specs.Log.{IsSettled}
+use Rattle.ss_cmdlog.specs.Logged.{logged}
 use Rattle.ss_cmdlog.specs.Store.{IsEmpty, StandsFor, entries_of}
 use Rattle.ss_cmdlog.proofs.CallerLemmas.{files_stand_for_one}
 use Rattle.ss_standing.specs.Image.{empty_image_of}
-use Rattle.ss_standing.specs.Standing.{Stands, Prefix, StandsForAtLeast, listed_entries}
+use Rattle.ss_standing.specs.Standing.{Stands, Prefix, StandsForAtLeast, StandsForFront, listed_entries}
 use Rattle.ss_standing.proofs.CallerLemmas.{counts_executions, forming_stands, new_image_is, nothing_stands, batch_store, batch_files, batch_files_stand, batch_prefix, batch_stands, batch_at_least, end_behind}
+use Rattle.ss_fronts.proofs.CallerLemmas.{all_logged}
 use Rattle.ss_headline.specs.Between.{CallsGoOn, GoesOnBehindAll, GoesOnBehindFront, HadList, QuietLeaves, QuietStays}
 use Rattle.ss_headline.specs.Disks.{DiskChange, disk_of, AtEachMoment, NothingRan, OnlyRead}
 use Rattle.ss_headline.specs.Sentences.{WholeSession, StoppedSession, stop_at}
@@ -57,7 +61,7 @@ start = empty_database workflow
 -- ---- the disk: empty, with a new store, and with the batch behind its image
 
 abbrev new_store : Stood
-new_store = fresh (empty_image_of workflow)
+new_store = fresh modes.Strong (empty_image_of workflow)
 
 pub new_files : Files
 new_files = record { selector = 0 ∷ []; first = front_bytes new_store ++ 0 ∷ []; second = [] }
@@ -68,7 +72,7 @@ new_files_stand = record {
   byte = 0;
   selector = refl;
   current = record {
-    stood = record { first = omega arith; image = omega (arith, new_image_is); groups = All-nil IsGroup };
+    stood = record { first = omega arith; image = omega (arith, new_image_is); groups = All-nil (IsGroup modes.Strong) };
     gate = 0;
     rest = [];
     closed = λ e. absurd (omega (arith, e));
@@ -137,12 +141,13 @@ empty_has_none n has = of has.count has.enough has.k has.stands
 pub new_stands : Stands workflow new_files 0 (kept workflow start)
 new_stands = forming_stands workflow new_files (empty_whole workflow accepted) (inr new_files_stand)
 
-pub opened : Opened workflow start 0 (change 0 1)
+pub opened : Opened Strong workflow start 0 (change 0 1)
 opened = record {
   whole = empty_whole workflow accepted;
+  began = λ t. tt;
   stood = λ t. nothing_stands;
-  crashes = next_call_anew 0 (λ image. Stands workflow image 0 (kept workflow start)) new_stands;
-  receipts_stay = λ q n. next_stays 0 0 n (empty_has_none n) (record { count = 0; k = kept workflow start; stands = new_stands; enough = omega arith });
+  crashes = next_call_anew 0 (Prefix workflow start 0 []) (none_stands workflow start 0 [] new_files new_stands);
+  receipts_stay = λ list q n. next_stays 0 0 n (empty_has_none n) (record { count = 0; k = kept workflow start; stands = new_stands; enough = omega arith });
   settled = λ q image is. is;
   faults = omega arith;
 }
@@ -153,27 +158,31 @@ abbrev pub log_before : Stood → List Entry → List Listed → Type 0
 log_before s before list = entries_of s ≡ before ++ listed_entries list
 
 -- a list behind other entries of the store
-log_ends : (every : Option ℕ) (before : List Entry) (list : List Listed) → log_before batch_store before list → LogEndsAs every list batch_files
-log_ends every before list is = record { stood = batch_store; stands = batch_files_stand; ends = end_behind every (entries_of batch_store) before (listed_entries list) is }
+log_ends : (every : Option ℕ) (before : List Entry) (list : List Listed) → log_before batch_store before list → LogEndsAs Strong every list batch_files
+log_ends every before list is = record {
+  stood = batch_store;
+  stands = batch_files_stand;
+  ends = end_behind every (entries_of batch_store) before (logged modes.Strong (listed_entries list)) (is ∙ ap (λ (es : List Entry). before ++ es) (sym (all_logged (listed_entries list))));
+}
 
 -- the store was made at place 0: with checkpoints it needs none for a list that ends before so many entries
-pub logged_to : (every : Option ℕ) (first : ℕ) (before : List Entry) (list : List Listed) → log_before batch_store before list → IfSome every (λ n. first + length list < n) → Logged every first list batch_files
+pub logged_to : (every : Option ℕ) (first : ℕ) (before : List Entry) (list : List Listed) → log_before batch_store before list → IfSome every (λ n. first + length list < n) → Logged Strong every first list batch_files
 logged_to None first before list is few = log_ends None before list is
 logged_to (Some n) first before list is few =
     let near : first + length list < 0 + n = omega (arith, few) in (log_ends (Some n) before list is, record { stood = batch_store; stands = batch_files_stand; near = near })
 
-behind_new : (every : Option ℕ) → LogsEndWithLists → LogEndsAs every whole_batch batch_files
-behind_new every law = law every new_store batch_store whole_batch batch_files (record { first = refl; image = refl; entries = refl }) batch_files_stand
+behind_new : (every : Option ℕ) → LogsEndWithLists → LogEndsAs Strong every whole_batch batch_files
+behind_new every law = law Strong every new_store batch_store whole_batch batch_files (record { mode = refl; first = refl; image = refl; entries = refl }) batch_files_stand
 
-begins_near : LogsEndWithLists → NearGenerationsBegin → Logged (Some 6) 0 whole_batch batch_files
-begins_near ends law = law 6 0 whole_batch batch_store batch_files (behind_new (Some 6) ends) batch_files_stand (omega arith)
+begins_near : LogsEndWithLists → NearGenerationsBegin → Logged Strong (Some 6) 0 whole_batch batch_files
+begins_near ends law = law Strong 6 0 whole_batch batch_store batch_files (behind_new (Some 6) ends) batch_files_stand (omega arith)
 
 -- ---- the batch runs, and the engine is closed
 
 matches : MatchesCounts workflow start
 matches = (matching_stays workflow accepted.structure.streams.wired).starts
 
-pub closed : Closed workflow start 0 whole_batch (change 1 2)
+pub closed : Closed Strong workflow start 0 whole_batch (change 1 2)
 closed = record {
   replays = whole_batch_replays;
   orders = replays_orders workflow accepted.structure.streams.wired start whole_batch matches whole_batch_replays;
@@ -181,10 +190,10 @@ closed = record {
   receipts_stay = λ q n. next_stays 1 5 n (λ has. let same = counts_executions files_stand_for_one workflow new_files has.count has.k new_store has.stands new_files_stand in omega (arith, has.enough, same)) batch_at_least;
 }
 
-all_receipted : (image : Files) → image ≡ batch_files → StandsForAtLeast workflow 5 image
-all_receipted image is = subst (StandsForAtLeast workflow 5) (sym is) batch_at_least
+all_receipted : (image : Files) → image ≡ batch_files → StandsForFront workflow start 0 whole_batch 5 image
+all_receipted image is = subst (StandsForFront workflow start 0 whole_batch 5) (sym is) (record { some = 5; within = omega arith; enough = omega arith; stands = batch_stands })
 
-settled : (every : Option ℕ) → IfSome every (λ n. 5 < n) → Settled every workflow start 0 whole_batch (change 1 2)
+settled : (every : Option ℕ) → IfSome every (λ n. 5 < n) → Settled Strong every workflow start 0 whole_batch (change 1 2)
 settled every few = record {
   drained = whole_batch_drains;
   receipt = λ q image is. all_receipted image is;
@@ -201,7 +210,7 @@ few client = record {
   few = omega arith;
 }
 
-pub receipted : Receipted workflow 0 whole_batch 5 (change 1 2)
+pub receipted : Receipted Strong workflow start 0 whole_batch 5 (change 1 2)
 receipted = record { from_first = omega arith; within = omega arith; receipt = λ q image is. all_receipted image is; few = few }
 
 -- ---- what the client was told
@@ -235,37 +244,37 @@ reported end = answered_report workflow (request ∷ []) start 0 whole_batch end
 
 -- ---- the laws there, at a limit that the list meets
 
-whole_session : (every : Option ℕ) → IfSome every (λ n. 5 < n) → WholeSessions change → WholeSession workflow (request ∷ []) 0 whole_batch (report Whole) (change 0 2) start
-whole_session every few law = law every workflow (request ∷ []) start 0 whole_batch (report Whole) 0 1 2 opened closed (settled every few) (reported Whole)
+whole_session : (every : Option ℕ) → IfSome every (λ n. 5 < n) → WholeSessions change → WholeSession Strong workflow (request ∷ []) 0 whole_batch (report Whole) (change 0 2) start
+whole_session every few law = law Strong every workflow (request ∷ []) start 0 whole_batch (report Whole) 0 1 2 opened closed (settled every few) (reported Whole)
 
-both_sessions : WholeSessions change → WholeSession workflow (request ∷ []) 0 whole_batch (report Whole) (change 0 2) start × WholeSession workflow (request ∷ []) 0 whole_batch (report Whole) (change 0 2) start
+both_sessions : WholeSessions change → WholeSession Strong workflow (request ∷ []) 0 whole_batch (report Whole) (change 0 2) start × WholeSession Strong workflow (request ∷ []) 0 whole_batch (report Whole) (change 0 2) start
 both_sessions law = (whole_session None tt law, whole_session (Some 6) (omega arith) law)
 
 abbrev full_end : End
 full_end = stop_at 9 5 5 0 whole_batch 0 0
 
-stopped_session : StoppedSessions change → StoppedSession workflow (request ∷ []) 5 0 whole_batch 9 5 (report full_end) (change 0 2) start
-stopped_session law = law workflow (request ∷ []) 5 start 0 whole_batch 9 5 (report full_end) 0 1 2 opened closed receipted (reported full_end)
+stopped_session : StoppedSessions change → StoppedSession Strong workflow (request ∷ []) 5 0 whole_batch 9 5 (report full_end) (change 0 2) start
+stopped_session law = law Strong workflow (request ∷ []) 5 start 0 whole_batch 9 5 (report full_end) 0 1 2 opened closed receipted (reported full_end)
 
-whole_run : (every : Option ℕ) → IfSome every (λ n. 5 < n) → WholeRuns change → IsWholeRun every 5 workflow (request ∷ []) start 0 whole_batch (report Whole) (change 0 2)
-whole_run every few law = law every 5 workflow (request ∷ []) start 0 whole_batch NoMemory told 0 1 2 opened closed (settled every few) (answered Whole) (omega arith)
+whole_run : (every : Option ℕ) → IfSome every (λ n. 5 < n) → WholeRuns change → IsWholeRun Strong every 5 workflow (request ∷ []) start 0 whole_batch (report Whole) (change 0 2)
+whole_run every few law = law Strong every 5 workflow (request ∷ []) start 0 whole_batch NoMemory told 0 1 2 opened closed (settled every few) (answered Whole) (omega arith)
 
 -- without checkpoints, and with one at least each six entries
-run_without : WholeRuns change → IsWholeRun None 5 workflow (request ∷ []) start 0 whole_batch (report Whole) (change 0 2)
+run_without : WholeRuns change → IsWholeRun Strong None 5 workflow (request ∷ []) start 0 whole_batch (report Whole) (change 0 2)
 run_without = whole_run None tt
 
-run_with : WholeRuns change → IsWholeRun (Some 6) 5 workflow (request ∷ []) start 0 whole_batch (report Whole) (change 0 2)
+run_with : WholeRuns change → IsWholeRun Strong (Some 6) 5 workflow (request ∷ []) start 0 whole_batch (report Whole) (change 0 2)
 run_with = whole_run (Some 6) (omega arith)
 
 -- the log has all five entries
-logged : (every : Option ℕ) → LogEndsAsStopped every 9 0 whole_batch 5 (change 1 2)
-logged every = λ t. inl (record { some = 5; within = omega arith; enough = omega arith; logged = log_ends every [] whole_batch refl })
+log_has_all : (every : Option ℕ) → LogEndsAsStopped Strong every 9 0 whole_batch 5 (change 1 2)
+log_has_all every = λ t. inl (record { some = 5; within = omega arith; enough = omega arith; logged = log_ends every [] whole_batch refl })
 
-stopped_run : (every : Option ℕ) → StoppedRuns change → IsStoppedRun every 5 workflow (request ∷ []) start 0 whole_batch 9 5 (report full_end) (change 0 2)
-stopped_run every law = law every 5 workflow (request ∷ []) start 0 whole_batch 9 5 NoMemory told 0 1 2 opened closed receipted (logged every) (answered full_end) (omega arith)
+stopped_run : (every : Option ℕ) → StoppedRuns change → IsStoppedRun Strong every 5 workflow (request ∷ []) start 0 whole_batch 9 5 (report full_end) (change 0 2)
+stopped_run every law = law Strong every 5 workflow (request ∷ []) start 0 whole_batch 9 5 NoMemory told 0 1 2 opened closed receipted (log_has_all every) (answered full_end) (omega arith)
 
 -- the disk was empty, and stood for the empty database
-from_empty : RunsHoldFromEach change → (every : Option ℕ) (opening : Database) (first : ℕ) → IsWholeRun every 5 workflow (request ∷ []) opening first whole_batch (report Whole) (change 0 2) → 0 ≡ first
+from_empty : RunsHoldFromEach change → (every : Option ℕ) (opening : Database) (first : ℕ) → IsWholeRun Strong every 5 workflow (request ∷ []) opening first whole_batch (report Whole) (change 0 2) → 0 ≡ first
 from_empty law every opening first run = (law.whole every 5 workflow (request ∷ []) opening first whole_batch (report Whole) 0 2 run tt 0 start nothing_stands).0
 
 -- ---- a second run, of no request, behind the first
@@ -283,35 +292,40 @@ matches_behind = (matching_stays workflow accepted.structure.streams.wired).stay
 stays_so : (P : Files → Type 0) → P batch_files → LeavesOnly (λ disk. disk) images 2 2 P
 stays_so P has = no_call (λ disk. disk) images 2 P (λ image is. subst P (sym is) has)
 
-pub opened_again : Opened workflow behind 5 (change 2 2)
+-- all of the first run is found, and nothing is behind it
+pub found_again : (image : Files) → image ≡ batch_files → StandsForFront workflow behind 5 [] 5 image
+found_again image is = subst (StandsForFront workflow behind 5 [] 5) (sym is) (none_stands workflow behind 5 [] batch_files stood_behind)
+
+pub opened_again : Opened Strong workflow behind 5 (change 2 2)
 opened_again = record {
   whole = whole_after workflow accepted start whole_batch (empty_whole workflow accepted);
+  began = λ t. tt;
   stood = λ t. stood_behind;
-  crashes = λ true'. stays_so (λ image. (image ≡ batch_files) ⊎ Stands workflow image 5 (kept workflow behind)) (inl refl);
-  receipts_stay = λ true' n. stays_none (λ disk. disk) images (StandsForAtLeast workflow n) 2 2 (omega arith);
+  crashes = λ true'. stays_so (λ image. (image ≡ batch_files) ⊎ Prefix workflow behind 5 [] image) (inl refl);
+  receipts_stay = λ list true' n. stays_none (λ disk. disk) images (StandsForAtLeast workflow n) 2 2 (omega arith);
   settled = λ true' image is. is;
   faults = omega arith;
 }
 
-pub closed_again : Closed workflow behind 5 [] (change 2 2)
+pub closed_again : Closed Strong workflow behind 5 [] (change 2 2)
 closed_again = record {
   replays = tt;
   orders = replays_orders workflow accepted.structure.streams.wired behind [] matches_behind tt;
-  crashes = λ true'. stays_so (Prefix workflow behind 5 []) (none_stands workflow behind 5 [] batch_files stood_behind);
+  crashes = λ true'. stays_so (Prefix workflow behind 5 []) (found_again batch_files refl);
   receipts_stay = λ true' n. stays_none (λ disk. disk) images (StandsForAtLeast workflow n) 2 2 (omega arith);
 }
 
-settled_again : (every : Option ℕ) → IfSome every (λ n. 5 < n) → Settled every workflow behind 5 [] (change 2 2)
+settled_again : (every : Option ℕ) → IfSome every (λ n. 5 < n) → Settled Strong every workflow behind 5 [] (change 2 2)
 settled_again every few = record {
   drained = whole_batch_drains;
-  receipt = λ true' image is. all_receipted image is;
+  receipt = λ true' image is. found_again image is;
   logged = λ t. logged_to every 5 (entries_of batch_store) [] (sym (append-nil (entries_of batch_store))) few;
 }
 
 second : (every : Option ℕ) → IfSome every (λ n. 5 < n) → WholeRuns change → HadList every 5 workflow [] behind 5 [] (change 2 2)
 second every few law = inl (
   report_text workflow [] (weave NoMemory [] nothing_told) 5 [] behind Whole,
-  law every 5 workflow [] behind 5 [] NoMemory nothing_told 2 2 2 opened_again closed_again (settled_again every few) (answered_nothing 5 Whole 8) (omega arith),
+  law Strong every 5 workflow [] behind 5 [] NoMemory nothing_told 2 2 2 opened_again closed_again (settled_again every few) (answered_nothing 5 Whole 8) (omega arith),
 )
 
 -- the one with checkpoints, the other without them
@@ -322,7 +336,7 @@ goes_on_behind_front : WholeRuns change → StoppedRuns change → CallsGoOn cha
 goes_on_behind_front runs stops law = law.stopped (Some 6) None 5 workflow (request ∷ []) [] start behind 0 5 whole_batch [] 9 5 (report full_end) 0 2 2 tt (stopped_run (Some 6) stops) (second None tt runs)
 
 -- while the store is made nothing has run
-pub nothing : NothingRan workflow (change 0 1)
+pub nothing : NothingRan modes.Strong workflow (change 0 1)
 nothing = next_call_anew 0 (λ image. IsEmpty (seen 0) × Stands workflow image 0 (kept workflow start)) (refl, new_stands)
 
 stands_still : NothingRanStands kind → AtEachMoment (change 0 1) (λ image. Stands workflow image 0 (kept workflow start))

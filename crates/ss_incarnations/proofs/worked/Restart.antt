@@ -2,17 +2,18 @@
 use Rattle.std.proofs.Common.{◌≡◌, ◌<◌, inl, inr, ℕ, List, [], ◌∷◌, ◌++◌, take, Option, IfSome, refl, sym, ap, subst, arith, append-nil}
 use Rattle.ss_model.specs.declared.entry.Answer.TheVariants.{NoMemory}
 use Rattle.ss_model.specs.declared.entry.Listed.{Listed}
+use Rattle.ss_model.specs.Recovery.{Strong}
 use Rattle.ss_model.specs.Report.{Whole, report_text}
 use Rattle.ss_model_laws.proofs.CallerLemmas.{accepted, empty_whole, whole_batch, whole_batch_drains, workflow}
 use Rattle.ss_report_laws.specs.Replies.{weave}
 use Rattle.ss_disk.proofs.CallerLemmas.{no_call, stays_none}
 use Rattle.ss_cmdlog.specs.Store.{entries_of}
 use Rattle.ss_standing.specs.Standing.{StandsForAtLeast}
-use Rattle.ss_standing.proofs.CallerLemmas.{batch_at_least, batch_files, batch_files_stand, batch_store, end_behind}
+use Rattle.ss_standing.proofs.CallerLemmas.{batch_files, batch_files_stand, batch_store, end_behind}
 use Rattle.ss_headline.specs.Disks.{DiskChange, disk_of}
 use Rattle.ss_headline.specs.Layers.{Opened, Receipted}
 use Rattle.ss_headline.specs.Runs.{LogEndsAsStopped, Logged}
-use Rattle.ss_headline.proofs.CallerLemmas.{batch_answered, batch_closed, batch_disk, batch_logged, batch_not_run, batch_opened, batch_receipted, batch_request, batch_start, batch_told, behind_batch, closed_again, new_store_stands, opened_again}
+use Rattle.ss_headline.proofs.CallerLemmas.{batch_answered, batch_closed, batch_disk, batch_logged, batch_not_run, batch_opened, batch_receipted, batch_request, batch_start, batch_told, behind_batch, closed_again, found_again, new_store_stands, opened_again}
 use Rattle.ss_incarnations.specs.Incarnations.{Incarnation}
 use Rattle.ss_incarnations.specs.Openings.{NoneIsTried, NoneIsOpened, NotOpened, OpenedAtLast}
 use Rattle.ss_incarnations.specs.Reopening.{Lived, LivesOn, FirstIncarnation, NoneIsReopened, NoEngineIsOpened, OneMoreIncarnation}
@@ -26,17 +27,18 @@ change = disk_of batch_disk
 not_opened : NotOpened workflow (change 0 1)
 not_opened = record { nothing_ran = batch_not_run; receipts_stay = batch_opened.receipts_stay; reads = λ true'. inr (refl, new_store_stands) }
 
-opened_then : Opened workflow batch_start 0 (change 1 1)
+opened_then : Opened Strong workflow batch_start 0 (change 1 1)
 opened_then = record {
   whole = empty_whole workflow accepted;
+  began = λ told. tt;
   stood = λ told. new_store_stands;
   crashes = λ true'. no_call (λ disk. disk) batch_disk.images 1 _ (λ image is. inl is);
-  receipts_stay = λ true' n. stays_none (λ disk. disk) batch_disk.images (StandsForAtLeast workflow n) 1 1 (omega arith);
+  receipts_stay = λ list true' n. stays_none (λ disk. disk) batch_disk.images (StandsForAtLeast workflow n) 1 1 (omega arith);
   settled = λ true' image is. is;
   faults = omega arith;
 }
 
-opened_late : OpenedAtLast batch_disk → Opened workflow batch_start 0 (change 0 1)
+opened_late : OpenedAtLast batch_disk → Opened Strong workflow batch_start 0 (change 0 1)
 opened_late law = law workflow batch_start 0 0 1 1 tt not_opened (omega arith) opened_then
 
 twice : NoneIsTried batch_disk → NoneIsOpened batch_disk → NotOpened workflow (change 0 1)
@@ -56,11 +58,11 @@ lived_on untried law so_far = law workflow batch_start 0 first [] 0 2 2 so_far (
 lived_alone : NoEngineIsOpened batch_disk → Lived batch_disk workflow batch_start 0 first [] 0 2 → Lived batch_disk workflow batch_start 0 first [] 0 2
 lived_alone law so_far = law workflow batch_start 0 first [] behind_batch 5 0 2 2 so_far opened_again
 
-receipted_again : Receipted workflow 5 [] 5 (change 2 2)
+receipted_again : Receipted Strong workflow behind_batch 5 [] 5 (change 2 2)
 receipted_again = record {
   from_first = omega arith;
   within = omega arith;
-  receipt = λ true' image is. subst (StandsForAtLeast workflow 5) (sym is) batch_at_least;
+  receipt = λ true' image is. found_again image is;
   few = λ client. record { receipted = []; others = []; parts = refl; below = tt; few = omega arith };
 }
 
@@ -81,7 +83,7 @@ two lives =
 abbrev none_more : List Listed
 none_more = []
 
-own : (every : Option ℕ) → IfSome every (λ n. 5 < n) → EndsWithOwn 0 whole_batch whole_batch (λ place list. Logged every place list batch_files)
+own : (every : Option ℕ) → IfSome every (λ n. 5 < n) → EndsWithOwn 0 whole_batch whole_batch (λ place list. Logged Strong every place list batch_files)
 own every few = record { stayed = 5; within = omega arith; own = []; parts = refl; says = batch_logged every 5 (entries_of batch_store) [] (sym (append-nil (entries_of batch_store))) few }
 
 pub whole_run : (every : Option ℕ) → IfSome every (λ n. 5 < n) → RunsOverRestarts batch_disk → Lived batch_disk workflow batch_start 0 second (first ∷ []) 0 2
@@ -89,7 +91,7 @@ pub whole_run : (every : Option ℕ) → IfSome every (λ n. 5 < n) → RunsOver
 whole_run every few law ran =
     law.whole every 5 workflow (batch_request ∷ []) batch_start 0 second (first ∷ []) NoMemory batch_told 0 2 ran refl whole_batch_drains (λ told. own every few) (batch_answered Whole) (omega arith)
 
-own_at_stop : (every : Option ℕ) → EndsWithOwn 0 whole_batch whole_batch (λ place list. LogEndsAsStopped every 9 place list 5 (change 2 2))
+own_at_stop : (every : Option ℕ) → EndsWithOwn 0 whole_batch whole_batch (λ place list. LogEndsAsStopped Strong every 9 place list 5 (change 2 2))
 own_at_stop every = record {
   stayed = 5;
   within = omega arith;

@@ -13,6 +13,7 @@ use Rattle.ss_model.specs.declared.entry.Reason.TheVariants.{KeyTaken}
 use Rattle.ss_model.specs.declared.entry.Request.{Request}
 use Rattle.ss_model.specs.Accepted.{Accepted}
 use Rattle.ss_model.specs.Database.{Database, empty_database}
+use Rattle.ss_model.specs.Recovery.{Strong}
 use Rattle.ss_model.specs.Replays.{Replays, after}
 use Rattle.ss_model.specs.Report.{Whole, Report, Rising, client_index, report_text}
 use Rattle.ss_model.specs.Settling.{Drained, streams_on}
@@ -40,7 +41,7 @@ change = disk_of (record { tells = ⊥; honest = ⊥; seen = λ disk. nothing; m
 module _ (catalog : Catalog) (ok : Accepted catalog) (requests : List Request) (list : List Listed) (text : List ℕ) (replays : Replays catalog (empty_database catalog) list)
     (reported : Report catalog requests (empty_database catalog) 0 list Whole text) (drained : Drained catalog (after catalog (empty_database catalog) list)) where
   -- on a disk of which nothing is said about crashes
-  session : (disk : DiskChange) → (disk.honest → ⊥) → WholeSession catalog requests 0 list text disk (empty_database catalog)
+  session : (disk : DiskChange) → (disk.honest → ⊥) → WholeSession Strong catalog requests 0 list text disk (empty_database catalog)
   session disk crashes =
       let wired = ok.structure.streams.wired in
       record {
@@ -52,14 +53,15 @@ module _ (catalog : Catalog) (ok : Accepted catalog) (requests : List Request) (
         at_the_end = drained;
       }
 
-  whole_run : (every : Option ℕ) → SessionsHoldFromEach change → length list ≤ room_from 5 0 → IsWholeRun every 5 catalog requests (empty_database catalog) 0 list text (change tt tt)
+  whole_run : (every : Option ℕ) → SessionsHoldFromEach change → length list ≤ room_from 5 0 → IsWholeRun Strong every 5 catalog requests (empty_database catalog) 0 list text (change tt tt)
   whole_run every law room = record {
     within = room;
     logged = λ tells. absurd tells;
     session = record {
       whole = empty_whole catalog ok;
+      began = λ tells. absurd tells;
       stood = λ tells. absurd tells;
-      each = λ db same. (law catalog (empty_database catalog) db (sym same)).whole requests 0 list text tt tt (session (change tt tt) (λ honest. honest));
+      each = λ db same. (law Strong catalog (empty_database catalog) db (sym same)).whole requests 0 list text tt tt (session (change tt tt) (λ honest. honest));
     };
   }
 
@@ -88,7 +90,7 @@ push_reported = record {
 
 takes_each : SessionsHoldFromEach change → WholeRunsTakeEachOnce change → (every : Option ℕ) (q : ℕ) → streams_on workflow q ≡ true → TakesEach workflow (empty_database workflow) whole_batch q
 takes_each each law every =
-    law every 5 workflow accepted pushes (empty_database workflow) 0 whole_batch push_text tt tt
+    law Strong every 5 workflow accepted pushes (empty_database workflow) 0 whole_batch push_text tt tt
     (whole_run workflow accepted pushes whole_batch push_text whole_batch_replays push_reported whole_batch_drains every each (omega arith))
 
 -- ---- the same on a disk that tells: empty before the run, and a store with the batch behind it
@@ -101,24 +103,25 @@ abbrev told : Bool → Bool → DiskChange
 told = disk_of (record { tells = Unit {0}; honest = ⊥; seen = files; moment = λ disk. 0; images = λ disk moment image. Unit {0}; faults = λ disk. 0 })
 
 -- the store was made at place 0, and has five entries: with checkpoints six entries apart it needs none
-told_run : (every : Option ℕ) → IfSome every (λ n. 5 < n) → SessionsHoldFromEach told → IsWholeRun every 5 workflow pushes (empty_database workflow) 0 whole_batch push_text (told false true)
+told_run : (every : Option ℕ) → IfSome every (λ n. 5 < n) → SessionsHoldFromEach told → IsWholeRun Strong every 5 workflow pushes (empty_database workflow) 0 whole_batch push_text (told false true)
 told_run every few law = record {
   within = omega arith;
   logged = λ tells. batch_logged every 0 [] whole_batch refl few;
   session = record {
     whole = empty_whole workflow accepted;
+    began = λ tells. tt;
     stood = λ tells. nothing_stands;
     each = λ db same.
-        (law workflow (empty_database workflow) db (sym same)).whole pushes 0 whole_batch push_text false true
+        (law Strong workflow (empty_database workflow) db (sym same)).whole pushes 0 whole_batch push_text false true
         (session workflow accepted pushes whole_batch push_text whole_batch_replays push_reported whole_batch_drains (told false true) (λ honest. honest));
   };
 }
 
 -- whatever whole run wrote this text from an empty disk, it had this list, from place 0 on, be there checkpoints in one of them
-one_list : SessionsHoldFromEach told → WholeRunsHaveOneList told → (opening : Database) (place : ℕ) (other : List Listed) → IsWholeRun None 5 workflow pushes opening place other push_text (told false true)
+one_list : SessionsHoldFromEach told → WholeRunsHaveOneList told → (opening : Database) (place : ℕ) (other : List Listed) → IsWholeRun Strong None 5 workflow pushes opening place other push_text (told false true)
     → (whole_batch ≡ other) × (0 ≡ place)
 one_list each law opening place other run =
-    law (Some 6) None 5 5 workflow accepted pushes (empty_database workflow) opening 0 place whole_batch other push_text false true false true (told_run (Some 6) (omega arith) each) run tt tt refl
+    law Strong Strong refl (Some 6) None 5 5 workflow accepted pushes (empty_database workflow) opening 0 place whole_batch other push_text false true false true (told_run (Some 6) (omega arith) each) run tt tt refl
 
 -- ---- three calls
 
@@ -143,8 +146,8 @@ drained (suc zero) streams = cc
 drained (suc (suc q)) streams = cc
 
 -- each whole run of the three that leaves none out has this list, and wrote this text
-alike : SessionsHoldFromEach change → WholeRunsOfOneClient change → (every : Option ℕ) (other : List Listed) (more : List ℕ) → IsWholeRun every 5 accounts.accounts calls start 0 other more (change tt tt)
+alike : SessionsHoldFromEach change → WholeRunsOfOneClient change → (every : Option ℕ) (other : List Listed) (more : List ℕ) → IsWholeRun Strong every 5 accounts.accounts calls start 0 other more (change tt tt)
     → outside calls other ≡ 0 → (accounts.three_calls ≡ other) × (text ≡ more)
 alike each law every other more run none =
-    law None every 5 accounts.accounts accounts.accepted calls 0 calls_alone.alone start start refl refl 0 accounts.three_calls other text more tt tt tt tt
+    law Strong Strong None every 5 accounts.accounts accounts.accepted calls 0 calls_alone.alone start start refl refl 0 accounts.three_calls other text more tt tt tt tt
     (whole_run accounts.accounts accounts.accepted calls accounts.three_calls text accounts.three_calls_replay reported drained None each (omega arith)) run (λ s. refl) refl none

@@ -1,10 +1,11 @@
 -- Each law of images and checkpoints at stores that meet its premises: a new store, and one with a batch that is still to be taken, beside its checkpoint.
-use Rattle.std.proofs.Common.{◌≡◌, ◌∙◌, ◌⊎◌, ◌^◌, inl, inr, ℕ, pos, List, [], ◌∷◌, ◌++◌, length, get_or, drop, replicate, Ok, refl, sym, ap, subst, arith, unwrap_or}
+use Rattle.std.proofs.Common.{◌≡◌, ◌∙◌, ◌⊎◌, ◌^◌, inl, inr, ℕ, pos, List, [], ◌∷◌, ◌++◌, length, get_or, drop, replicate, Ok, true, refl, sym, ap, subst, arith, unwrap_or}
 use Rattle.std.specs.List.{flat_map}
 use Rattle.std.specs.Option.{option_map}
 use Rattle.std.specs.FinMap as finmap
 use Rattle.std.proofs.lemmas.List.Elements.{All-from_recursion, All-nil}
 use Rattle.ss_model.specs.declared.entry.Entry.{Entry}
+use Rattle.ss_model.specs.declared.entry.Mode.TheVariants.{Strong}
 use Rattle.ss_model.specs.Database.{Database}
 use Rattle.ss_model.specs.Replays.{Replays, after}
 use Rattle.ss_model.specs.Settling.{kept}
@@ -18,6 +19,7 @@ use Rattle.ss_disk.specs.Files.{Files}
 use Rattle.ss_disk.specs.Moments.{LeavesOnly}
 use Rattle.ss_cmdlog.specs.Formatting.{fresh}
 use Rattle.ss_cmdlog.specs.Generation.{Stood, IsGroup, Spells, front_bytes}
+use Rattle.ss_cmdlog.specs.Logged.{is_logged}
 use Rattle.ss_cmdlog.specs.Store.{StandsFor}
 use Rattle.ss_standing.specs.Checkpoints.{checkpoint_of}
 use Rattle.ss_standing.specs.FitsImage.{FitRows, FitsStream, FitNumbers, FitsImage}
@@ -95,13 +97,13 @@ held_had : HadAtMost 1 held
 held_had = subst (HadAtMost 1) held_is (had_at_most workflow accepted start start_whole 0 (empty_had_none workflow).streams (listed (pos 7)))
 
 abbrev next : Stood
-next = checkpoint_of workflow 1 held
+next = checkpoint_of Strong workflow 1 held
 
 alone : Replayed workflow next 1 (kept workflow held)
 alone = checkpoints_stand workflow 1 held (pushed_whole (pos 7)) held_had held_fits
 
 -- behind the one entry of the list
-front : Replayed workflow (checkpoint_of workflow 1 (after workflow start (listed (pos 7)))) 1 (kept workflow (after workflow start (listed (pos 7))))
+front : Replayed workflow (checkpoint_of Strong workflow 1 (after workflow start (listed (pos 7)))) 1 (kept workflow (after workflow start (listed (pos 7))))
 front = front_checkpoints_stand whole_after had_at_most workflow start 0 (listed (pos 7)) 1 accepted start_whole (empty_had_none workflow) (omega arith) (subst (λ (db : Database). FitsImage (kept workflow db)) (sym held_is) held_fits)
 
 -- ---- beside the generation that it takes the place of
@@ -110,21 +112,22 @@ abbrev entries : List Entry
 entries = push (pos 7) ∷ []
 
 abbrev logged : Stood
-logged = record { first = 0; image = empty_image_of workflow; groups = entries ∷ [] }
+logged = record { mode = Strong; first = 0; image = empty_image_of workflow; groups = entries ∷ [] }
 
 behind : Replayed workflow logged 1 (kept workflow (after workflow start (listed (pos 7))))
-behind = generation_goes_on kept_carries goes_on workflow (fresh (empty_image_of workflow)) logged 0 start (listed (pos 7)) new_store replays (record { first = refl; image = refl; entries = refl })
+behind = generation_goes_on kept_carries goes_on workflow (fresh Strong (empty_image_of workflow)) logged 0 start (listed (pos 7)) new_store replays (record { mode = refl; first = refl; image = refl; entries = refl })
 
 stood : Replayed workflow logged 1 (kept workflow held)
 stood = subst (λ (db : Database). Replayed workflow logged 1 (kept workflow db)) held_is behind
 
-is_group : IsGroup entries
+is_group : IsGroup Strong entries
 unfolding number_bytes
 is_group = record {
   some = omega arith;
   short = omega arith;
   recordable = All-from_recursion IsRecordable entries ((omega arith, omega arith, omega arith, All-from_recursion IsShort (rows (pos 7)) (omega arith, tt)), tt);
   typed = All-from_recursion IsTyped entries ((omega arith, omega arith, refl, All-from_recursion IsTypedRow (rows (pos 7)) (seven_typed, tt)), tt);
+  of_mode = All-from_recursion (λ (e : Entry). is_logged Strong e ≡ true) entries (refl, tt);
 }
 
 -- no text, no row, five streams with a batch of one row, four counts and one source
@@ -144,7 +147,7 @@ both byte = record { selector = byte ∷ []; first = front_bytes logged ++ 0 ∷
 
 spells_logged : (byte : ℕ) → Spells (both byte).first logged
 spells_logged byte = record {
-  stood = record { first = omega arith; image = omega (arith, image_is); groups = All-from_recursion IsGroup (entries ∷ []) (is_group, tt) };
+  stood = record { first = omega arith; image = omega (arith, image_is); groups = All-from_recursion (IsGroup Strong) (entries ∷ []) (is_group, tt) };
   gate = 0;
   rest = [];
   closed = λ e. absurd (omega (arith, e));
@@ -153,7 +156,7 @@ spells_logged byte = record {
 
 spells_next : (byte : ℕ) → Spells (both byte).second next
 spells_next byte = record {
-  stood = record { first = omega arith; image = omega (arith, image_long); groups = All-nil IsGroup };
+  stood = record { first = omega arith; image = omega (arith, image_long); groups = All-nil (IsGroup Strong) };
   gate = 0;
   rest = [];
   closed = λ e. absurd (omega (arith, e));

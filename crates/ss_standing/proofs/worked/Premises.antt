@@ -1,11 +1,12 @@
 -- Each law at a store that meets its premises: a batch through the workflow that splits and joins, behind the image of a new store.
-use Rattle.std.proofs.Common.{◌^◌, ◌<◌, ◌≡◌, ℕ, drop, ◌∙◌, pos, inl, inr, List, [], ◌∷◌, ◌++◌, length, replicate, refl, sym, ap, subst, arith}
+use Rattle.std.proofs.Common.{◌^◌, ◌<◌, ◌≡◌, ℕ, drop, ◌∙◌, pos, inl, inr, List, [], ◌∷◌, ◌++◌, length, replicate, true, refl, sym, ap, subst, arith}
 use Rattle.ss_disk.specs.Kinds.{DiskKind, present}
 use Rattle.std.specs.List.{flat_map}
 use Rattle.std.proofs.lemmas.List.Elements.{All-from_recursion}
 use Rattle.ss_value.specs.declared.value.Value.TheVariants.{Int}
 use Rattle.ss_value.specs.Rows.{Row}
 use Rattle.ss_model.specs.declared.entry.Entry.{Entry}
+use Rattle.ss_model.specs.declared.entry.Mode.TheVariants.{Strong}
 use Rattle.ss_model.specs.Database.{Database, empty_database}
 use Rattle.ss_model.specs.Replays.{after}
 use Rattle.ss_model.specs.Settling.{kept}
@@ -22,6 +23,7 @@ use Rattle.ss_cmdlog.specs.Generation.{Stood, IsGroup, front_bytes}
 use Rattle.ss_cmdlog.specs.Formatting.{LeavesSome, fresh}
 use Rattle.ss_cmdlog.specs.Log.{IsReceipted, HasAtLeast, KeepsCounts}
 use Rattle.ss_cmdlog.specs.Groups.{groups_of}
+use Rattle.ss_cmdlog.specs.Logged.{is_logged}
 use Rattle.ss_cmdlog.specs.Store.{StandsFor, StandsForPart}
 use Rattle.ss_standing.specs.Image.{text_bytes, empty_image_of}
 use Rattle.ss_standing.specs.Standing.{listed_entries, Replayed, Stands, Prefix, StandsForAtLeast}
@@ -64,7 +66,7 @@ abbrev entries : List Entry
 entries = listed_entries whole_batch
 
 abbrev pub store : Stood
-store = record { first = 0; image = empty_image_of workflow; groups = entries ∷ [] }
+store = record { mode = Strong; first = 0; image = empty_image_of workflow; groups = entries ∷ [] }
 
 abbrev seven : Row
 seven = Int (pos 7) ∷ []
@@ -72,7 +74,7 @@ seven = Int (pos 7) ∷ []
 pub seven_typed : IsTypedRow seven
 seven_typed = All-from_recursion IsTypedValue seven (omega arith, tt)
 
-is_group : IsGroup entries
+is_group : IsGroup Strong entries
 unfolding number_bytes
 is_group = record {
   some = omega arith;
@@ -82,6 +84,7 @@ is_group = record {
     (omega arith, omega arith, refl, All-from_recursion IsTypedRow (seven ∷ []) (seven_typed, tt)),
     ((omega arith, omega arith), ((omega arith, omega arith), ((omega arith, omega arith), ((omega arith, omega arith), tt)))),
   );
+  of_mode = All-from_recursion (λ (e : Entry). is_logged Strong e ≡ true) entries (refl, (refl, (refl, (refl, (refl, tt)))));
 }
 
 pub files : Files
@@ -93,7 +96,7 @@ files_stand = record {
   byte = 0;
   selector = refl;
   current = record {
-    stood = record { first = omega arith; image = omega (arith, image_is); groups = All-from_recursion IsGroup (entries ∷ []) (is_group, tt) };
+    stood = record { first = omega arith; image = omega (arith, image_is); groups = All-from_recursion (IsGroup Strong) (entries ∷ []) (is_group, tt) };
     gate = 0;
     rest = [];
     closed = λ e. absurd (omega (arith, e));
@@ -101,18 +104,18 @@ files_stand = record {
   };
 }
 
-has_front : HasFront (fresh (empty_image_of workflow)) whole_batch files
+has_front : HasFront (fresh Strong (empty_image_of workflow)) whole_batch files
 has_front = record {
   some = 5;
   within = omega arith;
   now = store;
-  behind = record { first = refl; image = refl; entries = refl };
+  behind = record { mode = refl; first = refl; image = refl; entries = refl };
   stands = files_stand;
 }
 
 -- ---- the premises of the laws, and the laws there
 
-pub new_store : Replayed workflow (fresh (empty_image_of workflow)) 0 (kept workflow start)
+pub new_store : Replayed workflow (fresh Strong (empty_image_of workflow)) 0 (kept workflow start)
 new_store = fresh_replayed workflow start_whole
 
 -- a list that replays is told by its entries
@@ -121,14 +124,14 @@ same_list = entries_tell workflow start whole_batch whole_batch whole_batch_repl
 
 -- a front of the list stands behind the generation
 pub prefix : Prefix workflow start 0 whole_batch files
-prefix = front_stands (generation_goes_on kept_carries goes_on) goes_on workflow (fresh (empty_image_of workflow)) 0 start whole_batch files new_store whole_batch_replays has_front
+prefix = front_stands (generation_goes_on kept_carries goes_on) goes_on workflow (fresh Strong (empty_image_of workflow)) 0 start whole_batch files new_store whole_batch_replays has_front
 
 -- the longer generation stands for all of it, which is one thing
 pub stands : Stands workflow files 5 (kept workflow (after workflow start whole_batch))
 stands = inr (record {
   stood = store;
   stands = files_stand;
-  replayed = generation_goes_on kept_carries goes_on workflow (fresh (empty_image_of workflow)) store 0 start whole_batch new_store whole_batch_replays (record { first = refl; image = refl; entries = refl });
+  replayed = generation_goes_on kept_carries goes_on workflow (fresh Strong (empty_image_of workflow)) store 0 start whole_batch new_store whole_batch_replays (record { mode = refl; first = refl; image = refl; entries = refl });
 })
 
 -- and the text fits its length
@@ -140,8 +143,8 @@ one_group : groups_of entries ≡ entries ∷ []
 unfolding number_bytes
 one_group = refl
 
-part : StandsForPart (fresh (empty_image_of workflow)) (groups_of entries) files
-part = subst (λ (groups : List (List Entry)). StandsForPart (fresh (empty_image_of workflow)) groups files) (sym one_group) (1, omega arith, files_stand)
+part : StandsForPart (fresh Strong (empty_image_of workflow)) (groups_of entries) files
+part = subst (λ (groups : List (List Entry)). StandsForPart (fresh Strong (empty_image_of workflow)) groups files) (sym one_group) (1, omega arith, files_stand)
 
 -- and a prefix with a receipt for all of it
 pub at_least : StandsForAtLeast workflow 5 files
@@ -158,11 +161,11 @@ stays : (P : Files → Type 0) → P files → LeavesOnly (λ disk. 0) images tt
 stays P holds = record { later = omega arith; kept = λ t image le left. left; keeps = λ t image le left. left; each = λ t image from to is. subst P (sym is) holds }
 
 -- where none of the list is held yet, what stands of it goes on, and all of it is flushed
-keeps : Keeps (λ disk. 0) images workflow start 0 whole_batch 0 (fresh (empty_image_of workflow)) tt tt
+keeps : Keeps (λ disk. 0) images workflow start 0 whole_batch 0 (fresh Strong (empty_image_of workflow)) tt tt
 keeps = record { within = omega arith; generation = new_store; crashes = stays (Prefix workflow start 0 whole_batch) prefix }
 
-flushes : LeavesOnly (λ disk. 0) images tt tt (StandsForPart (fresh (empty_image_of workflow)) (groups_of (listed_entries (drop 0 whole_batch))))
-flushes = stays (StandsForPart (fresh (empty_image_of workflow)) (groups_of entries)) part
+flushes : LeavesOnly (λ disk. 0) images tt tt (StandsForPart (fresh Strong (empty_image_of workflow)) (groups_of (listed_entries (drop 0 whole_batch))))
+flushes = stays (StandsForPart (fresh Strong (empty_image_of workflow)) (groups_of entries)) part
 
 -- with a receipt of the log for all of it
 receipted : IsReceipted (present kind) 5 tt

@@ -1,6 +1,6 @@
 //! A source, a sink and a disk that fail, one call of a run after another, and sinks that are full.
 
-use super::scripts::{ROOM, SCRIPTS, Script, is_prefix, recover, run_script};
+use super::scripts::{ROOM, SCRIPTS, Script, is_prefix, recover_as, run_script};
 use super::{ACCOUNTS, Ended, empty_disk, one, run_between, run_from, with_requests};
 use ss_disk::{Disk, MemoryDisk};
 use ss_engine::NoGate;
@@ -137,7 +137,7 @@ fn stops_at<R: Threads + Wait + Sync>(
     } else {
         ended.status == Status::Disk && replays(rt, alloc, script, ended.text())?
     };
-    let recovered = recover(rt, alloc, disk)?;
+    let recovered = recover_as(rt, alloc, script, disk)?;
     Ok(Some(is_told && is_prefix(ended.text(), &recovered.ended)))
 }
 

@@ -9,7 +9,7 @@
 
 use super::faults::{opening_calls, replays};
 use super::scripts::{PUSHES, SCRIPTS, Script, is_prefix, line_count, recover, run_script};
-use super::{DIAMOND, Ended, Left, Streams, empty_disk, one, with_requests};
+use super::{DIAMOND, Ended, Left, Streams, with_requests};
 use ss_disk::{Disk, MemoryDisk};
 use ss_top::Status;
 use ss_value::{NoMemory, Seq};
@@ -34,7 +34,7 @@ const MOST: u64 = 60;
 
 /// How far each call that fails is behind the one before. The call behind a fault is the first one of another opening, so of these
 /// some fail while the disk is opened again, and others behind that.
-const STEPS: [u64; 6] = [1, 2, 3, 5, 8, 13];
+const STEPS: [u64; 8] = [1, 2, 3, 5, 8, 13, 21, 34];
 
 /// Runs on disks of which some calls fail.
 #[derive(Clone, Copy)]
@@ -46,8 +46,9 @@ struct Plan {
     count: u64,
     /// How many calls a run without faults makes at least.
     least: u64,
-    /// With the first of the steps call 0 fails first, with the second call 1, and so on; and with each of them also the call so far
-    /// behind that, and so on. As there are six steps, 6 takes each call once, 12 half of them, and 18 a third.
+    /// How far the first calls that fail are apart, with each of the steps: 1 takes each call with each of them. Above that call 0
+    /// comes first with the first of the steps, call 1 with the second, and so on. As there are eight, 8 takes each call once, 16
+    /// half of them, and 24 a third.
     apart: u64,
 }
 
@@ -71,14 +72,14 @@ const SINGLE: [Plan; 2] = [
         restarts: 1,
         count: 1,
         least: LEAST,
-        apart: 6,
+        apart: 8,
     },
     Plan {
         words: ["run", "--restarts=1", "--checkpoint=1"],
         restarts: 1,
         count: 1,
         least: LEAST_OF_FOUR,
-        apart: 6,
+        apart: 8,
     },
 ];
 
@@ -89,28 +90,28 @@ const PAIRS: [Plan; 4] = [
         restarts: 1,
         count: 2,
         least: LEAST,
-        apart: 6,
+        apart: 1,
     },
     Plan {
         words: ["run", "--restarts=2", "--partitions=1"],
         restarts: 2,
         count: 2,
         least: LEAST,
-        apart: 6,
+        apart: 1,
     },
     Plan {
         words: ["run", "--restarts=1", "--checkpoint=1"],
         restarts: 1,
         count: 2,
         least: LEAST_OF_FOUR,
-        apart: 6,
+        apart: 1,
     },
     Plan {
         words: ["run", "--restarts=2", "--checkpoint=1"],
         restarts: 2,
         count: 2,
         least: LEAST_OF_FOUR,
-        apart: 6,
+        apart: 1,
     },
 ];
 
@@ -121,28 +122,28 @@ const SERIES: [Plan; 4] = [
         restarts: 4,
         count: 4,
         least: LEAST_OF_FOUR,
-        apart: 18,
+        apart: 24,
     },
     Plan {
         words: ["run", "--restarts=3", "--checkpoint=1"],
         restarts: 3,
         count: 4,
         least: LEAST_OF_FOUR,
-        apart: 18,
+        apart: 24,
     },
     Plan {
         words: ["run", "--restarts=16", "--partitions=1"],
         restarts: 16,
         count: 16,
         least: LEAST,
-        apart: 12,
+        apart: 16,
     },
     Plan {
         words: ["run", "--restarts=16", "--partitions=1"],
         restarts: 16,
         count: 17,
         least: LEAST,
-        apart: 12,
+        apart: 16,
     },
 ];
 
@@ -220,8 +221,9 @@ fn first_wrong_step<R: Threads + Wait + Sync>(
     plan: &Plan,
 ) -> Result<Option<(u64, u64)>, NoMemory> {
     let opening = opening_calls(rt, alloc, &plan.script())?;
-    for (first, step) in STEPS.iter().enumerate() {
-        if let Some(call) = first_wrong(rt, alloc, plan, opening, first as u64, *step)? {
+    for (number, step) in STEPS.iter().enumerate() {
+        let first = (number as u64).min(plan.apart.saturating_sub(1));
+        if let Some(call) = first_wrong(rt, alloc, plan, opening, first, *step)? {
             return Ok(Some((*step, call)));
         }
     }
@@ -238,7 +240,7 @@ fn each_call_fails(rt: HostRuntime) -> Result<(), Fail> {
     Ok(())
 }
 
-/// Each call of both with another one behind it: 1, 2, 3, 5, 8 or 13 calls further, in turn.
+/// Each call of both with each that is 1, 2, 3, 5, 8, 13, 21 or 34 calls behind it.
 #[test]
 fn two_calls_fail(rt: HostRuntime) -> Result<(), Fail> {
     for (number, plan) in PAIRS.iter().enumerate() {
@@ -271,6 +273,40 @@ fn many_pushes(alloc: Global) -> Result<String, AllocError> {
     Ok(pushes)
 }
 
+/// Runs of many pushes on disks of which some calls fail.
+#[derive(Clone, Copy)]
+struct Many {
+    words: [&'static str; 3],
+    /// How many calls fail, each three behind the one before.
+    count: u64,
+    /// How far the first calls that fail are apart.
+    apart: u64,
+}
+
+/// One call fails, or two: each of a run without checkpoints, and each fifth of one with them.
+const MANY: [Many; 4] = [
+    Many {
+        words: ["run", "--restarts=1", "--partitions=1"],
+        count: 1,
+        apart: 1,
+    },
+    Many {
+        words: ["run", "--restarts=2", "--partitions=1"],
+        count: 2,
+        apart: 1,
+    },
+    Many {
+        words: ["run", "--restarts=1", "--checkpoint=200"],
+        count: 1,
+        apart: 5,
+    },
+    Many {
+        words: ["run", "--restarts=2", "--checkpoint=200"],
+        count: 2,
+        apart: 5,
+    },
+];
+
 /// Runs them on a disk that fails in these calls.
 fn run_many<R: Threads + Wait + Sync>(
     rt: &R,
@@ -289,21 +325,20 @@ fn has_all(ended: &Ended, tables: &str) -> bool {
     ended.ends(Status::Done, tables) && line_count(ended.text(), "[\"push\",") == 200
 }
 
-/// The first of some calls of the disk, each so far behind the one before, whose failure leaves another end of a run than no failure
-/// does. Takes 64 calls, or those up to the first one that the run doesn't make.
+/// The first of some calls of the disk whose failure, and that of others behind it, leaves another end of a run than no failure does.
+/// Takes 64 calls, or those up to the first one that the run doesn't make.
 fn first_lost<R: Threads + Wait + Sync>(
     rt: &R,
     alloc: Global,
-    words: &[&str],
-    step: u64,
+    many: &Many,
 ) -> Result<Option<u64>, NoMemory> {
-    let whole = run_many(rt, alloc, words, Seq::new(alloc))?;
+    let whole = run_many(rt, alloc, &many.words, Seq::new(alloc))?;
     let Some((_, tables)) = whole.ended.text().split_once("[\"table\",") else {
         return Ok(Some(0));
     };
     let mut call = 0u64;
     for _ in 0..64 {
-        let left = run_many(rt, alloc, words, one(alloc, call)?)?;
+        let left = run_many(rt, alloc, &many.words, numbers(alloc, call, 3, many.count)?)?;
         let is_made = left.disk.faults() > 0;
         if !has_all(&left.ended, tables) || !is_made && call < LEAST {
             return Ok(Some(call));
@@ -311,25 +346,16 @@ fn first_lost<R: Threads + Wait + Sync>(
         if !is_made {
             return Ok(None);
         }
-        call = call.saturating_add(step);
+        call = call.saturating_add(many.apart);
     }
     Ok(None)
 }
 
-/// Each seventh call from 0 on fails, in a run of its own.
 #[test]
 fn of_many_pushes_each_is_accepted_once(rt: HostRuntime) -> Result<(), Fail> {
-    let words = ["run", "--restarts=1", "--partitions=1"];
-    let lost = first_lost(&rt, rt.alloc(), &words, 7)?;
-    assert!(rt; lost.is_none(), "{lost:?}");
-    Ok(())
-}
-
-/// Each 29th call from 0 on fails, in a run of its own.
-#[test]
-fn of_many_pushes_each_is_accepted_once_with_checkpoints(rt: HostRuntime) -> Result<(), Fail> {
-    let words = ["run", "--restarts=1", "--checkpoint=200"];
-    let lost = first_lost(&rt, rt.alloc(), &words, 29)?;
-    assert!(rt; lost.is_none(), "{lost:?}");
+    for (number, many) in MANY.iter().enumerate() {
+        let lost = first_lost(&rt, rt.alloc(), many)?;
+        assert!(rt; lost.is_none(), "plan {number}: {lost:?}");
+    }
     Ok(())
 }

@@ -24,6 +24,15 @@ pub(super) struct Script {
 }
 
 impl Script {
+    /// The word that tells how its store is had again.
+    fn recovery(&self) -> &'static str {
+        if self.words[2] == "--recovery=weak" {
+            "--recovery=weak"
+        } else {
+            "--recovery=strong"
+        }
+    }
+
     /// The same without its requests.
     pub(super) fn without_requests(&self) -> Script {
         Script {
@@ -48,8 +57,9 @@ const SPREAD: &str =
 const OF_EIGHT: &str =
     "{\"push\":\"s\",\"source\":\"a\",\"seq\":0,\"rows\":[[1]]}\n{\"client\":1,\"push\":\"s\",\"source\":\"b\",\"seq\":0,\"rows\":[[3]]}\n{\"client\":2,\"push\":\"s\",\"source\":\"c\",\"seq\":0,\"rows\":[[4]]}\n{\"client\":3,\"push\":\"s\",\"source\":\"d\",\"seq\":0,\"rows\":[[5]]}\n{\"client\":4,\"push\":\"s\",\"source\":\"e\",\"seq\":0,\"rows\":[[6]]}\n{\"client\":5,\"push\":\"s\",\"source\":\"f\",\"seq\":0,\"rows\":[[7]]}\n{\"client\":6,\"push\":\"s\",\"source\":\"g\",\"seq\":0,\"rows\":[[8]]}\n{\"client\":7,\"push\":\"s\",\"source\":\"h\",\"seq\":0,\"rows\":[[9]]}\n{\"call\":\"put\",\"args\":[0]}\n{\"client\":1,\"call\":\"put\",\"args\":[1]}\n{\"client\":2,\"call\":\"put\",\"args\":[2]}\n{\"client\":3,\"call\":\"put\",\"args\":[3]}\n{\"client\":4,\"call\":\"put\",\"args\":[4]}\n{\"client\":5,\"call\":\"put\",\"args\":[5]}\n{\"client\":6,\"call\":\"put\",\"args\":[6]}\n{\"client\":7,\"call\":\"put\",\"args\":[7]}\n";
 
-/// One client, the same with a checkpoint due behind each entry, and eight clients on as many partitions.
-pub(super) const SCRIPTS: [Script; 3] = [
+/// One client, the same with a checkpoint due behind each entry, and eight clients on as many partitions; then the three again with a
+/// store of which calls and pushes alone are logged.
+pub(super) const SCRIPTS: [Script; 6] = [
     Script {
         words: ["run", "--partitions=1", "--restarts=0"],
         catalog: DIAMOND,
@@ -66,6 +76,27 @@ pub(super) const SCRIPTS: [Script; 3] = [
     },
     Script {
         words: ["run", "--partitions=8", "--recovery=strong"],
+        catalog: SPREAD,
+        requests: OF_EIGHT,
+        last: "[\"done\",48]\n",
+        empty: "[\"table\",\"acct\",0]\n[\"table\",\"joined\",0]\n[\"done\",0]\n",
+    },
+    Script {
+        words: ["run", "--partitions=1", "--recovery=weak"],
+        catalog: DIAMOND,
+        requests: PUSHES,
+        last: "[\"done\",12]\n",
+        empty: "[\"table\",\"joined\",0]\n[\"done\",0]\n",
+    },
+    Script {
+        words: ["run", "--checkpoint=1", "--recovery=weak"],
+        catalog: DIAMOND,
+        requests: PUSHES,
+        last: "[\"done\",12]\n",
+        empty: "[\"table\",\"joined\",0]\n[\"done\",0]\n",
+    },
+    Script {
+        words: ["run", "--partitions=8", "--recovery=weak"],
         catalog: SPREAD,
         requests: OF_EIGHT,
         last: "[\"done\",48]\n",
@@ -174,14 +205,34 @@ pub(super) fn run_script<R: Threads + Wait + Sync>(
     Ok(streams.run_on(rt, alloc, disk, u16::MAX))
 }
 
-/// Recovers a disk, and runs nothing on it but what was pending.
+/// Recovers a disk with these words, and runs nothing on it but what was pending.
+fn recover_with<R: Threads + Wait + Sync>(
+    rt: &R,
+    alloc: Global,
+    words: &[&str],
+    disk: MemoryDisk,
+) -> Result<Left, NoMemory> {
+    let streams = Streams::new(alloc, words, Vec::new(alloc), ROOM)?;
+    Ok(streams.run_on(rt, alloc, disk, u16::MAX))
+}
+
+/// Recovers the disk of a run whose store has all entries.
 pub(super) fn recover<R: Threads + Wait + Sync>(
     rt: &R,
     alloc: Global,
     disk: MemoryDisk,
 ) -> Result<Left, NoMemory> {
-    let streams = Streams::new(alloc, &["recover"], Vec::new(alloc), ROOM)?;
-    Ok(streams.run_on(rt, alloc, disk, u16::MAX))
+    recover_with(rt, alloc, &["recover"], disk)
+}
+
+/// Recovers the disk of a run of a script by the mode of that.
+pub(super) fn recover_as<R: Threads + Wait + Sync>(
+    rt: &R,
+    alloc: Global,
+    script: &Script,
+    disk: MemoryDisk,
+) -> Result<Left, NoMemory> {
+    recover_with(rt, alloc, &["recover", script.recovery()], disk)
 }
 
 /// Which of the two rows are there that the request of a line of a list leaves, where the line is of one that is done.

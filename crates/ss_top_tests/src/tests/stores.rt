@@ -3,7 +3,7 @@
 ghost use Rattle.std.specs.Prelude.{◌<◌};
 ghost use Rattle.ss_disk.specs.Calls.{memory_calls};
 
-use super::scripts::{ROOM, SCRIPTS, Script, is_prefix, recover, run_script};
+use super::scripts::{ROOM, SCRIPTS, Script, is_prefix, recover, recover_as, run_script};
 use super::{ACCOUNTS, DIAMOND, Left, PUTS, Streams, empty_disk, with_requests};
 use ss_disk::{Disk, FileNo, MemoryDisk, Torn};
 use ss_top::Status;
@@ -52,14 +52,14 @@ fn with_byte(mut disk: MemoryDisk, which: FileNo, at: u64, byte: u8) -> Result<M
 }
 
 /// One push to the workflow.
-const PUSH: &str = "{\"push\":\"s\",\"source\":\"a\",\"seq\":0,\"rows\":[[1]]}\n";
+pub(super) const PUSH: &str = "{\"push\":\"s\",\"source\":\"a\",\"seq\":0,\"rows\":[[1]]}\n";
 
 /// What a recovery writes where the push and its first step had run.
 const PENDING_RAN: &str =
     "[\"step\",2,\"p\",0,[\"done\",[]]]\n[\"step\",3,\"q\",0,[\"done\",[]]]\n[\"step\",4,\"j\",0,[\"done\",[]]]\n[\"table\",\"joined\",2]\n[\"row\",\"joined\",[11,1]]\n[\"row\",\"joined\",[21,2]]\n[\"done\",3]\n";
 
 /// What one writes where nothing was pending.
-const NOTHING_RAN: &str =
+pub(super) const NOTHING_RAN: &str =
     "[\"table\",\"joined\",2]\n[\"row\",\"joined\",[11,1]]\n[\"row\",\"joined\",[21,2]]\n[\"done\",0]\n";
 
 /// What one writes behind both batches of a script.
@@ -174,6 +174,7 @@ fn a_store_without_its_last_byte(rt: HostRuntime) -> Result<(), Fail> {
 fn recovers<R: Threads + Wait + Sync>(
     rt: &R,
     alloc: Global,
+    script: &Script,
     list: &str,
     disk: &MemoryDisk,
     call: u64,
@@ -181,7 +182,7 @@ fn recovers<R: Threads + Wait + Sync>(
     requires { call < memory_calls disk.now }
 {
     for torn in [Torn::Nothing, Torn::Whole, Torn::Fill(1)] {
-        let recovered = recover(rt, alloc, disk.crash(alloc, call, torn)?)?;
+        let recovered = recover_as(rt, alloc, script, disk.crash(alloc, call, torn)?)?;
         if !is_prefix(list, &recovered.ended) {
             return Ok(false);
         }
@@ -200,7 +201,7 @@ fn first_lost<R: Threads + Wait + Sync>(
         return Ok(Some(0));
     }
     for call in 0..left.disk.calls() {
-        if !recovers(rt, alloc, left.ended.text(), &left.disk, call)? {
+        if !recovers(rt, alloc, script, left.ended.text(), &left.disk, call)? {
             return Ok(Some(call));
         }
     }

@@ -1,8 +1,10 @@
 -- The laws of weak lists where a batch goes through the workflow that splits and joins, and is pushed again before its steps.
-use Rattle.std.proofs.Common.{◌≡◌, ℕ, pos, codes, List, [], ◌∷◌, length, refl, Some}
+use Rattle.std.proofs.Common.{◌≡◌, inr, ℕ, ◌-◌, ◌^◌, pos, codes, List, [], ◌∷◌, length, ap, arith, refl, subst, Some, unwrap_or}
 use Rattle.std.specs.FinMap as finmap
 use Rattle.std.specs.FinMap.{get-insert}
 use Rattle.std.proofs.lemmas.Cmp.{nat_list_cmp_total}
+use Rattle.std.specs.Option.{option_map}
+use Rattle.std.specs.declared.option.Option.{Option}
 use Rattle.ss_value.specs.declared.value.Value.TheVariants.{Int}
 use Rattle.ss_value.specs.Rows.{Rows}
 use Rattle.ss_model.specs.declared.entry.Entry.{Entry}
@@ -11,12 +13,15 @@ use Rattle.ss_model.specs.declared.entry.Listed.{Listed}
 use Rattle.ss_model.specs.declared.entry.Outcome.{Outcome}
 use Rattle.ss_model.specs.declared.entry.Outcome.TheVariants.{Done, Duplicate, Aborted}
 use Rattle.ss_model.specs.declared.entry.Reason.TheVariants.{Raised}
-use Rattle.ss_model.specs.Database.{Database, apply, empty_database}
+use Rattle.ss_model.specs.Database.{Database, Applied, apply, empty_database}
+use Rattle.ss_model.specs.InStep.{IsInStep}
 use Rattle.ss_model.specs.Replays.{Replays}
 use Rattle.ss_model.specs.Settling.{Settles, IsWeakList, kept}
-use Rattle.ss_model_laws.proofs.CallerLemmas.{accepted, workflow, empty_whole}
+use Rattle.ss_model_laws.proofs.CallerLemmas.{accepted, workflow, empty_whole, in_step_after}
 use Rattle.ss_model_laws.proofs.worked.WorkflowRun as run
-use Rattle.ss_weak_lists.specs.Asked.{SamePushes, PushesNeedNumbers, asked_of, listed_entries, pushes_of}
+use Rattle.ss_model.specs.Asked.{asked_of, listed_entries, pushes_of}
+use Rattle.ss_weak_lists.specs.Pushes.{SamePushes, PushesNeedNumbers}
+use Rattle.ss_weak_lists.specs.Stops.{LoopsPassLast, PassesLast, ReplaysWeakly, StopsBehind, WeakStopsOnce}
 use Rattle.ss_weak_lists.specs.WeakLists.{KeptCarriesWeak, RecoversWeakly, RunsRecoverWeakly, WeakListsGrow, WeakListsHoldAsked}
 
 abbrev rows : ℕ → Rows
@@ -26,7 +31,7 @@ abbrev start : Database
 start = empty_database workflow
 
 -- the same push, made again
-abbrev again : Entry
+abbrev pub again : Entry
 again = Push 0 1 0 (codes "a") 0 (rows 7)
 
 abbrev steps : List Entry
@@ -43,7 +48,7 @@ again_late = rw (get-insert {X = ℕ} nat_list_cmp_total finmap.empty (codes "a"
 
 -- ---- a weak list, made entry by entry: the second push is behind the steps of the first
 
-abbrev weak : List Entry
+abbrev pub weak : List Entry
 weak = run.push ∷ StepEntry 0 0 ∷ StepEntry 1 0 ∷ StepEntry 2 0 ∷ StepEntry 3 0 ∷ again ∷ []
 
 none_yet : IsWeakList workflow start [] []
@@ -116,3 +121,29 @@ again_alone = ([], [], refl, refl, rw again_late refl)
 
 pub carried : KeptCarriesWeak → IsWeakList workflow other (again ∷ []) (again ∷ [])
 carried law = (law workflow run.joined other same_kept).weak (again ∷ []) (again ∷ []) again_alone
+
+-- ---- where a weak replay stops: from the first place on both pushes replay
+
+pub both_replay : WeakListsGrow → ReplaysWeakly workflow start 0 (run.push ∷ again ∷ [])
+both_replay grow = record { list = late; is_weak = two_pushes grow; replays = late_replays; few = omega arith }
+
+-- where four places are left the first push has one, and three of its four steps
+pub stops : StopsBehind workflow start (2 ^ 60 - 4) (run.push ∷ again ∷ []) 0
+stops = record {
+  before = record { list = []; is_weak = none_yet; replays = tt; few = omega arith };
+  entry = run.push;
+  there = refl;
+  stops = inr (record { steps = steps; settles = rw run.pushes settled; past = omega arith });
+}
+
+pub stops_only_there : WeakStopsOnce → (n : ℕ) → StopsBehind workflow start (2 ^ 60 - 4) (run.push ∷ again ∷ []) n → n ≡ 0
+stops_only_there law n other = (law workflow start (2 ^ 60 - 4) (run.push ∷ again ∷ [])).one_stop n 0 other stops
+
+pushed_in_step : IsInStep workflow run.pushed
+pushed_in_step =
+    let next = in_step_after workflow accepted.structure.streams.wired start (listed run.push (Done []) ∷ []) (empty_whole workflow accepted).in_step in
+    subst (IsInStep workflow) (ap (λ (o : Option Applied). unwrap_or (option_map (λ (a : Applied). a.db) o) start) run.pushes) next
+
+-- a loop that has run one of these steps at the last place sees it by the next one
+pub passes : LoopsPassLast → PassesLast workflow run.pushed (2 ^ 60 - 1)
+passes law = law workflow accepted run.pushed pushed_in_step (StepEntry 0 0 ∷ []) (0, refl, refl, tt) 1 (rw run.splits refl) (2 ^ 60 - 1) (omega arith)

@@ -5,4 +5,4 @@ use Rattle.ss_audit_runs.proofs.laws.whole_runs_are_right.Goals as goal
 pub returns : goal.returns
 returns g c =
     whole_runs_are_right (disk_of g.D.Disk.kind)
-    c.runs_hold_from_each.ensures c.stands_for_one.ensures c.kept_carries.ensures c.printed_is_right.ensures
+    c.stands_for_one.ensures c.weakly_stands_for_one.ensures c.drained_at_rest.ensures c.kept_carries.ensures c.printed_is_right.ensures

@@ -2,4 +2,4 @@ use Rattle.ss_headline.proofs.Sessions.{whole_sessions}
 use Rattle.ss_headline.proofs.laws.whole_sessions.Goals as goal
 
 pub returns : goal.returns
-returns g c = whole_sessions g.D.Disk.kind c.receipts_bound_fronts.ensures
+returns g c = whole_sessions g.D.Disk.kind

@@ -20,7 +20,7 @@ invariant_of-keeper g c =
     let note = c.keeper.inside.note in
     let done = c.flush_rest-done in
     let rest = rest_of g.I.Life.catalog g.I.Life.opening g.I.Life.first (record { log = c.keeper.inside.log; count = c.keeper.inside.count; note = c.keeper.inside.note }) c.args.keeper.now c.args.rest.now c.keeper.view_is c.knows_what_replays.ensures.replays c.requires.small c.requires.rest in
-    subst (λ (k : Known). (k.role ≡ DiskRole) × (k.count ≡ done.result.count) × Holds g.I.Life.every g.I.Life.catalog g.I.Life.opening g.I.Life.first g.I.Life.moment g.I.Life.faults g.I.Life.past g.D.Disk.kind (listed_of k.list) done.new.log done.result.count k.faults)
+    subst (λ (k : Known). (k.role ≡ DiskRole) × (k.count ≡ done.result.count) × Holds g.I.Life.recovery g.I.Life.every g.I.Life.catalog g.I.Life.opening g.I.Life.first g.I.Life.moment g.I.Life.faults g.I.Life.past g.D.Disk.kind (listed_of k.list) done.new.log done.result.count k.faults)
     (sym c.post.ensures) (refl, refl, done.ensures.holds (listed_of note.list) note.faults rest c.keeper.invariant.2)
 
 pub returns-clause-all : goal.returns-clause-all

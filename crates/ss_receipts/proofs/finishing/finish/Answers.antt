@@ -21,7 +21,7 @@ returns g c = λ count fault h.
           ∙ ap (λ (n : ℕ). listed_entries (drop (c.count-count.result - n) c.args.list.now)) c.requires.first;
     } in
     let same : count ≡ c.count-count.result = sym (h.counted none) ∙ sym c.count-count.ensures in
-    let held = subst (λ (n : ℕ). Holds g.I.Life.every g.I.Life.catalog g.I.Life.opening g.I.Life.first g.I.Life.moment g.I.Life.faults g.I.Life.past g.D.Disk.kind c.args.list.now c.args.log.now n fault) same h in
+    let held = subst (λ (n : ℕ). Holds g.I.Life.recovery g.I.Life.every g.I.Life.catalog g.I.Life.opening g.I.Life.first g.I.Life.moment g.I.Life.faults g.I.Life.past g.D.Disk.kind c.args.list.now c.args.log.now n fault) same h in
     record {
       count = c.flush_rest.result.count;
       fault = c.flush_rest.result.faults;

@@ -24,10 +24,10 @@ returns-in-Ok-clause-holds g c = λ list fault rest h.
     let open' = (h.going c.requires.going).opened_at in
     let e = c.in-Ok.ensures in
     let adds = e.adds (h.going c.requires.going).generation open' in
-    subst (λ (n : ℕ). Holds g.I.Life.every g.I.Life.catalog g.I.Life.opening g.I.Life.first g.I.Life.moment g.I.Life.faults g.I.Life.past g.D.Disk.kind list c.flush.new.self n 0) e.count.1
-    (holds_all g.I.Life.every g.I.Life.catalog g.I.Life.opening g.I.Life.first g.I.Life.moment g.I.Life.faults g.I.Life.past g.D.Disk.kind
-    g.met.D.Disk.honest_tells goes_on c.generations_go_on.ensures c.prefixes_go_on.ensures.over_flush c.log_receipts_tell.ensures c.kept_counts_stand_on.ensures list c.args.log.now c.flush.new.self c.args.count fault c.args.entries.now rest h c.requires.going
-    adds.moments e.stays e.cause.later c.groups_hold_the_entries.ensures (e.cause.goes_on (λ failed. cc) ∙ c.requires.going) (e.cause.told (λ failed. cc)) (omega (arith, e.count.0, e.count.1, h.counted c.requires.going)) (adds.done refl))
+    subst (λ (n : ℕ). Holds g.I.Life.recovery g.I.Life.every g.I.Life.catalog g.I.Life.opening g.I.Life.first g.I.Life.moment g.I.Life.faults g.I.Life.past g.D.Disk.kind list c.flush.new.self n 0) e.count.1
+    (holds_all g.I.Life.recovery g.I.Life.every g.I.Life.catalog g.I.Life.opening g.I.Life.first g.I.Life.moment g.I.Life.faults g.I.Life.past g.D.Disk.kind
+    g.met.D.Disk.honest_tells c.held_fronts_stand.ensures c.flushes_keep_fronts.ensures list c.args.log.now c.flush.new.self c.args.count fault c.args.entries.now rest h c.requires.going
+    adds.moments e.stays e.cause.later c.groups_hold_the_entries.ensures (e.cause.goes_on (λ failed. cc) ∙ c.requires.going) (e.cause.told (λ failed. cc)) (omega (arith, e.count.0, e.count.1)) (adds.done refl))
 
 pub returns-in-Ok-clause-going : goal.returns-in-Ok-clause-going
 returns-in-Ok-clause-going g c = c.in-Ok.ensures.cause.goes_on (λ failed. cc) ∙ c.requires.going
@@ -37,11 +37,10 @@ returns-in-Err-NoMemory-clause-holds g c = λ list fault rest h.
     let open' = (h.going c.requires.going).opened_at in
     let e = c.in-Err-NoMemory.ensures in
     let adds = e.adds (h.going c.requires.going).generation open' in
-    let same = h.counted c.requires.going in
-    subst (λ (n : ℕ). Holds g.I.Life.every g.I.Life.catalog g.I.Life.opening g.I.Life.first g.I.Life.moment g.I.Life.faults g.I.Life.past g.D.Disk.kind list c.flush.new.self n 0) (sym c.count.ensures)
-    (holds_some g.I.Life.every g.I.Life.catalog g.I.Life.opening g.I.Life.first g.I.Life.moment g.I.Life.faults g.I.Life.past g.D.Disk.kind
-    g.met.D.Disk.honest_tells goes_on c.generations_go_on.ensures c.prefixes_go_on.ensures.over_flush c.log_receipts_tell.ensures c.kept_counts_stand_on.ensures list c.args.log.now c.flush.new.self c.args.count fault c.args.entries.now rest h c.requires.going
-    adds.moments e.stays e.cause.later c.first_groups_hold_the_first_entries.ensures (e.cause.goes_on (λ failed. cc) ∙ c.requires.going) (e.cause.told (λ failed. cc)) (omega (arith, e.between.0, same)) (omega (arith, e.between.1, same)) (adds.kept (ap Err c.in-Err-NoMemory.field-0-is)))
+    subst (λ (n : ℕ). Holds g.I.Life.recovery g.I.Life.every g.I.Life.catalog g.I.Life.opening g.I.Life.first g.I.Life.moment g.I.Life.faults g.I.Life.past g.D.Disk.kind list c.flush.new.self n 0) (sym c.count.ensures)
+    (holds_some g.I.Life.recovery g.I.Life.every g.I.Life.catalog g.I.Life.opening g.I.Life.first g.I.Life.moment g.I.Life.faults g.I.Life.past g.D.Disk.kind
+    g.met.D.Disk.honest_tells c.held_fronts_stand.ensures c.flushes_keep_fronts.ensures list c.args.log.now c.flush.new.self c.args.count fault c.args.entries.now rest h c.requires.going
+    adds.moments e.stays e.cause.later (e.cause.goes_on (λ failed. cc) ∙ c.requires.going) (e.cause.told (λ failed. cc)) (adds.kept (ap Err c.in-Err-NoMemory.field-0-is)))
 
 pub returns-in-Some-clause-holds : goal.returns-in-Some-clause-holds
 returns-in-Some-clause-holds g c = λ list fault rest h.
@@ -50,6 +49,6 @@ returns-in-Some-clause-holds g c = λ list fault rest h.
     let adds = e.adds (h.going c.requires.going).generation open' in
     let failed : Err c.in-Err-DiskFault.field-0 ≡ Err DiskFault = ap Err c.in-Err-DiskFault.field-0-is in
     let halted : c.flush.new.self.halted ≡ Some c.in-Some.faults = sym c.halted.ensures ∙ c.in-Some.is in
-    holds_halted g.I.Life.every g.I.Life.catalog g.I.Life.opening g.I.Life.first g.I.Life.moment g.I.Life.faults g.I.Life.past g.D.Disk.kind
-    g.met.D.Disk.honest_tells goes_on c.generations_go_on.ensures c.prefixes_go_on.ensures.over_flush c.log_receipts_tell.ensures c.kept_counts_stand_on.ensures list c.args.log.now c.flush.new.self c.args.count fault c.args.entries.now rest h c.requires.going
-    adds.moments e.stays e.cause.later c.in-Some.faults halted (some_same _ _ (sym halted ∙ e.cause.keeps failed)) (e.cause.rose failed) (λ honest receipted. e.receipts honest c.args.count (omega (arith, h.counted c.requires.going)) receipted)
+    holds_halted g.I.Life.recovery g.I.Life.every g.I.Life.catalog g.I.Life.opening g.I.Life.first g.I.Life.moment g.I.Life.faults g.I.Life.past g.D.Disk.kind
+    g.met.D.Disk.honest_tells c.held_fronts_stand.ensures c.flushes_keep_fronts.ensures list c.args.log.now c.flush.new.self c.args.count fault c.args.entries.now rest h c.requires.going
+    adds.moments e.stays e.cause.later c.in-Some.faults halted (some_same _ _ (sym halted ∙ e.cause.keeps failed)) (e.cause.rose failed)

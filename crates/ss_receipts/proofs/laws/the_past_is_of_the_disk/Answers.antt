@@ -1,6 +1,5 @@
-use Rattle.ss_standing.specs.Standing.{Prefix}
 use Rattle.ss_receipts.proofs.Since.{disk_since}
 use Rattle.ss_receipts.proofs.laws.the_past_is_of_the_disk.Goals as goal
 
 pub returns : goal.returns
-returns g c = λ catalog db first list old new since. disk_since g.D.Disk.kind.moment g.D.Disk.kind.images old new (Prefix catalog db first list) since
+returns g c = λ recovery catalog db first list old new since. disk_since g.D.Disk.kind.moment g.D.Disk.kind.images old new _ since

@@ -7,14 +7,15 @@ pub returns-in-Ok-format-clause-recovered : goal.returns-in-Ok-format-clause-rec
 returns-in-Ok-format-clause-recovered g c =
     let spelled = c.as_slice.ensures ∙ c.in-Ok.ensures.ok in
     rw c.new.ensures (
-    formed g.D.Disk.kind g.met.D.Disk.honest_tells c.args.catalog c.requires.own c.forming_stands.ensures c.as_slice.result.now spelled c.args.disk c.requires.empty
+    formed g.D.Disk.kind g.met.D.Disk.honest_tells c.args.mode c.args.catalog c.requires.own c.forming_stands.ensures c.as_slice.result.now spelled c.args.disk c.requires.empty
+    c.images_are_exact.ensures.again c.wholeness_stays.ensures c.kept_carries_weak.ensures c.weak_lists_hold_asked.ensures c.what_is_spelled_is_read.ensures
     c.args.partitions c.in-Ok-opening.database c.in-Ok-format.log c.in-Ok-opening.ensures.is_whole c.in-Ok-opening.ensures.stands c.in-Ok-format.ensures.open c.in-Ok-format.ensures.count c.in-Ok-format.ensures.moments c.in-Ok-format.ensures.some c.one_thing_stands_on.ensures)
 
 pub returns-in-Err-clause-refused : goal.returns-in-Err-clause-refused
 returns-in-Err-clause-refused g c =
     let spelled = c.as_slice.ensures ∙ c.in-Ok.ensures.ok in
     rw c.refusal.ensures (
-    unformed g.D.Disk.kind g.met.D.Disk.honest_tells c.args.catalog c.requires.own c.forming_stands.ensures c.as_slice.result.now spelled c.args.disk c.requires.empty
+    unformed g.D.Disk.kind g.met.D.Disk.honest_tells c.args.mode c.args.catalog c.requires.own c.forming_stands.ensures c.as_slice.result.now spelled c.args.disk c.requires.empty
     c.in-Err.disk c.in-Err.refused c.in-Err.ensures.refusals c.in-Err.ensures.cause c.in-Err.ensures.moments c.in-Err.ensures.some c.one_thing_stands_on.ensures g.met.D.Disk.sees_an_image)
 
 pub returns-in-Err-clause-told : goal.returns-in-Err-clause-told

@@ -1,11 +1,14 @@
-use Rattle.std.proofs.Common.{◌∙◌, inr, List, length, All, ap, refl, subst, sym}
+use Rattle.std.proofs.Common.{◌≡◌, ◌∙◌, inl, inr, List, length, All, ap, arith, refl, subst, sym}
 use Rattle.std.proofs.lemmas.List.Elements.{All-take}
+use Rattle.std.proofs.lemmas.Option.{slice_get_within}
 use Rattle.ss_model.specs.declared.entry.Entry.{Entry}
 use Rattle.ss_model.specs.declared.entry.Listed.{Listed}
+use Rattle.ss_model.specs.declared.entry.Mode.{Mode}
 use Rattle.ss_record.specs.Bounds.{IsRecordable}
 use Rattle.ss_standing.specs.Standing.{listed_entries}
 use Rattle.ss_replay.specs.Replaying.{StopsAsSaid}
-use Rattle.ss_recover.specs.Loading.{place_behind}
+use Rattle.ss_recover.specs.Faults.{StopsAfter}
+use Rattle.ss_recover.specs.Loading.{IsListOf, place_behind}
 use Rattle.ss_recover.proofs.Images.{image_takes}
 use Rattle.ss_recover.proofs.stored.replay_loaded.Goals as goal
 
@@ -23,7 +26,7 @@ returns-in-Ok-clause-ok g c = λ parts is_whole.
       accepted = c.requires.accepted;
       db = db;
       image = image;
-      entries = c.in-Ok.ensures.entries;
+      entries = subst (λ (m : Mode). IsListOf m c.args.catalog.now db c.args.loaded.entries c.in-Ok.replayed.list) (sym c.requires.mode) c.in-Ok.ensures.entries;
       replays = replayed.replays;
       placed = refl;
       few = c.in-Ok.ensures.placed;
@@ -43,14 +46,21 @@ place_behind-requires g c =
 pub returns-clause-refused : goal.returns-clause-refused
 returns-clause-refused g c =
     let catalog = c.args.catalog.now in
+    let loaded = c.args.loaded in
+    let before = c.in-Err-Foreign.before in
     let (db, image, stands) = c.requires.image in
-    let on = image_takes catalog c.args.loaded.image c.args.loaded.first c.args.database db image stands in
-    inr (record {
+    let on = image_takes catalog loaded.image loaded.first c.args.database db image stands in
+    let stops = subst (StopsAsSaid catalog db loaded.first loaded.entries) c.in-Err-Foreign.field-0-is (c.in-Err-Foreign.ensures.foreign db on) in
+    let within = slice_get_within loaded.entries (length before) stops.entry stops.there in
+    let front : place_behind c.len.result c.as_slice.result.now (listed_entries c.as_slice-list.result.now) ≡ place_behind (length loaded.image) loaded.sizes (listed_entries before) =
+    λ k. place_behind (c.len.ensures k) (c.as_slice.ensures k) (listed_entries (c.as_slice-list.ensures k)) in
+    inr (inl (record {
       catalog = catalog;
       accepted = c.requires.accepted;
       db = db;
       image = image;
-      list = c.in-Err-Foreign.before;
-      stops = subst (StopsAsSaid catalog db c.args.loaded.first c.args.loaded.entries) c.in-Err-Foreign.field-0-is (c.in-Err-Foreign.ensures.foreign db on);
-      place = c.in_ok-place_behind-in-Err-Foreign.ensures ∙ (λ k. place_behind (c.len.ensures k) (c.as_slice.ensures k) (listed_entries (c.as_slice-list.ensures k)));
-    })
+      before = length before;
+      within = omega (arith, within);
+      stops = subst (λ (m : Mode). StopsAfter m catalog db loaded.first loaded.entries (length before)) (sym c.requires.mode) (before, refl, stops);
+      place = c.in_ok-place_behind-in-Err-Foreign.ensures ∙ front ∙ ap (place_behind (length loaded.image) loaded.sizes) stops.before;
+    }))

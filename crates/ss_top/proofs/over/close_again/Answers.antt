@@ -1,5 +1,6 @@
 use Rattle.std.proofs.Common.{◌≡◌, ◌⊎◌, ◌∙◌, inl, inr, true, is_some, sym, subst}
 use Rattle.std.proofs.lemmas.Bool.{false≢true}
+use Rattle.ss_model.specs.declared.entry.Mode.TheVariants as modes
 use Rattle.ss_top.specs.declared.over.Turn.TheVariants.{Short, Failed}
 use Rattle.std.proofs.Common.{Some}
 use Rattle.ss_top.specs.Turns.{ClosesAgain}
@@ -9,13 +10,13 @@ use Rattle.ss_top.proofs.over.close_again.Goals.{else-not-last-via-then-not-last
 
 pub returns-in_default-clause-closes : goal.returns-in_default-clause-closes
 returns-in_default-clause-closes g c = λ every limit catalog.
-    subst (λ (d : g.row.D.Denot). ClosesAgain {D = g.row.D.Denot} g.D.Disk.kind every limit c.args.printing catalog c.args.requests.now c.args.last c.args.past c.args.place c.args.finished (Short d)) (sym c.into_disk.ensures)
+    subst (λ (d : g.row.D.Denot). ClosesAgain {D = g.row.D.Denot} g.D.Disk.kind modes.Strong every limit c.args.printing catalog c.args.requests.now c.args.last c.args.past c.args.place c.args.finished (Short d)) (sym c.into_disk.ensures)
     (short_closed g.D.Disk.kind every limit c.args.printing catalog c.args.requests.now c.args.last c.args.past c.args.place c.args.finished c.requires.place.0 c.requires.place.1
     c.answers_resume.ensures.resume c.answers_resume.ensures.stay c.incarnations_go_on.ensures.more c.runs_over_restarts.ensures)
 
 pub returns-then-has_failed-clause-closes : goal.returns-then-has_failed-clause-closes
 returns-then-has_failed-clause-closes g c = λ every limit catalog.
-    subst (λ (d : g.row.D.Denot). ClosesAgain {D = g.row.D.Denot} g.D.Disk.kind every limit c.args.printing catalog c.args.requests.now c.args.last c.args.past c.args.place c.args.finished (Failed (Some c.in-Ok.past) d))
+    subst (λ (d : g.row.D.Denot). ClosesAgain {D = g.row.D.Denot} g.D.Disk.kind modes.Strong every limit c.args.printing catalog c.args.requests.now c.args.last c.args.past c.args.place c.args.finished (Failed (Some c.in-Ok.past) d))
     (sym c.into_disk-then-has_failed.ensures)
     (failed_closed g.D.Disk.kind every limit c.args.printing catalog c.args.requests.now c.args.last c.args.past c.args.place c.args.finished c.requires.place.0 c.requires.place.1
     c.answers_resume.ensures.resume c.answers_resume.ensures.stay c.incarnations_go_on.ensures.more c.runs_over_restarts.ensures c.in-Ok.past c.in-Ok.ensures (sym c.has_failed.ensures.failed ∙ c.if-has_failed.true) c.has_failed.ensures.small)

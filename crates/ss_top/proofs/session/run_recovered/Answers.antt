@@ -1,10 +1,12 @@
 use denote.Param.Send.{given_send, param_send}
 use mir.Syntax.{ty_unit}
-use Rattle.std.proofs.Common.{rules, ℕ, ◌≡◌, ◌≤◌, Some, subst}
+use Rattle.std.proofs.Common.{rules, ℕ, ◌≡◌, ◌≤◌, [], Some, subst}
 use Rattle.ss_model.specs.Accepted.{Accepted}
+use Rattle.ss_model.specs.Recovery.{Recovery}
 use Rattle.ss_engine.specs.Clients.{AllFit, StartWithin}
 use Rattle.ss_engine.specs.Sessions.{AreOfClients, EndsOnDisk, OpensOn}
-use Rattle.ss_recover.specs.Recovering.{GoesOn}
+use Rattle.ss_fronts.specs.Fronts.{BeganAt, HoldsFront}
+use Rattle.ss_top.specs.Turns.{GoesOnWith}
 use Rattle.ss_top.proofs.ClientsBelow.{clients_below}
 use Rattle.ss_top.proofs.Running.{within_places}
 use Rattle.ss_top.proofs.session.run_recovered.Goals as goal
@@ -16,10 +18,17 @@ client_count-clients-requires g c =
 
 pub run_session-requires : goal.run_session-requires
 run_session-requires g c = λ κs within.
-    let goes : GoesOn {D = g.row.D.Denot} g.D.Disk.kind c.args.partitions c.args.recovered g.db = search (rules, c.requires) parts 40 in
+    let with : GoesOnWith {D = g.row.D.Denot} g.D.Disk.kind c.args.partitions c.args.recovered g.begins = search (rules, c.requires) parts 40 in
+    let goes = with.goes_on in
     let small = within_places c.args.limit c.args.recovered.first c.room_from.result goes.few c.room_from.ensures in
-    let opens : OpensOn {D = g.row.D.Denot} g.D.Disk.kind c.args.recovered.catalog g.db c.args.recovered.first c.args.recovered.log =
-    record { stood = goes.s; going = goes.log; count = goes.count; replayed = λ told. goes.generation } in
+    let opens : OpensOn {D = g.row.D.Denot} g.D.Disk.kind g.begins.recovery c.args.recovered.catalog g.begins.db c.args.recovered.first c.args.recovered.log =
+    record {
+      stood = goes.s;
+      going = goes.log;
+      count = goes.count;
+      began = λ told. subst (λ (r : Recovery). BeganAt r c.args.recovered.catalog g.begins.db c.args.recovered.first) with.had_again (goes.began told);
+      held = λ told. subst (λ (r : Recovery). HoldsFront r c.args.recovered.catalog g.begins.db c.args.recovered.first [] 0 goes.s) with.had_again (goes.held told);
+    } in
     let accepted : Accepted c.args.recovered.catalog = search (rules, c.requires) parts 40 in
     let fit : AllFit c.args.recovered.catalog c.args.requests.now = search (rules, c.requires) parts 40 in
     let some : 1 ≤ c.args.partitions = search (rules, c.requires) parts 40 in
@@ -33,6 +42,6 @@ run_session-requires g c = λ κs within.
 pub returns-in-Ok-clause-ran : goal.returns-in-Ok-clause-ran
 returns-in-Ok-clause-ran g c = (
   c.client_count-clients.result,
-  subst (λ (room : ℕ). EndsOnDisk {D = g.row.D.Denot} g.D.Disk.kind c.args.every c.args.recovered.catalog g.db c.args.recovered.first
+  subst (λ (room : ℕ). EndsOnDisk {D = g.row.D.Denot} g.D.Disk.kind g.begins.recovery c.args.every c.args.recovered.catalog g.begins.db c.args.recovered.first
       room c.client_count-clients.result c.args.requests.now c.args.starts.now c.args.recovered.log c.in-Ok.finished) c.room_from.ensures c.in-Ok.ensures.ok,
 )

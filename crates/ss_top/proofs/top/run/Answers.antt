@@ -5,12 +5,12 @@ use Rattle.ss_top.proofs.top.run.Goals as goal
 
 pub returns-in-Ok-clause-ends : goal.returns-in-Ok-clause-ends
 returns-in-Ok-clause-ends g c =
-    run_came g.D.Disk.kind c.args.disk c.run_on_store.result.1 c.args.every c.args.limit c.args.restarts _ _ c.an_input_has_one_answer.ensures.start c.an_input_has_one_answer.ensures.either c.a_disk_has_one_fault.ensures.empty c.a_disk_has_one_fault.ensures.store c.a_disk_has_one_fault.ensures.catalog
+    run_came g.D.Disk.kind c.args.disk c.run_on_store.result.1 c.args.mode c.args.every c.args.limit c.args.restarts _ _ c.an_input_has_one_answer.ensures.start c.an_input_has_one_answer.ensures.either c.a_disk_has_one_fault.ensures.empty c.a_disk_has_one_fault.ensures.store c.a_disk_has_one_fault.ensures.one
     c.in-Ok.field-0.catalog c.in-Ok.field-0.requests c.in-Ok.ensures.ok c.in-Ok.ensures.own.0 c.in-Ok.ensures.end c.run_on_store.result.0 c.run_on_store.ensures.came.came c.run_on_store.ensures.came.cause
 
 pub returns-in-Err-clause-ends : goal.returns-in-Err-clause-ends
 returns-in-Err-clause-ends g c =
-    run_refused g.D.Disk.kind c.args.disk c.args.disk c.args.every c.args.limit c.args.restarts _ _ c.an_input_has_one_answer.ensures.refusal c.an_input_has_one_answer.ensures.either refl c.in-Err.error c.in-Err.ensures.refused c.in-Err.ensures.leaves
+    run_refused g.D.Disk.kind c.args.disk c.args.disk c.args.mode c.args.every c.args.limit c.args.restarts _ _ c.an_input_has_one_answer.ensures.refusal c.an_input_has_one_answer.ensures.either refl c.in-Err.error c.in-Err.ensures.refused c.in-Err.ensures.leaves
     c.refuse.result c.refuse.ensures.refused
 
 pub returns-in-Ok-clause-source : goal.returns-in-Ok-clause-source

@@ -12,4 +12,4 @@ returns-in_err-command c =
 pub returns : goal.returns
 returns c =
     let begins = begins_with c.args.words.now c.in_ok-word.behind.now c.in_ok-word.word.now c.as_str.result.now c.in_ok-word.ensures.cases.0 c.as_str.ensures.value in
-    suits_asks (words_of c.args.words.now) c.as_str.result.now (words_of c.in_ok-word.behind.now) begins c.in_ok-found.found c.in_ok-found.ensures _ c.in_ok-command.ensures c.unwrap_or.ensures refl c.unwrap_or-2.ensures
+    suits_asks (words_of c.args.words.now) c.as_str.result.now (words_of c.in_ok-word.behind.now) begins c.in_ok-found.found c.in_ok-found.ensures _ c.in_ok-command.ensures c.unwrap_or.ensures c.unwrap_or-2.ensures refl c.unwrap_or-3.ensures

@@ -1,8 +1,8 @@
-use Rattle.std.proofs.Common.{◌≡◌, Err, None, refl, arith, rules}
+use Rattle.std.proofs.Common.{◌≡◌, ◌∙◌, Err, None, refl, rules}
 use Rattle.std.proofs.lemmas.Result.{err_from_is_err_and}
 use Rattle.ss_cmdlog.specs.declared.log.LogError.TheVariants.{NoMemory}
 use Rattle.ss_cmdlog.proofs.Refused.{not_both}
-use Rattle.ss_cmdlog.proofs.Logs.{open_receipted, groups_keep}
+use Rattle.ss_cmdlog.proofs.Logs.{open_receipted}
 use Rattle.ss_cmdlog.proofs.log.CmdLog.flush.Goals as goal
 
 pub returns-in_err-add_entries-clause-adds : goal.returns-in_err-add_entries-clause-adds
@@ -16,26 +16,12 @@ returns-in_err-add_entries-clause-adds g c = λ s is.
       stays = adds.stays;
     }
 
-pub returns-in_err-add_entries-clause-receipts : goal.returns-in_err-add_entries-clause-receipts
-returns-in_err-add_entries-clause-receipts g c = λ honest n le receipted.
-    let none : c.args.self.now.halted ≡ None = search rules in
-    let open' = c.requires.open none in
-    groups_keep g.D.Disk.kind.moment g.D.Disk.kind.images c.args.self.now.disk c.add_entries.new.self.disk open'.0 _ n (omega (arith, open'.1.count (g.met.D.Disk.honest_tells honest)))
-    ((c.add_entries.ensures.adds open'.0 open'.1).moments honest)
-
-pub returns-clause-receipts : goal.returns-clause-receipts
-returns-clause-receipts g c = λ honest n le receipted.
-    let none : c.args.self.now.halted ≡ None = search rules in
-    let open' = c.requires.open none in
-    groups_keep g.D.Disk.kind.moment g.D.Disk.kind.images c.args.self.now.disk c.add_entries.new.self.disk open'.0 _ n (omega (arith, open'.1.count (g.met.D.Disk.honest_tells honest)))
-    ((c.add_entries.ensures.adds open'.0 open'.1).moments honest)
-
 pub returns-clause-receipt : goal.returns-clause-receipt
-returns-clause-receipt g c = λ honest.
+returns-clause-receipt g c = λ strong honest.
     let none : c.args.self.now.halted ≡ None = search rules in
     let open' = c.requires.open none in
     open_receipted g.D.Disk.kind c.add_entries.new.self _
-    ((c.in_ok-add_entries.ensures.adds open'.0 open'.1).done refl) (g.met.D.Disk.honest_tells honest) honest c.add_entries.new.self.count refl
+    ((c.in_ok-add_entries.ensures.adds open'.0 open'.1).done refl) (c.in_ok-add_entries.ensures.same ∙ strong) (g.met.D.Disk.honest_tells honest) honest c.add_entries.new.self.count refl
 
 pub returns-in_err-add_entries-clause-stays : goal.returns-in_err-add_entries-clause-stays
 returns-in_err-add_entries-clause-stays g c = λ honest.

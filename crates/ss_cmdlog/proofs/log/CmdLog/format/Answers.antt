@@ -1,20 +1,20 @@
 use Rattle.std.proofs.Common.{◌≡◌, ◌∙◌, ◌+◌, ◌-◌, length, refl, arith}
 use Rattle.ss_disk.proofs.CallerLemmas.{fewer_none}
-use Rattle.ss_cmdlog.proofs.Formatted.{formatted, fresh_open}
+use Rattle.ss_cmdlog.proofs.Formatted.{formatted, fresh_open, fresh_counts}
 use Rattle.ss_cmdlog.proofs.LeftSome.{some_fewer, some_join}
 use Rattle.ss_cmdlog.proofs.log.CmdLog.format.Goals as goal
 
 pub returns-in-Err-write_synced-clause-moments : goal.returns-in-Err-write_synced-clause-moments
 returns-in-Err-write_synced-clause-moments g c = λ honest.
     let tells = g.met.D.Disk.honest_tells honest in
-    formatted g.D.Disk.kind.moment g.D.Disk.kind.images c.args.disk c.fill_both.new.disk c.write_synced.new.disk (g.D.Disk.kind.seen c.args.disk) (g.D.Disk.kind.seen c.fill_both.new.disk) c.args.image.now c.as_slice.result.now
+    formatted g.D.Disk.kind.moment g.D.Disk.kind.images c.args.disk c.fill_both.new.disk c.write_synced.new.disk (g.D.Disk.kind.seen c.args.disk) (g.D.Disk.kind.seen c.fill_both.new.disk) c.args.mode c.args.image.now c.as_slice.result.now
     (c.requires.settled honest) (c.requires.empty tells) c.in-Ok.ensures.long (c.as_slice.ensures.value ∙ c.in-Ok.ensures.spelled)
     (c.in_default-fill_both.ensures.filled tells) (c.in_default-fill_both.ensures.durable honest) (c.fill_both.ensures.moments honest) (c.write_synced.ensures.moments honest)
 
 pub returns-clause-moments : goal.returns-clause-moments
 returns-clause-moments g c = λ honest.
     let tells = g.met.D.Disk.honest_tells honest in
-    formatted g.D.Disk.kind.moment g.D.Disk.kind.images c.args.disk c.fill_both.new.disk c.write_synced.new.disk (g.D.Disk.kind.seen c.args.disk) (g.D.Disk.kind.seen c.fill_both.new.disk) c.args.image.now c.as_slice.result.now
+    formatted g.D.Disk.kind.moment g.D.Disk.kind.images c.args.disk c.fill_both.new.disk c.write_synced.new.disk (g.D.Disk.kind.seen c.args.disk) (g.D.Disk.kind.seen c.fill_both.new.disk) c.args.mode c.args.image.now c.as_slice.result.now
     (c.requires.settled honest) (c.requires.empty tells) c.in-Ok.ensures.long (c.as_slice.ensures.value ∙ c.in-Ok.ensures.spelled)
     (c.in_default-fill_both.ensures.filled tells) (c.in_default-fill_both.ensures.durable honest) (c.fill_both.ensures.moments honest) (c.write_synced.ensures.moments honest)
 
@@ -24,9 +24,10 @@ returns-clause-open g c =
     record {
       going = refl;
       first = λ tells. refl;
-      at = λ tells. fresh_open c.args.image.now c.as_slice.result.now _ (g.D.Disk.kind.seen c.fill_both.new.disk) _ _ c.in-Ok.ensures.long (c.as_slice.ensures.value ∙ c.in-Ok.ensures.spelled) (c.requires.empty tells)
+      at = λ tells. fresh_open c.args.mode c.args.image.now c.as_slice.result.now _ (g.D.Disk.kind.seen c.fill_both.new.disk) _ _ c.in-Ok.ensures.long (c.as_slice.ensures.value ∙ c.in-Ok.ensures.spelled) (c.requires.empty tells)
           (c.in_default-fill_both.ensures.filled tells) (c.in_default-write_synced.ensures.ok tells) place;
-      count = λ tells. refl;
+      of_mode = refl;
+      count = λ tells. fresh_counts c.args.mode c.args.image.now;
       only = λ honest. c.in_default-write_synced.ensures.durable honest;
     }
 

@@ -1,4 +1,5 @@
 use Rattle.std.proofs.Common.{None}
+use Rattle.ss_model.specs.Recovery.{Strong}
 use Rattle.ss_model.specs.Database.{empty_database}
 use Rattle.ss_model.specs.Lives.{any_past}
 use Rattle.ss_commitlog_tests.specs.Workflow.{workflow}
@@ -13,6 +14,7 @@ ghosts-incarnation g a = record {
   parts = a.opening.parts;
   clients = a.opening.clients;
   every = None;
+  recovery = Strong;
   table = a.blank.table.shared.table_id;
   moment = 0;
   faults = 0;

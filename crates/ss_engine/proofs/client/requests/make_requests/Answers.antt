@@ -1,4 +1,4 @@
-use Rattle.std.proofs.Common.{rules, ◌≡◌, ◌+◌, ◌<◌, ◌≤◌, ◌==◌, true, false, ℕ, List, length, get_or, sym, ap, subst, ◌∙◌, arith}
+use Rattle.std.proofs.Common.{rules, ◌≡◌, ◌+◌, ◌<◌, ◌==◌, true, false, ℕ, length, get_or, sym, ap, subst, ◌∙◌, arith}
 use Rattle.ss_lemmas.proofs.Numbers.{eqb_apart, eqb_self}
 use Rattle.ss_lanes.specs.Lanes.{LaneView}
 use Rattle.ss_lanes.proofs.CallerLemmas.{made_kept, request_fits}

@@ -5,12 +5,13 @@ use Rattle.ss_engine.proofs.session.run.run_session.Given as goal
 abbrev pub ghosts-incarnation : goal.ghosts-incarnation
 ghosts-incarnation g a = record {
   catalog = a.catalog;
-  opening = g.db;
+  opening = g.begins.db;
   first = a.opening.first;
   limit = a.opening.limit;
   parts = a.opening.parts;
   clients = a.opening.clients;
   every = a.every;
+  recovery = g.begins.recovery;
   table = a.blank.table.shared.table_id;
   moment = g.D.Disk.kind.moment a.command_log.disk;
   faults = g.D.Disk.kind.faults a.command_log.disk;

@@ -16,22 +16,22 @@ trim-requires-clause-list g c =
     let left = subst (λ o. IfSome o (IsLeftOver g.I.Life.catalog (after g.I.Life.catalog g.I.Life.opening c.args.closed.now.list))) c.in-Some-database.is c.requires.left in (
       c.args.closed.now.list,
       fault,
-      holds_with g.D.Disk.kind g.I.Life.every g.I.Life.catalog g.I.Life.opening g.I.Life.first g.I.Life.moment g.I.Life.faults g.I.Life.past
+      holds_with g.D.Disk.kind g.I.Life.recovery g.I.Life.every g.I.Life.catalog g.I.Life.opening g.I.Life.first g.I.Life.moment g.I.Life.faults g.I.Life.past
           c.args.closed.now.list c.args.log.now c.args.receipt.count fault c.in-Some-database.database c.requires.all c.requires.small c.requires.replays left holds,
     )
 
 pub returns-in-Ok : goal.returns-in-Ok
 returns-in-Ok g c = λ fault holds.
     let left = subst (λ o. IfSome o (IsLeftOver g.I.Life.catalog (after g.I.Life.catalog g.I.Life.opening c.args.closed.now.list))) c.in-Some-database.is c.requires.left in
-    let all = holds_with g.D.Disk.kind g.I.Life.every g.I.Life.catalog g.I.Life.opening g.I.Life.first g.I.Life.moment g.I.Life.faults g.I.Life.past
+    let all = holds_with g.D.Disk.kind g.I.Life.recovery g.I.Life.every g.I.Life.catalog g.I.Life.opening g.I.Life.first g.I.Life.moment g.I.Life.faults g.I.Life.past
     c.args.closed.now.list c.args.log.now c.args.receipt.count fault c.in-Some-database.database c.requires.all c.requires.small c.requires.replays left holds in
-    trimmed_ok g.D.Disk.kind g.I.Life.every g.I.Life.catalog g.I.Life.opening g.I.Life.first g.I.Life.moment g.I.Life.faults g.I.Life.past
+    trimmed_ok g.D.Disk.kind g.I.Life.recovery g.I.Life.every g.I.Life.catalog g.I.Life.opening g.I.Life.first g.I.Life.moment g.I.Life.faults g.I.Life.past
     c.args.closed.now.list c.args.receipt fault c.in-Some.every c.trim.new.log c.trim.result (c.trim.ensures.holds c.args.closed.now.list fault all) c.in-Ok.field-0 c.in-Ok.is (sym c.requires.every ∙ c.in-Some.is)
 
 pub returns-in-Err : goal.returns-in-Err
 returns-in-Err g c = λ fault holds.
     let left = subst (λ o. IfSome o (IsLeftOver g.I.Life.catalog (after g.I.Life.catalog g.I.Life.opening c.args.closed.now.list))) c.in-Some-database.is c.requires.left in
-    let all = holds_with g.D.Disk.kind g.I.Life.every g.I.Life.catalog g.I.Life.opening g.I.Life.first g.I.Life.moment g.I.Life.faults g.I.Life.past
+    let all = holds_with g.D.Disk.kind g.I.Life.recovery g.I.Life.every g.I.Life.catalog g.I.Life.opening g.I.Life.first g.I.Life.moment g.I.Life.faults g.I.Life.past
     c.args.closed.now.list c.args.log.now c.args.receipt.count fault c.in-Some-database.database c.requires.all c.requires.small c.requires.replays left holds in
-    trimmed_err g.D.Disk.kind g.I.Life.every g.I.Life.catalog g.I.Life.opening g.I.Life.first g.I.Life.moment g.I.Life.faults g.I.Life.past
+    trimmed_err g.D.Disk.kind g.I.Life.recovery g.I.Life.every g.I.Life.catalog g.I.Life.opening g.I.Life.first g.I.Life.moment g.I.Life.faults g.I.Life.past
     c.args.closed.now.list c.args.receipt fault c.in-Some.every c.trim.new.log c.trim.result (c.trim.ensures.holds c.args.closed.now.list fault all) c.in-Err.refused c.in-Err.is

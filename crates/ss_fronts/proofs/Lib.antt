@@ -1,0 +1,10 @@
+pub mod CallerLemmas
+pub mod Lists
+pub mod Readings
+pub mod WeakFronts
+pub mod OneThing
+pub mod Growing
+pub mod Held
+pub mod Checkpoints
+pub mod Keeping
+pub mod worked

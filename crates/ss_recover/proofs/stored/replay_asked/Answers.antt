@@ -1,0 +1,80 @@
+use Rattle.std.proofs.Common.{◌≡◌, ◌∙◌, inl, inr, List, length, All, ap, arith, refl, subst, sym}
+use Rattle.std.proofs.lemmas.List.Elements.{All-take}
+use Rattle.std.proofs.lemmas.Option.{slice_get_within}
+use Rattle.ss_model.specs.declared.entry.Entry.{Entry}
+use Rattle.ss_model.specs.declared.entry.Listed.{Listed}
+use Rattle.ss_model.specs.declared.entry.Mode.{Mode}
+use Rattle.ss_record.specs.Bounds.{IsRecordable}
+use Rattle.ss_standing.specs.Standing.{listed_entries}
+use Rattle.ss_weak_replay.specs.WeakReplaying.{StopsWeaklyAsSaid}
+use Rattle.ss_recover.specs.Faults.{StopsAfter}
+use Rattle.ss_recover.specs.Loading.{IsListOf, place_behind}
+use Rattle.ss_recover.proofs.Images.{image_takes}
+use Rattle.ss_recover.proofs.stored.replay_asked.Goals as goal
+
+pub replay_weakly-requires-clause-on : goal.replay_weakly-requires-clause-on
+replay_weakly-requires-clause-on g c =
+    let (db, image, stands) = c.requires.image in
+    (db, image_takes c.args.catalog.now c.args.loaded.image c.args.loaded.first c.args.database db image stands)
+
+pub returns-in-Ok-clause-ok : goal.returns-in-Ok-clause-ok
+returns-in-Ok-clause-ok g c = λ parts is_whole.
+    let (db, image, stands) = c.requires.image in
+    let weakly = c.in-Ok.ensures.replayed db (image_takes c.args.catalog.now c.args.loaded.image c.args.loaded.first c.args.database db image stands) in
+    let whole = c.in-Ok.ensures.whole in
+    record {
+      accepted = c.requires.accepted;
+      db = db;
+      image = image;
+      entries = subst (λ (m : Mode). IsListOf m c.args.catalog.now db c.args.loaded.entries c.in-Ok.replayed.list) (sym c.requires.mode) weakly.is_weak;
+      replays = weakly.replayed.replays;
+      placed = refl;
+      few = weakly.few;
+      dealt = record { number = whole.number; parts = record { committed = whole.committed; dealt = c.in-Ok.ensures.dealt ∙ is_whole.parts.dealt } };
+      holds = weakly.replayed.stands;
+    }
+
+pub returns-in-Ok-clause-placed : goal.returns-in-Ok-clause-placed
+returns-in-Ok-clause-placed g c =
+    let (db, image, stands) = c.requires.image in
+    (c.in-Ok.ensures.replayed db (image_takes c.args.catalog.now c.args.loaded.image c.args.loaded.first c.args.database db image stands)).few
+
+pub returns-in-Err-Unsettled-clause-refused : goal.returns-in-Err-Unsettled-clause-refused
+returns-in-Err-Unsettled-clause-refused g c =
+    let catalog = c.args.catalog.now in
+    let loaded = c.args.loaded in
+    let (db, image, stands) = c.requires.image in
+    let on = image_takes catalog loaded.image loaded.first c.args.database db image stands in
+    let past = subst (StopsWeaklyAsSaid catalog db loaded.first loaded.entries) c.in-Err-Unsettled.field-0-is (c.in-Err-Unsettled.ensures.refused db on) in
+    inr (inr (record { of_mode = c.requires.mode; catalog = catalog; accepted = c.requires.accepted; db = db; image = image; past = past; place = refl }))
+
+pub place_behind-requires : goal.place_behind-requires
+place_behind-requires g c =
+    let catalog = c.args.catalog.now in
+    let (db, image, stands) = c.requires.image in
+    let on = image_takes catalog c.args.loaded.image c.args.loaded.first c.args.database db image stands in
+    let these = subst (StopsWeaklyAsSaid catalog db c.args.loaded.first c.args.loaded.entries) c.in-Err-Foreign.field-0-is (c.in-Err-Foreign.ensures.refused db on) in
+    let front = ap (λ (l : List Listed). listed_entries l) c.as_slice-list.ensures ∙ these.are in
+    subst (λ (es : List Entry). All IsRecordable es) (sym front) (All-take IsRecordable (length c.in-Err-Foreign.before) c.args.loaded.entries c.requires.recordable)
+
+pub returns-clause-refused : goal.returns-clause-refused
+returns-clause-refused g c =
+    let catalog = c.args.catalog.now in
+    let loaded = c.args.loaded in
+    let before = c.in-Err-Foreign.before in
+    let (db, image, stands) = c.requires.image in
+    let on = image_takes catalog loaded.image loaded.first c.args.database db image stands in
+    let these = subst (StopsWeaklyAsSaid catalog db loaded.first loaded.entries) c.in-Err-Foreign.field-0-is (c.in-Err-Foreign.ensures.refused db on) in
+    let within = slice_get_within loaded.entries (length before) these.stops.entry these.stops.there in
+    let front : place_behind c.len.result c.as_slice.result.now (listed_entries c.as_slice-list.result.now) ≡ place_behind (length loaded.image) loaded.sizes (listed_entries before) =
+    λ k. place_behind (c.len.ensures k) (c.as_slice.ensures k) (listed_entries (c.as_slice-list.ensures k)) in
+    inr (inl (record {
+      catalog = catalog;
+      accepted = c.requires.accepted;
+      db = db;
+      image = image;
+      before = length before;
+      within = omega (arith, within);
+      stops = subst (λ (m : Mode). StopsAfter m catalog db loaded.first loaded.entries (length before)) (sym c.requires.mode) these.stops;
+      place = c.in_ok-place_behind-in-Err-Foreign.ensures ∙ front ∙ ap (place_behind (length loaded.image) loaded.sizes) these.are;
+    }))

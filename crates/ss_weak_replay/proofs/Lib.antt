@@ -1,0 +1,4 @@
+pub mod AskedLists
+pub mod Premises
+pub mod Replaying
+pub mod SettledLists
