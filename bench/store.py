@@ -1,7 +1,7 @@
 #!/usr/bin/env python3
 """What a log on disk costs a run: what a call costs, how many entries share a sync, and how long a recovery takes.
 
-    python3 bench/store.py [--calls 40000] [--recover 200000] [--rows 1000000] [--runs 5] [--folder FOLDER] [--plain PROGRAM]
+    python3 bench/store.py [--calls 40000] [--recover 200000] [--rows 1000000] [--votes 200000] [--runs 5] [--folder FOLDER] [--plain PROGRAM]
 
 Runs the program that `./sstore` built (build it first), or the one that SSTORE names, on short calls of one client and of
 eight, each of which changes one row by its key. Each line is a place for the store: in memory (`-`), or in a new folder inside
@@ -20,10 +20,15 @@ The third has a table of --rows rows, on one part, and split over eight partitio
 it, and from an image behind a checkpoint, also with 10,000 short calls behind either; and what a run of one call takes longer
 with a checkpoint than without one, which is how long clients wait for it. Then come the bytes of image and log, the most memory
 of these runs, and a hundred runs of --calls / 40 calls, each with a checkpoint at its end, with the most bytes of the files.
+
+The fourth has the votes of the program's `voter`, of one client and of eight, on a strong store and on a weak one: bytes of the
+files a vote, votes a second, and what a recovery of the store takes. That of a weak store makes an image of what it ran, so each
+recovers a copy.
 """
 
 import json
 import os
+import shutil
 import tempfile
 
 import engine
@@ -35,7 +40,7 @@ CLIENTS = (1, 8)
 BATCH = 1000  # rows of a push that fills a table
 BEHIND = 10_000  # calls behind an image
 CHECKPOINTS = 100
-
+PLACES = {"none": "no log", "memory": "in memory", "folder": "in a folder"}
 
 
 def filled(placement, fills, adds):
@@ -181,11 +186,45 @@ def sizes(given):
         print(f"\n{rows:,} rows and {CHECKPOINTS} runs of {many:,} calls, with --checkpoint {many}: the files had {most:,} bytes at most")
 
 
+def recovered_copy(folder, parent, mode):
+    """What a recovery of a copy of a store takes."""
+    with tempfile.TemporaryDirectory(dir=parent) as copy:
+        shutil.copytree(folder, copy, dirs_exist_ok=True)
+        return measure.run([PROGRAM, copy, "recover", "--recovery", mode])[0]
+
+
+def voted(given, clients, mode):
+    """A show on a new store: what it took, the bytes of its files, and what a recovery took."""
+    words = ["voter", "--seed", "1", "--votes", str(given.votes), "--clients", str(clients), "--recovery", mode]
+
+    def run():
+        with tempfile.TemporaryDirectory(dir=given.folder) as folder:
+            took, _ = measure.run([PROGRAM, folder, *words])
+            return took, size_of(folder), recovered_copy(folder, given.folder, mode)
+
+    return run
+
+
+def votes(given):
+    """Weak stores beside strong ones."""
+    print()
+    measure.head(given.runs, f"; {given.votes:,} votes")
+    variants = {(mode, clients): voted(given, clients, mode) for clients in CLIENTS for mode in ("strong", "weak")}
+    found = measure.in_turn(variants, given.runs, "all stores")
+    measure.top_row(["votes", "microseconds a vote, wall / processor", "votes a second", "bytes a vote", "a recovery, seconds, wall / processor"])
+    for (mode, clients), rounds in found.items():
+        took, again = measure.least([one[0] for one in rounds]), measure.least([one[2] for one in rounds])
+        name = f"{mode}, {clients} client{'s' if clients > 1 else ''}"
+        sizes_found = min(one[1] for one in rounds) / given.votes
+        measure.row([name, measure.both(took, given.votes), f"{given.votes / took.wall:,.0f}", f"{sizes_found:.1f}", f"{again.wall:.2f} / {again.processor:.2f}"])
+
+
 def main():
     parser = measure.parser_of(__doc__)
     parser.add_argument("--calls", type=measure.positive, default=40_000)
     parser.add_argument("--recover", type=measure.positive, default=200_000)
     parser.add_argument("--rows", type=measure.positive, default=1_000_000)
+    parser.add_argument("--votes", type=measure.positive, default=200_000)
     parser.add_argument("--folder")
     parser.add_argument("--plain", metavar="PROGRAM")
     given = parser.parse_args()
@@ -194,6 +233,7 @@ def main():
     recoveries(given)
     images(given)
     sizes(given)
+    votes(given)
 
 
 if __name__ == "__main__":
