@@ -4,7 +4,7 @@
     python3 bench/faults.py [--every 1] [--only WORD]
 
 Runs the program that `./sstore` built (build it first), or the one that SSTORE names, with a library of bench/faults.c that
-is preloaded, for which it wants `cc`. A run has calls and pushes of two clients on two partitions, with a checkpoint each four
+is preloaded, for which it wants `cc`. A run has calls, pushes and installs of two clients on two partitions, with a checkpoint each four
 entries; it is made on a new store, and on one that has an image and entries to recover.
 
 - One call on a file answers EIO, or is interrupted, or reads or writes one byte alone, or none; or each reads, or writes, one
@@ -85,6 +85,8 @@ def pushes(stream, source, batches):
 
 FAR = 2**63 - 1
 IN_FLOW = pushes("s", "a", [(0, [1]), (0, [1]), (2, [2]), (1, [2])])
+IN_FLOW_BY_OTHERS = [*IN_FLOW[:2], {"install": "j", "body": [{"sql": "INSERT INTO joined SELECT x + 100, 1 FROM pl"}]}, IN_FLOW[3], {"install": "p", "body": [{"emit": "pl", "sql": "SELECT x FROM l"}]}]
+IN_FLOW_BY_OTHERS += pushes("s", "a", [(2, [3])])
 MOVES = [call("open", -1, 10), call("open", 0, 0), call("open", FAR, 0), call("move", -1, 0, 4), call("move", 0, FAR, 3), call("move", 0, FAR, 2)]
 VOTES = [call("begin_show", 5), call("add", 1, "ann"), call("add", 2, "bob"), call("add", 3, "cy")]
 VOTES += pushes("votes_in", "p", enumerate([[101, 1], [102, 2], [101, 2], [103, 1], [104, 3], [105, 1], [106, 2], [102, 3]]))
@@ -93,6 +95,8 @@ VOTES += pushes("votes_in", "p", enumerate([[101, 1], [102, 2], [101, 2], [103, 
 SCRIPTS = {
     "a workflow": ("diamond", IN_FLOW, ["run"]),
     "a workflow with checkpoints": ("diamond", IN_FLOW, ["run", "--checkpoint", "1"]),
+    "a workflow with installs": ("diamond", IN_FLOW_BY_OTHERS, ["run"]),
+    "a workflow with installs and checkpoints": ("diamond", IN_FLOW_BY_OTHERS, ["run", "--checkpoint", "1"]),
     "transfers": ("transfers", MOVES, ["run", "--partitions", "2"]),
     "votes": ("voter", VOTES, ["run"]),
 }
@@ -108,14 +112,20 @@ def script_of(name):
     sys.exit(f"{BASES} has no catalogue {catalogue}")
 
 
+# What may be installed for `put` and `add`, and comes to the same.
+PUTS = [CATALOGUE["procedures"][0]["body"], [{"insert": "calls", "values": [{"arg": "n"}]}]]
+ADDS = [CATALOGUE["procedures"][2]["body"], [{"for_each": "checked", "body": [{"sql": "INSERT INTO seen VALUES (:source, :n)"}]}]]
+
+
 def script(begin):
-    """Pushes and calls of each client, whose numbers begin here."""
+    """Pushes, calls and installs of each client, whose numbers begin here."""
     lines = [CATALOGUE]
     for n in range(begin, begin + PUSHES):
         for client in range(CLIENTS):
             lines.append({"client": client, "push": "readings", "source": f"s{client}", "seq": n, "rows": [[client, n]]})
             if n - begin < CALLS:
                 lines.append({"client": client, "call": "put", "args": [10 * n + client]})
+        lines.append({"client": 1, "install": "add", "body": ADDS[(n + 1) // 2 % 2]} if n % 2 else {"install": "put", "body": PUTS[n // 2 % 2]})
     return lines
 
 
@@ -194,7 +204,7 @@ def check_rows(rows, sure, asked, before, what):
 
 
 def entries_of(report):
-    return [line for line in report if line[0] in ("push", "call", "step")]
+    return [line for line in report if line[0] in ("push", "call", "install", "step")]
 
 
 def audited(lines, report):

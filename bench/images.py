@@ -4,12 +4,13 @@
     python3 bench/images.py [--stores 300] [--damages 10] [--seed 1]
 
 Runs the program that `./sstore` built (build it first), or the one that SSTORE names. Images are written and read here, byte
-by byte as docs/FORMATS.md says, and by nothing of the program's.
+by byte as docs/STORE.md says, and by nothing of the program's.
 
 First the same requests are made on a store whose log has all that went before, and on one that has an image in its place:
-both have to print the same replies and tables, and recover to the same. Then images are drawn: tables, windows, streams of which some batches are kept, counts and
-sources. `recover` has to print the drawn rows, with a step for each batch that is still to be taken, whatever byte selects
-one of two files that have the image. Of each image some copies are damaged: a byte is another, or the end is missing, or one
+both have to print the same replies and tables, and recover to the same. Then images are drawn: tables, windows, streams of which
+some batches are kept, counts, sources and bodies, of which some were installed. Some of all these stores are of the older form,
+whose images have no bodies. `recover` has to print the drawn rows, with a step for each batch that is still to be taken, whatever byte selects one
+of two files that have the image. Of each image some copies are damaged: a byte is another, or the end is missing, or one
 byte stands behind it. Where the reader here finds a first byte that can't be, the program has to tell just that one, and else
 it has to print what the damaged image says. What was counted is printed at the end.
 """
@@ -26,7 +27,7 @@ from store_file import number, row_at
 
 TOP = os.path.dirname(os.path.dirname(os.path.abspath(__file__)))
 PROGRAM = os.environ.get("SSTORE", os.path.join(TOP, "crates/ss_program/out/ss_program"))
-FRONT = 24  # bytes of a generation before its image
+NEW, OLDER = b"SSTORE2\n\0", b"SSTORE1\n"  # of strong stores, behind which stand two numbers, and the image
 MOST_ROWS = 1_000_000  # of a table of one partition
 INT, TEXT = "int", "text"
 
@@ -48,6 +49,13 @@ DRAWN = {
         {"name": "b", "kind": "interior", "inputs": ["l", "m"], "touch": {"part": 1}, "body": []},
         {"name": "d", "kind": "interior", "inputs": ["m"], "touch": {"part": 2}, "body": []},
     ],
+}
+
+# Bodies that may be installed for these procedures, and change no table.
+DRAWN_OTHERS = {
+    "look": [[{"return_all": "names"}]],
+    "a": [[{"emit": "m", "sql": "SELECT x FROM s"}, {"emit": "l", "sql": "SELECT x, 'é' FROM s"}]],
+    "b": [[{"sql": "INSERT INTO by_batches SELECT t FROM l"}], [{"for_each": "m", "body": [{"abort_if": "(SELECT COUNT(*) FROM l) > :x", "code": 1}]}]],
 }
 
 # What goes on: the tables tell what the windows hold.
@@ -80,7 +88,19 @@ GOING = {
 }
 
 
+# What may be installed there: the table tells which body a call had.
+GOING_OTHERS = {"put": [[{"insert": "all", "values": [{"arg": "x"}, {"arg": "x"}]}], [{"insert": "all", "values": [{"arg": "x"}, -1]}]]}
+
+
 # ---- images, written
+
+
+def compact(value):
+    return json.dumps(value, separators=(",", ":"), sort_keys=True, ensure_ascii=False).encode()
+
+
+def own_bodies(catalogue):
+    return [compact(procedure["body"]) for procedure in catalogue["procedures"]]
 
 
 def long(n):
@@ -102,7 +122,7 @@ def rows_bytes(rows, size):
 
 
 def image_bytes(text, kept):
-    """The image of what is kept: `tables`, `windows`, `streams`, `counts` and `sources`."""
+    """The image of what is kept: `tables`, `windows`, `streams`, `counts`, `sources` and, but in the older form, `bodies`."""
     out = [len(text).to_bytes(4, "big"), text]
     out += [rows_bytes(rows, 8) for rows in kept["tables"]]
     for had, units in kept["windows"]:
@@ -114,11 +134,13 @@ def image_bytes(text, kept):
         out.append(long(len(sources)))
         for name, following in sources:
             out += [bytes([len(name)]), name.encode(), long(following)]
+    for body in kept["bodies"]:
+        out += [len(body).to_bytes(4, "big"), body]
     return b"".join(out)
 
 
-def generation(first, image):
-    return b"SSTORE1\n" + long(first) + long(len(image)) + image + b"\0"
+def generation(magic, first, image):
+    return magic + long(first) + long(len(image)) + image + b"\0"
 
 
 # ---- images, read
@@ -277,9 +299,20 @@ def sources_in(data, at):
     return sources, at
 
 
-def read(data, at, catalogue, most):
-    """What the bytes from here on say is kept, behind the catalogue's text."""
-    kept = {"tables": [], "windows": [], "streams": [], "counts": [], "sources": []}
+def body_in(data, at, texts):
+    length, at = field(data, at, 4)
+    if at + length > len(data):
+        raise Foreign(len(data))
+    text = data[at : at + length]
+    if text not in texts:
+        raise Foreign(at)
+    return text, at + length
+
+
+def read(data, at, catalogue, most, others=None):
+    """What the bytes from here on say is kept, behind the catalogue's text. `others` are the bodies that procedures may have beside
+    their own, by their names; with None the image is of the older form."""
+    kept = {"tables": [], "windows": [], "streams": [], "counts": [], "sources": [], "bodies": []}
     for table in catalogue["tables"]:
         rows, at = table_in(data, at, table)
         kept["tables"].append(rows)
@@ -296,6 +329,9 @@ def read(data, at, catalogue, most):
         if any(procedure["kind"] == "border" and stream["name"] in takes(procedure) for procedure in catalogue["procedures"]):
             sources, at = sources_in(data, at)
             kept["sources"].append(sources)
+    for procedure in catalogue["procedures"] if others is not None else []:
+        text, at = body_in(data, at, [compact(body) for body in [procedure["body"]] + others.get(procedure["name"], [])])
+        kept["bodies"].append(text)
     if at != len(data):
         raise Foreign(at)
     return kept
@@ -314,12 +350,14 @@ def script(catalogue, requests):
 
 
 def text_of(catalogue):
-    """The compact text of a catalogue, from the image that a new store begins with."""
+    """The compact text of a catalogue, from the image that a new store begins with, which ends with the bodies."""
     with tempfile.TemporaryDirectory() as folder:
         status, out = run(folder, ["run"], script(catalogue, []))
         assert status == 0, out
         data = open(os.path.join(folder, "gen1"), "rb").read()
-        length, at = number(data, FRONT, 4)
+        length, at = number(data, len(NEW) + 16, 4)
+        nothing = read(data[:-1], at + length, catalogue, 0, {})
+        assert nothing["bodies"] == own_bodies(catalogue), nothing
         return data[at : at + length]
 
 
@@ -349,13 +387,15 @@ def without_places(ended):
     """A status and a report, without what threads decide: the places of the replies, and the list."""
     status, out = ended
     lines = [json.loads(line) for line in out.splitlines()]
-    return status, [line[:2] + line[3:] if line[0] == "reply" else line for line in lines if line[0] not in ("call", "push", "step")]
+    return status, [line[:2] + line[3:] if line[0] == "reply" else line for line in lines if line[0] not in ("call", "push", "install", "step")]
 
 
-def going_requests(draw, seqs, count):
+def going_requests(draw, seqs, count, installs):
     requests = []
     for _ in range(count):
-        if draw.random() < 0.3:
+        if installs and draw.random() < 0.1:
+            requests.append({"install": "put", "body": draw.choice([GOING["procedures"][0]["body"]] + GOING_OTHERS["put"])})
+        elif draw.random() < 0.3:
             requests.append({"call": "put", "args": [draw.randrange(40), draw.randrange(1000)]})
         else:
             source = draw.choice(["one", "two"])
@@ -371,9 +411,11 @@ def going_requests(draw, seqs, count):
 def what_is_kept(out, requests):
     """What is kept behind these requests of the store that goes on, whose report this is: all batches are taken."""
     rows, _ = told(out)
-    by_rows, by_batches, following = [], [], {}
+    by_rows, by_batches, following, bodies = [], [], {}, own_bodies(GOING)
     for request in requests:
-        if "push" in request and request["seq"] == following.get(request["source"], 0):
+        if "install" in request:
+            bodies[0] = compact(request["body"])
+        elif "push" in request and request["seq"] == following.get(request["source"], 0):
             following[request["source"]] = request["seq"] + 1
             by_rows += [[row] for row in request["rows"]]
             by_batches.append(request["rows"])
@@ -385,19 +427,22 @@ def what_is_kept(out, requests):
         "streams": [(had, had, []), (had, had, [])],
         "counts": [0, had, had],
         "sources": [sorted(following.items())],
+        "bodies": bodies,
     }
 
 
 def goes_on(seed, text, partitions):
     draw, seqs = random.Random(seed), {"one": 0, "two": 0}
-    before, behind = going_requests(draw, seqs, draw.randrange(40)), going_requests(draw, seqs, 25)
+    magic = OLDER if draw.random() < 0.3 else NEW
+    before, behind = going_requests(draw, seqs, draw.randrange(40), magic == NEW), going_requests(draw, seqs, 25, True)
     words = ["run", "--partitions", str(partitions)]
     with tempfile.TemporaryDirectory() as logged, tempfile.TemporaryDirectory() as imaged:
         status, out = run(logged, words, script(GOING, before))
         assert status == 0, out
         place = json.loads(out.splitlines()[-1])[1]
-        image = image_bytes(text, what_is_kept(out, before))
-        store(imaged, seed % 2, [generation(place, image)] * 2)
+        kept = what_is_kept(out, before)
+        image = image_bytes(text, kept if magic == NEW else {**kept, "bodies": []})
+        store(imaged, seed % 2, [generation(magic, place, image)] * 2)
         first, second = (without_places(run(folder, words, script(GOING, behind))) for folder in (logged, imaged))
         assert first == second, f"seed {seed}: behind an image it is\n{second}\nand behind the log\n{first}"
         first, second = run(logged, ["recover"]), run(imaged, ["recover"])
@@ -407,7 +452,7 @@ def goes_on(seed, text, partitions):
 # ---- drawn images
 
 
-def drawn(draw):
+def drawn(draw, magic):
     text = lambda: "".join(draw.choice("ab'é☃\n") for _ in range(draw.randrange(5)))
     integer = lambda: draw.choice([0, 1, -1, draw.randrange(-99, 99), (1 << 63) - 1, -(1 << 63)])
     ids = sorted(set(integer() for _ in range(draw.randrange(6))))
@@ -430,6 +475,7 @@ def drawn(draw):
         "streams": [(h, f, batches(row, h - f)) for h, f, row in zip(hads, firsts, rows)],
         "counts": [0, taken] + behind,
         "sources": [sorted((name, draw.choice([1, 7, 1 << 63])) for name in draw.sample(["a", "b_1", "c", "x" * 32], draw.randrange(4)))],
+        "bodies": [compact(draw.choice([own["body"]] + DRAWN_OTHERS.get(own["name"], []))) for own in DRAWN["procedures"]] if magic == NEW else [],
     }
 
 
@@ -440,27 +486,38 @@ def expected(kept):
     return {table["name"]: rows for table, rows in zip(DRAWN["tables"], kept["tables"])}, steps
 
 
-def check(first, image, want, selector, what):
+def check(magic, first, image, want, selector, what):
     """`recover` of a store with this image tells these rows and steps, or this first byte that can't be."""
     with tempfile.TemporaryDirectory() as folder:
-        store(folder, selector, [generation(first, image)] * 2)
+        store(folder, selector, [generation(magic, first, image)] * 2)
         status, out = run(folder, ["recover", "--partitions", str(1 + selector % 8)])
     if isinstance(want, int):
-        got = json.loads(out.splitlines()[0])
-        assert status == 7 and got == ["foreign", 1 + selector % 2, FRONT + want], f"{what}: wanted byte {FRONT + want}, got status {status} and {out}"
+        got, byte = json.loads(out.splitlines()[0]), len(magic) + 16 + want
+        assert status == 7 and got == ["foreign", 1 + selector % 2, byte], f"{what}: wanted byte {byte}, got status {status} and {out}"
     else:
         assert status == 0, f"{what}: status {status} and {out}"
         assert told(out) == want, f"{what}: wanted {want}, got {out}"
 
 
-def damaged(draw, image, at):
+def text_places(image, bodies):
+    """Where the texts of these bodies stand in an image, which ends with them."""
+    places, at = set(), len(image)
+    for body in reversed(bodies):
+        places.update(range(at - len(body), at))
+        at -= len(body) + 4
+    return places
+
+
+def damaged(draw, image, at, texts):
+    """An image that has been cut, has one byte more, or has another byte behind the catalogue's text: in a body's text, where these places
+    are, one that no JSON has."""
     kind = draw.randrange(10)
     if kind == 0:
         return image[: draw.randrange(at, len(image))]
     if kind == 1:
         return image + bytes([draw.randrange(3)])
     where = draw.randrange(at, len(image))
-    byte = draw.choice([0, 1, 2, 255, image[where] ^ 1, image[where] + 1 & 255, draw.randrange(256)])
+    byte = draw.choice([0, 1, 2, 255] + ([] if where in texts else [image[where] ^ 1, image[where] + 1 & 255, draw.randrange(256)]))
     return image[:where] + bytes([byte]) + image[where + 1 :]
 
 
@@ -477,21 +534,22 @@ def main():
     at = 4 + len(text)
     for n in range(given.stores):
         draw = random.Random(f"{given.seed} {n}")
-        kept = drawn(draw)
+        magic = OLDER if draw.random() < 0.3 else NEW
+        kept = drawn(draw, magic)
         image, first = image_bytes(text, kept), draw.choice([5, 6, 1 << 60])
         if first == 1 << 60 and expected(kept)[1]:
             first = 9
-        check(first, image, expected(kept), [0, 1, 7, 255][n % 4], f"image {n}")
+        check(magic, first, image, expected(kept), [0, 1, 7, 255][n % 4], f"image {n}")
         for k in range(given.damages):
-            other = damaged(draw, image, at)
+            other = damaged(draw, image, at, text_places(image, kept["bodies"]))
             try:
-                want = expected(read(other, at, DRAWN, first))
+                want = expected(read(other, at, DRAWN, first, DRAWN_OTHERS if magic == NEW else None))
             except Foreign as foreign:
                 want = foreign.args[0]
                 refused += 1
             if first == 1 << 60 and isinstance(want, tuple) and want[1]:
                 continue  # a step has no place there
-            check(first, other, want, n % 2, f"image {n}, damage {k}")
+            check(magic, first, other, want, n % 2, f"image {n}, damage {k}")
     print(json.dumps({"behind an image as behind the log": given.stores // 3, "images": given.stores, "damaged": given.stores * given.damages, "refused": refused}))
 
 

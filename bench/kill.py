@@ -1,21 +1,24 @@
 #!/usr/bin/env python3
 """Kills the program in the midst of its runs, recovers its store each time, and goes on.
 
-    python3 bench/kill.py [--kills 100] [--folder FOLDER] [--partitions 2] [--checkpoint K] [--recovery strong] [--seed 1]
+    python3 bench/kill.py [--kills 100] [--folder FOLDER] [--partitions 2] [--checkpoint K] [--recovery strong] [--installs] [--seed 1]
 
 Runs the program that `./sstore` built (build it first), or the one that SSTORE names, on a store in a new folder inside
 FOLDER. In each round eight clients push batches, each from a source of its own: the last ones of the round before again, and
 new ones behind them. While it runs a second process asks for the folder and has to be refused. After a random time the
 process gets SIGKILL, until that has been done so often. What its log then has is read here, byte by byte as
-docs/FORMATS.md says, and `sstore FOLDER recover` has to agree with it: each source's pushes are counted and summed once
+docs/STORE.md says, and `sstore FOLDER recover` has to agree with it: each source's pushes are counted and summed once
 each, none that was in the log is missing, and none that was not is there. A round that ends before it is killed has to have
 done all its pushes, those that were there before as duplicates. With --checkpoint each run makes them, so that most of what
 was there is in an image, which is read here too; a round that ended has fewer than K entries behind it. With --recovery weak
-the log has the calls and pushes alone, and a recovery runs their steps without a line of them. Last, of two processes that
+the log has the calls, pushes and installs alone, and a recovery runs their steps without a line of them. With --installs clients
+install bodies between their pushes, some of a procedure whose calls leave the number of the body that they ran with: each call has
+to have the one that the log has in front of it, and the next run the last one. Last, of two processes that
 begin at once on one folder, twenty times over, one has to be done and the other refused. What was counted is printed at the end.
 """
 
 import argparse
+import itertools
 import json
 import os
 import random
@@ -35,7 +38,10 @@ AGAIN = 3  # pushes of the round before that are made again
 RACES = 20  # pairs of processes that begin at once
 
 CATALOGUE = {
-    "tables": [{"name": "sums", "columns": [["source", "int"], ["n", "int"], ["total", "int"]], "key": ["source"], "part": 1}],
+    "tables": [
+        {"name": "sums", "columns": [["source", "int"], ["n", "int"], ["total", "int"]], "key": ["source"], "part": 1},
+        {"name": "marks", "columns": [["n", "int"], ["body", "int"]], "key": ["n"], "part": 0},
+    ],
     "streams": [
         {"name": "readings", "columns": [["source", "int"], ["value", "int"]]},
         {"name": "checked", "columns": [["source", "int"], ["value", "int"]]},
@@ -67,8 +73,33 @@ CATALOGUE = {
             "touch": {"part": 1},
             "body": [{"insert": "sums", "values": [{"arg": "source"}, 0, 0]}],
         },
+        {
+            "name": "mark",
+            "kind": "call",
+            "args": [["n", "int"]],
+            "touch": {"part": 0},
+            "body": [{"insert": "marks", "values": [{"arg": "n"}, 0]}],
+        },
     ],
 }
+ADD, MARK = 1, 3  # their numbers
+
+# What may be installed: of `mark` what tells one body from another, of `add` what comes to the same.
+MARKS = [[{"insert": "marks", "values": [{"arg": "n"}, body]}] for body in range(20)]
+ADDS = [
+    CATALOGUE["procedures"][ADD]["body"],
+    [
+        {
+            "for_each": "checked",
+            "body": [
+                {"sql": "UPDATE sums SET total = total + :value WHERE source = :source"},
+                {"sql": "UPDATE sums SET n = n + 1 WHERE source = :source"},
+            ],
+        }
+    ],
+]
+OTHERS = {"add": ADDS, "mark": MARKS}
+TEXTS = [images.compact(body) for body in MARKS]
 
 
 def value(source, seq):
@@ -76,35 +107,54 @@ def value(source, seq):
     return 1000 * source + seq
 
 
-def pushes(numbers, many):
-    """The lines of a round: of each source the last pushes again, and so many new ones, in turn."""
-    lines = [json.dumps(CATALOGUE)]
+def installs(client, chance, marked):
+    """A body of `mark` and a call of it, and now and then one of `add`. The call's number is the next one."""
+    yield {"client": client, "install": "mark", "body": chance.choice(MARKS)}
+    yield {"client": client, "call": "mark", "args": [next(marked)]}
+    if chance.random() < 0.3:
+        yield {"client": client, "install": "add", "body": chance.choice(ADDS)}
+
+
+def pushes(numbers, many, chance=None, marked=None):
+    """The lines of a round: of each source the last pushes again, and so many new ones, in turn; with installs by chance between them."""
+    lines = [CATALOGUE]
     for step in range(AGAIN + many):
         for source in range(CLIENTS):
             seq = numbers[source] - AGAIN + step
             if seq >= 0:
                 row = [source, value(source, seq)]
-                lines.append(json.dumps({"client": source, "push": "readings", "source": f"s{source}", "seq": seq, "rows": [row]}))
-    return "\n".join(lines) + "\n"
+                lines.append({"client": source, "push": "readings", "source": f"s{source}", "seq": seq, "rows": [row]})
+            if chance and chance.random() < 0.1:
+                lines += installs(source, chance, marked)
+    return text_of(lines)
 
 
-def sources_of(image, first):
-    """The next number of each source by an image, where a store has one."""
+def text_of(lines):
+    return "".join(json.dumps(line) + "\n" for line in lines)
+
+
+def kept_in(image, first):
+    """What is kept by an image, where a store has one, and else what an empty one is."""
     if not image:
-        return {}
+        return {"sources": [[]], "tables": [[], []], "bodies": images.own_bodies(CATALOGUE)}
     length, at = number(image, 0, 4)
-    return dict(images.read(image, at + length, CATALOGUE, first)["sources"][0])
+    return images.read(image, at + length, CATALOGUE, first, OTHERS)
 
 
 def there_in(folder):
-    """The next number of each source, where pushes are accepted in their order and once each; the place at which the store's image
-    stands, and how many entries stand behind it."""
+    """The next number of each source, where pushes are accepted in their order and once each; the rows of `marks`, and which body a
+    call of `mark` has next; the place at which the store's image stands, and how many entries stand behind it."""
     first, image, entries, _ = generation_of(folder)
-    numbers = sources_of(image, first)
+    kept = kept_in(image, first)
+    numbers, marks, bodies = dict(kept["sources"][0]), dict(kept["tables"][1]), kept["bodies"]
     for entry in entries:
         if entry[0] == "push" and entry[2] == numbers.get(entry[1], 0):
             numbers[entry[1]] = entry[2] + 1
-    return [numbers.get(f"s{source}", 0) for source in range(CLIENTS)], first, len(entries)
+        elif entry[0] == "install":
+            bodies[entry[1]] = entry[2]
+        elif entry[0] == "call" and entry[1] == MARK:
+            marks[entry[2][0]] = TEXTS.index(bodies[MARK])
+    return [numbers.get(f"s{source}", 0) for source in range(CLIENTS)], (marks, TEXTS.index(bodies[MARK])), first, len(entries)
 
 
 # ---- runs
@@ -129,6 +179,18 @@ def check_tables(lines, numbers):
     for source, n, total in (line[2] for line in lines if line[:2] == ["row", "sums"]):
         assert n == numbers[source], f"source {source}: {n} were counted, and {numbers[source]} are in the log"
         assert total == sum(value(source, seq) for seq in range(n)), f"source {source}: another sum"
+
+
+def check_marks(lines, marks):
+    """The printed marks are those of the calls, each with the body that was installed last in front of it."""
+    printed = dict(line[2] for line in lines if line[:2] == ["row", "marks"])
+    assert printed == marks, f"marks by other bodies: {sorted(set(printed.items()) ^ set(marks.items()))[:4]}"
+
+
+def check_next(folder, run, body, number):
+    """The next run has the body that was installed last."""
+    status, lines = call(folder, run, text_of([CATALOGUE, {"call": "mark", "args": [number]}]))
+    assert status == 0 and ["row", "marks", [number, body]] in lines, f"a call that isn't by body {body}: {lines[-3:]}"
 
 
 def begun(folder, words):
@@ -192,6 +254,7 @@ def main():
     parser.add_argument("--partitions", type=int, default=2)
     parser.add_argument("--checkpoint", type=int)
     parser.add_argument("--recovery", choices=["strong", "weak"], default="strong")
+    parser.add_argument("--installs", action="store_true")
     parser.add_argument("--seed", type=int, default=1)
     given = parser.parse_args()
     if not os.access(PROGRAM, os.X_OK):
@@ -202,6 +265,7 @@ def main():
     if given.checkpoint:
         run += ["--checkpoint", str(given.checkpoint)]
     rounds = kills = in_midst = 0
+    marked, known = itertools.count(), {}
     with tempfile.TemporaryDirectory(dir=given.folder) as folder:
         opens = [json.dumps({"call": "open", "args": [source]}) for source in range(CLIENTS)]
         status, _ = call(folder, run, "\n".join([json.dumps(CATALOGUE), *opens]) + "\n")
@@ -210,9 +274,9 @@ def main():
         while kills < given.kills:
             rounds += 1
             many = chance.choice([10, 100, 400])
-            text = pushes(numbers, many)
+            text = pushes(numbers, many, chance if given.installs else None, marked)
             ended = killed(folder, run, text, chance.uniform(0.0, 0.25))
-            there, first, behind = there_in(folder)
+            there, (marks, body), first, behind = there_in(folder)
             if ended is None:
                 kills += 1
                 in_midst += there != numbers
@@ -221,22 +285,28 @@ def main():
                 assert status == 0, f"status {status}"
                 assert not given.checkpoint or behind < given.checkpoint, f"{behind} entries stand behind the image"
                 assert there == [number + many for number in numbers], "a push was not done"
+                assert len(marks) == len(known) + text.count('"call": "mark"'), "a call was not done"
                 check_tables(lines, there)
+                check_marks(lines, marks)
             assert all(new >= old for new, old in zip(there, numbers)), "a push that was there is lost"
+            assert known.items() <= marks.items(), "a call that was there is lost"
             status, lines = call(folder, recover)
             assert status == 0, f"recovery ended with {status}: {lines[-1:]}"
             check_steps(lines, first, behind, given.recovery)
             check_tables(lines, there)
-            numbers = there
+            check_marks(lines, marks)
+            if given.installs:
+                check_next(folder, run, body, next(marked))
+            numbers, known = there, there_in(folder)[1][0]
         for _ in range(RACES):
             race(folder, run, pushes(numbers, 10))
             numbers = [number + 10 for number in numbers]
-        there, first, behind = there_in(folder)
-        assert there == numbers, "a push was lost between two processes"
+        there, (marks, _), first, behind = there_in(folder)
+        assert there == numbers and marks == known, "a push or a call was lost between two processes"
         _, groups = entries_of(folder)
     print(f"{rounds} rounds, {kills} killed, {in_midst} of them with pushes of theirs in the log")
     print(f"{rounds + RACES} second processes refused, {RACES} of them begun at once")
-    print(f"{sum(numbers)} pushes once each; {behind} entries behind the image at place {first}, in {groups} groups")
+    print(f"{sum(numbers)} pushes once each, {len(known)} calls by the body in front of them; {behind} entries behind the image at place {first}, in {groups} groups")
 
 
 if __name__ == "__main__":

@@ -115,7 +115,7 @@ def lines_of(report):
     for line in map(json.loads, report.splitlines()):
         if line[0] == "reply":
             replies.append(line[:2] + line[3:])
-        elif line[0] in ("call", "push", "step"):
+        elif line[0] in ("call", "push", "install", "step"):
             outcomes[json.dumps([line[0], line[2], line[-1]])] += 1
         else:
             behind.append(line)

@@ -4,6 +4,7 @@
     python3 bench/soak.py [--requests 20000] [--clients 8] [--partitions 8] [--runs 1] [--seed 1]
     python3 bench/soak.py --runs 10 --partitions 1,2,4,8   ten times over on each of these numbers of partitions
     python3 bench/soak.py --one-door      all clients push into one partition, whose steps set off others on others
+    python3 bench/soak.py --installs      clients install bodies of all these procedures as well
     python3 bench/soak.py --write FILE          only writes the input, for a run elsewhere
     python3 bench/soak.py --check INPUT REPORT  only checks a report
 
@@ -100,13 +101,36 @@ CATALOGUE = {
 }
 
 
-def requests_of(count, clients, seed, one_door=False):
+# Bodies that procedures may have in place of their own.
+OTHERS = {
+    "open": [[{"sql": "INSERT INTO acct VALUES (:id, :bal + 7)"}], [{"sql": "DELETE FROM acct WHERE id = :id"}, {"sql": "INSERT INTO acct VALUES (:id, :bal)"}]],
+    "pay": [[], [{"sql": "UPDATE acct SET bal = bal - :n WHERE id = :id"}, {"abort_if": "(SELECT COUNT(*) FROM acct WHERE id = :id AND bal < 0) > 0", "code": 4}]],
+    "move": [[{"sql": "UPDATE acct SET bal = bal - :n WHERE id = :a"}, {"sql": "UPDATE acct SET bal = bal + :n WHERE id = :b"}]],
+    "sum": [[{"return": "SELECT COUNT(*), SUM(bal) FROM acct WHERE id > 0"}, {"return": "SELECT SUM(n), COUNT(*) FROM tally"}]],
+    "peek": [[{"return": "SELECT COUNT(*) FROM joined WHERE side = 2"}], [{"sql": "DELETE FROM joined WHERE side = 3"}]],
+    "a": [[{"emit": "r", "sql": "SELECT x + 1 FROM s"}, {"emit": "l", "sql": "SELECT x FROM s"}, {"emit": "r", "sql": "SELECT x FROM s"}]],
+    "p": [[{"emit": "pl", "sql": "SELECT x * 4 FROM l"}, {"sql": "INSERT INTO tally SELECT x, 2 FROM l"}]],
+    "q": [[{"emit": "qr", "sql": "SELECT x * 2 + 3 FROM r WHERE x % 3 > 0"}, {"abort_if": "(SELECT COUNT(*) FROM r WHERE x % 20 = 1) > 0", "code": 5}]],
+    "j": [[{"sql": "INSERT INTO joined SELECT x, 3 FROM qr"}], []],
+}
+
+
+def install():
+    """A body of one of the procedures, its own among them."""
+    own = random.choice(CATALOGUE["procedures"])
+    return {"install": own["name"], "body": random.choice([own["body"], *OTHERS[own["name"]]])}
+
+
+def requests_of(count, clients, seed, one_door=False, installs=False):
     """Requests of these clients in turn; each pushes from a source of its own, with numbers that are now and then wrong. By
     one door they are pushes alone, so all of them run on the partition of the border procedure."""
     random.seed(seed)
     numbers = [0] * clients
     for made in range(count):
         client = random.randrange(clients)
+        if installs and random.random() < 0.05:
+            yield {"client": client, **install()}
+            continue
         kind = 0 if one_door else random.random()
         if kind < 0.45:
             seq = numbers[client] + random.choice([0] * 20 + [1, -1])
@@ -151,7 +175,7 @@ class Replay:
             if self.rows("SELECT " + body_step["abort_if"], args)[0][0]:
                 raise Aborted(["raised", body_step["code"]])
         elif "emit" in body_step:
-            emitted[body_step["emit"]] = self.rows(body_step["sql"], args)
+            emitted[body_step["emit"]] += self.rows(body_step["sql"], args)
         elif "return" in body_step:
             return self.rows(body_step["return"], args)
         else:
@@ -186,6 +210,10 @@ class Replay:
         self.batches[asked["push"]].append(asked["rows"])
         return ["done", []]
 
+    def install(self, asked):
+        self.procedures[asked["install"]] = {**self.procedures[asked["install"]], "body": asked["body"]}
+        return ["done", []]
+
     def step(self, name, batch):
         procedure = self.procedures[name]
         assert batch == self.taken[name], f"{name} takes batch {batch}, and {self.taken[name]} is next"
@@ -212,7 +240,7 @@ def check(asked, report):
     """Checks a whole report on these requests; the number of entries and of those that are steps."""
     lines = [json.loads(line) for line in report.splitlines()]
     replies = {line[1]: line[2:] for line in lines if line[0] == "reply"}
-    entries = [line for line in lines if line[0] in ("call", "push", "step")]
+    entries = [line for line in lines if line[0] in ("call", "push", "install", "step")]
     behind = [line for line in lines if line[0] in ("table", "row", "done")]
     assert len(replies) + len(entries) + len(behind) == len(lines), "a line of another kind"
     queues = {}
@@ -229,7 +257,7 @@ def check(asked, report):
         else:
             index, (line, request) = next(turns[entry[2]])
             assert index == entry[3] and entry[0] in request, f"place {place} is another request than client {entry[2]}'s next"
-            outcome = replay.call(request) if entry[0] == "call" else replay.push(request)
+            outcome = {"call": replay.call, "push": replay.push, "install": replay.install}[entry[0]](request)
             assert replies.pop(line) == [place, outcome], f"the reply of line {line}"
         assert outcome == entry[-1], f"place {place}: {entry[-1]} where {outcome} comes"
     assert not replies, "a reply without an entry"
@@ -263,6 +291,7 @@ def main():
         parser.add_argument(f"--{name}", type=int, default=value)
     parser.add_argument("--partitions", type=lambda word: [int(part) for part in word.split(",")], default=[8])
     parser.add_argument("--one-door", action="store_true")
+    parser.add_argument("--installs", action="store_true")
     parser.add_argument("--checkpoint", metavar="K")
     parser.add_argument("--write", metavar="FILE")
     parser.add_argument("--check", nargs=2, metavar=("INPUT", "REPORT"))
@@ -272,12 +301,12 @@ def main():
         print("%d entries, %d of them steps: all as SQLite has them" % check(asked, open(given.check[1]).read()))
         return
     if given.write:
-        open(given.write, "w").write(input_of(requests_of(given.requests, given.clients, given.seed, given.one_door)))
+        open(given.write, "w").write(input_of(requests_of(given.requests, given.clients, given.seed, given.one_door, given.installs)))
         return
     if not os.access(PROGRAM, os.X_OK):
         sys.exit("the program isn't built: run ./sstore - run < examples/stored_run.jsonl first")
     for seed in range(given.seed, given.seed + given.runs):
-        asked = list(requests_of(given.requests, given.clients, seed, given.one_door))
+        asked = list(requests_of(given.requests, given.clients, seed, given.one_door, given.installs))
         for partitions in given.partitions:
             soak(asked, seed, partitions, ["--checkpoint", given.checkpoint] if given.checkpoint else [])
 

@@ -1,4 +1,4 @@
-"""Reads the store of a folder, byte by byte as docs/FORMATS.md says, for the scripts beside it."""
+"""Reads the store of a folder, byte by byte as docs/STORE.md says, for the scripts beside it."""
 
 import os
 
@@ -23,16 +23,19 @@ def row_at(data, at):
 
 
 def entry_at(data, at):
-    """A record: a push as its source's name and its number, and any other as its kind."""
+    """A record: a push as its source's name and its number, a call as its procedure and its arguments, an install as its procedure and the
+    body's text, and a step as its kind alone."""
     kind, at = number(data, at, 1)
     if kind == 3:
         return ("step",), at + 10
     at += 9
+    procedure, at = number(data, at, 2)  # of a push its stream
+    if kind == 4:
+        length, at = number(data, at, 4)
+        return ("install", procedure, data[at : at + length]), at + length
     if kind == 1:
-        at += 2
-        _, at = row_at(data, at)
-        return ("call",), at
-    at += 2
+        args, at = row_at(data, at)
+        return ("call", procedure, args), at
     length, at = number(data, at, 1)
     source = data[at : at + length].decode()
     seq, at = number(data, at + length, 8)
@@ -49,8 +52,8 @@ def generation_of(folder):
     if not selector:
         return 0, b"", [], 0
     data = open(os.path.join(folder, "gen1" if selector[0] % 2 == 0 else "gen2"), "rb").read()
-    assert data[:8] in (b"SSTORE1\n", b"SSTOREW\n"), "no store"
-    first, at = number(data, 8, 8)
+    assert data[:8] in (b"SSTORE1\n", b"SSTOREW\n", b"SSTORE2\n"), "no store"
+    first, at = number(data, 9 if data[:8] == b"SSTORE2\n" else 8, 8)
     length, at = number(data, at, 8)
     image, at = data[at : at + length], at + length
     entries, groups = [], 0

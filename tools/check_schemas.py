@@ -5,8 +5,10 @@
 
 A line that a case says is refused by C1 or C11 has to be refused by its schema without its counts (maxItems, and of requests
 maxLength), one refused by C10 or C14 by its counts alone; one refused by another code has to pass but for counts, and one that
-is read has to pass. Counted apart is what passes since a schema can't say it: a slide above its size, more steps with those inside of a for_each
-than a body may have, a text with more bytes than characters, and 1.0 or -0, which are integers to JSON Schema.
+is read has to pass. A refused body has the code of the catalogue that it would make, and one of no procedure isn't looked at.
+Counted apart is what passes since a schema can't say it: a slide above its size, more steps with those inside of a for_each than
+a body may have, an installed step that another kind of procedure may have, a text with more bytes than characters, and 1.0 or -0,
+which are integers to JSON Schema.
 Status 0: all agree; 1: some don't, each in a line, or the package jsonschema is missing; 2: wrong options.
 """
 import collections
@@ -19,6 +21,7 @@ from shared import Wrong, end, file_text, json_value, options
 TOP = os.path.dirname(os.path.dirname(os.path.abspath(__file__)))
 DATA = os.path.join(TOP, "crates/ss_cases/data")
 FORM, COUNTS = ("C1", "C11"), ("C10", "C14")
+KEPT_TO_A_KIND = {"insert", "return_all", "return", "emit", "for_each"}  # forms of steps
 
 
 def marked(text):
@@ -53,6 +56,10 @@ def inputs_of(kind, base, lines):
         yield from ((base + "\n" + script_of(row), row[-1]) for row in rows if row[-1] != '["usage"]')
     elif kind in ("report", "tables"):
         yield "\n".join([base, *lines[: lines.index("->")]]), lines[lines.index("->") + 1]
+    elif kind == "audited":
+        yield "\n".join([base, *lines]), ""
+    elif kind == "calls":
+        yield from ((base + "\n" + row[1], row[-1]) for row in rows if row[0].split()[0] == "run")
     elif kind == "run":
         yield from ((file_text(os.path.join(DATA, row[0])), file_text(os.path.join(DATA, row[1])).split("\n")[0]) for row in rows)
     elif kind == "first":
@@ -95,6 +102,8 @@ def is_apart(piece):
         if isinstance(value, dict) and isinstance(value.get("slide"), int) and isinstance(value.get("size"), int) and value["slide"] > value["size"]:
             return True
         steps = value.get("body") if isinstance(value, dict) else None
+        if isinstance(steps, list) and "install" in value and any(isinstance(step, dict) and KEPT_TO_A_KIND & step.keys() for step in steps):
+            return True
         if isinstance(steps, list) and sum(isinstance(step, dict) for step in values_of(steps)) > 32 >= len(steps):
             return True
     return False
@@ -109,6 +118,18 @@ def without(schema, counts):
     return {key: without(inner, counts) for key, inner in schema.items() if key not in counts or inner in (1, 2)}
 
 
+def whole_schema(path):
+    """A schema with what it takes from the catalogue's, which is another file, in itself. Where a pattern ends, Python would let a line
+    feed pass, and JSON Schema doesn't."""
+    def text(name):
+        return file_text(name).replace('$"', '\\\\Z"')
+    value = json_value(text(path).replace("catalog.schema.json#", "#/$defs/catalogue"), path)
+    catalogue = os.path.join(TOP, "schemas", "catalog.schema.json")
+    if path != catalogue:
+        value["$defs"]["catalogue"] = json_value(text(catalogue).replace("#/$defs", "#/$defs/catalogue/$defs"), catalogue)
+    return value
+
+
 def schema(name, counts):
     """A test what of a line its schema refuses: "form", "counts" or nothing. It remembers its answers."""
     try:
@@ -116,7 +137,7 @@ def schema(name, counts):
     except ImportError:
         raise Wrong("the package jsonschema is missing: apt-get install python3-jsonschema, or pip install jsonschema") from None
     path = os.path.join(TOP, "schemas", name)
-    value, answers = json_value(file_text(path), path), {}
+    value, answers = whole_schema(path), {}
     try:
         jsonschema.Draft202012Validator.check_schema(value)
     except jsonschema.SchemaError as error:
@@ -145,7 +166,7 @@ def pieces_of(text, refused):
 def judged(piece, code, found):
     """Whether what a schema found of a line agrees with the code by which the program refuses it, which is empty where it doesn't."""
     needed = "form" if code in FORM else "counts" if code in COUNTS else ""
-    if found == needed or (code and not needed and found == "counts"):
+    if found == needed or (code and not needed and found == "counts") or (code == "C12" and "install" in json.loads(piece)):
         return "agreed"
     return "apart" if needed and not found and is_apart(piece) else "wrong"
 
@@ -155,7 +176,7 @@ def main():
     catalogue, request = schema("catalog.schema.json", ["maxItems"]), schema("request.schema.json", ["maxItems", "maxLength"])
     counts = collections.Counter(agreed=0, apart=0, wrong=0)
     for where, text, printed in inputs():
-        told = re.match(r'\["input",(\d+),"(\w+)"', printed)
+        told = re.match(r'\["input",(\d+),(?:"C15",)?"(\w+)"', printed)
         line, code = (int(told[1]), told[2]) if told else (0, "")
         if "⟦" in text or code in ("L2", "L3", "L4"):
             continue

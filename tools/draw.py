@@ -3,15 +3,17 @@
 
     python3 tools/draw.py examples/telemetry.jsonl
     python3 tools/draw.py --svg examples/telemetry.jsonl > telemetry.svg
+    python3 tools/draw.py --installed examples/hotfix.jsonl
 
-CATALOGUE is an input, or a file with the catalogue alone. Streams are arrows from who feeds them to who takes them; of each
+CATALOGUE is an input, or a file with the catalogue alone. It is drawn as it is written, or with the bodies that the input's
+requests install, each later one in place of those before it, in the order of lines. Streams are arrows from who feeds them to who takes them; of each
 procedure it says what it touches, reads and writes, with its windows and triggers. What SQL names is found by its words alone,
 so it may be drawn of a catalogue that is still refused. Status 0: done; 1: the file is wrong; 2: the options are.
 """
 import html
 import re
 
-from shared import Wrong, catalogue_of, end, options
+from shared import STEP, Wrong, catalogue_of, end, file_text, has_form, json_value, options
 
 CLIENTS, NOBODY = "clients", "nobody"
 LETTER, LINE, PAD, GAP = 7.3, 17, 9, 26  # the width of a letter, the height of a line, the space in a box and between boxes
@@ -47,7 +49,7 @@ def touched(touch):
 def lines_of(procedure, catalogue, feeds):
     """What a drawing says of a procedure, in lines: what it touches and uses, its windows, and the triggers that run in it."""
     tables = {table["name"] for table in catalogue["tables"]}
-    lines = [f"{procedure['kind']}, {touched(procedure['touch'])}"]
+    lines = [f"{procedure['kind']}, {touched(procedure['touch'])}" + (f", as line {procedure['line']} installs it" if "line" in procedure else "")]
     lines += uses_of([text for step in procedure["body"] for text in texts_of(step)], tables)
     mine = [name for name, emitters in feeds.items() if procedure["name"] in emitters]
     for window in catalogue["windows"]:
@@ -223,13 +225,27 @@ def in_svg(boxes, links, tables):
     yield "</svg>"
 
 
+def installed(path, catalogue):
+    """Gives procedures the bodies that requests of an input install, and notes their lines."""
+    procedures, is_behind = {p["name"]: p for p in catalogue["procedures"]}, False
+    for number, line in enumerate(file_text(path).split("\n"), 1):
+        request = json_value(line, path, number) if is_behind and line.strip(" \t\r") else None
+        is_behind = is_behind or bool(line.strip(" \t\r"))
+        if isinstance(request, dict) and "install" in request:
+            has_form(request, {"install": {*procedures}, "body": [STEP], "client?": int}, f"{path}: line {number}: $")
+            procedures[request["install"]].update(body=request["body"], line=number)
+
+
 def main():
     parser = options(__doc__)
     parser.add_argument("catalogue", metavar="CATALOGUE", help="an input, or a file with the catalogue alone")
+    parser.add_argument("--installed", action="store_true", help="draw procedures with the bodies that the input installs")
     parser.add_argument("--svg", action="store_true", help="make SVG, which a browser shows")
     parser.add_argument("--streams", action="store_true", help="leave out calls and tables")
     asked = parser.parse_args()
     catalogue = catalogue_of(asked.catalogue)
+    if asked.installed:
+        installed(asked.catalogue, catalogue)
     feeds = feeds_of(catalogue)
     kept = [p for p in catalogue["procedures"] if p["kind"] != "call" or not asked.streams]
     boxes = {p["name"]: lines_of(p, catalogue, feeds) for p in kept}

@@ -46,9 +46,10 @@ CODES = {
     "C9": "the owner of this window is a call procedure, or SQL of another procedure than its owner names it",
     "C10": "there are too many of these",
     "C11": "the line is no request",
-    "C12": "no call procedure, or no border stream, has that name",
+    "C12": "no call procedure, no border stream, or for an install no procedure, has that name",
     "C13": "the arguments, or a row, have another number of values or another type, or a text has more than 255 bytes",
     "C14": "a push has more than 1,024 rows",
+    "C15": "the catalogue with this body in the place of the procedure's own would be refused",
 }
 SQL = {
     "S1": "no token begins here",
@@ -106,9 +107,14 @@ def texts_of(catalogue, name, number):
             yield f"trigger {name}, statement {number}", trigger["sql"][number], ""
 
 
+def as_catalogue(value):
+    """A catalogue, or of an install one that has the procedure with this body alone."""
+    return {"procedures": [{"name": value["install"], "body": value["body"]}]} if "install" in value else value
+
+
 def shown_sql(text, rest):
     """The place of a refusal of SQL: the text and, where an offset is told, a caret under it."""
-    for owner, sql, step in texts_of(json.loads(text), rest[0], rest[1]):
+    for owner, sql, step in texts_of(as_catalogue(json.loads(text)), rest[0], rest[1]):
         yield f"    {owner}:"
         yield "    " + re.sub(r"\s", " ", sql or step)
         if sql and rest[3:]:
@@ -118,9 +124,11 @@ def shown_sql(text, rest):
 
 
 def shown_value(text, path):
-    """The place of a refusal by its path: what stands there."""
-    value = json.loads(text)
-    for key, number in re.findall(r"\.([^.\[]+)|\[(\d+)\]", path):
+    """The place of a refusal by its path: what stands there. In an install the procedure has its number in the catalogue."""
+    line = json.loads(text)
+    value = as_catalogue(line)
+    within = path if value is line else re.sub(r"^\$\.procedures\[\d+\]", "$.procedures[0]", path)
+    for key, number in re.findall(r"\.([^.\[]+)|\[(\d+)\]", within):
         value = value[key] if key else value[int(number)]
     shown = json.dumps(value, ensure_ascii=False)
     yield f"    {path} is {shown[:200]}" + (" .." if shown[200:] else "")
@@ -142,8 +150,9 @@ def place_of(lines, number, code, rest):
 
 def refusal(line, lines):
     """What an `input` line says, in some lines."""
-    _, number, code, *rest = line
-    said = f"line {number}: {code}: {CODES[code]}" + (f": {rest[0]}" if rest else "")
+    _, number, first, *rest = line
+    code, *rest = rest if first == "C15" else (first, *rest)
+    said = f"line {number}: " + (f"C15: {CODES[first]}: " if first == "C15" else "") + f"{code}: {CODES[code]}" + (f": {rest[0]}" if rest else "")
     if code == "C4" and not lines:
         said += f", {'step or statement'} {rest[1]}, byte {rest[3]}: {rest[2]}: {SQL[rest[2]]}"
     elif code == "C7" and not lines:
@@ -199,7 +208,7 @@ def explained(line, lines, counts, says_all):
         yield STATUS[WITHOUT_RUN[word]] + at
     elif word == "done":
         counts["entry" if line[1] == 1 else "entries"] = int(line[1])
-    elif word not in ("call", "push", "row"):
+    elif word not in ("call", "push", "install", "row"):
         raise ValueError
 
 
@@ -219,7 +228,7 @@ def explain(text, lines, says_all):
             raise Wrong(f"standard input: line {number}: no line of a report: {piece[:100]}") from None
     if not word:
         raise Wrong("standard input: empty, where a report is needed")
-    if word in ("reply", "call", "push", "step", "table", "row"):
+    if word in ("reply", "call", "push", "install", "step", "table", "row"):
         yield "the report breaks off: neither a `done` line nor a `stopped` line ends it"
     if counts:
         yield ", ".join(f"{count} {name}" for name, count in counts.items())

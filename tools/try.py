@@ -3,8 +3,8 @@
 
     python3 tools/try.py
 
-A case is a command, its standard input, its status, and what its first line has: of standard output where the status is 0,
-else of standard error, which has one line then. Prints each case that is wrong, and `N right, M wrong`. Status 0: none is wrong;
+A case is a command, its standard input, its status, and what a line has: one of standard output where the status is 0, else
+the first of standard error, which is the only one then unless the options are wrong. Prints each case that is wrong, and `N right, M wrong`. Status 0: none is wrong;
 1: one is; 2: wrong options.
 """
 import os
@@ -16,9 +16,10 @@ from shared import end, options
 
 TOP = os.path.dirname(os.path.dirname(os.path.abspath(__file__)))
 TABLE, ROW = '{"tables":[{"name":"t","columns":[["k","int"],["s","text"]],"key":["k"],"part":0}]', '[["k","int"],["s","text"]]'
-# The store of docs/FORMATS.md, whose two entries are in one group.
-LOG = "5353544f5245310a 0000000000000000 0000000000000003 696d67 01 0000003d 00000002 01030000000000000005000202000000000000000007"
-LOG += "01026869 020000000000000000010004027331000000000000000900010100ffffffffffffffff"
+# The store of docs/STORE.md, whose two entries are in one group: what stands in front of its image, in the new form and in an older one, and the rest.
+HEAD, OLDER = "5353544f5245320a 00 0000000000000000 0000000000000003", "5353544f5245310a 0000000000000000 0000000000000003"
+LOG = "696d67 01 0000003d 00000002 01030000000000000005000202000000000000000007"
+LOG += "01026869 020000000000000000010004027331000000000000000900010100ffffffffffffffff 00"
 FILES = {  # in a folder of their own, $T
     "empty": "",
     "blank": "\n \n",
@@ -32,9 +33,15 @@ FILES = {  # in a folder of their own, $T
     "ok.json": TABLE + f',"streams":[{{"name":"in","columns":{ROW}}},{{"name":"on","columns":{ROW}}}],"procedures":['
     f'{{"name":"c","kind":"call","args":{ROW},"touch":"all",\n"body":[]}},{{"name":"z","kind":"call","touch":"all","body":[]}},'
     '{"name":"b","kind":"border","inputs":["in"],"touch":"all","body":[{"emit":"on","sql":"SELECT k, s FROM in"}]}]}',
+    "install.jsonl": '{"procedures":[{"name":"c","kind":"call","touch":{"part":0},"body":[]}]}\n{"call":"c","args":[]}\n{"client":1,"install":"c","body":[{"return":"SELECT x FROM t"},{"sql":7}]}\n'
+    '{"install":"nope","body":[]}\n{"install":"c","body":7}\n{"install":"c","body":[{"return_all":"u"},{"return":"SELECT y FROM u"}]}\n',
     "jsonschema.py": "raise ImportError",
     "store/selector": b"\0",
-    "store/gen1": bytes.fromhex(LOG) + b"\0",
+    "store/gen1": bytes.fromhex(HEAD + LOG),
+    "older/selector": b"\0",
+    "older/gen1": bytes.fromhex(OLDER + LOG),
+    "mode/selector": b"\0",
+    "mode/gen1": bytes.fromhex(HEAD.replace(" 00 ", " 02 ") + LOG),
     "new/selector": "",
     "begun/selector": b"\0",
     "begun/gen1": b"SSTO",
@@ -42,7 +49,9 @@ FILES = {  # in a folder of their own, $T
     "wrong/gen1": "no store at all, but longer than a head",
     "long/selector": b"\0\0",
     "group/selector": b"\1",
-    "group/gen2": bytes.fromhex(LOG[:50].replace("03", "00")) + bytes.fromhex("01 00000001 00000000"),
+    "group/gen2": bytes.fromhex(HEAD.replace("03", "00") + "01 00000001 00000000"),
+    "older_group/selector": b"\1",
+    "older_group/gen2": bytes.fromhex(OLDER.replace("03", "00") + "01 00000001 00000000"),
     "bare/file": "",
 }
 CALL, PUSH = "csv_in.py $T/ok.json --call c", "csv_in.py $T/ok.json --push in"
@@ -56,6 +65,8 @@ CASES = [
     ("draw.py examples/telemetry.jsonl", "", 0, "clients"),
     ("draw.py --svg examples/telemetry.jsonl", "", 0, "<svg xmlns"),
     ("draw.py --streams examples/bank.jsonl", "", 1, "no procedure"),
+    ("draw.py --installed examples/hotfix.jsonl", "", 0, "as line 8 installs it"),
+    ("draw.py --installed $T/install.jsonl", "", 1, "line 3: $.body[1].sql: not a text"),
     (CALL, "7,a\n", 0, '{"call":"c","args":[7,"a"]}'),
     (CALL + " --client 7 --header", "s,more,k\n\"b,\n\",x,-9223372036854775808\n", 0, '{"client":7,"call":"c","args":[-9223372036854775808,"b,\\n"]}'),
     (PUSH + " --seq 5 --rows 1 --source me", "7,a\n8,b\n", 0, '{"push":"in","source":"me","seq":5,"rows":[[7,"a"]]}'),
@@ -82,6 +93,12 @@ CASES = [
     ("explain.py", '["audit","no",4,27]', 0, "the report is not right: line 27 is not what the entries leave"),
     ("explain.py examples/refused/c04.jsonl", '["input",1,"C4","free",0,"S5",30]', 0, "line 1: C4"),
     ("explain.py examples/bank.jsonl", '["input",1,"C4","nope",0,"S5",30]', 0, "line 1: C4"),
+    ("explain.py", '["input",3,"C15","C1","$.procedures[0].body[1].sql"]', 0, "line 3: C15: the catalogue with this body in the place of the procedure's own would be refused: C1: "),
+    ("explain.py $T/install.jsonl", '["input",3,"C15","C1","$.procedures[0].body[1].sql"]', 0, "    $.procedures[0].body[1].sql is 7"),
+    ("explain.py $T/install.jsonl", '["input",6,"C15","C4","c",1,"S5",7]', 0, "           ^ nothing in scope has this name"),
+    ("explain.py $T/install.jsonl", '["input",3,"C15","C1","$.procedures[0].body[7]"]', 0, "(the line of the input has no such place"),
+    ("explain.py", '["install",0,0,0,["done",[]]]\n["done",1]', 0, "1 entry"),
+    ("explain.py", '["install",0,0,0,["done",[]]]', 0, "the report breaks off"),
     ("explain.py", '["voter",4,4,12,23]', 0, "4 votes asked for, 4 pushes done, 12 steps, 23 entries"),
     ("explain.py", '["foreign",1,3]', 0, "byte 3 of gen1"),
     ("explain.py", '["reply",2,"halted",1]\n["stopped",5,0]', 0, "line 2: the disk had failed"),
@@ -92,13 +109,14 @@ CASES = [
     *(("explain.py", given, 1, said) for given, said in (
         ("", "empty, where a report"), ("nope\n", "line 1, column 1: no JSON"), ('["done",1]\n7\n', "line 2: no array"), ("[]\n", "line 1: no array"),
         ('["nope"]\n', "no line of a report"), ('["reply",2]\n', "no line of a report"), ('["reply",2,0,["aborted","nope"]]\n', "no line of a report"),
-        ('["input",1,"C99"]\n', "no line of a report"), (b"\xff\n", "line 1: no UTF-8"))),
+        ('["input",1,"C99"]\n', "no line of a report"), ('["input",1,"C15"]\n', "no line of a report"), (b"\xff\n", "line 1: no UTF-8"))),
     ("explain.py $T/gone", '["done",1]', 1, "gone: No such file"),
-    ("watch.py $T/store --once", "", 0, "2 entries"),
+    *((f"watch.py $T/{name} --once", "", 0, "2 entries") for name in ("store", "older")),
     ("watch.py $T/store --every 0.1 --seconds 0.3", "", 0, "2 entries"),
     *((f"watch.py $T/{name} --once", "", 1, said) for name, said in (
         ("gone", "gone: no folder"), ("text", "text: no folder"), ("bare", "bare: no store"), ("new", "new: no store"), ("begun", "begun: no store"),
-        ("wrong", "gen1: no generation"), ("long", "selector: more than one byte"), ("group", "gen2: byte 25 begins no group"))),
+        ("wrong", "gen1: no generation"), ("mode", "gen1: no generation"), ("long", "selector: more than one byte"),
+        ("group", "gen2: byte 26 begins no group"), ("older_group", "gen2: byte 25 begins no group"))),
     *((f"watch.py $T/store {words}", "", 2, "usage: ") for words in ("--every 0", "--every nan", "--seconds x")),
     *((f"docs.py {name}", "", 0, first) for name, first in (("crates", "# The crates"), ("items", "# The crates"), ("laws", "# The laws"))),
     ("docs.py nope", "", 2, "usage: "),
@@ -121,7 +139,8 @@ def is_right(case, folder):
     done = started(command, folder, given, subprocess.PIPE)
     told = (done.stdout if status == 0 else done.stderr).decode()
     is_one = not done.stderr if status == 0 else status == 2 or told.count("\n") == 1
-    return done.returncode == status and said in told.split("\n")[0] and is_one and b"Traceback" not in done.stderr
+    lines = told.split("\n")
+    return done.returncode == status and any(said in line for line in (lines if status == 0 else lines[:1])) and is_one and b"Traceback" not in done.stderr
 
 
 def is_quiet(command, folder):

@@ -4,11 +4,11 @@
     mkdir -p out/store && ./sstore out/store run < examples/bank.jsonl > out/report
     python3 tools/watch.py out/store --once
 
-Reads the store's files as docs/FORMATS.md says them, and neither writes nor locks any, so that it may run beside
+Reads the store's files as docs/STORE.md says them, and neither writes nor locks any, so that it may run beside
 `./sstore FOLDER run`. It looks at the heads of groups alone, from where it stopped the last time. A line has the place behind
 the last entry whose group is open, the entries a second since the line before, and how many of them a group has; a crash may
-still take the last group, whose sync may be under way. Of a weak store these are calls and pushes, since it logs no steps. Status 0: a store was seen; 1: none was, or the files are none; 2: wrong
-options.
+still take the last group, whose sync may be under way. Of a weak store these are calls, pushes and installs, since it
+logs no steps. Status 0: a store was seen; 1: none was, or the files are none; 2: wrong options.
 """
 import argparse
 import os
@@ -16,7 +16,8 @@ import time
 
 from shared import Wrong, end, options
 
-MAGICS, HEAD, LONGEST_GROUP, LAST_PLACE = (b"SSTORE1\n", b"SSTOREW\n"), 24, 8388608, 2**60
+NEW = b"SSTORE2\n"
+MAGICS, LONGEST_GROUP, LAST_PLACE = (NEW, b"SSTORE1\n", b"SSTOREW\n"), 8388608, 2**60
 
 
 def opened(path):
@@ -38,7 +39,7 @@ class Generation:
 
     def is_still(self, path):
         """Whether it is the one with this path. A second checkpoint gives the file back with another head."""
-        return path == self.path and (self.at is None or os.pread(self.file.fileno(), HEAD, 0) == self.begins)
+        return path == self.path and (self.at is None or os.pread(self.file.fileno(), len(self.begins), 0) == self.begins)
 
     def head(self):
         """Reads the head where all of it is there, and says whether it is."""
@@ -46,13 +47,14 @@ class Generation:
             self.file = opened(self.path)
         if self.at is not None or self.file is None:
             return self.at is not None
-        head = os.pread(self.file.fileno(), HEAD, 0)
-        place, image = int.from_bytes(head[8:16], "big"), int.from_bytes(head[16:24], "big")
-        if not any(magic.startswith(head[:8]) for magic in MAGICS) or place > LAST_PLACE:
+        head = os.pread(self.file.fileno(), 25, 0)
+        front = 9 if head[:8] == NEW else 8  # behind the magic the new form has a byte for the mode
+        place, image = (int.from_bytes(head[at : at + 8], "big") for at in (front, front + 8))
+        if not any(magic.startswith(head[:8]) for magic in MAGICS) or head[8:front] not in (b"", b"\0", b"\1") or place > LAST_PLACE:
             raise Wrong(f"{self.path}: no generation of a store")
-        if len(head) < HEAD:
+        if len(head) < front + 16:
             return False
-        self.place, self.at, self.begins = place, HEAD + image, head
+        self.place, self.at, self.begins = place, front + 16 + image, head[: front + 16]
         return True
 
     def read_on(self):

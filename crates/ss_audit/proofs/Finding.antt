@@ -11,12 +11,12 @@ use Rattle.std.proofs.lemmas.Bool.{cases_Bool, eqb-true, and_parts, ltb-false, l
 use Rattle.std.proofs.lemmas.Option.{slice_get-get_or, slice_get_past}
 use Rattle.ss_lines.specs.declared.line.Line.{Line}
 use Rattle.ss_model.specs.declared.entry.Asked.{Asked}
-use Rattle.ss_model.specs.declared.entry.Asked.TheVariants.{Call as CallAsked, Push as PushAsked}
+use Rattle.ss_model.specs.declared.entry.Asked.TheVariants.{Call as CallAsked, Push as PushAsked, Install as InstallAsked}
 use Rattle.ss_model.specs.declared.entry.Entry.{Entry}
 use Rattle.ss_model.specs.declared.entry.Request.{Request}
 use Rattle.ss_model.specs.Report.{asked_entry, entries_behind, client_index}
 use Rattle.ss_report_lines.specs.declared.kind.LineKind.{LineKind}
-use Rattle.ss_report_lines.specs.declared.kind.LineKind.TheVariants.{Reply, Call, Push, Step, Table, Row, Done}
+use Rattle.ss_report_lines.specs.declared.kind.LineKind.TheVariants.{Reply, Call, Push, Install, Step, Table, Row, Done}
 use Rattle.ss_report_lines.specs.Said.{said}
 use Rattle.ss_audit_laws.specs.Shape.{line_kind}
 use Rattle.ss_audit_laws.specs.Checks.{first_by, is_by, is_number}
@@ -73,6 +73,7 @@ module _ (client index : ℕ) where
   its_index : (c n : ℕ) (what : Asked) → client_index client (asked_entry c n what) ≡ cond (c == client) (Some n) None
   its_index c n (CallAsked q args) = refl
   its_index c n (PushAsked s source seq rows) = refl
+  its_index c n (InstallAsked q text) = refl
 
   tested : (c n : ℕ) (what : Asked) → wanted (asked_entry c n what) ≡ (client == c && index == n)
   tested c n what = ap (is_number index) (its_index c n what) ∙ numbered (c == client) n ∙ (λ k. eq_flip c client k && eq_flip n index k)
@@ -130,6 +131,7 @@ module _ (client index : ℕ) where
       by (Some (Reply n)) = more
       by (Some (Call c i)) = chosen (client == c && index == i)
       by (Some (Push c i)) = chosen (client == c && index == i)
+      by (Some (Install c i)) = chosen (client == c && index == i)
       by (Some (Step r)) = more
       by (Some (Table n)) = more
       by (Some Row) = more

@@ -6,7 +6,7 @@ use Rattle.ss_lines.specs.declared.line.Line.{Line}
 use Rattle.ss_model.specs.declared.catalog.Catalog.{Catalog}
 use Rattle.ss_model.specs.declared.entry.Request.{Request}
 use Rattle.ss_report_lines.specs.declared.kind.LineKind.{LineKind}
-use Rattle.ss_report_lines.specs.declared.kind.LineKind.TheVariants.{Reply, Call, Push, Step, Table, Row, Done}
+use Rattle.ss_report_lines.specs.declared.kind.LineKind.TheVariants.{Reply, Call, Push, Install, Step, Table, Row, Done}
 use Rattle.ss_report_lines.specs.Kinds.{kind_of}
 use Rattle.ss_report_lines.specs.Said.{said}
 use Rattle.ss_audit_laws.specs.Shape.{line_kind, line_text_at, text_at}
@@ -23,6 +23,7 @@ module _ (catalog : Catalog) (requests : List Request) (turns : Turns) (l : Line
   means_request (Some (Reply n)) client index h = absurd (cc)
   means_request (Some (Call c i)) client index h = ap (λ (by : ℕ × ℕ). in_turn turns by.0 by.1 (asked_as requests by.0 by.1)) (some_same (c, i) (client, index) h)
   means_request (Some (Push c i)) client index h = ap (λ (by : ℕ × ℕ). in_turn turns by.0 by.1 (asked_as requests by.0 by.1)) (some_same (c, i) (client, index) h)
+  means_request (Some (Install c i)) client index h = ap (λ (by : ℕ × ℕ). in_turn turns by.0 by.1 (asked_as requests by.0 by.1)) (some_same (c, i) (client, index) h)
   means_request (Some (Step r)) client index h = absurd (cc)
   means_request (Some (Table n)) client index h = absurd (cc)
   means_request (Some Row) client index h = absurd (cc)
@@ -34,6 +35,7 @@ module _ (catalog : Catalog) (requests : List Request) (turns : Turns) (l : Line
   means_step (Some (Reply n)) h = refl
   means_step (Some (Call c i)) h = absurd (cc)
   means_step (Some (Push c i)) h = absurd (cc)
+  means_step (Some (Install c i)) h = absurd (cc)
   means_step (Some (Step r)) h = refl
   means_step (Some (Table n)) h = refl
   means_step (Some Row) h = refl
@@ -45,6 +47,7 @@ turns_more turns None client index h = absurd (cc)
 turns_more turns (Some (Reply n)) client index h = absurd (cc)
 turns_more turns (Some (Call c i)) client index h = ap (λ (by : ℕ × ℕ). turned turns by.0 by.1) (some_same (c, i) (client, index) h)
 turns_more turns (Some (Push c i)) client index h = ap (λ (by : ℕ × ℕ). turned turns by.0 by.1) (some_same (c, i) (client, index) h)
+turns_more turns (Some (Install c i)) client index h = ap (λ (by : ℕ × ℕ). turned turns by.0 by.1) (some_same (c, i) (client, index) h)
 turns_more turns (Some (Step r)) client index h = absurd (cc)
 turns_more turns (Some (Table n)) client index h = absurd (cc)
 turns_more turns (Some Row) client index h = absurd (cc)
@@ -56,6 +59,7 @@ turns_stay turns None h = refl
 turns_stay turns (Some (Reply n)) h = refl
 turns_stay turns (Some (Call c i)) h = absurd (cc)
 turns_stay turns (Some (Push c i)) h = absurd (cc)
+turns_stay turns (Some (Install c i)) h = absurd (cc)
 turns_stay turns (Some (Step r)) h = refl
 turns_stay turns (Some (Table n)) h = refl
 turns_stay turns (Some Row) h = refl

@@ -8,7 +8,7 @@ use Rattle.serde_json.specs.Data.{Data}
 use Rattle.ss_lines.specs.declared.line.Line.{Line}
 use Rattle.ss_model.specs.declared.entry.Request.{Request}
 use Rattle.ss_report_lines.specs.declared.kind.LineKind.{LineKind}
-use Rattle.ss_report_lines.specs.declared.kind.LineKind.TheVariants.{Call, Push}
+use Rattle.ss_report_lines.specs.declared.kind.LineKind.TheVariants.{Call, Push, Install}
 use Rattle.ss_report_lines.specs.Said.{said}
 use Rattle.ss_audit_laws.specs.Shape.{line_kind}
 use Rattle.ss_audit.specs.declared.positions.Placed.{Placed}
@@ -46,6 +46,7 @@ placed_requests earlier (r ∷ rs) =
 abbrev pub asked_by : Option LineKind → Option (ℕ × ℕ)
 asked_by (Some (Call client index)) = Some (client, index)
 asked_by (Some (Push client index)) = Some (client, index)
+asked_by (Some (Install client index)) = Some (client, index)
 asked_by _ = None
 
 -- these behind the one that stands here, if one does

@@ -111,9 +111,11 @@ pub(crate) fn asked_by(kind: Option<LineKind>) -> Option<(u8, u64)>
     ensures { result ≡ asked_by kind }
 {
     match kind {
-        Some(LineKind::Call { client, index } | LineKind::Push { client, index }) => Some((
-            client, index,
-        )),
+        Some(
+            LineKind::Call { client, index }
+            | LineKind::Push { client, index }
+            | LineKind::Install { client, index },
+        ) => Some((client, index)),
         _ => None,
     }
 }

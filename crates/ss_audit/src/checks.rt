@@ -155,9 +155,9 @@ fn all_checks(
 /// The report that is right is the one whose list replays from the empty database, has its orders, and leaves nothing to run.
 /// Errs where there is no memory, which says nothing of the lines.
 ///
-/// Costs one replay of the entries. Reads each line twice at most, and those of calls and pushes three times, and prints each at most
-/// once, those of calls and pushes twice; costs a search by client and index for each request and for each entry. Takes
-/// memory for the tables, three numbers for each request and for each call and push, and for one line at a time.
+/// Costs one replay of the entries. Reads each line twice at most, and those of clients' entries three times, and prints each at
+/// most once, those of clients' entries twice; costs a search by client and index for each request and for each entry. Takes
+/// memory for the tables, three numbers for each request and for each client's entry, and for one line at a time.
 pub fn audit(
     alloc: Global,
     catalog: &Catalog,

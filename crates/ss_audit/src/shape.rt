@@ -46,7 +46,12 @@ fn is_entry(kind: Option<LineKind>) -> bool
     ensures { result ≡ is_entry kind }
 {
     match kind {
-        Some(LineKind::Call { .. } | LineKind::Push { .. } | LineKind::Step { .. }) => true,
+        Some(
+            LineKind::Call { .. }
+            | LineKind::Push { .. }
+            | LineKind::Install { .. }
+            | LineKind::Step { .. },
+        ) => true,
         _ => false,
     }
 }

@@ -12,7 +12,9 @@ use Rattle.ss_model.specs.declared.catalog.Catalog.{Catalog}
 use Rattle.ss_model.specs.declared.entry.Request.{Request}
 use Rattle.ss_catalog.proofs.CallerLemmas.{ok_same}
 use Rattle.ss_catalog_requests.specs.declared.request.RequestError.TheVariants.{Shape}
-use Rattle.ss_catalog_requests.specs.Requests.{request_of}
+use Rattle.ss_catalog_requests.specs.declared.request.SaidRequest.{SaidRequest}
+use Rattle.ss_catalog_requests.specs.Requests.{said_of}
+use Rattle.ss_catalog_requests.specs.Answers.{Asks}
 use Rattle.ss_refusals.specs.declared.input.InputError.{InputError}
 use Rattle.ss_refusals.specs.declared.input.InputError.TheVariants.{Line as OfLine, NoCatalog, Catalog as OfCatalog, Request as OfRequest}
 use Rattle.ss_refusals.specs.Inputs.{says_nothing}
@@ -24,22 +26,22 @@ use Rattle.ss_audit_input.specs.Refused.{IsRefusedAudit, RefusesAsked, RefusesAu
 -- ---- one line
 
 -- an array is no request
-array_asks_none : (catalog : Catalog) (line : ℕ) (items : Items) (r : Request) → request_of catalog line (array items) ≡ Ok r → ⊥
-unfolding request_of
-array_asks_none catalog line items r e = let wrong : Err (Shape line) ≡ Ok r = e in cc
+array_says_none : (catalog : Catalog) (line : ℕ) (items : Items) (said : SaidRequest) → said_of catalog line (array items) ≡ Ok said → ⊥
+unfolding said_of
+array_says_none catalog line items said e = let wrong : Err (Shape line) ≡ Ok said = e in cc
 
 -- so a line doesn't ask and begin a report at once
 asks_or_begins : (catalog : Catalog) (l : Line) (r : Request) → AsksFor catalog l r → BeginsReport l → ⊥
 asks_or_begins catalog l r asks begins =
-    array_asks_none catalog l.number begins.items r
-    (subst (λ (d : Data). request_of catalog l.number d ≡ Ok r) (ok_same (value_at l) asks.value (array begins.items) asks.json begins.json) asks.asks)
+    let said = subst (λ (d : Data). Asks catalog l.number d r) (ok_same (value_at l) asks.value (array begins.items) asks.json begins.json) asks.asks in
+    array_says_none catalog l.number begins.items said.0 said.1
 
 -- a line of a script that asks isn't refused
-asked_is_fine : (catalog : Catalog) (l : Line) (r : Request) (e : InputError) → AsksFor catalog l r → says_nothing e ≡ false → RefusesAsked catalog l e → ⊥
-asked_is_fine catalog l r (OfLine e) asks says h = later_is_fine catalog l r (OfLine e) asks says h
-asked_is_fine catalog l r (OfRequest e) asks says h = later_is_fine catalog l r (OfRequest e) asks says h.0
-asked_is_fine catalog l r NoCatalog asks says h = h
-asked_is_fine catalog l r (OfCatalog n e) asks says h = h
+asked_is_fine : InputLaws → (catalog : Catalog) (l : Line) (r : Request) (e : InputError) → AsksFor catalog l r → says_nothing e ≡ false → RefusesAsked catalog l e → ⊥
+asked_is_fine laws catalog l r (OfLine e) asks says h = later_is_fine laws catalog l r (OfLine e) asks says h
+asked_is_fine laws catalog l r (OfRequest e) asks says h = later_is_fine laws catalog l r (OfRequest e) asks says h.0
+asked_is_fine laws catalog l r NoCatalog asks says h = h
+asked_is_fine laws catalog l r (OfCatalog n e) asks says h = h
 
 -- nor is one that begins a report
 begins_is_fine : (catalog : Catalog) (l : Line) (e : InputError) → BeginsReport l → says_nothing e ≡ false → RefusesAsked catalog l e → ⊥
@@ -69,19 +71,19 @@ first_not_told catalog x xs report ys rs is begins all =
     asks_or_begins catalog x first.0 first.1 (subst Begins is begins)
 
 -- no line of a script is refused, up to the report and the line that begins it
-script_fine : (catalog : Catalog) (before : List Line) (l : Line) (behind script report : List Line) (xs rs : List Request) (e : InputError) → before ++ l ∷ behind ≡ script ++ report
+script_fine : InputLaws → (catalog : Catalog) (before : List Line) (l : Line) (behind script report : List Line) (xs rs : List Request) (e : InputError) → before ++ l ∷ behind ≡ script ++ report
     → AskInOrder catalog before xs → AskInOrder catalog script rs → Begins report → says_nothing e ≡ false → RefusesAsked catalog l e → ⊥
-script_fine catalog [] l behind [] report xs rs e parts a b begins says h = begins_is_fine catalog l e (subst Begins (sym parts) begins) says h
-script_fine catalog [] l behind (y ∷ ys) report xs rs e parts a b begins says h =
+script_fine laws catalog [] l behind [] report xs rs e parts a b begins says h = begins_is_fine catalog l e (subst Begins (sym parts) begins) says h
+script_fine laws catalog [] l behind (y ∷ ys) report xs rs e parts a b begins says h =
     let same : l ≡ y = cc in
     let first = first_asks catalog y ys rs b in
-    asked_is_fine catalog y first.0 e first.1 says (subst (λ (x : Line). RefusesAsked catalog x e) same h)
-script_fine catalog (x ∷ before) l behind [] report xs rs e parts a b begins says h = first_not_told catalog x before report (before ++ l ∷ behind) xs (sym parts) begins a
-script_fine catalog (x ∷ before) l behind (y ∷ ys) report xs rs e parts a b begins says h =
+    asked_is_fine laws catalog y first.0 e first.1 says (subst (λ (x : Line). RefusesAsked catalog x e) same h)
+script_fine laws catalog (x ∷ before) l behind [] report xs rs e parts a b begins says h = first_not_told catalog x before report (before ++ l ∷ behind) xs (sym parts) begins a
+script_fine laws catalog (x ∷ before) l behind (y ∷ ys) report xs rs e parts a b begins says h =
     let rest : before ++ l ∷ behind ≡ ys ++ report = cc in
     let first = others_ask catalog x before xs a in
     let second = others_ask catalog y ys rs b in
-    script_fine catalog before l behind ys report first.0 second.0 e rest first.1 second.1 begins says h
+    script_fine laws catalog before l behind ys report first.0 second.0 e rest first.1 second.1 begins says h
 
 -- lines have one report
 one_report : (catalog : Catalog) (script other report told : List Line) (xs rs : List Request) → script ++ report ≡ other ++ told
@@ -116,7 +118,7 @@ module _ (laws : InputLaws) (catalog : Catalog) (requests : List Request) (repor
   -- neither the script nor the report is refused
   behind_fine : (rest : List Line) (e : InputError) → AreScript catalog rest requests report → AreOfReport report → says_nothing e ≡ false → RefusesScript catalog rest e ⊎ RefusesBehindScript catalog rest e → ⊥
   behind_fine rest e script told says (inl h) =
-      script_fine catalog h.before h.line h.behind script.script report h.requests requests e (sym h.parts ∙ script.parts) h.fine script.asked told.begins says h.refused
+      script_fine laws catalog h.before h.line h.behind script.script report h.requests requests e (sym h.parts ∙ script.parts) h.fine script.asked told.begins says h.refused
   behind_fine rest e script told says (inr h) =
       let same : h.report ≡ report = one_report catalog h.script.script script.script h.report report h.requests requests (sym h.script.parts ∙ script.parts) h.script.asked script.asked h.script.begins told.begins in
       report_fine report e told.values says (subst (λ (xs : List Line). RefusesReport xs e) same h.refused)

@@ -8,6 +8,7 @@ use Rattle.ss_model.specs.declared.catalog.Catalog.{Catalog}
 use Rattle.ss_model.specs.declared.entry.Listed.{Listed}
 use Rattle.ss_model.specs.declared.entry.Request.{Request}
 use Rattle.ss_model.specs.Accepted.{Accepted}
+use Rattle.ss_model.specs.SparesAside.{with_spares}
 use Rattle.ss_audit_laws.specs.Checks.{audited}
 use Rattle.ss_audit_laws.specs.Valid.{AreLines, IsReadable, IsValid, bytes_of}
 use Rattle.ss_audit.specs.declared.verdict.Verdict.{Verdict}
@@ -15,7 +16,7 @@ use Rattle.ss_audit.specs.declared.verdict.Verdict.TheVariants.{Yes}
 use Rattle.ss_audit.specs.Breaks.{verdict_of}
 use Rattle.ss_refusals.specs.declared.input.InputError.{InputError}
 use Rattle.ss_refusals.specs.Refused.{RefusesFirst}
-use Rattle.ss_refusals.specs.Starts.{SaysCatalog}
+use Rattle.ss_refusals.specs.Starts.{HasBodiesFor, SaysCatalog}
 use Rattle.ss_refusals.proofs.CallerLemmas.{parts_at}
 use Rattle.ss_audit_input.specs.Audits.{AreScript, HasValue, number_behind}
 use Rattle.ss_audit_input.specs.Refused.{RefusesAudit, RefusesReport, RefusesScript, RefusesTold}
@@ -82,12 +83,14 @@ module _ (lines rest : List Line) (l : Line) (parts : lines ≡ l ∷ rest) wher
           subst (λ (ls : List Line). RefusesAudit ls e) (sym parts) (inr (record { catalog = catalog; says = says; refused = inr (record { requests = requests; report = report; script = script; refused = refused }) }))
 
       -- none is
-      pub is_verdict : AllByRecursion HasValue report → Accepted catalog → (v : Verdict) → IsVerdictOf catalog requests report (number_behind lines) v → IsVerdict lines v
-      is_verdict values accepted v told = record {
+      pub is_verdict : AllByRecursion HasValue report → Accepted catalog → (bodies : HasBodiesFor catalog requests) → (v : Verdict)
+          → IsVerdictOf (with_spares catalog bodies.spares) requests report (number_behind lines) v → IsVerdict lines v
+      is_verdict values accepted bodies v told = record {
         catalog = catalog;
         requests = requests;
         report = report;
         accepted = accepted;
         lines_are = record { first = l; rest = rest; parts = parts; says = says; script = script; told = record { begins = script.begins; values = values } };
+        bodies = bodies;
         says = told;
       }

@@ -9,13 +9,15 @@ use Rattle.ss_lines.specs.declared.line.Line.{Line}
 use Rattle.ss_lines.specs.Json.{value_at}
 use Rattle.ss_model.specs.declared.catalog.Catalog.{Catalog}
 use Rattle.ss_model.specs.declared.entry.Request.{Request}
+use Rattle.ss_model.specs.SparesAside.{with_spares}
 use Rattle.ss_catalog.proofs.CallerLemmas.{ok_same}
 use Rattle.ss_catalog_requests.specs.declared.request.RequestError.{RequestError}
+use Rattle.ss_catalog_requests.specs.Answers.{RefusesWithoutSpares}
 use Rattle.ss_refusals.specs.declared.input.InputError.{InputError}
-use Rattle.ss_refusals.specs.declared.input.InputError.TheVariants.{Request as OfRequest}
+use Rattle.ss_refusals.specs.declared.input.InputError.TheVariants.{Line as OfLine, NoCatalog, Catalog as OfCatalog, Request as OfRequest}
 use Rattle.ss_refusals.specs.Refused.{RefusesRequest}
 use Rattle.ss_refusals.specs.Starts.{AskInOrder}
-use Rattle.ss_refusals.proofs.CallerLemmas.{parts_at}
+use Rattle.ss_refusals.proofs.CallerLemmas.{parts_at, refused_value}
 use Rattle.ss_audit_input.specs.Audits.{AreScript, BeginsReport}
 use Rattle.ss_audit_input.specs.Refused.{RefusesAsked, RefusesScript}
 
@@ -45,6 +47,13 @@ begins_none l d json none is =
 -- a line of a script that is refused for its value
 pub refused_as_asked : (catalog : Catalog) (l : Line) (d : Data) (e : RequestError) → value_at l ≡ Ok d → is_some (as_array d) ≡ false → RefusesRequest catalog l e → RefusesAsked catalog l (OfRequest e)
 refused_as_asked catalog l d e json none refused = (refused, begins_none l d json none)
+
+-- what is refused of a catalogue with more bodies is refused of it
+pub asked_refused : RefusesWithoutSpares → (first now : Catalog) → now ≡ with_spares first now.spares → (l : Line) (e : InputError) → RefusesAsked now l e → RefusesAsked first l e
+asked_refused aside first now same l (OfLine e) h = h
+asked_refused aside first now same l (OfRequest e) h = (refused_value aside first now same l e h.0, h.1)
+asked_refused aside first now same l NoCatalog h = h
+asked_refused aside first now same l (OfCatalog n e) h = h
 
 -- ---- scripts
 

@@ -7,6 +7,7 @@ use Rattle.ss_model.specs.declared.catalog.Catalog.{Catalog}
 use Rattle.ss_model.specs.declared.entry.Listed.{Listed}
 use Rattle.ss_model.specs.declared.entry.Request.{Request}
 use Rattle.ss_model.specs.Accepted.{Accepted}
+use Rattle.ss_model.specs.SparesAside.{with_spares}
 use Rattle.ss_model.specs.ReportLines.{array_of, count, line_text}
 use Rattle.ss_audit_laws.specs.Checks.{audited}
 use Rattle.ss_audit_laws.specs.Valid.{AreLines, IsReadable, IsValid, bytes_of}
@@ -17,6 +18,7 @@ use Rattle.ss_refusals.specs.declared.input.InputError.{InputError}
 use Rattle.ss_refusals.specs.declared.status.Status.{Status}
 use Rattle.ss_refusals.specs.declared.status.Status.TheVariants.{Done, Input, ReadFault, WriteFault, NoMemory, Differs}
 use Rattle.ss_refusals.specs.Inputs.{LeavesOfSource}
+use Rattle.ss_refusals.specs.Starts.{HasBodiesFor}
 use Rattle.ss_refusals.specs.Sinks.{SinkChange, SinkHeld, SourceChange, SourceHeld, TellsSourceFault, Writes, WritesAll, WritesPrefix}
 use Rattle.ss_refusals.specs.Statuses.{no_memory_text, read_fault_text, refusal_status, refusal_text}
 use Rattle.ss_value.specs.FaultCounts.{Rose}
@@ -44,14 +46,15 @@ pub record IsVerdictOf (catalog : Catalog) (requests : List Request) (report : L
   pub right : (n : ℕ) → v ≡ Yes n → (list : List Listed) × IsValid catalog requests (bytes_of report) list × (length list ≡ n)
   pub valid : (list : List Listed) → AreLines report → (valid : IsValid catalog requests (bytes_of report) list) → IsReadable catalog requests (valid.report).answers list → v ≡ Yes (length list)
 
--- lines are a catalogue that is accepted, a script and a report, of which this is the verdict
+-- lines are a catalogue that is accepted, a script and a report, of which this is the verdict with the bodies that the script installs
 pub record IsVerdict (lines : List Line) (v : Verdict) : Type 0 where
   pub catalog : Catalog
   pub requests : List Request
   pub report : List Line
   pub accepted : Accepted catalog
   pub lines_are : AuditLines lines catalog requests report
-  pub says : IsVerdictOf catalog requests report (number_behind lines) v
+  pub bodies : HasBodiesFor catalog requests
+  pub says : IsVerdictOf (with_spares catalog bodies.spares) requests report (number_behind lines) v
 
 -- the verdict of what the bytes say, where they are known
 abbrev pub HasVerdict : Option (List ℕ) → Verdict → Type 0

@@ -12,6 +12,7 @@ use crate::input::audit_lines;
 use crate::verdict::tell_verdict;
 use ss_audit::Verdict;
 use ss_catalog::a_value_has_one_answer;
+use ss_catalog_requests::a_request_has_one_answer;
 use ss_lines::{Sink, Source, read_lines};
 use ss_refusals::{InputError, Status, refuse};
 use std::alloc::Global;
@@ -44,8 +45,9 @@ pub fn audit_input<S: Source, K: Sink>(alloc: Global, source: &mut S, sink: &mut
     ensures taken { TakesAtMost (max_input + 1) (S.kind.left source.old) (S.kind.left source.new) }
     ensures counts { (S.kind.faults source.old ≤ S.kind.faults source.new) × (K.kind.faults sink.old ≤ K.kind.faults sink.new) }
 {
-    // Does nothing: it states the laws by which an input with a script and a report isn't refused.
+    // Do nothing: they state the laws by which an input with a script and a report isn't refused.
     a_value_has_one_answer();
+    a_request_has_one_answer();
     match audit_source(alloc, source) {
         Ok(verdict) => tell_verdict(alloc, sink, verdict),
         Err(error) => refuse(alloc, sink, &error),

@@ -1,9 +1,14 @@
 //! The lines of an input with a script and a report.
 
-ghost use Rattle.std.specs.Prelude.{◌≡◌, ◌≤◌, ◌<◌, ◌^◌, IfOk, IfErr, MatchOption, OnOk, length, drop};
-ghost use Rattle.std.specs.List.{AllByRecursion};
+ghost use Rattle.std.specs.Prelude.{◌≡◌, ◌≤◌, ◌<◌, ◌^◌, IfOk, IfErr, IfNone, IfSome, MatchOption, OnOk, length, drop, true};
+ghost use Rattle.std.specs.List.{AllByRecursion, list_all};
 ghost use Rattle.std.specs.Option.{SomeIff};
 ghost use Rattle.ss_model.specs.Accepted.{Accepted};
+ghost use Rattle.ss_model.specs.Database.{fits_entry};
+ghost use Rattle.ss_model.specs.Report.{asked_entries, asked_entry};
+ghost use Rattle.ss_model.specs.SparesAside.{GoesOnWith};
+ghost use Rattle.ss_snapshot.specs.Bodies.{GrowsTo};
+ghost use Rattle.ss_recover.specs.Recovering.{IsOwnCatalog};
 ghost use Rattle.ss_refusals.specs.Refused.{ComesOfLines};
 ghost use Rattle.ss_refusals.specs.Starts.{AsksFor};
 ghost use Rattle.ss_audit_input.specs.Audits.{AreScript, BeginsReport, HasValue, number_behind};
@@ -11,18 +16,28 @@ ghost use Rattle.ss_audit_input.specs.Refused.{RefusesAsked, RefusesAudit, Refus
 ghost use Rattle.ss_audit_input.specs.Told.{IsVerdict, IsVerdictOf};
 
 use ss_audit::{Verdict, audit};
-use ss_catalog_requests::request_of;
+use ss_catalog_requests::a_request_has_one_answer;
 use ss_lines::{Line, LineError, line_value};
 use ss_model::{Catalog, Request};
-use ss_refusals::{InputError, catalog_at};
+use ss_refusals::{InputError, catalog_at, request_in};
 use ss_value::{NoMemory, Seq};
 use std::alloc::Global;
 
-/// The request that a line asks for, or None where its value is an array, and so the first line of a report.
-fn asked_at(alloc: Global, catalog: &Catalog, line: &Line) -> Result<Option<Request>, InputError>
-    ensures ok { IfOk result (λ r. MatchOption r (BeginsReport line.now) (AsksFor catalog.now line.now)) }
-    ensures refused { IfErr result (RefusesAsked catalog.now line.now) }
+/// The request that a line asks for, whose body is added to the catalogue, or None where its value is an array, and so the
+/// first line of a report.
+fn asked_at(
+    alloc: Global,
+    catalog: &mut Catalog,
+    line: &Line,
+) -> Result<Option<Request>, InputError>
+    requires own { IsOwnCatalog catalog.old }
+    ensures ok { IfOk result (λ r. MatchOption r (BeginsReport line.now) (AsksFor catalog.old line.now)) }
+    ensures fits { IfOk result (λ r. IfSome r (λ x. fits_entry catalog.new (asked_entry x.client 0 x.what) ≡ true)) }
+    ensures stays { IfOk result (λ r. IfNone r (catalog.new ≡ catalog.old)) }
+    ensures refused { IfErr result (RefusesAsked catalog.old line.now) }
     ensures others { IfErr result ComesOfLines }
+    ensures grows { GrowsTo catalog.old catalog.new }
+    ensures goes_on { GoesOnWith catalog.old catalog.new.spares }
 {
     let value = match line_value(alloc, line) {
         Ok(value) => value,
@@ -31,19 +46,30 @@ fn asked_at(alloc: Global, catalog: &Catalog, line: &Line) -> Result<Option<Requ
     if value.is_array() {
         return Ok(None);
     }
-    match request_of(alloc, catalog, line.number, &value) {
+    match request_in(alloc, catalog, line.number, &value) {
         Ok(request) => Ok(Some(request)),
         Err(error) => Err(InputError::Request(error)),
     }
 }
 
-/// The requests that lines begin with, up to the first line of a report. Costs what `request_of` costs, and is linear in the bytes.
-fn script_at(alloc: Global, catalog: &Catalog, lines: &[Line]) -> Result<Seq<Request>, InputError>
+/// The requests that lines begin with, up to the first line of a report; their bodies are added to the catalogue. Costs what
+/// `request_of` costs, and is linear in the bytes.
+fn script_at(
+    alloc: Global,
+    catalog: &mut Catalog,
+    lines: &[Line],
+) -> Result<Seq<Request>, InputError>
+    requires own { IsOwnCatalog catalog.old }
     ensures few { IfOk result (λ rs. length rs ≤ length lines.now) }
-    ensures ok { IfOk result (λ rs. AreScript catalog.now lines.now rs (drop (length rs) lines.now)) }
-    ensures refused { IfErr result (RefusesScript catalog.now lines.now) }
+    ensures ok { IfOk result (λ rs. AreScript catalog.old lines.now rs (drop (length rs) lines.now)) }
+    ensures fit { IfOk result (λ rs. list_all (fits_entry catalog.new) (asked_entries rs) ≡ true) }
+    ensures refused { IfErr result (RefusesScript catalog.old lines.now) }
     ensures others { IfErr result ComesOfLines }
+    ensures grows { OnOk result (GrowsTo catalog.old catalog.new) }
+    ensures goes_on { OnOk result (GoesOnWith catalog.old catalog.new.spares) }
 {
+    // Law: which bodies may be installed already makes no difference to a request.
+    a_request_has_one_answer();
     let mut requests = Seq::new(alloc);
     for line in lines {
         let asked = asked_at(alloc, catalog, line)?;
@@ -120,8 +146,8 @@ pub(crate) fn audit_lines(alloc: Global, lines: &[Line]) -> Result<Verdict, Inpu
     let Some((first, rest)) = lines.split_first() else {
         return Err(InputError::NoCatalog);
     };
-    let catalog = catalog_at(alloc, first)?;
-    let requests = script_at(alloc, &catalog, rest)?;
+    let mut catalog = catalog_at(alloc, first)?;
+    let requests = script_at(alloc, &mut catalog, rest)?;
     let (_, report) = rest.split_at(requests.len());
     values_at(alloc, report)?;
     match verdict_of(alloc, &catalog, requests.as_slice(), lines, report) {

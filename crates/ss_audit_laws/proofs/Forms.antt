@@ -1,5 +1,5 @@
--- What the line of a call or a push says.
-use Rattle.std.proofs.Common.{◌≡◌, ◌∙◌, ℕ, nat_le, List, [], ◌∷◌, ◌++◌, drop, decimal, codes, Bool, true, false, cond, Option, Some, None, option_map, option_and_then, refl, sym, ap, arith}
+-- What the line of a call, a push or an install says.
+use Rattle.std.proofs.Common.{◌≡◌, ◌∙◌, ℕ, ◌==◌, nat_le, List, [], ◌∷◌, ◌++◌, decimal, codes, Bool, true, false, cond, Option, Some, None, option_map, option_and_then, refl, sym, ap, arith}
 use Rattle.std.specs.Str.{bytes_eq}
 use Rattle.std.proofs.lemmas.Bool.{and_parts}
 use Rattle.std.proofs.lemmas.Slice.Eq.{bytes_eq-Decides}
@@ -11,12 +11,12 @@ use Rattle.ss_lemmas.proofs.Bools.{some_same}
 use Rattle.ss_model.specs.declared.catalog.Catalog.{Catalog}
 use Rattle.ss_model.specs.declared.entry.Answer.TheVariants.{Listed as ListedAnswer}
 use Rattle.ss_model.specs.declared.entry.Entry.{Entry}
-use Rattle.ss_model.specs.declared.entry.Entry.TheVariants.{Call as CallEntry, Push as PushEntry, Step as StepEntry}
+use Rattle.ss_model.specs.declared.entry.Entry.TheVariants.{Call as CallEntry, Push as PushEntry, Step as StepEntry, Install as InstallEntry}
 use Rattle.ss_model.specs.declared.entry.Outcome.{Outcome}
 use Rattle.ss_model.specs.ReportLines.{array_of, count, entry_line, outcome_data, reply_line}
 use Rattle.ss_report_laws.proofs.Lines.{same_fronts, Without-decimal}
 use Rattle.ss_report_lines.specs.declared.kind.LineKind.{LineKind}
-use Rattle.ss_report_lines.specs.declared.kind.LineKind.TheVariants.{Reply, Call, Push, Step, Table, Row, Done}
+use Rattle.ss_report_lines.specs.declared.kind.LineKind.TheVariants.{Reply, Call, Push, Install, Step, Table, Row, Done}
 use Rattle.ss_report_lines.specs.Kinds.{is_count, is_outcome, number_at, client_at, asked_by, reply_kind, step_kind, table_kind, row_kind, done_kind, items_kind, kind_of}
 use Rattle.ss_audit_laws.specs.Checks.{called_reply}
 
@@ -95,6 +95,7 @@ tag (Step r) = 3
 tag (Table n) = 4
 tag Row = 5
 tag (Done n) = 6
+tag (Install c i) = 7
 
 tagged : {A : Type 0} (f : A → LineKind) (n : ℕ) → ((a : A) → tag (f a) ≡ n) → (x : Option A) (k : LineKind) → option_map f x ≡ Some k → tag k ≡ n
 tagged f n all (Some a) k h = ap tag (sym (some_same (f a) k h)) ∙ all a
@@ -133,12 +134,13 @@ done_tag (item a no_items) k h = tagged Done 6 (λ n. refl) (number_at a) k h
 done_tag (item a (item b ds)) k h = absurd (cc)
 
 -- what the word of a line makes of its other items, where the tests of words came to these
-abbrev by_word : Bool → Bool → Bool → Bool → Bool → Bool → Bool → Items → Option LineKind
-by_word r c p s t w d ds =
+abbrev by_word : Bool → Bool → Bool → Bool → Bool → Bool → Bool → Bool → Items → Option LineKind
+by_word r c p n s t w d ds =
     cond r (reply_kind ds)
     (cond c (option_map (λ by. Call by.0 by.1) (asked_by ds))
     (cond p (option_map (λ by. Push by.0 by.1) (asked_by ds))
-    (cond s (step_kind ds) (cond t (table_kind ds) (cond w (row_kind ds) (cond d (done_kind ds) None))))))
+    (cond n (option_map (λ by. Install by.0 by.1) (asked_by ds))
+    (cond s (step_kind ds) (cond t (table_kind ds) (cond w (row_kind ds) (cond d (done_kind ds) None)))))))
 
 -- no line has two kinds
 other : {P : Type 0} (m n : ℕ) → m ≡ n → (m ≡ n → ⊥) → P
@@ -160,29 +162,61 @@ push_pair (Some (a, b)) c i h =
     (λ k. Some (first k, second k))
 push_pair None c i h = absurd (cc)
 
-call_word : (r c p s t w d : Bool) (ds : Items) (n i : ℕ) → by_word r c p s t w d ds ≡ Some (Call n i) → (c ≡ true) × (asked_by ds ≡ Some (n, i))
-call_word true c p s t w d ds n i h = let e = reply_tag ds (Call n i) h in absurd (omega (arith, e))
-call_word false true p s t w d ds n i h = (refl, call_pair (asked_by ds) n i h)
-call_word false false true s t w d ds n i h = let e = tagged (λ (by : ℕ × ℕ). Push by.0 by.1) 2 (λ by. refl) (asked_by ds) (Call n i) h in absurd (omega (arith, e))
-call_word false false false true t w d ds n i h = let e = step_tag ds (Call n i) h in absurd (omega (arith, e))
-call_word false false false false true w d ds n i h = let e = table_tag ds (Call n i) h in absurd (omega (arith, e))
-call_word false false false false false true d ds n i h = let e = row_tag ds (Call n i) h in absurd (omega (arith, e))
-call_word false false false false false false true ds n i h = let e = done_tag ds (Call n i) h in absurd (omega (arith, e))
-call_word false false false false false false false ds n i h = absurd (cc)
+install_pair : (x : Option (ℕ × ℕ)) (c i : ℕ) → option_map (λ (by : ℕ × ℕ). Install by.0 by.1) x ≡ Some (Install c i) → x ≡ Some (c, i)
+install_pair (Some (a, b)) c i h =
+    let e : Install a b ≡ Install c i = some_same (Install a b) (Install c i) h in
+    let first : a ≡ c = cc in
+    let second : b ≡ i = cc in
+    (λ k. Some (first k, second k))
+install_pair None c i h = absurd (cc)
 
-push_word : (r c p s t w d : Bool) (ds : Items) (n i : ℕ) → by_word r c p s t w d ds ≡ Some (Push n i) → (p ≡ true) × (asked_by ds ≡ Some (n, i))
-push_word true c p s t w d ds n i h = let e = reply_tag ds (Push n i) h in absurd (omega (arith, e))
-push_word false true p s t w d ds n i h = let e = tagged (λ (by : ℕ × ℕ). Call by.0 by.1) 1 (λ by. refl) (asked_by ds) (Push n i) h in absurd (omega (arith, e))
-push_word false false true s t w d ds n i h = (refl, push_pair (asked_by ds) n i h)
-push_word false false false true t w d ds n i h = let e = step_tag ds (Push n i) h in absurd (omega (arith, e))
-push_word false false false false true w d ds n i h = let e = table_tag ds (Push n i) h in absurd (omega (arith, e))
-push_word false false false false false true d ds n i h = let e = row_tag ds (Push n i) h in absurd (omega (arith, e))
-push_word false false false false false false true ds n i h = let e = done_tag ds (Push n i) h in absurd (omega (arith, e))
-push_word false false false false false false false ds n i h = absurd (cc)
+call_word : (r c p n s t w d : Bool) (ds : Items) (m i : ℕ) → by_word r c p n s t w d ds ≡ Some (Call m i) → (c ≡ true) × (asked_by ds ≡ Some (m, i))
+call_word true c p n s t w d ds m i h = let e = reply_tag ds (Call m i) h in absurd (omega (arith, e))
+call_word false true p n s t w d ds m i h = (refl, call_pair (asked_by ds) m i h)
+call_word false false true n s t w d ds m i h = let e = tagged (λ (by : ℕ × ℕ). Push by.0 by.1) 2 (λ by. refl) (asked_by ds) (Call m i) h in absurd (omega (arith, e))
+call_word false false false true s t w d ds m i h = let e = tagged (λ (by : ℕ × ℕ). Install by.0 by.1) 7 (λ by. refl) (asked_by ds) (Call m i) h in absurd (omega (arith, e))
+call_word false false false false true t w d ds m i h = let e = step_tag ds (Call m i) h in absurd (omega (arith, e))
+call_word false false false false false true w d ds m i h = let e = table_tag ds (Call m i) h in absurd (omega (arith, e))
+call_word false false false false false false true d ds m i h = let e = row_tag ds (Call m i) h in absurd (omega (arith, e))
+call_word false false false false false false false true ds m i h = let e = done_tag ds (Call m i) h in absurd (omega (arith, e))
+call_word false false false false false false false false ds m i h = absurd (cc)
 
--- the line of a call, or of a push, of this client and index
+push_word : (r c p n s t w d : Bool) (ds : Items) (m i : ℕ) → by_word r c p n s t w d ds ≡ Some (Push m i) → (p ≡ true) × (asked_by ds ≡ Some (m, i))
+push_word true c p n s t w d ds m i h = let e = reply_tag ds (Push m i) h in absurd (omega (arith, e))
+push_word false true p n s t w d ds m i h = let e = tagged (λ (by : ℕ × ℕ). Call by.0 by.1) 1 (λ by. refl) (asked_by ds) (Push m i) h in absurd (omega (arith, e))
+push_word false false true n s t w d ds m i h = (refl, push_pair (asked_by ds) m i h)
+push_word false false false true s t w d ds m i h = let e = tagged (λ (by : ℕ × ℕ). Install by.0 by.1) 7 (λ by. refl) (asked_by ds) (Push m i) h in absurd (omega (arith, e))
+push_word false false false false true t w d ds m i h = let e = step_tag ds (Push m i) h in absurd (omega (arith, e))
+push_word false false false false false true w d ds m i h = let e = table_tag ds (Push m i) h in absurd (omega (arith, e))
+push_word false false false false false false true d ds m i h = let e = row_tag ds (Push m i) h in absurd (omega (arith, e))
+push_word false false false false false false false true ds m i h = let e = done_tag ds (Push m i) h in absurd (omega (arith, e))
+push_word false false false false false false false false ds m i h = absurd (cc)
+
+install_word : (r c p n s t w d : Bool) (ds : Items) (m i : ℕ) → by_word r c p n s t w d ds ≡ Some (Install m i) → (n ≡ true) × (asked_by ds ≡ Some (m, i))
+install_word true c p n s t w d ds m i h = let e = reply_tag ds (Install m i) h in absurd (omega (arith, e))
+install_word false true p n s t w d ds m i h = let e = tagged (λ (by : ℕ × ℕ). Call by.0 by.1) 1 (λ by. refl) (asked_by ds) (Install m i) h in absurd (omega (arith, e))
+install_word false false true n s t w d ds m i h = let e = tagged (λ (by : ℕ × ℕ). Push by.0 by.1) 2 (λ by. refl) (asked_by ds) (Install m i) h in absurd (omega (arith, e))
+install_word false false false true s t w d ds m i h = (refl, install_pair (asked_by ds) m i h)
+install_word false false false false true t w d ds m i h = let e = step_tag ds (Install m i) h in absurd (omega (arith, e))
+install_word false false false false false true w d ds m i h = let e = table_tag ds (Install m i) h in absurd (omega (arith, e))
+install_word false false false false false false true d ds m i h = let e = row_tag ds (Install m i) h in absurd (omega (arith, e))
+install_word false false false false false false false true ds m i h = let e = done_tag ds (Install m i) h in absurd (omega (arith, e))
+install_word false false false false false false false false ds m i h = absurd (cc)
+
+-- the words that the lines of clients' entries begin with
+pub data Word : Type 0 where
+  CallWord : Word
+  PushWord : Word
+  InstallWord : Word
+
+abbrev pub letters : Word → List ℕ
+letters CallWord = codes "call"
+letters PushWord = codes "push"
+letters InstallWord = codes "install"
+
+-- the line of a call, a push or an install of this client and index
 abbrev pub IsOf : Data → ℕ → ℕ → Type 0
-IsOf d c i = (push : Bool) × (place : ℕ) × (out : Data) × (d ≡ entry_data (cond push (codes "push") (codes "call")) place c i out)
+IsOf d c i = (word : Word) × (place : ℕ) × (out : Data) × (d ≡ entry_data (letters word) place c i out)
 
 call_items : (ds : Items) (c i : ℕ) → items_kind ds ≡ Some (Call c i) → IsOf (array ds) c i
 call_items no_items c i h = absurd (cc)
@@ -190,10 +224,10 @@ call_items (item null ds) c i h = absurd (cc)
 call_items (item (boolean b) ds) c i h = absurd (cc)
 call_items (item (number n) ds) c i h = absurd (cc)
 call_items (item (string s) ds) c i h =
-    let t = call_word _ (bytes_eq s (codes "call")) _ _ _ _ _ ds c i h in
+    let t = call_word _ (bytes_eq s (codes "call")) _ _ _ _ _ _ ds c i h in
     let word : s ≡ codes "call" = (bytes_eq-Decides s (codes "call")).0 t.0 in
     let of = asked_is ds c i t.1 in
-    (false, of.0, of.1, (λ k. array (item (string (word k)) (of.2 k))))
+    (CallWord, of.0, of.1, (λ k. array (item (string (word k)) (of.2 k))))
 call_items (item (array es) ds) c i h = absurd (cc)
 call_items (item (object ms) ds) c i h = absurd (cc)
 
@@ -203,12 +237,25 @@ push_items (item null ds) c i h = absurd (cc)
 push_items (item (boolean b) ds) c i h = absurd (cc)
 push_items (item (number n) ds) c i h = absurd (cc)
 push_items (item (string s) ds) c i h =
-    let t = push_word _ _ (bytes_eq s (codes "push")) _ _ _ _ ds c i h in
+    let t = push_word _ _ (bytes_eq s (codes "push")) _ _ _ _ _ ds c i h in
     let word : s ≡ codes "push" = (bytes_eq-Decides s (codes "push")).0 t.0 in
     let of = asked_is ds c i t.1 in
-    (true, of.0, of.1, (λ k. array (item (string (word k)) (of.2 k))))
+    (PushWord, of.0, of.1, (λ k. array (item (string (word k)) (of.2 k))))
 push_items (item (array es) ds) c i h = absurd (cc)
 push_items (item (object ms) ds) c i h = absurd (cc)
+
+install_items : (ds : Items) (c i : ℕ) → items_kind ds ≡ Some (Install c i) → IsOf (array ds) c i
+install_items no_items c i h = absurd (cc)
+install_items (item null ds) c i h = absurd (cc)
+install_items (item (boolean b) ds) c i h = absurd (cc)
+install_items (item (number n) ds) c i h = absurd (cc)
+install_items (item (string s) ds) c i h =
+    let t = install_word _ _ _ (bytes_eq s (codes "install")) _ _ _ _ ds c i h in
+    let word : s ≡ codes "install" = (bytes_eq-Decides s (codes "install")).0 t.0 in
+    let of = asked_is ds c i t.1 in
+    (InstallWord, of.0, of.1, (λ k. array (item (string (word k)) (of.2 k))))
+install_items (item (array es) ds) c i h = absurd (cc)
+install_items (item (object ms) ds) c i h = absurd (cc)
 
 pub call_is : (d : Data) (c i : ℕ) → kind_of d ≡ Some (Call c i) → IsOf d c i
 call_is null c i h = absurd (cc)
@@ -226,55 +273,72 @@ push_is (string s) c i h = absurd (cc)
 push_is (array ds) c i h = push_items ds c i h
 push_is (object ms) c i h = absurd (cc)
 
+pub install_is : (d : Data) (c i : ℕ) → kind_of d ≡ Some (Install c i) → IsOf d c i
+install_is null c i h = absurd (cc)
+install_is (boolean b) c i h = absurd (cc)
+install_is (number n) c i h = absurd (cc)
+install_is (string s) c i h = absurd (cc)
+install_is (array ds) c i h = install_items ds c i h
+install_is (object ms) c i h = absurd (cc)
+
 -- ---- texts
 
 -- what stands behind the word of a client's entry
 abbrev pub behind_word : ℕ → ℕ → ℕ → Data → List ℕ
 behind_word place c i out = decimal place ++ 44 ∷ (decimal c ++ 44 ∷ (decimal i ++ 44 ∷ (compact_text out ++ 93 ∷ [])))
 
-data_text : (push : Bool) (place c i : ℕ) (out : Data) → drop 8 (compact_text (entry_data (cond push (codes "push") (codes "call")) place c i out)) ≡ behind_word place c i out
+-- what stands behind the first comma of a text
+abbrev pub behind_comma : List ℕ → List ℕ
+behind_comma [] = []
+behind_comma (x ∷ xs) = cond (x == 44) xs (behind_comma xs)
+
+data_text : (word : Word) (place c i : ℕ) (out : Data) → behind_comma (compact_text (entry_data (letters word) place c i out)) ≡ behind_word place c i out
 unfolding escape_byte
-data_text true place c i out = refl
-data_text false place c i out = refl
+data_text CallWord place c i out = refl
+data_text PushWord place c i out = refl
+data_text InstallWord place c i out = refl
 
 -- whether an entry is this client's request of this index
 abbrev pub IsBy : ℕ → ℕ → Entry → Type 0
 IsBy client index (CallEntry c i q args) = (c ≡ client) × (i ≡ index)
 IsBy client index (PushEntry c i s source seq rows) = (c ≡ client) × (i ≡ index)
+IsBy client index (InstallEntry c i q text) = (c ≡ client) × (i ≡ index)
 IsBy client index (StepEntry q r) = ⊥
 
-line_text : (catalog : Catalog) (place c i : ℕ) (outcome : Outcome) (e : Entry) → IsBy c i e → drop 8 (compact_text (entry_line catalog place outcome e)) ≡ behind_word place c i (outcome_data catalog outcome)
+line_text : (catalog : Catalog) (place c i : ℕ) (outcome : Outcome) (e : Entry) → IsBy c i e → behind_comma (compact_text (entry_line catalog place outcome e)) ≡ behind_word place c i (outcome_data catalog outcome)
 unfolding escape_byte
 line_text catalog place c i outcome (CallEntry d j q args) h = (λ k. behind_word place (h.0 k) (h.1 k) (outcome_data catalog outcome))
 line_text catalog place c i outcome (PushEntry d j s source seq rows) h = (λ k. behind_word place (h.0 k) (h.1 k) (outcome_data catalog outcome))
+line_text catalog place c i outcome (InstallEntry d j q text) h = (λ k. behind_word place (h.0 k) (h.1 k) (outcome_data catalog outcome))
 line_text catalog place c i outcome (StepEntry q r) h = absurd h
 
 -- a reply with this place and outcome, behind its word
 abbrev behind_reply : ℕ → List ℕ → List ℕ → List ℕ
 behind_reply n place out = 91 ∷ 34 ∷ (codes "reply" ++ 34 ∷ 44 ∷ (decimal n ++ 44 ∷ (place ++ 44 ∷ out)))
 
-called_is : (n : ℕ) (push : Bool) (place c i : ℕ) (out : Data)
-    → compact_text (called_reply n (Some (entry_data (cond push (codes "push") (codes "call")) place c i out))) ≡ behind_reply n (decimal place) (compact_text out ++ 93 ∷ [])
+called_is : (n : ℕ) (word : Word) (place c i : ℕ) (out : Data)
+    → compact_text (called_reply n (Some (entry_data (letters word) place c i out))) ≡ behind_reply n (decimal place) (compact_text out ++ 93 ∷ [])
 unfolding escape_byte
-called_is n true place c i out = refl
-called_is n false place c i out = refl
+called_is n CallWord place c i out = refl
+called_is n PushWord place c i out = refl
+called_is n InstallWord place c i out = refl
 
 reply_is : (catalog : Catalog) (n place : ℕ) (outcome : Outcome) → compact_text (reply_line catalog n (ListedAnswer place outcome)) ≡ behind_reply n (decimal place) (compact_text (outcome_data catalog outcome) ++ 93 ∷ [])
 unfolding escape_byte
 reply_is catalog n place outcome = refl
 
-reply_same : (catalog : Catalog) (n : ℕ) (push : Bool) (m place c i : ℕ) (out : Data) (outcome : Outcome) → decimal m ≡ decimal place → compact_text out ++ 93 ∷ [] ≡ compact_text (outcome_data catalog outcome) ++ 93 ∷ []
-    → compact_text (called_reply n (Some (entry_data (cond push (codes "push") (codes "call")) m c i out))) ≡ compact_text (reply_line catalog n (ListedAnswer place outcome))
-reply_same catalog n push m place c i out outcome one two = called_is n push m c i out ∙ (λ k. behind_reply n (one k) (two k)) ∙ sym (reply_is catalog n place outcome)
+reply_same : (catalog : Catalog) (n : ℕ) (word : Word) (m place c i : ℕ) (out : Data) (outcome : Outcome) → decimal m ≡ decimal place → compact_text out ++ 93 ∷ [] ≡ compact_text (outcome_data catalog outcome) ++ 93 ∷ []
+    → compact_text (called_reply n (Some (entry_data (letters word) m c i out))) ≡ compact_text (reply_line catalog n (ListedAnswer place outcome))
+reply_same catalog n word m place c i out outcome one two = called_is n word m c i out ∙ (λ k. behind_reply n (one k) (two k)) ∙ sym (reply_is catalog n place outcome)
 
 -- the reply that a printed entry calls for has the text of the entry's answer
 pub called_text : (catalog : Catalog) (n place c i : ℕ) (outcome : Outcome) (e : Entry) (d : Data) → IsBy c i e → IsOf d c i
     → compact_text d ≡ compact_text (entry_line catalog place outcome e) → compact_text (called_reply n (Some d)) ≡ compact_text (reply_line catalog n (ListedAnswer place outcome))
 called_text catalog n place c i outcome e d by of same =
     let out = of.2 in
-    let is : d ≡ entry_data (cond of.0 (codes "push") (codes "call")) of.1 c i out = of.3 in
+    let is : d ≡ entry_data (letters of.0) of.1 c i out = of.3 in
     let texts : behind_word of.1 c i out ≡ behind_word place c i (outcome_data catalog outcome) =
-    sym (data_text of.0 of.1 c i out) ∙ ap (λ (x : Data). drop 8 (compact_text x)) (sym is) ∙ ap (drop 8) same ∙ line_text catalog place c i outcome e by in
+    sym (data_text of.0 of.1 c i out) ∙ ap (λ (x : Data). behind_comma (compact_text x)) (sym is) ∙ ap behind_comma same ∙ line_text catalog place c i outcome e by in
     let one = same_fronts 44 (decimal of.1) (decimal place) _ _ (Without-decimal 44 of.1 (omega arith)) (Without-decimal 44 place (omega arith)) texts in
     let two = same_fronts 44 (decimal c) (decimal c) _ _ (Without-decimal 44 c (omega arith)) (Without-decimal 44 c (omega arith)) one.1 in
     let three = same_fronts 44 (decimal i) (decimal i) _ _ (Without-decimal 44 i (omega arith)) (Without-decimal 44 i (omega arith)) two.1 in

@@ -13,7 +13,7 @@ use Rattle.ss_lines.specs.declared.line.Line.{Line}
 use Rattle.ss_model.specs.declared.catalog.Catalog.{Catalog}
 use Rattle.ss_model.specs.declared.catalog.Procedure.{Procedure}
 use Rattle.ss_model.specs.declared.entry.Entry.{Entry}
-use Rattle.ss_model.specs.declared.entry.Entry.TheVariants.{Call as CallEntry, Push as PushEntry, Step as StepEntry}
+use Rattle.ss_model.specs.declared.entry.Entry.TheVariants.{Call as CallEntry, Push as PushEntry, Step as StepEntry, Install as InstallEntry}
 use Rattle.ss_model.specs.declared.entry.Listed.{Listed}
 use Rattle.ss_model.specs.declared.entry.Outcome.{Outcome}
 use Rattle.ss_model.specs.declared.entry.Request.{Request}
@@ -53,6 +53,9 @@ byte_client catalog db (CallEntry c i q args) outcome h =
 byte_client catalog db (PushEntry c i s source seq rows) outcome h =
     let a = applied_of (apply catalog db (PushEntry c i s source seq rows)) outcome h in
     byte c (ltb-true c 8 (first_of_two _ _ (first_of_two _ _ (first_of_two _ _ (first_of_two _ _ (applied_fits catalog db (PushEntry c i s source seq rows) a.0 a.1))))))
+byte_client catalog db (InstallEntry c i q text) outcome h =
+    let a = applied_of (apply catalog db (InstallEntry c i q text)) outcome h in
+    byte c (ltb-true c 8 (first_of_two _ _ (first_of_two _ _ (first_of_two _ _ (applied_fits catalog db (InstallEntry c i q text) a.0 a.1)))))
 byte_client catalog db (StepEntry q r) outcome h = tt
 
 pub byte_clients : (catalog : Catalog) (db : Database) (list : List Listed) → Replays catalog db list → AllByRecursion (λ (l : Listed). HasByteClient l.entry) list
@@ -141,7 +144,8 @@ has_procedure catalog db q r outcome h =
 
 told_itself : (e : Entry) (k : Option LineKind) → k ≡ Some (entry_kind e) → IsToldBy e k
 told_itself (CallEntry c i q args) k h = inl h
-told_itself (PushEntry c i s source seq rows) k h = inr h
+told_itself (PushEntry c i s source seq rows) k h = inr (inl h)
+told_itself (InstallEntry c i q text) k h = inr (inr h)
 told_itself (StepEntry q r) k h = h
 
 turn_low : (turns : Turns) (c i : ℕ) (e : Entry) (is : List ℕ) → client_index c e ≡ Some i → RiseFrom (turns c) (cons_option (client_index c e) is) → turns c ≤ i
@@ -152,6 +156,9 @@ own_call c i q args = cond-true {A = Option ℕ} (c == c) (Some i) None (eq-eqb 
 
 own_push : (c i s : ℕ) (source : List ℕ) (seq : ℕ) (rows : Rows) → client_index c (PushEntry c i s source seq rows) ≡ Some i
 own_push c i s source seq rows = cond-true {A = Option ℕ} (c == c) (Some i) None (eq-eqb c c refl)
+
+own_install : (c i q : ℕ) (text : List ℕ) → client_index c (InstallEntry c i q text) ≡ Some i
+own_install c i q text = cond-true {A = Option ℕ} (c == c) (Some i) None (eq-eqb c c refl)
 
 low : (m n : ℕ) → m ≤ n → nat_le m n ≡ true
 low m n h = grind (arith, nat_tests)
@@ -167,6 +174,9 @@ module _ (catalog : Catalog) (requests : List Request) (distinct : all_distinct 
   meant_itself turns db place l (PushEntry c i s source seq rows) o is asked out rise says =
       cond-true {A = Option Entry} (nat_le (turns c) i) (asked_as requests c i) None (low (turns c) i (turn_low turns c i (PushEntry c i s source seq rows) (is c) (own_push c i s source seq rows) (rise c)))
       ∙ asked_found requests c i (PushEntry c i s source seq rows) asked (own_push c i s source seq rows)
+  meant_itself turns db place l (InstallEntry c i q text) o is asked out rise says =
+      cond-true {A = Option Entry} (nat_le (turns c) i) (asked_as requests c i) None (low (turns c) i (turn_low turns c i (InstallEntry c i q text) (is c) (own_install c i q text) (rise c)))
+      ∙ asked_found requests c i (InstallEntry c i q text) asked (own_install c i q text)
   meant_itself turns db place l (StepEntry q r) o is asked out rise says =
       let p = has_procedure catalog db q r o out in
       let name : line_text_at 2 l ≡ p.0.name =
@@ -194,6 +204,7 @@ behind_own turns c i client is h = of (cases_Bool (c == client))
 rise_behind : (turns : Turns) (e : Entry) (client : ℕ) (is : List ℕ) → RiseFrom (turns client) (cons_option (client_index client e) is) → RiseFrom (turns_behind turns (Some (entry_kind e)) client) is
 rise_behind turns (CallEntry c i q args) client is h = behind_own turns c i client is h
 rise_behind turns (PushEntry c i s source seq rows) client is h = behind_own turns c i client is h
+rise_behind turns (InstallEntry c i q text) client is h = behind_own turns c i client is h
 rise_behind turns (StepEntry q r) client is h = h
 
 rises_on : (n i : ℕ) (is : List ℕ) → n ≤ i → Rising (i ∷ is) → RiseFrom n (i ∷ is)

@@ -17,7 +17,7 @@ use Rattle.ss_model.specs.declared.catalog.Catalog.{Catalog}
 use Rattle.ss_model.specs.declared.catalog.TableDef.{TableDef}
 use Rattle.ss_model.specs.declared.entry.Answer.{Answer}
 use Rattle.ss_model.specs.declared.entry.Entry.{Entry}
-use Rattle.ss_model.specs.declared.entry.Entry.TheVariants.{Call as CallEntry, Push as PushEntry, Step as StepEntry}
+use Rattle.ss_model.specs.declared.entry.Entry.TheVariants.{Call as CallEntry, Push as PushEntry, Step as StepEntry, Install as InstallEntry}
 use Rattle.ss_model.specs.declared.entry.Listed.{Listed}
 use Rattle.ss_model.specs.declared.entry.Request.{Request}
 use Rattle.ss_model.specs.Contents.{Table}
@@ -105,6 +105,7 @@ replies_pass end catalog (r ∷ rs) (a ∷ answers) (l ∷ front) rest many text
 entry_is_entry : (e : Entry) → is_entry (Some (entry_kind e)) ≡ true
 entry_is_entry (CallEntry c i q args) = refl
 entry_is_entry (PushEntry c i s source seq rows) = refl
+entry_is_entry (InstallEntry c i q text) = refl
 entry_is_entry (StepEntry q r) = refl
 
 -- lines that begin with no entry

@@ -13,13 +13,13 @@ use Rattle.ss_model.specs.declared.catalog.Catalog.{Catalog}
 use Rattle.ss_model.specs.declared.entry.Answer.{Answer}
 use Rattle.ss_model.specs.declared.entry.Answer.TheVariants.{Listed as ListedAnswer, NoMemory, ListFull, Halted}
 use Rattle.ss_model.specs.declared.entry.Entry.{Entry}
-use Rattle.ss_model.specs.declared.entry.Entry.TheVariants.{Call as CallEntry, Push as PushEntry, Step as StepEntry}
+use Rattle.ss_model.specs.declared.entry.Entry.TheVariants.{Call as CallEntry, Push as PushEntry, Step as StepEntry, Install as InstallEntry}
 use Rattle.ss_model.specs.declared.entry.Outcome.{Outcome}
 use Rattle.ss_model.specs.declared.entry.Outcome.TheVariants.{Done as DoneOutcome, Aborted, Duplicate, Gap}
 use Rattle.ss_model.specs.declared.entry.Reason.TheVariants.{Raised, KeyTaken, Overflow, DivideByZero, NotOneRow, EmptyAggregate, TextTooLong, TableFull, BatchFull, ReplyFull, WindowFull}
 use Rattle.ss_model.specs.ReportLines.{value_data, row_data, rows_data, outcome_data, reply_line, entry_line, table_line, row_line, done_line}
 use Rattle.ss_report_lines.specs.declared.kind.LineKind.{LineKind}
-use Rattle.ss_report_lines.specs.declared.kind.LineKind.TheVariants.{Reply, Call, Push, Step, Table, Row as RowKind, Done}
+use Rattle.ss_report_lines.specs.declared.kind.LineKind.TheVariants.{Reply, Call, Push, Install, Step, Table, Row as RowKind, Done}
 use Rattle.ss_report_lines.specs.Kinds.{items_all, is_value, is_row, is_rows, is_outcome, kind_of}
 use Rattle.ss_report_lines.specs.Said.{said, if_compact}
 use Rattle.ss_audit_laws.specs.Shape.{line_kind}
@@ -66,17 +66,20 @@ reply_kinds catalog n (Halted faults) = refl
 abbrev pub entry_kind : Entry → LineKind
 entry_kind (CallEntry c i q args) = Call c i
 entry_kind (PushEntry c i s source seq rows) = Push c i
+entry_kind (InstallEntry c i q text) = Install c i
 entry_kind (StepEntry q r) = Step r
 
 -- a client's number is one of 8 bits
 abbrev pub HasByteClient : Entry → Type 0
 HasByteClient (CallEntry c i q args) = nat_le c 255 ≡ true
 HasByteClient (PushEntry c i s source seq rows) = nat_le c 255 ≡ true
+HasByteClient (InstallEntry c i q text) = nat_le c 255 ≡ true
 HasByteClient (StepEntry q r) = Unit {0}
 
 pub entry_kinds : (catalog : Catalog) (place : ℕ) (o : Outcome) (e : Entry) → HasByteClient e → kind_of (entry_line catalog place o e) ≡ Some (entry_kind e)
 entry_kinds catalog place o (CallEntry c i q args) h = rw (outcome_form catalog o, h) refl
 entry_kinds catalog place o (PushEntry c i s source seq rows) h = rw (outcome_form catalog o, h) refl
+entry_kinds catalog place o (InstallEntry c i q text) h = rw (outcome_form catalog o, h) refl
 entry_kinds catalog place o (StepEntry q r) h = rw (outcome_form catalog o) refl
 
 pub table_kinds : (name : List ℕ) (n : ℕ) → kind_of (table_line name n) ≡ Some (Table n)

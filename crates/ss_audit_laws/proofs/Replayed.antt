@@ -8,7 +8,7 @@ use Rattle.ss_lemmas.proofs.Bools.{some_same}
 use Rattle.ss_lines.specs.declared.line.Line.{Line}
 use Rattle.ss_model.specs.declared.catalog.Catalog.{Catalog}
 use Rattle.ss_model.specs.declared.entry.Entry.{Entry}
-use Rattle.ss_model.specs.declared.entry.Entry.TheVariants.{Call as CallEntry, Push as PushEntry, Step as StepEntry}
+use Rattle.ss_model.specs.declared.entry.Entry.TheVariants.{Call as CallEntry, Push as PushEntry, Step as StepEntry, Install as InstallEntry}
 use Rattle.ss_model.specs.declared.entry.Listed.{Listed}
 use Rattle.ss_model.specs.declared.entry.Outcome.{Outcome}
 use Rattle.ss_model.specs.declared.entry.Request.{Request}
@@ -18,11 +18,11 @@ use Rattle.ss_model.specs.Report.{asked_entries, IsAsked, client_index, Rising}
 use Rattle.ss_model.specs.ReportLines.{list_lines, entry_line}
 use Rattle.ss_report_laws.proofs.SameIndices.{indices}
 use Rattle.ss_report_lines.specs.declared.kind.LineKind.{LineKind}
-use Rattle.ss_report_lines.specs.declared.kind.LineKind.TheVariants.{Reply, Call, Push, Step, Table, Row, Done}
+use Rattle.ss_report_lines.specs.declared.kind.LineKind.TheVariants.{Reply, Call, Push, Install, Step, Table, Row, Done}
 use Rattle.ss_audit_laws.specs.Shape.{OrLine, line_kind, line_text_at}
 use Rattle.ss_audit_laws.specs.Checks.{says, is_number, asked_as, procedure_named, Turns, turned, in_turn, meant, turns_behind, outcome_of, printed_as, entry_at, go_on, replayed}
 use Rattle.ss_audit_laws.proofs.Texts.{AreTexts, says_text}
-use Rattle.ss_audit_laws.proofs.Told.{IsToldBy, AreToldBy}
+use Rattle.ss_audit_laws.proofs.Told.{IsClientLine, IsToldBy, AreToldBy}
 use Rattle.ss_audit_laws.proofs.Forms.{chosen}
 
 -- ---- rising from a number on
@@ -57,15 +57,17 @@ pub number_is : (i : ℕ) (o : Option ℕ) → is_number i o ≡ true → o ≡ 
 number_is i None h = absurd (cc)
 number_is i (Some m) h = ap Some (eqb-true m i h)
 
--- an entry with this client's index is a call or a push of it
+-- an entry with this client's index is a call, a push or an install of it
 abbrev pub IsOwn : ℕ → ℕ → Entry → Type 0
 IsOwn c i (CallEntry d j q args) = (d ≡ c) × (j ≡ i)
 IsOwn c i (PushEntry d j s source seq rows) = (d ≡ c) × (j ≡ i)
+IsOwn c i (InstallEntry d j q text) = (d ≡ c) × (j ≡ i)
 IsOwn c i (StepEntry q r) = ⊥
 
 pub own : (c i : ℕ) (e : Entry) → client_index c e ≡ Some i → IsOwn c i e
 own c i (CallEntry d j q args) h = let t = chosen (d == c) (Some j) i h in (eqb-true d c t.0, some_same j i t.1)
 own c i (PushEntry d j s source seq rows) h = let t = chosen (d == c) (Some j) i h in (eqb-true d c t.0, some_same j i t.1)
+own c i (InstallEntry d j q text) h = let t = chosen (d == c) (Some j) i h in (eqb-true d c t.0, some_same j i t.1)
 own c i (StepEntry q r) h = absurd (cc)
 
 -- how an entry's index stands to the least ones, now and behind it
@@ -82,17 +84,15 @@ pub record IsMeant (requests : List Request) (turns : Turns) (k : Option LineKin
 asked_entry_is : (requests : List Request) (c i : ℕ) (e : Entry) → Contains (asked_entries requests) e → IsOwn c i e → IsAsked requests e
 asked_entry_is requests c i (CallEntry d j q args) among h = among
 asked_entry_is requests c i (PushEntry d j s source seq rows) among h = among
+asked_entry_is requests c i (InstallEntry d j q text) among h = among
 asked_entry_is requests c i (StepEntry q r) among h = absurd h
 
-told_call : (c i : ℕ) (e : Entry) → IsOwn c i e → IsToldBy e (Some (Call c i))
-told_call c i (CallEntry d j q args) h = inl (λ k. Some (Call (sym h.0 k) (sym h.1 k)))
-told_call c i (PushEntry d j s source seq rows) h = inl (λ k. Some (Call (sym h.0 k) (sym h.1 k)))
-told_call c i (StepEntry q r) h = absurd h
-
-told_push : (c i : ℕ) (e : Entry) → IsOwn c i e → IsToldBy e (Some (Push c i))
-told_push c i (CallEntry d j q args) h = inr (λ k. Some (Push (sym h.0 k) (sym h.1 k)))
-told_push c i (PushEntry d j s source seq rows) h = inr (λ k. Some (Push (sym h.0 k) (sym h.1 k)))
-told_push c i (StepEntry q r) h = absurd h
+-- a client's entry is told by each line that is of its client and index
+told_own : (c i : ℕ) (k : Option LineKind) (e : Entry) → IsClientLine c i k → IsOwn c i e → IsToldBy e k
+told_own c i k (CallEntry d j q args) told h = subst (λ x. IsClientLine x j k) (sym h.0) (subst (λ y. IsClientLine c y k) (sym h.1) told)
+told_own c i k (PushEntry d j s source seq rows) told h = subst (λ x. IsClientLine x j k) (sym h.0) (subst (λ y. IsClientLine c y k) (sym h.1) told)
+told_own c i k (InstallEntry d j q text) told h = subst (λ x. IsClientLine x j k) (sym h.0) (subst (λ y. IsClientLine c y k) (sym h.1) told)
+told_own c i k (StepEntry q r) told h = absurd h
 
 -- the client and index of an entry are its own alone
 only_own : (c i client j : ℕ) (e : Entry) → IsOwn c i e → client_index client e ≡ Some j → (client ≡ c) × (j ≡ i)
@@ -101,6 +101,7 @@ only_own c i client j e h k = two e h (own client j e k)
     two : (f : Entry) → IsOwn c i f → IsOwn client j f → (client ≡ c) × (j ≡ i)
     two (CallEntry d m q args) x y = (sym y.0 ∙ x.0, sym y.1 ∙ x.1)
     two (PushEntry d m s source seq rows) x y = (sym y.0 ∙ x.0, sym y.1 ∙ x.1)
+    two (InstallEntry d m q text) x y = (sym y.0 ∙ x.0, sym y.1 ∙ x.1)
     two (StepEntry q r) x y = absurd x
 
 not_own : (c i client : ℕ) (e : Entry) → IsOwn c i e → client_index client e ≡ None → (client == c) ≡ false
@@ -110,6 +111,11 @@ not_own c i client (CallEntry d j q args) h k = of (cases_Bool (client == c))
     of (inr n) = n
     of (inl y) = let e : d ≡ client = h.0 ∙ sym (eqb-true client c y) in let none : Some j ≡ None = sym (cond-true (d == client) (Some j) None (eq-eqb d client e)) ∙ k in absurd (cc)
 not_own c i client (PushEntry d j s source seq rows) h k = of (cases_Bool (client == c))
+  where
+    of : ((client == c) ≡ true) ⊎ ((client == c) ≡ false) → (client == c) ≡ false
+    of (inr n) = n
+    of (inl y) = let e : d ≡ client = h.0 ∙ sym (eqb-true client c y) in let none : Some j ≡ None = sym (cond-true (d == client) (Some j) None (eq-eqb d client e)) ∙ k in absurd (cc)
+not_own c i client (InstallEntry d j q text) h k = of (cases_Bool (client == c))
   where
     of : ((client == c) ≡ true) ⊎ ((client == c) ≡ false) → (client == c) ≡ false
     of (inr n) = n
@@ -128,7 +134,7 @@ own_turn turns c i e least h = record {
 step_turn : (turns : Turns) (q r : ℕ) → IsInTurn turns turns (StepEntry q r)
 step_turn turns q r = record { here = λ client i answered. absurd (cc); elsewhere = λ client none. refl }
 
--- of a call or a push
+-- of a call, a push or an install
 meant_asked : (requests : List Request) (turns : Turns) (c i : ℕ) (e : Entry) → in_turn turns c i (asked_as requests c i) ≡ Some e
     → (turns c ≤ i) × (Contains (asked_entries requests) e) × IsOwn c i e
 meant_asked requests turns c i e h =
@@ -145,10 +151,13 @@ meant_is catalog requests turns l None e h = absurd (cc)
 meant_is catalog requests turns l (Some (Reply n)) e h = absurd (cc)
 meant_is catalog requests turns l (Some (Call c i)) e h =
     let m = meant_asked requests turns c i e h in
-    record { asked = asked_entry_is requests c i e m.1 m.2; told = told_call c i e m.2; turn = own_turn turns c i e m.0 m.2 }
+    record { asked = asked_entry_is requests c i e m.1 m.2; told = told_own c i (Some (Call c i)) e (inl refl) m.2; turn = own_turn turns c i e m.0 m.2 }
 meant_is catalog requests turns l (Some (Push c i)) e h =
     let m = meant_asked requests turns c i e h in
-    record { asked = asked_entry_is requests c i e m.1 m.2; told = told_push c i e m.2; turn = own_turn turns c i e m.0 m.2 }
+    record { asked = asked_entry_is requests c i e m.1 m.2; told = told_own c i (Some (Push c i)) e (inr (inl refl)) m.2; turn = own_turn turns c i e m.0 m.2 }
+meant_is catalog requests turns l (Some (Install c i)) e h =
+    let m = meant_asked requests turns c i e h in
+    record { asked = asked_entry_is requests c i e m.1 m.2; told = told_own c i (Some (Install c i)) e (inr (inr refl)) m.2; turn = own_turn turns c i e m.0 m.2 }
 meant_is catalog requests turns l (Some (Step r)) e h =
     let s = named_step r (procedure_named (line_text_at 2 l) catalog.procedures) e h in
     subst (IsMeant requests turns (Some (Step r))) s.1 (record { asked = tt; told = refl; turn = step_turn turns s.0 r })

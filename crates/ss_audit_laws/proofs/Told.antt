@@ -12,9 +12,9 @@ use Rattle.ss_model.specs.declared.catalog.Catalog.{Catalog}
 use Rattle.ss_model.specs.declared.entry.Answer.{Answer}
 use Rattle.ss_model.specs.declared.entry.Answer.TheVariants.{Listed as ListedAnswer, NoMemory}
 use Rattle.ss_model.specs.declared.entry.Asked.{Asked}
-use Rattle.ss_model.specs.declared.entry.Asked.TheVariants.{Call as CallAsked, Push as PushAsked}
+use Rattle.ss_model.specs.declared.entry.Asked.TheVariants.{Call as CallAsked, Push as PushAsked, Install as InstallAsked}
 use Rattle.ss_model.specs.declared.entry.Entry.{Entry}
-use Rattle.ss_model.specs.declared.entry.Entry.TheVariants.{Call as CallEntry, Push as PushEntry, Step as StepEntry}
+use Rattle.ss_model.specs.declared.entry.Entry.TheVariants.{Call as CallEntry, Push as PushEntry, Step as StepEntry, Install as InstallEntry}
 use Rattle.ss_model.specs.declared.entry.Listed.{Listed}
 use Rattle.ss_model.specs.declared.entry.Outcome.{Outcome}
 use Rattle.ss_model.specs.declared.entry.Request.{Request}
@@ -22,13 +22,13 @@ use Rattle.ss_model.specs.Report.{asked_entry, entries_behind, asked_entries, Is
 use Rattle.ss_model.specs.ReportLines.{list_lines, entry_line, reply_line}
 use Rattle.ss_report_laws.proofs.Asked.{same_asked}
 use Rattle.ss_report_lines.specs.declared.kind.LineKind.{LineKind}
-use Rattle.ss_report_lines.specs.declared.kind.LineKind.TheVariants.{Call, Push, Step}
+use Rattle.ss_report_lines.specs.declared.kind.LineKind.TheVariants.{Call, Push, Install, Step}
 use Rattle.ss_report_lines.specs.Kinds.{kind_of}
 use Rattle.ss_report_lines.specs.Said.{said, if_compact}
 use Rattle.ss_audit_laws.specs.Shape.{line_kind}
 use Rattle.ss_audit_laws.specs.Checks.{is_by, first_by, called_reply, called_replies}
 use Rattle.ss_audit_laws.proofs.Texts.{AreTexts}
-use Rattle.ss_audit_laws.proofs.Forms.{IsBy, IsOf, call_is, push_is, called_text, chosen}
+use Rattle.ss_audit_laws.proofs.Forms.{IsBy, IsOf, call_is, push_is, install_is, called_text, chosen}
 
 -- ---- what is said
 
@@ -53,10 +53,15 @@ kind_said bytes k h = of (said bytes) refl h
 
 -- ---- lines and entries
 
+-- the line of a client's entry: of a call, a push or an install
+abbrev pub IsClientLine : ℕ → ℕ → Option LineKind → Type 0
+IsClientLine c i k = (k ≡ Some (Call c i)) ⊎ ((k ≡ Some (Push c i)) ⊎ (k ≡ Some (Install c i)))
+
 -- a line's kind tells the entry by its client and index, or by its batch
 abbrev pub IsToldBy : Entry → Option LineKind → Type 0
-IsToldBy (CallEntry c i q args) k = (k ≡ Some (Call c i)) ⊎ (k ≡ Some (Push c i))
-IsToldBy (PushEntry c i s source seq rows) k = (k ≡ Some (Call c i)) ⊎ (k ≡ Some (Push c i))
+IsToldBy (CallEntry c i q args) k = IsClientLine c i k
+IsToldBy (PushEntry c i s source seq rows) k = IsClientLine c i k
+IsToldBy (InstallEntry c i q text) k = IsClientLine c i k
 IsToldBy (StepEntry q r) k = k ≡ Some (Step r)
 
 -- each entry is told by its line
@@ -66,47 +71,57 @@ AreToldBy (l ∷ list) (m ∷ ls) = IsToldBy l.entry (line_kind m) × AreToldBy 
 AreToldBy _ _ = ⊥
 
 -- the line of a client's entry
-of_line : (c i : ℕ) (k : Option LineKind) (m : Line) → line_kind m ≡ k → (k ≡ Some (Call c i)) ⊎ (k ≡ Some (Push c i)) → (d : Data) × (said m.bytes ≡ Some d) × IsOf d c i
+of_line : (c i : ℕ) (k : Option LineKind) (m : Line) → line_kind m ≡ k → IsClientLine c i k → (d : Data) × (said m.bytes ≡ Some d) × IsOf d c i
 of_line c i k m is (inl e) = let s = kind_said m.bytes (Call c i) (is ∙ e) in (s.0, s.1, call_is s.0 c i s.2)
-of_line c i k m is (inr e) = let s = kind_said m.bytes (Push c i) (is ∙ e) in (s.0, s.1, push_is s.0 c i s.2)
+of_line c i k m is (inr (inl e)) = let s = kind_said m.bytes (Push c i) (is ∙ e) in (s.0, s.1, push_is s.0 c i s.2)
+of_line c i k m is (inr (inr e)) = let s = kind_said m.bytes (Install c i) (is ∙ e) in (s.0, s.1, install_is s.0 c i s.2)
 
 -- who a line is by
-by_told : (client index c i : ℕ) (k : Option LineKind) → (k ≡ Some (Call c i)) ⊎ (k ≡ Some (Push c i)) → is_by client index k ≡ (client == c && index == i)
+by_told : (client index c i : ℕ) (k : Option LineKind) → IsClientLine c i k → is_by client index k ≡ (client == c && index == i)
 by_told client index c i k (inl e) = ap (is_by client index) e
-by_told client index c i k (inr e) = ap (is_by client index) e
+by_told client index c i k (inr (inl e)) = ap (is_by client index) e
+by_told client index c i k (inr (inr e)) = ap (is_by client index) e
 
 own_index : (c i : ℕ) (e : Entry) → IsBy c i e → client_index c e ≡ Some i
 own_index c i (CallEntry d j q args) h = rw (eq-eqb d c h.0) (ap Some h.1)
 own_index c i (PushEntry d j s source seq rows) h = rw (eq-eqb d c h.0) (ap Some h.1)
+own_index c i (InstallEntry d j q text) h = rw (eq-eqb d c h.0) (ap Some h.1)
 own_index c i (StepEntry q r) h = absurd h
 
 itself : (c i : ℕ) (e : Entry) → IsBy c i e → is_same_request e e ≡ true
 itself c i (CallEntry d j q args) h = and_from (d == d) (j == j) (eq-eqb d d refl) (eq-eqb j j refl)
 itself c i (PushEntry d j s source seq rows) h = and_from (d == d) (j == j) (eq-eqb d d refl) (eq-eqb j j refl)
+itself c i (InstallEntry d j q text) h = and_from (d == d) (j == j) (eq-eqb d d refl) (eq-eqb j j refl)
 itself c i (StepEntry q r) h = absurd h
 
 -- an entry that is not by this client and index is not the same request
 others_differ : (c i : ℕ) (e f : Entry) (k : Option LineKind) → IsBy c i e → IsToldBy f k → is_by c i k ≡ false → is_same_request e f ≡ false
 others_differ c i (CallEntry d j q args) (CallEntry b n p more) k by told h = (λ x. by.0 x == b && by.1 x == n) ∙ sym (by_told c i b n k told) ∙ h
 others_differ c i (CallEntry d j q args) (PushEntry b n s source seq rows) k by told h = refl
+others_differ c i (CallEntry d j q args) (InstallEntry b n p body) k by told h = refl
 others_differ c i (CallEntry d j q args) (StepEntry p r) k by told h = refl
 others_differ c i (PushEntry d j s source seq rows) (CallEntry b n p more) k by told h = refl
 others_differ c i (PushEntry d j s source seq rows) (PushEntry b n t name m more) k by told h = (λ x. by.0 x == b && by.1 x == n) ∙ sym (by_told c i b n k told) ∙ h
+others_differ c i (PushEntry d j s source seq rows) (InstallEntry b n p body) k by told h = refl
 others_differ c i (PushEntry d j s source seq rows) (StepEntry p r) k by told h = refl
+others_differ c i (InstallEntry d j q text) (CallEntry b n p more) k by told h = refl
+others_differ c i (InstallEntry d j q text) (PushEntry b n t name m more) k by told h = refl
+others_differ c i (InstallEntry d j q text) (InstallEntry b n p body) k by told h = (λ x. by.0 x == b && by.1 x == n) ∙ sym (by_told c i b n k told) ∙ h
+others_differ c i (InstallEntry d j q text) (StepEntry p r) k by told h = refl
 others_differ c i (StepEntry q r) f k by told h = absurd by
 
 -- a line that is by this client and index tells an entry that is
-by_line : (c i : ℕ) (f : Entry) (k : Option LineKind) → IsToldBy f k → is_by c i k ≡ true → IsBy c i f × ((k ≡ Some (Call c i)) ⊎ (k ≡ Some (Push c i)))
-by_line c i (CallEntry b n p more) k told h =
+by_client : (c i b n : ℕ) (k : Option LineKind) → IsClientLine b n k → is_by c i k ≡ true → ((b ≡ c) × (n ≡ i)) × IsClientLine c i k
+by_client c i b n k told h =
     let both = and_parts (c == b) (i == n) (sym (by_told c i b n k told) ∙ h) in
     let one = sym (eqb-true c b both.0) in
     let two = sym (eqb-true i n both.1) in
-    ((one, two), subst (λ x. (k ≡ Some (Call x i)) ⊎ (k ≡ Some (Push x i))) one (subst (λ y. (k ≡ Some (Call b y)) ⊎ (k ≡ Some (Push b y))) two told))
-by_line c i (PushEntry b n s source seq rows) k told h =
-    let both = and_parts (c == b) (i == n) (sym (by_told c i b n k told) ∙ h) in
-    let one = sym (eqb-true c b both.0) in
-    let two = sym (eqb-true i n both.1) in
-    ((one, two), subst (λ x. (k ≡ Some (Call x i)) ⊎ (k ≡ Some (Push x i))) one (subst (λ y. (k ≡ Some (Call b y)) ⊎ (k ≡ Some (Push b y))) two told))
+    ((one, two), subst (λ x. IsClientLine x i k) one (subst (λ y. IsClientLine b y k) two told))
+
+by_line : (c i : ℕ) (f : Entry) (k : Option LineKind) → IsToldBy f k → is_by c i k ≡ true → IsBy c i f × IsClientLine c i k
+by_line c i (CallEntry b n p more) k told h = by_client c i b n k told h
+by_line c i (PushEntry b n s source seq rows) k told h = by_client c i b n k told h
+by_line c i (InstallEntry b n p body) k told h = by_client c i b n k told h
 by_line c i (StepEntry q r) k told h = absurd (both_ways false refl (sym (ap (is_by c i) told) ∙ h))
 
 -- ---- answers
@@ -131,6 +146,7 @@ all_answered list (e ∷ es) = (is_answer (find_listed 0 e list), all_answered l
 client_of_asked : (requests : List Request) (c i : ℕ) (f : Entry) → IsAsked requests f → IsBy c i f → Contains (asked_entries requests) f
 client_of_asked requests c i (CallEntry d j q args) asked by = asked
 client_of_asked requests c i (PushEntry d j s source seq rows) asked by = asked
+client_of_asked requests c i (InstallEntry d j q text) asked by = asked
 client_of_asked requests c i (StepEntry q r) asked by = absurd by
 
 module _ (catalog : Catalog) (requests : List Request) (n c i : ℕ) (e : Entry) (among : Contains (asked_entries requests) e) (by : IsBy c i e) where
@@ -162,6 +178,7 @@ module _ (catalog : Catalog) (requests : List Request) (n c i : ℕ) (e : Entry)
 asked_by_own : (c i : ℕ) (what : Asked) → IsBy c i (asked_entry c i what)
 asked_by_own c i (CallAsked q args) = (refl, refl)
 asked_by_own c i (PushAsked s source seq rows) = (refl, refl)
+asked_by_own c i (InstallAsked q text) = (refl, refl)
 
 contains_more : (e : Entry) (es : List Entry) (f : Entry) → Contains es f → Contains (e ∷ es) f
 contains_more e es f h = (suc h.0, (let k : h.0 < length es = h.1 in omega arith), h.2)

@@ -18,7 +18,7 @@ use Rattle.ss_model.specs.Report.{asked_entries, client_index}
 use Rattle.ss_model.specs.ReportLines.{array_of, count, entry_line, database_lines, done_line}
 use Rattle.ss_model.specs.Settling.{next_settled}
 use Rattle.ss_report_lines.specs.declared.kind.LineKind.{LineKind}
-use Rattle.ss_report_lines.specs.declared.kind.LineKind.TheVariants.{Call, Push, Step}
+use Rattle.ss_report_lines.specs.declared.kind.LineKind.TheVariants.{Call, Push, Install, Step}
 use Rattle.ss_report_lines.specs.Said.{said}
 use Rattle.ss_audit_laws.specs.Shape.{OrLine, line_kind, line_text_at, shape}
 
@@ -41,6 +41,7 @@ all_say end (d ∷ ds) (l ∷ ls) = cond (says d l) (all_say end ds ls) (Err l.n
 abbrev pub is_by : ℕ → ℕ → Option LineKind → Bool
 is_by client index (Some (Call c i)) = client == c && index == i
 is_by client index (Some (Push c i)) = client == c && index == i
+is_by client index (Some (Install c i)) = client == c && index == i
 is_by client index _ = false
 
 -- what the first entry with this client and this index says
@@ -95,6 +96,7 @@ in_turn turns client index e = cond (nat_le (turns client) index) e None
 abbrev pub meant : Catalog → List Request → Turns → Line → Option LineKind → Option Entry
 meant catalog requests turns l (Some (Call c i)) = in_turn turns c i (asked_as requests c i)
 meant catalog requests turns l (Some (Push c i)) = in_turn turns c i (asked_as requests c i)
+meant catalog requests turns l (Some (Install c i)) = in_turn turns c i (asked_as requests c i)
 meant catalog requests turns l (Some (Step r)) = option_map (λ q. StepEntry q r) (procedure_named (line_text_at 2 l) catalog.procedures)
 meant catalog requests turns l _ = None
 
@@ -102,6 +104,7 @@ meant catalog requests turns l _ = None
 abbrev pub turns_behind : Turns → Option LineKind → Turns
 turns_behind turns (Some (Call c i)) = turned turns c i
 turns_behind turns (Some (Push c i)) = turned turns c i
+turns_behind turns (Some (Install c i)) = turned turns c i
 turns_behind turns _ = turns
 
 -- the outcome of an entry, where there is one

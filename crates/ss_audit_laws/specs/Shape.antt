@@ -10,7 +10,7 @@ use Rattle.ss_model.specs.declared.entry.Request.{Request}
 use Rattle.ss_model.specs.Database.{empty_database}
 use Rattle.ss_model.specs.ReportLines.{tables_by_name}
 use Rattle.ss_report_lines.specs.declared.kind.LineKind.{LineKind}
-use Rattle.ss_report_lines.specs.declared.kind.LineKind.TheVariants.{Reply, Call, Push, Step, Table, Row, Done}
+use Rattle.ss_report_lines.specs.declared.kind.LineKind.TheVariants.{Reply, Call, Push, Install, Step, Table, Row, Done}
 use Rattle.ss_report_lines.specs.Kinds.{kind_of}
 use Rattle.ss_report_lines.specs.Said.{said}
 
@@ -47,6 +47,7 @@ is_reply_to n _ = false
 abbrev pub is_entry : Option LineKind → Bool
 is_entry (Some (Call c i)) = true
 is_entry (Some (Push c i)) = true
+is_entry (Some (Install c i)) = true
 is_entry (Some (Step r)) = true
 is_entry _ = false
 

@@ -4,13 +4,15 @@
 //! show [1,"a"]         a call with its arguments
 //! push s a 0 [[1]]     a push to a stream: its source, its number and its rows
 //! step b 0             a step of a procedure on the batch of this number
+//! install show []      an install for a procedure: the text of the body, as it is written
+//! install 7 []         one for the procedure of a number, which may be none that is there
 //! ```
 
 use crate::names::{procedure_number, stream_number};
 use crate::rows::{row_in, rows_in};
 use ss_case_files::Wrong;
 use ss_model::{Catalog, Entry};
-use ss_value::{Name, name_of};
+use ss_value::{Name, Seq, name_of};
 use std::alloc::Global;
 
 /// A client, and the position of a request among its own.
@@ -81,6 +83,36 @@ fn step_of(alloc: Global, catalog: &Catalog, given: &str) -> Result<Entry, Wrong
     Ok(Entry::Step { procedure, batch })
 }
 
+/// What an install is given, and None of another entry.
+pub fn install_in(asked: &str) -> Option<&str> {
+    asked.strip_prefix("install ")
+}
+
+/// The procedure and the text of a body that an install is given.
+pub fn body_at<'a>(
+    alloc: Global,
+    catalog: &Catalog,
+    given: &'a str,
+) -> Result<(u16, &'a str), Wrong> {
+    let (name, text) = given.split_once(' ').unwrap_or((given, ""));
+    match name.parse::<u16>() {
+        Ok(number) => Ok((number, text)),
+        Err(_) => Ok((procedure_number(alloc, catalog, name)?, text)),
+    }
+}
+
+/// The install of a body.
+fn install_of(alloc: Global, catalog: &Catalog, asker: Asker, given: &str) -> Result<Entry, Wrong> {
+    let (procedure, text) = body_at(alloc, catalog, given)?;
+    let text = String::from_str(alloc, text)?;
+    Ok(Entry::Install {
+        client: asker.client,
+        index: asker.index,
+        procedure,
+        text: Seq::from_vec(text.into_bytes()),
+    })
+}
+
 /// The entry that words ask for. Wrong where the catalogue doesn't have what they name, and where a number, a source or JSON
 /// can't be read.
 pub fn entry_of(
@@ -93,6 +125,7 @@ pub fn entry_of(
     match word {
         "push" => push_of(alloc, catalog, asker, given),
         "step" => step_of(alloc, catalog, given),
+        "install" => install_of(alloc, catalog, asker, given),
         _ => call_of(alloc, catalog, asker, word, given),
     }
 }

@@ -14,8 +14,10 @@
 //! ```
 //!
 //! Of units and batches a list of more than 32 rows stands as their number. The definitions ask for no accepted catalogue,
-//! so the base of a `replay` is read without the checks behind its SQL. All entries are those of client 0.
+//! so the base of a `replay` is read without the checks behind its SQL; where a line installs a body, with them, since the
+//! body may then be installed from the beginning on. All entries are those of client 0.
 
+use crate::catalogs::{catalog_with_bodies, installs_in};
 use crate::entries::{Asker, entry_of};
 use crate::names::{stream_number, window_number};
 use crate::rows::json_of;
@@ -63,7 +65,7 @@ fn resolved(alloc: Global, outline: &Outline) -> Result<Catalog, Wrong> {
     if is_too_many_to_number(outline) {
         return Err(Wrong::text(alloc, "the base has too many definitions"));
     }
-    match resolve(alloc, outline, Seq::new(alloc)) {
+    match resolve(alloc, outline, Seq::new(alloc), Seq::new(alloc)) {
         Ok(catalog) => Ok(catalog),
         Err(_) => Err(Wrong::text(alloc, "the base has faulty SQL")),
     }
@@ -80,6 +82,17 @@ fn unchecked_catalog(alloc: Global, base: &str) -> Result<Catalog, Wrong> {
     let catalog = resolved(alloc, &outline);
     drop(outline);
     catalog
+}
+
+/// The catalogue of a base, in which the bodies may be installed that lines install. Only where there is such a line the base
+/// is read with all checks.
+fn catalog_for(alloc: Global, base: &str, lines: &str) -> Result<Catalog, Wrong> {
+    let installs = installs_in(alloc, lines)?;
+    if installs.is_empty() {
+        unchecked_catalog(alloc, base)
+    } else {
+        catalog_with_bodies(alloc, base, installs.as_slice())
+    }
 }
 
 // ---- what is printed of a database
@@ -145,9 +158,9 @@ fn by_name<'a>(
 }
 
 impl Replay {
-    /// The catalogue of a base, and its empty database.
-    fn new(alloc: Global, base: &str) -> Result<Replay, Wrong> {
-        let catalog = unchecked_catalog(alloc, base)?;
+    /// The catalogue of a base for lines, and its empty database.
+    fn new(alloc: Global, base: &str, lines: &str) -> Result<Replay, Wrong> {
+        let catalog = catalog_for(alloc, base, lines)?;
         match Database::empty(alloc, &catalog) {
             Ok(database) => Ok(Replay {
                 catalog,
@@ -276,11 +289,11 @@ impl Replay {
 }
 
 /// The list of a block, whose lines came to what they say on the definitions: its requests, and the report on them. Wrong at
-/// the first line that came to anything else, and where the tables that are left differ. The base has no marks any more. An
-/// entry costs what `apply` does, which copies what it needs.
+/// the first line that came to anything else, where the tables that are left differ, and where a line installs a body on a
+/// base that is refused. The base has no marks any more. An entry costs what `apply` does, which copies what it needs.
 pub fn replayed(alloc: Global, base: &str, lines: &[String]) -> Result<Listing, Wrong> {
     let text = text_of(alloc, lines.join(alloc, "␤")?.as_str())?;
-    let mut replay = Replay::new(alloc, base)?;
+    let mut replay = Replay::new(alloc, base, text.as_str())?;
     for line in text.split('\n') {
         replay.add_line(alloc, line)?;
     }

@@ -20,6 +20,7 @@ enum BlockKind {
     Requests,
     Report,
     Tables,
+    Audited,
     Calls,
     Run,
     First,
@@ -43,6 +44,7 @@ impl BlockKind {
             "requests" => Some(BlockKind::Requests),
             "report" => Some(BlockKind::Report),
             "tables" => Some(BlockKind::Tables),
+            "audited" => Some(BlockKind::Audited),
             "calls" => Some(BlockKind::Calls),
             "run" => Some(BlockKind::Run),
             "first" => Some(BlockKind::First),
@@ -69,6 +71,7 @@ impl BlockKind {
             self,
             BlockKind::Report
                 | BlockKind::Tables
+                | BlockKind::Audited
                 | BlockKind::Calls
                 | BlockKind::Script
                 | BlockKind::Misfit
@@ -107,6 +110,7 @@ pub fn check<R: Files + AllocGlobal + Threads + Wait + Sync>(
         Some(BlockKind::Bodies) => listings::check_body(rt, base, row),
         Some(BlockKind::Report) => requests::check_block(rt, base, lines),
         Some(BlockKind::Tables) => requests::check_tables(rt, base, lines),
+        Some(BlockKind::Audited) => requests::check_audited(rt, base, lines),
         Some(BlockKind::Calls) => check_calls(rt, base, lines),
         Some(BlockKind::Script) => listings::check_script(rt, base, lines),
         Some(BlockKind::Misfit) => listings::check_misfit(rt, base, lines),

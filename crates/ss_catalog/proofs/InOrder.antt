@@ -127,7 +127,7 @@ pub found_first : (k : List ℕ) (d : Data) (ms : Members) → get_member k (mem
 found_first k d ms = ap (λ (o : Ordering). match_ordering o (get_member k ms) (Some d) (get_member k ms)) (tied_itself nat_list_cmp_total k)
 
 -- keys that compare equal are the same
-tied_same : (k l : List ℕ) → slice_cmp nat_cmp k l ≡ Equal → k ≡ l
+pub tied_same : (k l : List ℕ) → slice_cmp nat_cmp k l ≡ Equal → k ≡ l
 tied_same k l is = (bytes_eq-Decides k l).0 (sym (is_eq-slice_cmp k l) ∙ ap is_eq is)
 
 above_at : (o : Ordering) (k key l : List ℕ) (rest : Option Data) (d e : Data) → slice_cmp nat_cmp key l ≡ o → slice_cmp nat_cmp k l ≡ Less

@@ -84,7 +84,7 @@ first_kept P Q there back (Some n) h = (there n h.0, λ k below q. h.1 k below (
 
 -- ---- checks of a catalogue
 
--- a check finds one thing at most or none, and the same whatever the text is
+-- a check finds one thing at most or none, and the same whatever the texts are
 pub record OfCatalog {X : Type 0} (Finds : Catalog → Option X → Type 0) : Type 0 where
   pub kept : (a b : Catalog) (x : Option X) → IsSameCatalog a b → Finds a x → Finds b x
   pub once : (c : Catalog) → IsOnce (λ (x : X). Finds c (Some x))

@@ -24,7 +24,7 @@ use Rattle.ss_catalog_outline.specs.declared.steps.StepForm.TheVariants.{Insert 
 use Rattle.ss_catalog_json.specs.declared.json_readers.ItemCount.TheVariants.{Any, AtLeastOne, JustOne}
 use Rattle.ss_catalog_json.specs.Readings.{Reading, ◌>>=◌, inside, item_step, or_here, read_word, read_name, read_between, read_array_of, has_key, object_of, read_key, no_key}
 use Rattle.ss_catalog_outline.specs.Tables.{kind_of, read_kind, read_pair, read_column, read_columns, read_words, read_part, read_placement, part_keys, by_keys, table_object, read_table, stream_keys, read_stream, unit_of, read_unit, window_keys, read_window, trigger_keys, read_trigger}
-use Rattle.ss_catalog_outline.specs.Steps.{read_given_arg, given_text, read_given, form_of, may_stand, read_alone, read_int, read_test, read_inner_as, read_inner, read_insert, read_for_each, read_emit, read_step_as, read_step}
+use Rattle.ss_catalog_outline.specs.Steps.{read_given_arg, given_text, read_given, form_of, may_stand, read_alone, read_int, read_test, read_inner_as, read_inner, read_insert, read_for_each, read_emit, read_step_as, read_step, read_steps}
 use Rattle.ss_catalog_outline.specs.Procedures.{read_touch_part, read_touch_multi, read_touch_form, read_touch, kind_word, read_procedure_kind, read_args, read_inputs, procedure_keys, read_procedure}
 use Rattle.ss_catalog_outline.specs.Outlines.{section_keys, read_outline}
 use Rattle.ss_catalog_laws.proofs.CallerLemmas.{then_any, then_with, inside_holds, where_holds, any_holds, holds_with, of_read}
@@ -271,3 +271,7 @@ outline_none d so =
 
 pub outline_has_no_float : (d : Data) (o : Outline) → IsInOrder d → read_outline d ≡ Ok o → HasNoFloat d
 outline_has_no_float d o so is = of_read (λ (x : Outline). HasNoFloat d) (read_outline d) (outline_none d so) o is
+
+-- the value of a body has none either
+pub body_has_no_float : (kind : ProcedureKind) (d : Data) (steps : List StepOutline) → IsInOrder d → read_steps kind d ≡ Ok steps → HasNoFloat d
+body_has_no_float kind d steps so is = of_read (λ (x : List StepOutline). HasNoFloat d) (read_steps kind d) (array_none (read_step kind) (step_none kind) Any d so) steps is

@@ -27,37 +27,37 @@ use Rattle.ss_catalog.specs.Answers.{HasOneCatalog, IsReadOrRefused, HasOneRefus
 use Rattle.ss_catalog.proofs.OneAnswer.{ok_same, err_same, ok_or_err}
 use Rattle.ss_catalog.proofs.Texts.{SqlLaws, some_same}
 use Rattle.ss_catalog.proofs.Resolved.{resolved_same, resolved_or_faulty, fault_same}
-use Rattle.ss_catalog.proofs.Kept.{IsSameCatalog, same_with_text, kept, cycle_kept, trigger_cycle_kept, site_kept, stream_kept, window_kept}
+use Rattle.ss_catalog.proofs.Kept.{IsSameCatalog, with_texts, same_with_texts, kept, cycle_kept, trigger_cycle_kept, site_kept, stream_kept, window_kept}
 use Rattle.ss_catalog.proofs.InTurn.{IsOnce, Reported, InTurn, one_check, and_then, none_or_some, none_with, first_once, first_with_once, first_kept, OfCatalog, Comes, Finding, catalog_check}
 
 -- ---- what a value reads as
 
 -- what passes all checks resolves
-resolved_of : (d : Data) (o : Outline) (c : Catalog) → HasRightOwners d o c → IsResolved d o c
+pub resolved_of : (d : Data) (o : Outline) (c : Catalog) → HasRightOwners d o c → IsResolved d o c
 resolved_of d o c passes = passes.0.0.0.0.0
 
 -- what resolves is the outline of its value
-shape_of : (d : Data) (o : Outline) (c : Catalog) → IsResolved d o c → IsShaped d o
+pub shape_of : (d : Data) (o : Outline) (c : Catalog) → IsResolved d o c → IsShaped d o
 shape_of d o c resolved = resolved.0.0.0.0
 
 -- a value has one outline
 same_outline : (d : Data) (o p : Outline) → IsShaped d o → IsShaped d p → o ≡ p
 same_outline d o p h k = ok_same (read_outline d) o p h k
 
--- and resolves to one catalogue, but for its text
-same_catalog : SqlLaws → (d : Data) (o p : Outline) (a b : Catalog) → IsResolved d o a → IsResolved d p b → IsSameCatalog a b
+-- and resolves to one catalogue, but for its texts
+pub same_catalog : SqlLaws → (d : Data) (o p : Outline) (a b : Catalog) → IsResolved d o a → IsResolved d p b → IsSameCatalog a b
 same_catalog laws d o p a b h k = resolved_same laws p a b (subst (λ (x : Outline). Resolves x a) (same_outline d o p (shape_of d o a h) (shape_of d p b k)) h.1) k.1
 
 pub one_catalog : SqlLaws → HasOneCatalog
 one_catalog laws d a b h k =
     let same = same_catalog laws d h.outline k.outline a b (resolved_of d h.outline a h.passes) (resolved_of d k.outline b k.passes) in
-    same_with_text a b same (h.text ∙ sym k.text)
+    same_with_texts a b same (h.text ∙ sym k.text) (h.own_texts ∙ sym k.own_texts)
 
 -- ---- what the checks of a catalogue find
 
 -- the same, the other way round
 same_back : (a b : Catalog) → IsSameCatalog a b → IsSameCatalog b a
-same_back a b h = record { tables = sym h.tables; streams = sym h.streams; windows = sym h.windows; triggers = sym h.triggers; procedures = sym h.procedures }
+same_back a b h = record { tables = sym h.tables; streams = sym h.streams; windows = sym h.windows; triggers = sym h.triggers; procedures = sym h.procedures; spares = sym h.spares }
 
 abbrev FirstCycle : Catalog → Option ℕ → Type 0
 FirstCycle c = IsFirst (IsOnCycle c)
@@ -104,14 +104,42 @@ streams_found = record { kept = stream_kept; once = λ c. some_same (refused_str
 windows_found : OfCatalog FirstWindow
 windows_found = record { kept = window_kept; once = λ c. some_same (refused_window c); none = λ c. none_or_some (refused_window c) }
 
+-- so the same catalogue passes the same checks
+resolves_kept : (o : Outline) (a b : Catalog) → IsSameCatalog a b → Resolves o a → Resolves o b
+resolves_kept o a b = kept (λ (c : Catalog). Resolves o c) (λ (c : Catalog) (text : List ℕ) (own : List (List ℕ)) h. record {
+  tables = h.tables;
+  streams = h.streams;
+  windows = h.windows;
+  procedures = h.procedures;
+  triggers = h.triggers;
+  spares = h.spares;
+}) a b
+
+pub passes_same : (d : Data) (o : Outline) (a b : Catalog) → IsSameCatalog a b → HasRightOwners d o a → HasRightOwners d o b
+passes_same d o a b same h =
+    let ends = h.0 in
+    let is_local = ends.0 in
+    let cascades = is_local.0 in
+    let workflows = cascades.0 in
+    let resolved = workflows.0 in (
+      (
+        (
+          (((resolved.0, resolves_kept o a b same resolved.1), cycles_found.kept a b None same workflows.1), trigger_cycles_found.kept a b None same cascades.1),
+          sites_found.kept a b None same is_local.1,
+        ),
+        streams_found.kept a b None same ends.1,
+      ),
+      windows_found.kept a b None same h.1,
+    )
+
 -- ---- what is reported of it
 
 abbrev site_reported : Catalog → Site → List ℕ × ℕ
 site_reported c site = (site_name c site, site_number site)
 
--- nothing that is reported depends on the text
-reported_kept : {X A : Type 0} (name : Catalog → X → A) → ((c : Catalog) (text : List ℕ) (x : X) → name c x ≡ name (record c { text = text }) x) → (a b : Catalog) (x : X) → IsSameCatalog a b → name a x ≡ name b x
-reported_kept name free a b x same = kept (λ (c : Catalog). name a x ≡ name c x) (λ (c : Catalog) (text : List ℕ) h. h ∙ free c text x) a b same refl
+-- nothing that is reported depends on the texts
+reported_kept : {X A : Type 0} (name : Catalog → X → A) → ((c : Catalog) (text : List ℕ) (own : List (List ℕ)) (x : X) → name c x ≡ name (with_texts c text own) x) → (a b : Catalog) (x : X) → IsSameCatalog a b → name a x ≡ name b x
+reported_kept name free a b x same = kept (λ (c : Catalog). name a x ≡ name c x) (λ (c : Catalog) (text : List ℕ) (own : List (List ℕ)) h. h ∙ free c text own x) a b same refl
 
 abbrev report_sql : SqlSite → CatalogError
 report_sql site = SqlFault site.name site.number site.fault
@@ -200,23 +228,23 @@ module _ (d : Data) where
 
     workflows : InTurn (Comes (IsResolved d)) (Comes (HasAcyclicWorkflows d)) (Reported WorkflowCycle (HasWorkflowCycle d))
     workflows = catalog_check (IsResolved d) same_resolved FirstCycle cycles_found
-        procedure_name (reported_kept procedure_name (λ c text x. refl)) WorkflowCycle
+        procedure_name (reported_kept procedure_name (λ c text own x. refl)) WorkflowCycle
 
     cascades : InTurn (Comes (HasAcyclicWorkflows d)) (Comes (HasAcyclicTriggers d)) (Reported TriggerCycle (HasTriggerCycle d))
     cascades = catalog_check (HasAcyclicWorkflows d) (λ o p a b h k. same_resolved o p a b h.0 k.0) FirstTriggerCycle trigger_cycles_found
-        trigger_name (reported_kept trigger_name (λ c text x. refl)) TriggerCycle
+        trigger_name (reported_kept trigger_name (λ c text own x. refl)) TriggerCycle
 
     localities : InTurn (Comes (HasAcyclicTriggers d)) (Comes (IsLocal d)) (Reported report_site BreaksAt)
     localities = catalog_check (HasAcyclicTriggers d) (λ o p a b h k. same_resolved o p a b h.0.0 k.0.0) IsFirstSite sites_found
-        site_reported (reported_kept site_reported (λ c text x. refl)) report_site
+        site_reported (reported_kept site_reported (λ c text own x. refl)) report_site
 
     ends : InTurn (Comes (IsLocal d)) (Comes (HasRightEnds d)) (Reported StreamEnds (HasBadEnds d))
     ends = catalog_check (IsLocal d) (λ o p a b h k. same_resolved o p a b h.0.0.0 k.0.0.0) FirstStream streams_found
-        stream_name (reported_kept stream_name (λ c text x. refl)) StreamEnds
+        stream_name (reported_kept stream_name (λ c text own x. refl)) StreamEnds
 
     owners : InTurn (Comes (HasRightEnds d)) (Comes (HasRightOwners d)) (Reported WindowOwner (HasBadOwner d))
     owners = catalog_check (HasRightEnds d) (λ o p a b h k. same_resolved o p a b h.0.0.0.0 k.0.0.0.0) FirstWindow windows_found
-        window_name (reported_kept window_name (λ c text x. refl)) WindowOwner
+        window_name (reported_kept window_name (λ c text own x. refl)) WindowOwner
 
     -- the outline of what passes
     shape_passed : (o : Outline) (c : Catalog) → HasRightOwners d o c → IsShaped d o
@@ -241,7 +269,7 @@ module _ (d : Data) where
   by_catalog : (e : CatalogError) → CatalogTold d e → (e ≡ NoMemory) ⊎ AnyTold d e
   by_catalog e reported = inr (inr (inr (inr (inr (inr reported)))))
 
-  reported_of : (e : CatalogError) → Refuses d e → (e ≡ NoMemory) ⊎ AnyTold d e
+  pub reported_of : (e : CatalogError) → Refuses d e → (e ≡ NoMemory) ⊎ AnyTold d e
   reported_of NoMemory k = inl refl
   reported_of (Shape path) k = inr (inl (path, refl, k))
   reported_of (Twice name) k = inr (inr (inl (name, refl, k)))
@@ -256,11 +284,11 @@ module _ (d : Data) where
   reported_of (Limit counted) (inr k) = by_catalog (Limit counted) (inr (inr (inr (inr (inr (counted, refl, k))))))
 
   module _ (laws : SqlLaws) where
-    passed_or_reported : (e : CatalogError) → Passes d → (e ≡ NoMemory) ⊎ AnyTold d e → e ≡ NoMemory
+    pub passed_or_reported : (e : CatalogError) → Passes d → (e ≡ NoMemory) ⊎ AnyTold d e → e ≡ NoMemory
     passed_or_reported e passed (inl is) = is
     passed_or_reported e passed (inr reported) = absurd ((all_checks d laws).either e reported passed)
 
-    one_reported : (e f : CatalogError) → (e ≡ NoMemory → ⊥) → (f ≡ NoMemory → ⊥) → (e ≡ NoMemory) ⊎ AnyTold d e → (f ≡ NoMemory) ⊎ AnyTold d f → e ≡ f
+    pub one_reported : (e f : CatalogError) → (e ≡ NoMemory → ⊥) → (f ≡ NoMemory → ⊥) → (e ≡ NoMemory) ⊎ AnyTold d e → (f ≡ NoMemory) ⊎ AnyTold d f → e ≡ f
     one_reported e f some other (inl is) k = absurd (some is)
     one_reported e f some other (inr reported) (inl is) = absurd (other is)
     one_reported e f some other (inr reported) (inr too) = (all_checks d laws).once e f reported too

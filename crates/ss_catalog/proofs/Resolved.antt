@@ -1,4 +1,4 @@
--- An outline resolves to one catalogue at most, but for its text, or its SQL has one first fault at most, and not both.
+-- An outline resolves to one catalogue at most, but for its texts, or its SQL has one first fault at most, and not both.
 use Rattle.std.proofs.Common.{◌≡◌, sym, ◌∙◌, inl, inr}
 use Rattle.ss_model.specs.declared.catalog.Catalog.{Catalog}
 use Rattle.ss_catalog_outline.specs.declared.types.TriggerOutline.{TriggerOutline}
@@ -9,7 +9,7 @@ use Rattle.ss_catalog_resolve.specs.Bodies.{ProcedureReads, TriggerReads, Resolv
 use Rattle.ss_catalog.proofs.Kept.{IsSameCatalog}
 use Rattle.ss_catalog.proofs.OneAnswer.{all_same, none_faulty, first_same}
 use Rattle.ss_catalog.proofs.Texts.{SqlLaws}
-use Rattle.ss_catalog.proofs.Bodies.{procedure_once, trigger_once}
+use Rattle.ss_catalog.proofs.BodiesOnce.{procedure_once, trigger_once}
 
 module _ (laws : SqlLaws) (o : Outline) where
   pub resolved_same : (a b : Catalog) → Resolves o a → Resolves o b → IsSameCatalog a b
@@ -19,6 +19,7 @@ module _ (laws : SqlLaws) (o : Outline) where
     windows = h.windows ∙ sym k.windows;
     triggers = all_same (λ (t : TriggerOutline). 1) (TriggerReads o) (trigger_once laws o) 0 o.triggers a.triggers b.triggers h.triggers k.triggers;
     procedures = all_same (λ (p : ProcedureOutline). 1) (ProcedureReads o) (procedure_once laws o) 0 o.procedures a.procedures b.procedures h.procedures k.procedures;
+    spares = h.spares ∙ sym k.spares;
   }
 
   pub resolved_or_faulty : (a : Catalog) (site : SqlSite) → Resolves o a → FaultAt o site → ⊥

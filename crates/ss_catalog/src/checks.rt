@@ -9,7 +9,7 @@ ghost use Rattle.ss_catalog_checks.specs.Firsts.{IsFirst};
 ghost use Rattle.ss_catalog_checks.specs.Localities.{IsFirstSite};
 ghost use Rattle.ss_catalog_checks.specs.Owners.{refused_window};
 ghost use Rattle.ss_catalog_checks.specs.Workflows.{IsOnCycle};
-ghost use Rattle.ss_catalog.specs.Checks.{IsResolved, HasAcyclicWorkflows, HasAcyclicTriggers, IsLocal, HasRightEnds, site_name, site_number};
+ghost use Rattle.ss_catalog.specs.Checks.{IsResolved, HasAcyclicWorkflows, HasAcyclicTriggers, IsLocal, HasRightEnds, HasRightOwners, site_name, site_number};
 ghost use Rattle.ss_catalog.specs.Reads.{Refuses};
 ghost use Rattle.ss_catalog.specs.SqlFaults.{IsBrokenAt};
 
@@ -23,7 +23,7 @@ use ss_value::{Name, NoMemory};
 use std::alloc::Global;
 
 /// C5: no workflow has a cycle.
-pub fn check_workflows(alloc: Global, catalog: &Catalog) -> Result<(), CatalogError>
+fn check_workflows(alloc: Global, catalog: &Catalog) -> Result<(), CatalogError>
     ensures ok { OnOk result (IsFirst (IsOnCycle catalog.now) None) }
     ensures refused { (d : Data) (o : Outline) → IsResolved d o catalog.now → IfErr result (Refuses d) }
 {
@@ -37,7 +37,7 @@ pub fn check_workflows(alloc: Global, catalog: &Catalog) -> Result<(), CatalogEr
 }
 
 /// C6: no trigger leads back to its window.
-pub fn check_cascades(alloc: Global, catalog: &Catalog) -> Result<(), CatalogError>
+fn check_cascades(alloc: Global, catalog: &Catalog) -> Result<(), CatalogError>
     ensures ok { OnOk result (IsFirst (IsOnTriggerCycle catalog.now) None) }
     ensures refused { (d : Data) (o : Outline) → HasAcyclicWorkflows d o catalog.now → IfErr result (Refuses d) }
 {
@@ -84,7 +84,7 @@ fn locality_broken(alloc: Global, catalog: &Catalog, site: Site) -> CatalogError
 }
 
 /// C7: all SQL keeps to its touch set.
-pub fn check_locality(alloc: Global, catalog: &Catalog) -> Result<(), CatalogError>
+fn check_locality(alloc: Global, catalog: &Catalog) -> Result<(), CatalogError>
     ensures ok { OnOk result (IsFirstSite catalog.now None) }
     ensures refused { (d : Data) (o : Outline) → HasAcyclicTriggers d o catalog.now → IfErr result (Refuses d) }
 {
@@ -95,7 +95,7 @@ pub fn check_locality(alloc: Global, catalog: &Catalog) -> Result<(), CatalogErr
 }
 
 /// C8: streams have the ends that they should.
-pub fn check_stream_ends(alloc: Global, catalog: &Catalog) -> Result<(), CatalogError>
+fn check_stream_ends(alloc: Global, catalog: &Catalog) -> Result<(), CatalogError>
     ensures ok { OnOk result (refused_stream catalog.now ≡ None) }
     ensures refused { (d : Data) (o : Outline) → IsLocal d o catalog.now → IfErr result (Refuses d) }
 {
@@ -109,7 +109,7 @@ pub fn check_stream_ends(alloc: Global, catalog: &Catalog) -> Result<(), Catalog
 }
 
 /// C9: the owner of each window is a streaming procedure, and SQL that names the window runs in it alone.
-pub fn check_window_owners(alloc: Global, catalog: &Catalog) -> Result<(), CatalogError>
+fn check_window_owners(alloc: Global, catalog: &Catalog) -> Result<(), CatalogError>
     ensures ok { OnOk result (refused_window catalog.now ≡ None) }
     ensures refused { (d : Data) (o : Outline) → HasRightEnds d o catalog.now → IfErr result (Refuses d) }
 {
@@ -120,4 +120,16 @@ pub fn check_window_owners(alloc: Global, catalog: &Catalog) -> Result<(), Catal
             Err(CatalogError::WindowOwner(name))
         }
     }
+}
+
+/// The checks of the catalogue that an outline resolved to, in the order of `read_catalog`.
+pub fn check_catalog(alloc: Global, catalog: &Catalog) -> Result<(), CatalogError>
+    ensures ok { (d : Data) (o : Outline) → IsResolved d o catalog.now → OnOk result (HasRightOwners d o catalog.now) }
+    ensures refused { (d : Data) (o : Outline) → IsResolved d o catalog.now → IfErr result (Refuses d) }
+{
+    check_workflows(alloc, catalog)?;
+    check_cascades(alloc, catalog)?;
+    check_locality(alloc, catalog)?;
+    check_stream_ends(alloc, catalog)?;
+    check_window_owners(alloc, catalog)
 }

@@ -7,7 +7,7 @@ ghost use Rattle.ss_model.specs.declared.catalog.Catalog.{Catalog};
 ghost use Rattle.ss_catalog_outline.specs.Limits.{is_too_many_to_number, over_limit};
 ghost use Rattle.ss_catalog_outline.specs.Twice.{name_twice};
 ghost use Rattle.ss_catalog_outline.specs.Unknown.{name_unknown};
-ghost use Rattle.ss_catalog.specs.Checks.{IsShaped, HasDistinctNames, HasKnownNames, HasRightOwners};
+ghost use Rattle.ss_catalog.specs.Checks.{IsShaped, HasDistinctNames, HasKnownNames, IsNumbered, HasRightOwners};
 ghost use Rattle.ss_catalog.specs.Reads.{Refuses};
 
 use crate::error::{CatalogError, Word};
@@ -43,7 +43,7 @@ pub fn read_shape(alloc: Global, value: &Json) -> Result<Outline, CatalogError>
 }
 
 /// C2: no name is a duplicate.
-pub fn check_names_once(alloc: Global, outline: &Outline) -> Result<(), CatalogError>
+fn check_names_once(alloc: Global, outline: &Outline) -> Result<(), CatalogError>
     ensures ok { OnOk result (name_twice outline.now ≡ None) }
     ensures refused { (d : Data) → IsShaped d outline.now → IfErr result (Refuses d) }
 {
@@ -54,7 +54,7 @@ pub fn check_names_once(alloc: Global, outline: &Outline) -> Result<(), CatalogE
 }
 
 /// C3: each name in a field is known.
-pub fn check_names_known(alloc: Global, outline: &Outline) -> Result<(), CatalogError>
+fn check_names_known(alloc: Global, outline: &Outline) -> Result<(), CatalogError>
     ensures ok { OnOk result (name_unknown outline.now ≡ None) }
     ensures refused { (d : Data) → HasDistinctNames d outline.now → IfErr result (Refuses d) }
 {
@@ -66,7 +66,7 @@ pub fn check_names_known(alloc: Global, outline: &Outline) -> Result<(), Catalog
 
 /// C10, as far as it comes before SQL is read: no list is too long for the numbers of typed trees.
 #[tactic(auto, using(crate::proofs::Limits::too_many_is_over))]
-pub fn check_numbering(outline: &Outline) -> Result<(), CatalogError>
+fn check_numbering(outline: &Outline) -> Result<(), CatalogError>
     ensures ok { OnOk result (is_too_many_to_number outline.now ≡ false) }
     ensures refused { (d : Data) → HasKnownNames d outline.now → IfErr result (Refuses d) }
 {
@@ -78,6 +78,18 @@ pub fn check_numbering(outline: &Outline) -> Result<(), CatalogError>
         // What can't be numbered is over its limit.
         None => unreachable!(),
     }
+}
+
+/// The checks of what is written, before any SQL is read, in the order of `read_catalog`.
+pub fn check_outline(alloc: Global, outline: &Outline) -> Result<(), CatalogError>
+    ensures ok { (d : Data) → IsShaped d outline.now → OnOk result (IsNumbered d outline.now) }
+    ensures few { OnOk result (is_too_many_to_number outline.now ≡ false) }
+    ensures refused { (d : Data) → IsShaped d outline.now → IfErr result (Refuses d) }
+{
+    check_names_once(alloc, outline)?;
+    check_names_known(alloc, outline)?;
+    // Before any SQL is read: the numbers in typed trees have 16 bits, and those of columns 8.
+    check_numbering(outline)
 }
 
 /// C10: no count is over its limit.

@@ -1,22 +1,19 @@
 //! The catalogue of a JSON value.
 
-ghost use Rattle.std.specs.Prelude.{◌≤◌, IfOk, OnOk, IfErr, IsUtf8};
-ghost use Rattle.serde_json.specs.Data.{Data, depth};
+ghost use Rattle.std.specs.Prelude.{◌≤◌, IfOk, IfErr, IsUtf8};
+ghost use Rattle.serde_json.specs.Data.{depth};
 ghost use Rattle.serde_json.specs.Read.{max_depth};
 ghost use Rattle.serde_json.specs.View.{view};
 ghost use Rattle.ss_model.specs.Accepted.{Accepted};
 ghost use Rattle.ss_catalog_outline.specs.declared.types.Outline.{Outline};
-ghost use Rattle.ss_catalog.specs.Checks.{IsNumbered, IsResolved, HasRightOwners};
+ghost use Rattle.ss_catalog.specs.Checks.{IsNumbered};
 ghost use Rattle.ss_catalog.specs.Reads.{Reads, Refuses};
 ghost use Rattle.ss_catalog.specs.Accepts.{Accepts};
 
-use crate::checks::{
-    check_cascades, check_locality, check_stream_ends, check_window_owners, check_workflows,
-};
+use crate::checks::check_catalog;
 use crate::error::CatalogError;
-use crate::outline_checks::{
-    check_counts, check_names_known, check_names_once, check_numbering, read_shape,
-};
+use crate::outline_checks::{check_counts, check_outline, read_shape};
+use crate::own_texts::body_texts;
 use crate::resolve::{resolve_sql, text_of};
 use serde_json::Value as Json;
 use ss_catalog_checks::{
@@ -29,7 +26,7 @@ use ss_model::Catalog;
 use std::alloc::Global;
 
 /// What passes all checks is accepted: a law that calls, one by one, the laws that it follows from.
-fn what_reads_is_accepted()
+pub fn what_reads_is_accepted()
     ensures { Accepts }
 {
     resolved_has_form();
@@ -48,23 +45,8 @@ fn read_numbered(alloc: Global, value: &Json) -> Result<Outline, CatalogError>
     ensures refused { IfErr result (Refuses (view value.now)) }
 {
     let outline = read_shape(alloc, value)?;
-    check_names_once(alloc, &outline)?;
-    check_names_known(alloc, &outline)?;
-    // Before any SQL is read: the numbers in typed trees have 16 bits, and those of columns 8.
-    check_numbering(&outline)?;
+    check_outline(alloc, &outline)?;
     Ok(outline)
-}
-
-/// The checks of the catalogue that an outline resolved to, in the order of `read_catalog`.
-fn check_catalog(alloc: Global, catalog: &Catalog) -> Result<(), CatalogError>
-    ensures ok { (d : Data) (o : Outline) → IsResolved d o catalog.now → OnOk result (HasRightOwners d o catalog.now) }
-    ensures refused { (d : Data) (o : Outline) → IsResolved d o catalog.now → IfErr result (Refuses d) }
-{
-    check_workflows(alloc, catalog)?;
-    check_cascades(alloc, catalog)?;
-    check_locality(alloc, catalog)?;
-    check_stream_ends(alloc, catalog)?;
-    check_window_owners(alloc, catalog)
 }
 
 /// The catalogue of a value's outline, which has passed the checks before any SQL is read; or the first thing that is wrong
@@ -80,7 +62,8 @@ fn catalog_of(alloc: Global, value: &Json, outline: &Outline) -> Result<Catalog,
     ensures refused { IfErr result (Refuses (view value.now)) }
 {
     let text = text_of(alloc, value)?;
-    let catalog = resolve_sql(alloc, outline, text)?;
+    let own_texts = body_texts(alloc, value)?;
+    let catalog = resolve_sql(alloc, outline, text, own_texts)?;
     check_catalog(alloc, &catalog)?;
     // Last in the order of refusals; counts that can't be numbered were refused before any SQL was read.
     check_counts(outline)?;
@@ -93,8 +76,9 @@ fn catalog_of(alloc: Global, value: &Json, outline: &Outline) -> Result<Catalog,
 /// The checks go in this order, each over the whole: shape (C1); duplicate names (C2); unknown names (C3); counts too
 /// large to be numbered (C10); SQL (C4); cycles of workflows (C5) and of triggers (C6); locality (C7); the ends of
 /// streams (C8); the owners of windows (C9); all other counts (C10). What is read is accepted, and has the value's compact
-/// text, which reads as the same value: it has no float, so there is one such text. The value has to have at most 127
-/// levels, as each value has that is read from a text, since it is printed again.
+/// text, which reads as the same value: it has no float, so there is one such text. It has the compact texts of the bodies
+/// too, and no other body may be installed yet. The value has to have at most 127 levels, as each value has that is read
+/// from a text, since it is printed again.
 ///
 /// Takes time linear in the value, with two exceptions: each SQL text walks the names of the tables, windows and inputs,
 /// and C5 to C9 take the times that the pages of the checks in `ss_catalog_checks` say.

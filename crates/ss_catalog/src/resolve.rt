@@ -4,6 +4,7 @@ ghost use Rattle.std.specs.Prelude.{◌≡◌, ◌≤◌, false, IfOk, IfErr, Is
 ghost use Rattle.serde_json.specs.Data.{Data, depth};
 ghost use Rattle.serde_json.specs.Read.{max_depth};
 ghost use Rattle.serde_json.specs.View.{view};
+ghost use Rattle.serde_json.specs.Written.{compact_text, has_float};
 ghost use Rattle.ss_catalog_outline.specs.Limits.{is_too_many_to_number};
 ghost use Rattle.ss_catalog_resolve.specs.Bodies.{Resolves};
 ghost use Rattle.ss_catalog.specs.Checks.{IsNumbered};
@@ -24,6 +25,7 @@ use std::alloc::Global;
 pub fn text_of(alloc: Global, value: &Json) -> Result<Seq<u8>, NoMemory>
     requires { depth (view value.now) ≤ max_depth }
     ensures compact { IfOk result (IsCompactTextOf (view value.now)) }
+    ensures text { IfOk result (λ text. has_float (view value.now) ≡ false → text ≡ compact_text (view value.now)) }
     ensures utf8 { IfOk result IsUtf8 }
 {
     match value.to_string(alloc) {
@@ -46,15 +48,21 @@ fn sql_fault(site: SqlSite) -> CatalogError
     }
 }
 
-/// C4: the catalogue of an outline whose SQL is of the grammar and well typed, or the first fault in it.
+/// C4: the catalogue of an outline whose SQL is of the grammar and well typed, with these texts, or the first fault in it.
 #[tactic(auto, using(crate::proofs::SqlFaultSites::reported_refuses))]
-pub fn resolve_sql(alloc: Global, outline: &Outline, text: Seq<u8>) -> Result<Catalog, CatalogError>
+pub fn resolve_sql(
+    alloc: Global,
+    outline: &Outline,
+    text: Seq<u8>,
+    own_texts: Seq<Seq<u8>>,
+) -> Result<Catalog, CatalogError>
     requires { is_too_many_to_number outline.now ≡ false }
     ensures ok { IfOk result (Resolves outline.now) }
     ensures text { IfOk result (λ catalog. catalog.text ≡ text) }
+    ensures own_texts { IfOk result (λ catalog. catalog.own_texts ≡ own_texts) }
     ensures refused { (d : Data) → IsNumbered d outline.now → IfErr result (Refuses d) }
 {
-    match resolve(alloc, outline, text) {
+    match resolve(alloc, outline, text, own_texts) {
         Ok(catalog) => Ok(catalog),
         Err(ResolveError::NoMemory) => Err(CatalogError::NoMemory),
         Err(ResolveError::Fault(site)) => Err(sql_fault(site)),

@@ -127,3 +127,7 @@ read_step_as ReturnForm d = read_alone (codes "return") d >>= λ query. Ok (Retu
 -- a step of a procedure of this kind; a form that this kind may not have is a fault of the step itself
 abbrev pub read_step : ProcedureKind → Reading StepOutline
 read_step kind d = or_here (form_of d) >>= λ form. only_where (may_stand kind form) (read_step_as form d)
+
+-- the steps of a body of a procedure of this kind
+abbrev pub read_steps : ProcedureKind → Reading (List StepOutline)
+read_steps kind = read_array_of Any (read_step kind)

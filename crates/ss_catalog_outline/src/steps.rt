@@ -3,7 +3,7 @@
 ghost use Rattle.std.specs.Prelude.{◌≡◌, Ok, IfOk, IfErr};
 ghost use Rattle.serde_json.specs.View.{view};
 ghost use Rattle.ss_catalog_json.specs.Readings.{FaultsAs};
-ghost use Rattle.ss_catalog_outline.specs.Steps.{read_given_arg, given_text, read_given, form_of, may_stand, read_alone, read_int, read_test, read_inner_as, read_inner, read_insert, read_for_each, read_emit, read_step_as, read_step};
+ghost use Rattle.ss_catalog_outline.specs.Steps.{read_given_arg, given_text, read_given, form_of, may_stand, read_alone, read_int, read_test, read_inner_as, read_inner, read_insert, read_for_each, read_emit, read_step_as, read_step, read_steps};
 
 use crate::types::{GivenOutline, InnerOutline, StepOutline};
 use serde_json::Value as Json;
@@ -12,7 +12,7 @@ use ss_catalog_json::{
     read_key,
 };
 use ss_model::ProcedureKind;
-use ss_value::{Value, ValueError, text_of};
+use ss_value::{Seq, Value, ValueError, text_of};
 use std::alloc::Global;
 
 // ---- values of an `insert` step
@@ -268,4 +268,21 @@ impl Reader for StepReader {
         }
         read_step_as(alloc, form, value)
     }
+}
+
+/// The steps of a body of a procedure of this kind, or the way from the body to its first fault. Linear in the value, in
+/// time and memory.
+pub fn read_steps(
+    alloc: Global,
+    kind: ProcedureKind,
+    value: &Json,
+) -> Result<Seq<StepOutline>, ReadError>
+    ensures ok { IfOk result (λ steps. read_steps kind (view value.now) ≡ Ok steps) }
+    ensures refused { IfErr result (FaultsAs (read_steps kind (view value.now))) }
+{
+    let steps = ArrayOf {
+        many: ItemCount::Any,
+        of: StepReader { kind },
+    };
+    steps.read(alloc, value)
 }

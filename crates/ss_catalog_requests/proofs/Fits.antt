@@ -1,5 +1,5 @@
 -- What is read as a request fits the catalogue.
-use Rattle.std.proofs.Common.{◌≡◌, ◌<◌, ◌≤◌, ◌^◌, ◌-◌, ◌&&◌, ℕ, Bool, true, false, cond, List, [], ◌∷◌, length, slice_get, Option, Some, None, Ok, Err, refl, subst, arith}
+use Rattle.std.proofs.Common.{◌≡◌, ◌<◌, ◌≤◌, ◌^◌, ◌-◌, ◌&&◌, ℕ, zero, suc, Bool, true, false, cond, List, [], ◌∷◌, length, slice_get, Option, Some, None, Ok, Err, refl, subst, arith}
 use Rattle.std.specs.Prelude.{IfOk, IfSome, ok_or, option_map, unwrap_or, option_and_then, nat_lt, nat_le, codes}
 use Rattle.std.specs.List.{find, list_all, range_with_len}
 use Rattle.std.specs.Str.{bytes_eq}
@@ -12,20 +12,22 @@ use Rattle.ss_value.specs.Fit.{fits_schema}
 use Rattle.ss_model.specs.declared.catalog.Procedure.{Procedure}
 use Rattle.ss_model.specs.declared.catalog.Catalog.{Catalog}
 use Rattle.ss_model.specs.declared.entry.Asked.{Asked}
-use Rattle.ss_model.specs.declared.entry.Request.{Request}
 use Rattle.ss_model.specs.Settling.{procedure_numbers}
 use Rattle.ss_model.specs.Database.{only_when, is_call, is_border_stream, has_call, push_fits, fits_entry, stream_schema}
 use Rattle.ss_model.specs.Report.{asked_entry}
 use Rattle.ss_catalog_json.specs.Readings.{OrFault, Reading, ◌>>=◌, inside, key_step, or_here, only_where, read_between, read_or, read_key, read_key_or, object_of, has_key, read_word, read_name}
 use Rattle.ss_catalog_requests.specs.declared.outline.AskedOutline.{AskedOutline}
-use Rattle.ss_catalog_requests.specs.declared.outline.AskedOutline.TheVariants.{Call, Push}
+use Rattle.ss_catalog_requests.specs.declared.outline.AskedOutline.TheVariants.{Call, Push, Install}
 use Rattle.ss_catalog_requests.specs.declared.outline.RequestOutline.{RequestOutline}
+use Rattle.ss_catalog_requests.specs.declared.request.Said.{Said}
+use Rattle.ss_catalog_requests.specs.declared.request.Said.TheVariants.{Whole, Body}
+use Rattle.ss_catalog_requests.specs.declared.request.SaidRequest.{SaidRequest}
 use Rattle.ss_catalog_requests.specs.declared.request.RequestError.{RequestError}
 use Rattle.ss_catalog_requests.specs.declared.request.RequestError.TheVariants.{UnknownTarget, Arguments, TooManyRows}
-use Rattle.ss_catalog_requests.specs.Shape.{read_client, read_seq, read_row, read_rows, call_keys, read_call, push_keys, read_push, read_asked, read_request}
-use Rattle.ss_catalog_requests.specs.Targets.{is_call_named, call_named, is_stream_named, is_border_stream_named, border_stream_named, procedure_args}
+use Rattle.ss_catalog_requests.specs.Shape.{read_client, read_seq, read_row, read_rows, call_keys, read_call, push_keys, read_push, install_keys, read_install, read_any_array, read_asked, read_request}
+use Rattle.ss_catalog_requests.specs.Targets.{is_procedure_named, procedure_named, is_call_named, call_named, is_stream_named, is_border_stream_named, border_stream_named, procedure_args}
 use Rattle.ss_catalog_requests.specs.Fitting.{fitting_row, fitting_rows}
-use Rattle.ss_catalog_requests.specs.Requests.{OrRefused, in_shape, few_rows, asked_of, request_of}
+use Rattle.ss_catalog_requests.specs.Requests.{OrRefused, in_shape, few_rows, asked_of, said_of}
 use Rattle.ss_catalog_requests.specs.Requests as requests
 
 -- ---- what is read
@@ -66,6 +68,7 @@ read_between_below low high d = then_any (λ n. n ≤ high) (or_here (option_and
 abbrev pub IsSeqBelow : AskedOutline → Type 0
 IsSeqBelow (Call procedure args) = Unit {0}
 IsSeqBelow (Push stream source seq rows) = seq < 2 ^ 63
+IsSeqBelow (Install procedure) = Unit {0}
 
 -- an outline whose numbers are as they should be
 abbrev pub IsWithin : RequestOutline → Type 0
@@ -85,13 +88,20 @@ read_push_within d =
     then_read (λ n. n ≤ 2 ^ 63 - 1) IsSeqBelow (read_key (codes "seq") read_seq d) _ (required_ok (λ n. n ≤ 2 ^ 63 - 1) (codes "seq") read_seq (read_between_below 0 (2 ^ 63 - 1)) d) (λ seq below.
     then_any IsSeqBelow (read_key (codes "rows") read_rows d) _ (λ rows. omega arith)))))
 
-read_asked_within : (d : Data) (b : Bool) → IfOk (cond b (read_push d) (read_call d)) IsSeqBelow
-read_asked_within d true = read_push_within d
-read_asked_within d false = read_call_within d
+read_install_within : (d : Data) → IfOk (read_install d) IsSeqBelow
+read_install_within d =
+    then_any IsSeqBelow (object_of install_keys d) _ (λ _.
+    then_any IsSeqBelow (read_key (codes "install") read_word d) _ (λ procedure.
+    then_any IsSeqBelow (read_key (codes "body") read_any_array d) _ (λ _. tt)))
+
+read_asked_within : (d : Data) (b c : Bool) → IfOk (cond b (read_push d) (cond c (read_install d) (read_call d))) IsSeqBelow
+read_asked_within d true c = read_push_within d
+read_asked_within d false true = read_install_within d
+read_asked_within d false false = read_call_within d
 
 read_request_within : (d : Data) → IfOk (read_request d) IsWithin
 read_request_within d =
-    then_read IsSeqBelow IsWithin (read_asked d) _ (read_asked_within d (has_key (codes "push") d)) (λ what seq.
+    then_read IsSeqBelow IsWithin (read_asked d) _ (read_asked_within d (has_key (codes "push") d) (has_key (codes "install") d)) (λ what seq.
     then_read (λ n. n ≤ 7) IsWithin (read_key_or (codes "client") read_client 0 d) _ (optional_ok (λ n. n ≤ 7) (codes "client") read_client 0 (read_between_below 0 7) (omega arith) d) (λ client below.
     (omega arith, seq)))
 
@@ -150,37 +160,59 @@ push_takes catalog name client s seq rows small below named few fit =
     let numbered : (nat_lt client 8 && is_border_stream catalog s && nat_le (length rows) 1024 && nat_lt seq (2 ^ 63)) ≡ true = and_from _ _ counted (lt-ltb seq (2 ^ 63) below) in
     and_from _ _ numbered fit
 
--- what an outline asks of a catalogue fits it
+found_within : (ps : List Procedure) (n : ℕ) (p : Procedure) → slice_get ps n ≡ Some p → n < length ps
+found_within [] n p e = absurd (cc)
+found_within (x ∷ xs) zero p e = omega arith
+found_within (x ∷ xs) (suc n) p e = let h : n < length xs = found_within xs n p e in omega arith
+
+-- the procedure that was found is there
+named_within : (name : List ℕ) (ps : List Procedure) (n : ℕ) → is_procedure_named name (slice_get ps n) ≡ true → n < length ps
+named_within name ps n named = by (slice_get ps n) refl named
+  where
+    by : (o : Option Procedure) → slice_get ps n ≡ o → is_procedure_named name o ≡ true → n < length ps
+    by None e named = absurd (cc)
+    by (Some p) e named = found_within ps n p e
+
+-- what is asked for fits the catalogue
 abbrev pub Fitting : Catalog → ℕ → Asked → Type 0
 Fitting catalog client what = fits_entry catalog (asked_entry client 0 what) ≡ true
 
-pub asked_of_fits : (catalog : Catalog) (line client : ℕ) (said : AskedOutline) → client < 8 → IsSeqBelow said → IfOk (asked_of catalog line said) (Fitting catalog client)
+-- what an outline says fits it; of an install the procedure is there
+abbrev pub FittingSaid : Catalog → ℕ → Said → Type 0
+FittingSaid catalog client (Whole what) = Fitting catalog client what
+FittingSaid catalog client (Body q) = q < length catalog.procedures
+
+pub asked_of_fits : (catalog : Catalog) (line client : ℕ) (said : AskedOutline) → client < 8 → IsSeqBelow said → IfOk (asked_of catalog line said) (FittingSaid catalog client)
 asked_of_fits catalog line client (Call name args) small seq =
-    then_found (λ n. is_call_named name (slice_get catalog.procedures n) ≡ true) (Fitting catalog client) (ok_or (call_named catalog name) (UnknownTarget line)) _
+    then_found (λ n. is_call_named name (slice_get catalog.procedures n) ≡ true) (FittingSaid catalog client) (ok_or (call_named catalog name) (UnknownTarget line)) _
     (ok_or_some _ (call_named catalog name) _ (find_passes _ (procedure_numbers catalog))) (λ n named.
-    then_found (λ row. fits_schema (procedure_args catalog n) row ≡ true) (Fitting catalog client) (ok_or (fitting_row (procedure_args catalog n) args) (Arguments line)) _
+    then_found (λ row. fits_schema (procedure_args catalog n) row ≡ true) (FittingSaid catalog client) (ok_or (fitting_row (procedure_args catalog n) args) (Arguments line)) _
     (ok_or_some _ (fitting_row (procedure_args catalog n) args) _ (fitting_row_fits (procedure_args catalog n) args)) (λ row fits.
     call_takes name client row (slice_get catalog.procedures n) small named fits))
 asked_of_fits catalog line client (Push name source seq rows) small below =
-    then_found (λ s. is_border_stream_named catalog name s ≡ true) (Fitting catalog client) (ok_or (border_stream_named catalog name) (UnknownTarget line)) _
+    then_found (λ s. is_border_stream_named catalog name s ≡ true) (FittingSaid catalog client) (ok_or (border_stream_named catalog name) (UnknownTarget line)) _
     (ok_or_some _ (border_stream_named catalog name) _ (find_passes _ (range_with_len 0 (length catalog.streams)))) (λ s named.
-    then_found (λ all. list_all (fits_schema (stream_schema catalog s)) all ≡ true) (Fitting catalog client) (ok_or (fitting_rows (stream_schema catalog s) rows) (Arguments line)) _
+    then_found (λ all. list_all (fits_schema (stream_schema catalog s)) all ≡ true) (FittingSaid catalog client) (ok_or (fitting_rows (stream_schema catalog s) rows) (Arguments line)) _
     (ok_or_some _ (fitting_rows (stream_schema catalog s) rows) _ (fitting_rows_fit (stream_schema catalog s) rows)) (λ all fit.
-    then_found (λ few. (list_all (fits_schema (stream_schema catalog s)) few ≡ true) × (nat_le (length few) 1024 ≡ true)) (Fitting catalog client) (few_rows line all) _
+    then_found (λ few. (list_all (fits_schema (stream_schema catalog s)) few ≡ true) × (nat_le (length few) 1024 ≡ true)) (FittingSaid catalog client) (few_rows line all) _
     (rows_are_few _ line all _ refl fit) (λ few both.
     push_takes catalog name client s seq few small below named both.1 both.0)))
+asked_of_fits catalog line client (Install name) small below =
+    then_found (λ n. is_procedure_named name (slice_get catalog.procedures n) ≡ true) (FittingSaid catalog client) (ok_or (procedure_named catalog name) (UnknownTarget line)) _
+    (ok_or_some _ (procedure_named catalog name) _ (find_passes _ (procedure_numbers catalog))) (λ n named.
+    named_within name catalog.procedures n named)
 
--- law: a request that is read fits its catalogue, and has its line
-pub request_of_fits : (catalog : Catalog) (line : ℕ) (d : Data) → IfOk (request_of catalog line d) (λ r. (fits_entry catalog (asked_entry r.client 0 r.what) ≡ true) × (r.line ≡ line))
-unfolding request_of
-request_of_fits catalog line d =
+-- law: what is said fits its catalogue
+pub said_of_fits : (catalog : Catalog) (line : ℕ) (d : Data) → IfOk (said_of catalog line d) (λ s. (s.client < 8) × FittingSaid catalog s.client s.what)
+unfolding said_of
+said_of_fits catalog line d =
     then_found IsWithin _ (in_shape line (read_request d)) _ (shaped (read_request d) (read_request_within d)) (λ said within.
-    then_found (Fitting catalog said.client) _ (asked_of catalog line said.what) _ (asked_of_fits catalog line said.client said.what within.0 within.1) (λ what fits. (fits, refl)))
+    then_found (FittingSaid catalog said.client) _ (asked_of catalog line said.what) _ (asked_of_fits catalog line said.client said.what within.0 within.1) (λ what fits. (within.0, fits)))
   where
     shaped : (r : OrFault RequestOutline) → IfOk r IsWithin → IfOk (in_shape line r) IsWithin
     shaped (Ok said) w = w
     shaped (Err way) w = tt
 
--- the same of the request that was read
-pub read_fits : (catalog : Catalog) (line : ℕ) (d : Data) (r : Request) → request_of catalog line d ≡ Ok r → (fits_entry catalog (asked_entry r.client 0 r.what) ≡ true) × (r.line ≡ line)
-read_fits catalog line d r e = subst (λ (m : OrRefused Request). IfOk m (λ x. (fits_entry catalog (asked_entry x.client 0 x.what) ≡ true) × (x.line ≡ line))) e (request_of_fits catalog line d)
+-- the same of what was said
+pub said_fits : (catalog : Catalog) (line : ℕ) (d : Data) (s : SaidRequest) → said_of catalog line d ≡ Ok s → (s.client < 8) × FittingSaid catalog s.client s.what
+said_fits catalog line d s e = subst (λ (m : OrRefused SaidRequest). IfOk m (λ x. (x.client < 8) × FittingSaid catalog x.client x.what)) e (said_of_fits catalog line d)

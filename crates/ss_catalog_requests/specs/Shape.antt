@@ -1,5 +1,5 @@
 -- What a JSON value says as a request; names are not looked up.
-use Rattle.std.specs.Prelude.{ℕ, ℤ, ◌^◌, ◌-◌, List, [], ◌∷◌, ◌++◌, cond, nat_le, length, Option, Some, None, option_and_then, option_map, Ok, Err, codes}
+use Rattle.std.specs.Prelude.{ℕ, ℤ, ◌^◌, ◌-◌, List, [], ◌∷◌, ◌++◌, cond, nat_le, length, Option, Some, None, option_and_then, option_map, Ok, Err, codes, ⊤}
 use Rattle.serde_json.specs.Data.{Items}
 use Rattle.serde_json.specs.Find.{as_number, as_i64, as_str, as_array}
 use Rattle.ss_value.specs.declared.value.Value.{Value}
@@ -7,7 +7,7 @@ use Rattle.ss_value.specs.declared.value.Value.TheVariants.{Int, Text}
 use Rattle.ss_value.specs.Rows.{Row, Rows}
 use Rattle.ss_catalog_json.specs.Readings.{OrFault, Reading, ◌>>=◌, read_word, read_name, read_between, or_here, read_items_from, has_key, object_of, read_key, read_key_or}
 use Rattle.ss_catalog_requests.specs.declared.outline.AskedOutline.{AskedOutline}
-use Rattle.ss_catalog_requests.specs.declared.outline.AskedOutline.TheVariants.{Call, Push}
+use Rattle.ss_catalog_requests.specs.declared.outline.AskedOutline.TheVariants.{Call, Push, Install}
 use Rattle.ss_catalog_requests.specs.declared.outline.RequestOutline.{RequestOutline}
 
 -- ---- numbers
@@ -19,6 +19,12 @@ read_client = read_between 0 7
 -- an Int of at least 0
 abbrev pub read_seq : Reading ℕ
 read_seq = read_between 0 (2 ^ 63 - 1)
+
+-- ---- arrays
+
+-- an array, whatever its items are
+abbrev pub read_any_array : Reading ⊤
+read_any_array d = or_here (as_array d) >>= λ _. Ok tt
 
 -- ---- values
 
@@ -89,9 +95,19 @@ read_push d =
     read_key (codes "rows") read_rows d >>= λ rows.
     Ok (Push stream source seq rows)
 
--- a push where there is that key, and else a call
+abbrev pub install_keys : List (List ℕ)
+install_keys = codes "client" ∷ codes "install" ∷ codes "body" ∷ []
+
+abbrev pub read_install : Reading AskedOutline
+read_install d =
+    object_of install_keys d >>= λ _.
+    read_key (codes "install") read_word d >>= λ procedure.
+    read_key (codes "body") read_any_array d >>= λ _.
+    Ok (Install procedure)
+
+-- a push where there is that key, else an install where there is that one, and else a call
 abbrev pub read_asked : Reading AskedOutline
-read_asked d = cond (has_key (codes "push") d) (read_push d) (read_call d)
+read_asked d = cond (has_key (codes "push") d) (read_push d) (cond (has_key (codes "install") d) (read_install d) (read_call d))
 
 -- a request, of client 0 where it names none
 abbrev pub read_request : Reading RequestOutline

@@ -18,6 +18,15 @@ is_call_named name (Some p) = bytes_eq p.name name && is_call p.kind
 abbrev pub call_named : Catalog → List ℕ → Option ℕ
 call_named catalog name = find (λ n. is_call_named name (slice_get catalog.procedures n)) (procedure_numbers catalog)
 
+-- whether there is a procedure, and it has this name
+abbrev pub is_procedure_named : List ℕ → Option Procedure → Bool
+is_procedure_named name None = false
+is_procedure_named name (Some p) = bytes_eq p.name name
+
+-- the number of the first procedure of this name, of whatever kind
+abbrev pub procedure_named : Catalog → List ℕ → Option ℕ
+procedure_named catalog name = find (λ n. is_procedure_named name (slice_get catalog.procedures n)) (procedure_numbers catalog)
+
 -- whether there is a stream, and it has this name
 abbrev pub is_stream_named : List ℕ → Option StreamDef → Bool
 is_stream_named name None = false

@@ -20,6 +20,10 @@ pub enum AskedOutline {
         seq: u64,
         rows: Option<Rows>,
     },
+    /// That a body be installed for the procedure that this names; the body stays in the value.
+    Install {
+        procedure: Word,
+    },
 }
 
 /// A request: its client, and what it asks for.

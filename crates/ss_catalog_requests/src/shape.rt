@@ -3,10 +3,10 @@
 ghost use Rattle.std.specs.Prelude.{◌≡◌, ◌<◌, ◌^◌, Ok, IfOk, IfErr};
 ghost use Rattle.serde_json.specs.View.{view};
 ghost use Rattle.ss_catalog_json.specs.Readings.{FaultsAs, object_of};
-ghost use Rattle.ss_catalog_requests.specs.Shape.{call_keys, read_call, push_keys, read_push, read_asked, read_request};
+ghost use Rattle.ss_catalog_requests.specs.Shape.{call_keys, read_call, push_keys, read_push, install_keys, read_install, read_asked, read_request};
 
 use crate::outline::{AskedOutline, RequestOutline};
-use crate::values::{ClientReader, ROW, ROWS, SeqReader};
+use crate::values::{AnyArrayReader, ClientReader, ROW, ROWS, SeqReader};
 use serde_json::Value as Json;
 use ss_catalog_json::{
     NameReader, ReadError, WordReader, has_key, object_of, read_key, read_key_or,
@@ -54,13 +54,32 @@ fn read_push(alloc: Global, value: &Json) -> Result<AskedOutline, ReadError>
     })
 }
 
+fn install_object(alloc: Global, value: &Json) -> Result<(), ReadError>
+    ensures ok { IfOk result (λ x. object_of install_keys (view value.now) ≡ Ok x) }
+    ensures refused { IfErr result (FaultsAs (object_of install_keys (view value.now))) }
+{
+    object_of(alloc, value, &["client", "install", "body"])
+}
+
+fn read_install(alloc: Global, value: &Json) -> Result<AskedOutline, ReadError>
+    ensures ok { IfOk result (λ asked. read_install (view value.now) ≡ Ok asked) }
+    ensures refused { IfErr result (FaultsAs (read_install (view value.now))) }
+{
+    install_object(alloc, value)?;
+    let procedure = read_key(alloc, value, "install", &WordReader)?;
+    read_key(alloc, value, "body", &AnyArrayReader)?;
+    Ok(AskedOutline::Install { procedure })
+}
+
 fn read_asked(alloc: Global, value: &Json) -> Result<AskedOutline, ReadError>
     ensures ok { IfOk result (λ asked. read_asked (view value.now) ≡ Ok asked) }
     ensures refused { IfErr result (FaultsAs (read_asked (view value.now))) }
 {
-    // With both keys it is a push, in which `call` is a key that isn't allowed.
+    // With two of the keys it has the first of these forms, in which the other key isn't allowed.
     if has_key(value, "push") {
         read_push(alloc, value)
+    } else if has_key(value, "install") {
+        read_install(alloc, value)
     } else {
         read_call(alloc, value)
     }

@@ -6,7 +6,7 @@
 ghost use Rattle.std.specs.Prelude.{◌≡◌, Ok, IfOk, IfErr};
 ghost use Rattle.serde_json.specs.View.{view, items_view};
 ghost use Rattle.ss_catalog_json.specs.Readings.{FaultsAs};
-ghost use Rattle.ss_catalog_requests.specs.Shape.{read_client, read_seq, short_text, read_value, with_another, all_items, read_all_of};
+ghost use Rattle.ss_catalog_requests.specs.Shape.{read_client, read_seq, read_any_array, short_text, read_value, with_another, all_items, read_all_of};
 
 use serde_json::Value as Json;
 use ss_catalog_json::{ReadError, Reader, fault_here, read_item};
@@ -56,6 +56,25 @@ impl Reader for SeqReader {
             Ok(number)
         } else {
             Err(fault_here(alloc))
+        }
+    }
+}
+
+// ---- arrays
+
+/// An array, whatever its items are; they aren't read.
+#[derive(Drop)]
+pub struct AnyArrayReader;
+
+impl Reader for AnyArrayReader {
+    type Read = ();
+
+    ghost reading = { λ _. read_any_array };
+
+    fn read(&self, alloc: Global, value: &Json) -> Result<(), ReadError> {
+        match value.as_array() {
+            Some(_) => Ok(()),
+            None => Err(fault_here(alloc)),
         }
     }
 }

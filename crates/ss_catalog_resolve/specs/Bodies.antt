@@ -1,5 +1,5 @@
 -- What the procedures and triggers of an outline say, and the whole.
-use Rattle.std.specs.Prelude.{◌≡◌, ◌⊎◌, ℕ, List, Result, Ok, Err}
+use Rattle.std.specs.Prelude.{◌≡◌, ◌⊎◌, ℕ, List, [], Result, Ok, Err}
 use Rattle.ss_sql_trees.specs.declared.typed.Statement.{Statement}
 use Rattle.ss_model.specs.declared.catalog.Catalog.{Catalog}
 use Rattle.ss_model.specs.declared.catalog.Procedure.{Procedure}
@@ -69,13 +69,14 @@ module _ (o : Outline) where
 
   -- ---- the whole
 
-  -- an outline resolves to a catalogue, whatever text that has
+  -- an outline resolves to a catalogue, whatever texts that has; no body may be installed yet
   pub record Resolves (catalog : Catalog) : Type 0 where
     pub tables : catalog.tables ≡ (sections_of o).tables
     pub streams : catalog.streams ≡ (sections_of o).streams
     pub windows : catalog.windows ≡ (sections_of o).windows
     pub procedures : AllRead (λ p. 1) ProcedureReads 0 o.procedures catalog.procedures
     pub triggers : AllRead (λ t. 1) TriggerReads 0 o.triggers catalog.triggers
+    pub spares : catalog.spares ≡ []
 
   -- the first fault: those of procedures go before those of triggers
   abbrev pub FaultAt : SqlSite → Type 0

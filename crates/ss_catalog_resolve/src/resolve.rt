@@ -52,18 +52,25 @@ fn bodies_of(
     names.bodies(alloc, &mut scope)
 }
 
-/// The catalogue of an outline, with this text, or the first fault in its SQL: procedures go before triggers, each in
-/// written order, and of one text the first fault is reported.
+/// The catalogue of an outline, with this text and these texts of the procedures' own bodies, or the first fault in its
+/// SQL: procedures go before triggers, each in written order, and of one text the first fault is reported. No body may be
+/// installed yet.
 ///
 /// It is for outlines without unknown names: where an input is the name of no stream, it may answer `NoMemory`.
 ///
 /// Parses and types each text once, in time and memory linear in the outline and its texts, as far as hashes spread the
 /// names, with two exceptions: each text walks the names of tables, windows and inputs up to twice, and each input, `emit`
 /// and `for_each` copies the columns of its stream, of which there are at most 256.
-pub fn resolve(alloc: Global, outline: &Outline, text: Seq<u8>) -> Result<Catalog, ResolveError>
+pub fn resolve(
+    alloc: Global,
+    outline: &Outline,
+    text: Seq<u8>,
+    own_texts: Seq<Seq<u8>>,
+) -> Result<Catalog, ResolveError>
     requires { is_too_many_to_number outline.now ≡ false }
     ensures ok { IfOk result (Resolves outline.now) }
     ensures text { IfOk result (λ catalog. catalog.text ≡ text) }
+    ensures own_texts { IfOk result (λ catalog. catalog.own_texts ≡ own_texts) }
     ensures refused { IfErr result (IsUnresolved outline.now) }
 {
     let sections = sections_of(alloc, outline)?;
@@ -79,6 +86,8 @@ pub fn resolve(alloc: Global, outline: &Outline, text: Seq<u8>) -> Result<Catalo
         windows,
         triggers,
         procedures,
+        own_texts,
+        spares: Seq::new(alloc),
         text,
     })
 }

@@ -1,5 +1,5 @@
 -- Groups added one after another.
-use Rattle.std.proofs.Common.{◌≡◌, ⊎_elim, ℕ, ◌+◌, ◌≤◌, List, [], ◌∷◌, ◌++◌, length, take, drop, Result, OnOk, IsErrOf, Ok, refl, sym, ◌∙◌, ap, subst, arith, append_assoc, append-nil, length-append, length-drop, take-append-drop, take_at}
+use Rattle.std.proofs.Common.{◌≡◌, ⊎_elim, ℕ, ◌+◌, ◌≤◌, List, [], ◌++◌, length, take, drop, Result, OnOk, IsErrOf, Ok, refl, sym, ◌∙◌, ap, subst, arith, append_assoc, append-nil, length-append, length-drop, take-append-drop, take_at}
 use Rattle.std.specs.List.{flat_map}
 use Rattle.std.proofs.lemmas.Grind.{flat_map-append}
 use Rattle.std.proofs.lemmas.List.{append_cancel_right, drop-drop}
@@ -23,10 +23,10 @@ use Rattle.ss_cmdlog.proofs.Logs.{open_here}
 use Rattle.ss_cmdlog.proofs.Staying.{nothing_stays}
 
 pub with_none : (s : Stood) → with_groups s [] ≡ s
-with_none s = ap (λ (gs : List (List Entry)). record { mode = s.mode; first = s.first; image = s.image; groups = gs }) (append-nil s.groups)
+with_none s = ap (λ (gs : List (List Entry)). record { bodies = s.bodies; mode = s.mode; first = s.first; image = s.image; groups = gs }) (append-nil s.groups)
 
 with_more : (s : Stood) (gs hs : List (List Entry)) → with_groups (with_groups s gs) hs ≡ with_groups s (gs ++ hs)
-with_more s gs hs = ap (λ (l : List (List Entry)). record { mode = s.mode; first = s.first; image = s.image; groups = l }) (append_assoc s.groups gs hs)
+with_more s gs hs = ap (λ (l : List (List Entry)). record { bodies = s.bodies; mode = s.mode; first = s.first; image = s.image; groups = l }) (append_assoc s.groups gs hs)
 
 -- all of some groups that others follow
 part : (s : Stood) (all done rest : List (List Entry)) (image : Files) → all ≡ done ++ rest → StandsFor image (with_groups s done) → StandsForPart s all image

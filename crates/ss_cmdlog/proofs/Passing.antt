@@ -1,12 +1,9 @@
 -- Entries that a log has no record of: the disk isn't called, and they are counted.
-use Rattle.std.proofs.Common.{◌≡◌, inl, ℕ, ◌+◌, List, [], Result, Ok, IsErrOf, OnOk, refl, sym, subst}
-use Rattle.ss_model.specs.declared.entry.Entry.{Entry}
+use Rattle.std.proofs.Common.{inl, ℕ, ◌+◌, [], Ok, sym, subst}
 use Rattle.ss_disk.specs.Kinds.{DiskKind}
 use Rattle.ss_disk.proofs.CallerLemmas.{no_call}
 use Rattle.ss_cmdlog.specs.declared.log.CmdLog.{CmdLog}
-use Rattle.ss_cmdlog.specs.declared.log.LogError.{LogError}
 use Rattle.ss_cmdlog.specs.Generation.{Stood}
-use Rattle.ss_cmdlog.specs.Store.{with_groups}
 use Rattle.ss_cmdlog.specs.Log.{IsOpenAt, IsOpen, HasRecords, AddsGroups}
 use Rattle.ss_cmdlog.proofs.Adding.{with_none}
 use Rattle.ss_cmdlog.proofs.Logs.{counts_passed, open_here}
@@ -19,6 +16,7 @@ module _ {D : Type 0} (kind : DiskKind D) (honest_tells : kind.honest → kind.t
     done = record {
       going = open'.going;
       of_mode = open'.of_mode;
+      of_form = open'.of_form;
       at = λ told. subst (λ (t : Stood). IsOpenAt (kind.seen log.disk) log.file log.gate t) (sym (with_none s)) (open'.at told);
       first = open'.first;
       count = λ told. counts_passed s.mode log.count taken s recorded (open'.count told);

@@ -1,5 +1,5 @@
 -- What a crash leaves while a new generation takes the place of the current one.
-use Rattle.std.proofs.Common.{◌≡◌, ◌∙◌, ◌⊎◌, inl, inr, ⊎_elim, ℕ, ◌+◌, ◌^◌, ◌<◌, ◌≤◌, ◌==◌, ◌%◌, List, [], ◌∷◌, ◌++◌, length, take, drop, Bool, true, false, if◌then◌else◌, refl, sym, ap, subst, arith, append-nil}
+use Rattle.std.proofs.Common.{◌≡◌, ◌∙◌, ◌⊎◌, inl, inr, ℕ, ◌+◌, ◌^◌, ◌<◌, ◌≤◌, ◌==◌, ◌%◌, List, [], ◌∷◌, ◌++◌, length, take, drop, Bool, true, false, if◌then◌else◌, refl, sym, ap, subst, arith, append-nil}
 use Rattle.std.proofs.lemmas.List.Elements.{All-nil}
 use Rattle.std.proofs.lemmas.List.{take_at}
 use Rattle.std.proofs.Math.ListN.{drop_of_length-le}
@@ -96,10 +96,10 @@ module _ (disk : Files) (current : FileNo) (gate : ℕ) (s : Stood) (at : IsOpen
       open_stands image current gate s (still_open image otherwise)
 
 renewed_stood : (mode : Mode) (place : ℕ) (image : List ℕ) → place ≤ 2 ^ 60 → length image < 2 ^ 64 → IsStood (renewed mode place image)
-renewed_stood mode place image small long = record { first = small; image = long; groups = All-nil (IsGroup mode) }
+renewed_stood mode place image small long = record { first = small; image = long; groups = All-nil (IsGroup true mode) }
 
-renewed_front : (mode : Mode) (place : ℕ) (image front bytes : List ℕ) → front ++ image ≡ head_bytes mode place image → bytes ≡ (front ++ image) ++ 0 ∷ [] → bytes ≡ front_bytes (renewed mode place image) ++ 0 ∷ []
-renewed_front mode place image front bytes head is = is ∙ ap (λ (l : List ℕ). l ++ 0 ∷ []) (head ∙ sym (append-nil (head_bytes mode place image)))
+renewed_front : (mode : Mode) (place : ℕ) (image front bytes : List ℕ) → front ++ image ≡ head_bytes true mode place image → bytes ≡ (front ++ image) ++ 0 ∷ [] → bytes ≡ front_bytes (renewed mode place image) ++ 0 ∷ []
+renewed_front mode place image front bytes head is = is ∙ ap (λ (l : List ℕ). l ++ 0 ∷ []) (head ∙ sym (append-nil (head_bytes true mode place image)))
 
 -- files of which one has s, and the other the next generation
 pub record HasBoth (disk : Files) (current : FileNo) (gate : ℕ) (s next : Stood) : Type 0 where
@@ -107,7 +107,7 @@ pub record HasBoth (disk : Files) (current : FileNo) (gate : ℕ) (s next : Stoo
   pub stood : IsStood next
   pub bytes : file (other_file current) disk ≡ front_bytes next ++ 0 ∷ []
 
-pub has_both : (old new : Files) (current : FileNo) (gate place : ℕ) (s : Stood) (front image : List ℕ) → IsOpenAt old current gate s → place ≤ 2 ^ 60 → length image < 2 ^ 64 → front ++ image ≡ head_bytes s.mode place image
+pub has_both : (old new : Files) (current : FileNo) (gate place : ℕ) (s : Stood) (front image : List ℕ) → IsOpenAt old current gate s → place ≤ 2 ^ 60 → length image < 2 ^ 64 → front ++ image ≡ head_bytes true s.mode place image
     → new ≡ with_file (other_file current) ((front ++ image) ++ 0 ∷ []) old → HasBoth new current gate s (renewed s.mode place image)
 has_both old new current gate place s front image at small long head is = record {
   at = still_open old current gate s at new ((front ++ image) ++ 0 ∷ [], is);

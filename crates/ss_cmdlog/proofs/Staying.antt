@@ -38,7 +38,7 @@ module _ {D : Type 0} (moment : D → ℕ) (images : D → ℕ → Files → Typ
         ))
 
     -- the gate is opened: each image stands for that, or for the group too
-    pub gate_stays : (mid new : D) (seen : Files) (g : List Entry) (is : IsStaged seen current gate s g) → IsGroup s.mode g → Only seen (images mid (moment mid))
+    pub gate_stays : (mid new : D) (seen : Files) (g : List Entry) (is : IsStaged seen current gate s g) → IsGroup s.bodies s.mode g → Only seen (images mid (moment mid))
         → LeavesWrite moment images mid new current gate 1 → LeavesFewer moment images (moment mid + 1) new → KeepsCounts moment images (moment mid) new
     gate_stays mid new seen g is group only run fewer n =
         stays_write moment images (HasAtLeast n) mid new (TornWrite current gate 1) run fewer

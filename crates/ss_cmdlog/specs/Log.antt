@@ -43,6 +43,7 @@ Counts Weak count s = count_of s ≤ count
 pub record IsOpen {D : Type 0} (kind : DiskKind D) (log : CmdLog D) (s : Stood) : Type 0 where
   pub going : log.halted ≡ None
   pub of_mode : log.mode ≡ s.mode
+  pub of_form : log.bodies ≡ s.bodies
   pub at : kind.tells → IsOpenAt (kind.seen log.disk) log.file log.gate s
   pub first : kind.tells → log.first ≡ s.first
   pub count : kind.tells → Counts s.mode log.count s

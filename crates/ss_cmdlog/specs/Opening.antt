@@ -42,6 +42,7 @@ pub record IsGatedAt (bytes : List ℕ) (gate : ℕ) (s : Stood) : Type 0 where
 
 -- what was loaded is this
 pub record IsLoaded (loaded : Loaded) (s : Stood) : Type 0 where
+  pub bodies : loaded.bodies ≡ s.bodies
   pub mode : loaded.mode ≡ s.mode
   pub first : loaded.first ≡ s.first
   pub image : loaded.image ≡ s.image

@@ -1,5 +1,5 @@
 -- What a new generation in place of the current one leaves on the disk.
-use Rattle.std.specs.Prelude.{◌≡◌, ◌⊎◌, ℕ, List, [], Result, OnOk, IsErrOf}
+use Rattle.std.specs.Prelude.{◌≡◌, ◌⊎◌, true, ℕ, List, [], Result, OnOk, IsErrOf}
 use Rattle.ss_model.specs.declared.entry.Mode.{Mode}
 use Rattle.ss_disk.specs.declared.disk.FileNo.{FileNo}
 use Rattle.ss_disk.specs.declared.disk.FileNo.TheVariants.{Selector, First, Second}
@@ -13,9 +13,9 @@ use Rattle.ss_cmdlog.specs.Generation.{Stood}
 use Rattle.ss_cmdlog.specs.Store.{StandsFor}
 use Rattle.ss_cmdlog.specs.Log.{IsOpen}
 
--- a generation of this mode with this image at this place, and no groups
+-- a generation of this mode with this image at this place, and no groups, in the new form
 abbrev pub renewed : Mode → ℕ → List ℕ → Stood
-renewed mode place image = record { mode = mode; first = place; image = image; groups = [] }
+renewed mode place image = record { bodies = true; mode = mode; first = place; image = image; groups = [] }
 
 -- the file that isn't the current one, and the selector's byte for it
 abbrev pub other_file : FileNo → FileNo

@@ -1,6 +1,6 @@
 //! A new store.
 
-ghost use Rattle.std.specs.Prelude.{◌≡◌, ◌≢◌, ◌+◌, ◌<◌, ◌^◌, ◌⊎◌, [], ◌∷◌, ◌++◌, length, OnOk, IfOk, IfErr};
+ghost use Rattle.std.specs.Prelude.{◌≡◌, ◌≢◌, true, ◌+◌, ◌<◌, ◌^◌, ◌⊎◌, [], ◌∷◌, ◌++◌, length, OnOk, IfOk, IfErr};
 ghost use Rattle.ss_disk.specs.Kinds.{present};
 ghost use Rattle.ss_disk.specs.Files.{file, with_file};
 ghost use Rattle.ss_disk.specs.Moments.{LeavesOnly};
@@ -17,14 +17,14 @@ use ss_value::NoMemory;
 use std::alloc::Global;
 
 /// The bytes in front of a strong generation.
-const STRONG_MAGIC: [u8; 8] = [83, 83, 84, 79, 82, 69, 49, 10];
+const STRONG_MAGIC: [u8; 9] = [83, 83, 84, 79, 82, 69, 50, 10, 0];
 
 /// And in front of a weak one.
-const WEAK_MAGIC: [u8; 8] = [83, 83, 84, 79, 82, 69, 87, 10];
+const WEAK_MAGIC: [u8; 9] = [83, 83, 84, 79, 82, 69, 50, 10, 1];
 
-/// The bytes in front of a generation of this mode.
-pub(crate) fn magic_of(mode: Mode) -> [u8; 8]
-    ensures { result ≡ magic mode }
+/// The bytes in front of a generation of this mode, in the new form.
+pub(crate) fn magic_of(mode: Mode) -> [u8; 9]
+    ensures { result ≡ magic true mode }
 {
     match mode {
         Mode::Strong => STRONG_MAGIC,
@@ -32,7 +32,7 @@ pub(crate) fn magic_of(mode: Mode) -> [u8; 8]
     }
 }
 
-/// A generation without groups: its head, and a closed gate.
+/// A generation of the new form without groups: its head, and a closed gate.
 #[tactic(auto, unfolding(crate::specs::Generation::head_bytes))]
 pub(crate) fn generation(
     alloc: Global,
@@ -40,7 +40,7 @@ pub(crate) fn generation(
     first: u64,
     image: &[u8],
 ) -> Result<Vec<u8>, NoMemory>
-    ensures spelled { IfOk result (λ bytes. bytes.items ≡ head_bytes mode first image.now ++ 0 ∷ []) }
+    ensures spelled { IfOk result (λ bytes. bytes.items ≡ head_bytes true mode first image.now ++ 0 ∷ []) }
     ensures long { IfOk result (λ bytes. length image.now < 2 ^ 64) }
 {
     let magic = magic_of(mode);
@@ -87,7 +87,7 @@ impl<D: Disk> CmdLog<D> {
     ghost use Rattle.ss_cmdlog.specs.Log.{IsOpen, IsAddRefusal, HasCallCause};
     ghost use Rattle.ss_cmdlog.specs.Formatting.{fresh};
 
-    /// Makes a store of this mode and of an image on an empty disk of which nothing is unsynced, at place 0.
+    /// Makes a store of this mode and of an image, in the new form, on an empty disk of which nothing is unsynced, at place 0.
     ///
     /// A crash at any moment leaves something (`some`): a disk that is still empty, or one that stands for the image. `DiskFault` comes exactly
     /// where the disk counted a fault. There are seven calls of the disk. Time is linear in the image, of which there is one copy.
@@ -123,6 +123,7 @@ impl<D: Disk> CmdLog<D> {
         Ok(CmdLog {
             disk,
             alloc,
+            bodies: true,
             mode,
             file: FileNo::First,
             gate: (bytes.len() - 1) as u64,

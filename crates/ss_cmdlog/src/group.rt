@@ -23,15 +23,15 @@ pub(crate) fn add_group<D: Disk>(
     requires within { D.kind.tells → gate < length (file current (D.kind.seen disk.old)) }
     requires small { gate < 18446744073709551615 }
     ensures added { D.kind.tells → (s : Stood) (g : List Entry) → IsOpenAt (D.kind.seen disk.old) current gate s
-        → IsGroup s.mode g → bytes.now ≡ group_bytes g ++ 0 ∷ []
+        → IsGroup s.bodies s.mode g → bytes.now ≡ group_bytes g ++ 0 ∷ []
         → OnOk result (IsOpenAt (D.kind.seen disk.new) current (gate + length bytes.now) (with_groups s (g ∷ []))) }
     ensures durable { D.kind.honest → OnOk result (IsSettled D.kind disk.new) }
     ensures moments { D.kind.honest → (s : Stood) (g : List Entry) → IsOpenAt (D.kind.seen disk.old) current gate s
-        → IsGroup s.mode g → bytes.now ≡ group_bytes g ++ 0 ∷ []
+        → IsGroup s.bodies s.mode g → bytes.now ≡ group_bytes g ++ 0 ∷ []
         → IsSettled D.kind disk.old
         → LeavesOnly D.kind.moment D.kind.images disk.old disk.new (λ image. StandsFor image s ⊎ StandsFor image (with_groups s (g ∷ []))) }
     ensures stays { D.kind.honest → (s : Stood) (g : List Entry) → IsOpenAt (D.kind.seen disk.old) current gate s
-        → IsGroup s.mode g → bytes.now ≡ group_bytes g ++ 0 ∷ []
+        → IsGroup s.bodies s.mode g → bytes.now ≡ group_bytes g ++ 0 ∷ []
         → IsSettled D.kind disk.old
         → KeepsCounts D.kind.moment D.kind.images (D.kind.moment disk.old) disk.new }
     ensures kept { D.kind.tells → (s : Stood) → IsOpenAt (D.kind.seen disk.old) current gate s → IsErrOf result NoMemory

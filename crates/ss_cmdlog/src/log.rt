@@ -1,6 +1,6 @@
 //! The log.
 
-ghost use Rattle.std.specs.Prelude.{◌≡◌, ◌≤◌, ◌<◌, ◌+◌, ◌^◌, List, [], ◌∷◌, length, None, OnOk, OnErr, IsOk, IfOk, IfErr, IsErrOf, All, ℕ};
+ghost use Rattle.std.specs.Prelude.{◌≡◌, ◌≤◌, ◌<◌, ◌+◌, ◌^◌, List, [], ◌∷◌, length, None, OnOk, OnErr, IsOk, IfOk, IfErr, IsErrOf, All, false, ℕ};
 ghost use Rattle.ss_model.specs.declared.entry.Entry.{Entry};
 ghost use Rattle.ss_record.specs.Spelling.{records};
 
@@ -63,6 +63,7 @@ impl From<DiskError> for LogError {
 pub struct CmdLog<D: Disk> {
     pub(crate) disk: D,
     pub(crate) alloc: Global,
+    pub(crate) bodies: bool,
     pub(crate) mode: Mode,
     pub(crate) file: FileNo,
     pub(crate) gate: u64,
@@ -76,7 +77,7 @@ impl<D: Disk> CmdLog<D> {
     ghost use Rattle.ss_record.specs.Bounds.{IsRecordable};
     ghost use Rattle.ss_disk.specs.Kinds.{present};
     ghost use Rattle.ss_cmdlog.specs.Groups.{as_group};
-    ghost use Rattle.ss_cmdlog.specs.Logged.{logged};
+    ghost use Rattle.ss_cmdlog.specs.Logged.{logged, is_install};
     ghost use Rattle.ss_cmdlog.specs.Store.{count_of};
     ghost use Rattle.ss_cmdlog.specs.Log.{IsOpenAt, IsOpen, AddsGroups, AddsEntries, HasRecords, HasLogCause, IsAddRefusal, IsReceipted, KeepsCounts};
 
@@ -88,13 +89,15 @@ impl<D: Disk> CmdLog<D> {
         requires number { number ≤ max_body }
         requires recorded { HasRecords self.old.mode number taken }
         requires within { self.old.count + taken ≤ 2 ^ 60 }
-        ensures adds { (s : Stood) (entries : List Entry) → IsOpen D.kind self.old s → IsGroup self.old.mode entries
-            → body.now ≡ records entries → number ≡ length entries → AddsGroups D.kind self.old self.new result s (entries ∷ []) }
+        ensures adds { (s : Stood) (entries : List Entry) → IsOpen D.kind self.old s
+            → IsGroup self.old.bodies self.old.mode entries → body.now ≡ records entries → number ≡ length entries
+            → AddsGroups D.kind self.old self.new result s (entries ∷ []) }
         ensures count { OnOk result (self.new.count ≡ self.old.count + taken) }
         ensures uncounted { OnErr result (self.new.count ≡ self.old.count) }
         ensures refusals { IfErr result IsAddRefusal }
         ensures cause { HasLogCause (D.kind.faults self.old.disk) (D.kind.faults self.new.disk) self.old.halted self.new.halted result }
         ensures same { self.new.mode ≡ self.old.mode }
+        ensures form { self.new.bodies ≡ self.old.bodies }
     {
         let bytes = behind_gate(self.alloc, body, number)?;
         let Some(gate) = self.gate.checked_add(bytes.len() as u64) else {
@@ -123,13 +126,14 @@ impl<D: Disk> CmdLog<D> {
         requires recorded { HasRecords self.old.mode next.now.records next.now.taken }
         requires within { self.old.count + next.now.taken ≤ 2 ^ 60 }
         ensures adds { (s : Stood) (entries : List Entry) → IsOpen D.kind self.old s
-            → (0 < length entries → IsGroup self.old.mode entries) → next.now.body.items ≡ records entries → next.now.records ≡ length entries
+            → (0 < length entries → IsGroup self.old.bodies self.old.mode entries) → next.now.body.items ≡ records entries → next.now.records ≡ length entries
             → AddsGroups D.kind self.old self.new result s (as_group entries) }
         ensures count { OnOk result (self.new.count ≡ self.old.count + next.now.taken) }
         ensures uncounted { OnErr result (self.new.count ≡ self.old.count) }
         ensures refusals { IfErr result IsAddRefusal }
         ensures cause { HasLogCause (D.kind.faults self.old.disk) (D.kind.faults self.new.disk) self.old.halted self.new.halted result }
         ensures same { self.new.mode ≡ self.old.mode }
+        ensures form { self.new.bodies ≡ self.old.bodies }
         ensures quiet { next.now.records ≡ 0 → self.new.disk ≡ self.old.disk }
     {
         if next.records == 0 {
@@ -144,6 +148,7 @@ impl<D: Disk> CmdLog<D> {
         requires going { self.old.halted ≡ None }
         requires open { (s : Stood) × IsOpen D.kind self.old s }
         requires recordable { All IsRecordable entries.now }
+        requires formed { self.old.bodies ≡ false → All (λ e. is_install e ≡ false) entries.now }
         requires within { self.old.count + length entries.now ≤ 2 ^ 60 }
         ensures adds { (s : Stood) → IsOpen D.kind self.old s
             → AddsEntries D.kind self.old self.new (IsOk result) (IsErrOf result LogError.NoMemory) s entries.now }
@@ -152,6 +157,7 @@ impl<D: Disk> CmdLog<D> {
         ensures cause { HasLogCause (D.kind.faults self.old.disk) (D.kind.faults self.new.disk) self.old.halted self.new.halted result }
         ensures refusals { IfErr result IsAddRefusal }
         ensures same { self.new.mode ≡ self.old.mode }
+        ensures form { self.new.bodies ≡ self.old.bodies }
         ensures nothing { entries.now ≡ [] → self.new ≡ self.old }
         ensures quiet { logged self.old.mode entries.now ≡ [] → self.new.disk ≡ self.old.disk }
     {
@@ -174,14 +180,16 @@ impl<D: Disk> CmdLog<D> {
     /// that are on the disk. `DiskFault` comes exactly where the disk counted a fault; the log answers `Halted` with that count
     /// from then on, and touches the disk no more.
     ///
-    /// A weak log has no steps, which run again where it is recovered: of the entries it writes the calls and pushes alone, and
-    /// the receipt counts them all. Where there is nothing to write the disk isn't called, and nothing is spelled. Else there are
-    /// four calls of the disk for each group: its bytes behind the present gate, a sync, the gate, a sync. Time is linear in the bytes of the records,
-    /// each of which is spelled into a buffer of its own and copied into its group, and with it once more behind the
-    /// group's head; the entry that begins the next group is spelled twice.
+    /// A weak log has no steps, which run again where it is recovered: of the entries it writes all others, and the receipt
+    /// counts them all. A log of the older form has no bodies, so none of the entries may be an install. Where there is nothing
+    /// to write the disk isn't called, and nothing is spelled. Else there are four calls of the disk for each group: its bytes
+    /// behind the present gate, a sync, the gate, a sync. Time is linear in the bytes of the records, each of which is spelled
+    /// into a buffer of its own and copied into its group, and with it once more behind the group's head; the entry that begins
+    /// the next group is spelled twice.
     pub fn flush(&mut self, entries: &Seq<Entry>) -> Result<Receipt, LogError>
         requires open { self.old.halted ≡ None → (s : Stood) × IsOpen D.kind self.old s }
         requires recordable { All IsRecordable entries.now }
+        requires formed { self.old.bodies ≡ false → All (λ e. is_install e ≡ false) entries.now }
         requires within { self.old.halted ≡ None → self.old.count + length entries.now ≤ 2 ^ 60 }
         ensures adds { (s : Stood) → IsOpen D.kind self.old s
             → AddsEntries D.kind self.old self.new (IsOk result) (IsErrOf result LogError.NoMemory) s entries.now }
@@ -194,6 +202,7 @@ impl<D: Disk> CmdLog<D> {
         ensures halted_only { (faults : ℕ) → result ≡ Err (LogError.Halted faults) → self.old.halted ≡ Some faults }
         ensures own { (file at : ℕ) → result ≡ Err (LogError.Foreign file at) → ⊥ }
         ensures same { self.new.mode ≡ self.old.mode }
+        ensures form { self.new.bodies ≡ self.old.bodies }
         ensures nothing { entries.now ≡ [] → self.new ≡ self.old }
         ensures quiet { logged self.old.mode entries.now ≡ [] → self.new.disk ≡ self.old.disk }
     {

@@ -16,9 +16,11 @@ use ss_model::{Entry, Mode};
 use ss_value::Seq;
 use std::alloc::Global;
 
-/// What a store holds: its mode, the image, the place behind it, the entries from there on, and how many each group has of them.
+/// What a store holds: whether it is of the new form, in which bodies may be, its mode, the image, the place behind it, the entries
+/// from there on, and how many each group has of them.
 #[derive(Drop)]
 pub struct Loaded {
+    pub bodies: bool,
     pub mode: Mode,
     pub first: u64,
     pub image: Seq<u8>,
@@ -103,7 +105,7 @@ impl<D: Disk> CmdLog<D> {
     ghost use Rattle.ss_cmdlog.specs.Log.{IsOpen};
     ghost use Rattle.ss_cmdlog.specs.Opening.{IsOpenRefusal, IsForeignAt, StandForLoaded};
 
-    /// Opens the store on a disk that isn't empty, and gives what it holds, of either mode.
+    /// Opens the store on a disk that isn't empty, and gives what it holds, of either mode and in either form.
     ///
     /// It begins with a sync, and then reads: there are five calls of the disk, none of which changes it. A read gives what it
     /// gave, and a crash at any moment leaves what it could leave before, and no more than at the moments between. `Foreign` tells the first byte that can't be, where the image is taken as
@@ -138,6 +140,7 @@ impl<D: Disk> CmdLog<D> {
                 let log = CmdLog {
                     disk,
                     alloc,
+                    bodies: loaded.bodies,
                     mode: loaded.mode,
                     file,
                     gate: gate as u64,

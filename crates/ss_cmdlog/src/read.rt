@@ -4,7 +4,7 @@ ghost use Rattle.std.specs.Prelude.{◌≡◌, ◌≤◌, ◌+◌, length, IfOk,
 ghost use Rattle.ss_record.specs.Reading.{number_at};
 ghost use Rattle.ss_cmdlog.specs.Generation.{Stood, max_body};
 ghost use Rattle.ss_cmdlog.specs.Logged.{is_barred};
-ghost use Rattle.ss_cmdlog.specs.Reading.{whole, magic_at, first_at, bytes_at, image_at, head_at, body_length_at, count_at, entry_at, group_entry_at, entries_at, group_at, gate_at, groups_at, stood_at, generation_at, with_front};
+ghost use Rattle.ss_cmdlog.specs.Reading.{whole, mode_at, magic_at, first_at, bytes_at, image_at, head_at, body_length_at, count_at, entry_at, group_entry_at, entries_at, group_at, gate_at, groups_at, stood_at, generation_at, with_front};
 ghost use Rattle.ss_cmdlog.specs.Read.{field_error, flat, sizes_of, Reads, Refuses};
 ghost use Rattle.ss_cmdlog.specs.Opening.{IsGatedAt, IsLoaded};
 
@@ -15,10 +15,13 @@ use ss_record::{RecordError, byte_of, entry_in, u32_of, u64_of};
 use ss_value::{Seq, ValueError};
 use std::alloc::Global;
 
-/// The number that the bytes in front of a strong generation spell.
+/// The number that the first bytes of a generation of the new form spell.
+const NEW_MAGIC: u64 = 0x5353_544F_5245_320A;
+
+/// And of a strong one of the older form.
 const STRONG_MAGIC: u64 = 0x5353_544F_5245_310A;
 
-/// And in front of a weak one.
+/// And of a weak one.
 const WEAK_MAGIC: u64 = 0x5353_544F_5245_570A;
 
 /// The greatest first place.
@@ -87,16 +90,33 @@ fn u32_in(bytes: &[u8]) -> Result<(u32, &[u8]), ReadError>
     }
 }
 
+#[tactic(auto, unfolding(crate::specs::Reading::mode_at))]
+fn mode_in(bytes: &[u8]) -> Result<(Mode, &[u8]), ReadError>
+    ensures { Reads (λ x. (x.0, x.1.now)) result (mode_at bytes.now) }
+{
+    match byte_of(bytes) {
+        Ok((0, rest)) => Ok((Mode::Strong, rest)),
+        Ok((1, rest)) => Ok((Mode::Weak, rest)),
+        Ok(_) => Err(ReadError::Foreign { left: bytes.len() }),
+        Err(refused) => Err(ReadError::from(refused)),
+    }
+}
+
+/// Whether bodies may be behind it, and the mode.
 #[tactic(auto, unfolding(crate::specs::Reading::magic_at))]
-fn magic_in(bytes: &[u8]) -> Result<(Mode, &[u8]), ReadError>
-    ensures { Reads (λ x. (x.0, x.1.now)) result (magic_at bytes.now) }
+fn magic_in(bytes: &[u8]) -> Result<(bool, Mode, &[u8]), ReadError>
+    ensures { Reads (λ x. (x.0, x.1, x.2.now)) result (magic_at bytes.now) }
 {
     let (number, rest) = u64_in(bytes)?;
+    if number == NEW_MAGIC {
+        let (mode, rest) = mode_in(rest)?;
+        return Ok((true, mode, rest));
+    }
     if number == STRONG_MAGIC {
-        return Ok((Mode::Strong, rest));
+        return Ok((false, Mode::Strong, rest));
     }
     if number == WEAK_MAGIC {
-        return Ok((Mode::Weak, rest));
+        return Ok((false, Mode::Weak, rest));
     }
     Err(ReadError::Foreign { left: bytes.len() })
 }
@@ -146,24 +166,27 @@ fn count_in(bytes: &[u8]) -> Result<(u32, &[u8]), ReadError>
     Ok((count, rest))
 }
 
-/// Whether no record of such a log begins so: a weak log has no steps.
-fn is_barred(mode: Mode, bytes: &[u8]) -> bool
-    ensures { result ≡ is_barred mode bytes.now }
+/// Whether no record of such a log begins so: a weak log has no steps, and one of the older form no installs.
+fn is_barred(bodies: bool, mode: Mode, bytes: &[u8]) -> bool
+    ensures { result ≡ is_barred bodies mode bytes.now }
 {
-    match mode {
-        Mode::Strong => false,
-        Mode::Weak => match bytes.first() {
-            Some(kind) => *kind == 3,
-            None => false,
-        },
+    match bytes.first() {
+        Some(3) => matches!(mode, Mode::Weak),
+        Some(4) => !bodies,
+        _ => false,
     }
 }
 
 #[tactic(auto, unfolding(crate::specs::Reading::entry_at))]
-fn entry_of(alloc: Global, mode: Mode, bytes: &[u8]) -> Result<(Entry, &[u8]), ReadError>
-    ensures { Reads (λ x. (x.0, x.1.now)) result (entry_at mode bytes.now) }
+fn entry_of(
+    alloc: Global,
+    bodies: bool,
+    mode: Mode,
+    bytes: &[u8],
+) -> Result<(Entry, &[u8]), ReadError>
+    ensures { Reads (λ x. (x.0, x.1.now)) result (entry_at bodies mode bytes.now) }
 {
-    if is_barred(mode, bytes) {
+    if is_barred(bodies, mode, bytes) {
         return Err(ReadError::Foreign { left: bytes.len() });
     }
     match entry_in(alloc, bytes) {
@@ -176,6 +199,7 @@ fn entry_of(alloc: Global, mode: Mode, bytes: &[u8]) -> Result<(Entry, &[u8]), R
 #[tactic(auto, unfolding(crate::specs::Reading::group_entry_at))]
 fn group_entry_in(
     alloc: Global,
+    bodies: bool,
     mode: Mode,
     bytes: &[u8],
     more: u32,
@@ -183,9 +207,9 @@ fn group_entry_in(
     total: usize,
 ) -> Result<(Entry, &[u8]), ReadError>
     requires { body ≤ max_body }
-    ensures { Reads (λ x. (x.0, x.1.now)) result (group_entry_at mode more body total bytes.now) }
+    ensures { Reads (λ x. (x.0, x.1.now)) result (group_entry_at bodies mode more body total bytes.now) }
 {
-    let (entry, rest) = entry_of(alloc, mode, bytes)?;
+    let (entry, rest) = entry_of(alloc, bodies, mode, bytes)?;
     if more == 0 && body as usize + rest.len() != total {
         return Err(ReadError::Foreign { left: bytes.len() });
     }
@@ -195,6 +219,7 @@ fn group_entry_in(
 /// So many entries, behind those that were read.
 fn entries_in(
     alloc: Global,
+    bodies: bool,
     mode: Mode,
     mut entries: Seq<Entry>,
     bytes: &[u8],
@@ -202,12 +227,13 @@ fn entries_in(
     body: u32,
 ) -> Result<(Seq<Entry>, &[u8]), ReadError>
     requires { body ≤ max_body }
-    ensures { Reads (λ x. (x.0, x.1.now)) result (with_front entries (entries_at mode count body (length bytes.now) bytes.now)) }
+    ensures { Reads (λ x. (x.0, x.1.now)) result (with_front entries (entries_at bodies mode count body (length bytes.now) bytes.now)) }
 {
     let mut rest = bytes;
     for done in 0..count {
         let (entry, behind) = group_entry_in(
             alloc,
+            bodies,
             mode,
             rest,
             count - done - 1,
@@ -226,25 +252,27 @@ fn entries_in(
 #[tactic(auto, unfolding(crate::specs::Reading::group_at))]
 fn group_in(
     alloc: Global,
+    bodies: bool,
     mode: Mode,
     entries: Seq<Entry>,
     bytes: &[u8],
 ) -> Result<(Seq<Entry>, &[u8]), ReadError>
-    ensures { Reads (λ x. (x.0, x.1.now)) result (with_front entries (group_at mode bytes.now)) }
+    ensures { Reads (λ x. (x.0, x.1.now)) result (with_front entries (group_at bodies mode bytes.now)) }
 {
     let (body, rest) = body_length_in(bytes)?;
     let (count, rest) = count_in(rest)?;
-    entries_in(alloc, mode, entries, rest, count, body)
+    entries_in(alloc, bodies, mode, entries, rest, count, body)
 }
 
 /// The entries of all groups, how many each has, and the bytes from the closed gate on. Each group takes a byte at least.
 fn groups_in(
     alloc: Global,
+    bodies: bool,
     mode: Mode,
     bytes: &[u8],
 ) -> Result<(Seq<Entry>, Seq<u64>, &[u8]), ReadError>
-    ensures entries { Reads (λ x. (x.0, x.2.now)) result (flat (groups_at mode (length bytes.now) bytes.now)) }
-    ensures sizes { IfOk result (λ x. sizes_of (groups_at mode (length bytes.now) bytes.now) ≡ Ok x.1) }
+    ensures entries { Reads (λ x. (x.0, x.2.now)) result (flat (groups_at bodies mode (length bytes.now) bytes.now)) }
+    ensures sizes { IfOk result (λ x. sizes_of (groups_at bodies mode (length bytes.now) bytes.now) ≡ Ok x.1) }
 {
     let mut entries = Seq::new(alloc);
     let mut sizes = Seq::new(alloc);
@@ -255,7 +283,7 @@ fn groups_in(
             return Ok((entries, sizes, rest));
         }
         let before = entries.len();
-        let (more, after) = group_in(alloc, mode, entries, behind)?;
+        let (more, after) = group_in(alloc, bodies, mode, entries, behind)?;
         if sizes
             .push(more.len().saturating_sub(before) as u64)
             .is_err()
@@ -268,15 +296,15 @@ fn groups_in(
     Err(ReadError::Foreign { left: 0 })
 }
 
-/// The mode, the first place, the image and the bytes behind it.
+/// Whether bodies may be in it, the mode, the first place, the image and the bytes behind it.
 #[tactic(auto, unfolding(crate::specs::Reading::head_at))]
-fn head_in(bytes: &[u8]) -> Result<(Mode, u64, &[u8], &[u8]), ReadError>
-    ensures { Reads (λ x. (x.0, x.1, x.2.now, x.3.now)) result (head_at bytes.now) }
+fn head_in(bytes: &[u8]) -> Result<(bool, Mode, u64, &[u8], &[u8]), ReadError>
+    ensures { Reads (λ x. (x.0, x.1, x.2, x.3.now, x.4.now)) result (head_at bytes.now) }
 {
-    let (mode, rest) = magic_in(bytes)?;
+    let (bodies, mode, rest) = magic_in(bytes)?;
     let (first, rest) = first_in(rest)?;
     let (image, rest) = image_in(rest)?;
-    Ok((mode, first, image, rest))
+    Ok((bodies, mode, first, image, rest))
 }
 
 /// What is read of a generation, and the place of its closed gate.
@@ -291,13 +319,14 @@ pub(crate) fn generation_in(alloc: Global, bytes: &[u8]) -> Result<Generation, R
     ensures found { IfOk result (λ g. (s : Stood) × (generation_at bytes.now ≡ Ok s) × IsGatedAt bytes.now g.gate s × IsLoaded g.loaded s) }
     ensures refused { IfErr result (λ e. Refuses e (stood_at bytes.now)) }
 {
-    let (mode, first, image, rest) = head_in(bytes)?;
-    let (entries, sizes, behind) = groups_in(alloc, mode, rest)?;
+    let (bodies, mode, first, image, rest) = head_in(bytes)?;
+    let (entries, sizes, behind) = groups_in(alloc, bodies, mode, rest)?;
     let Ok(image) = Vec::from_slice(alloc, image) else {
         return Err(ReadError::NoMemory);
     };
     Ok(Generation {
         loaded: Loaded {
+            bodies,
             mode,
             first,
             image: Seq::from_vec(image),

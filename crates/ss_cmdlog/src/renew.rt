@@ -1,6 +1,6 @@
 //! A new generation in place of the current one.
 
-ghost use Rattle.std.specs.Prelude.{◌≡◌, ◌+◌, ◌<◌, ◌≤◌, ◌^◌, ◌⊎◌, [], ◌∷◌, ◌++◌, length, OnOk, IfOk, IsErrOf, ℕ};
+ghost use Rattle.std.specs.Prelude.{◌≡◌, true, ◌+◌, ◌<◌, ◌≤◌, ◌^◌, ◌⊎◌, [], ◌∷◌, ◌++◌, length, OnOk, IfOk, IsErrOf, ℕ};
 ghost use Rattle.ss_record.specs.Numbers.{number_bytes};
 ghost use Rattle.ss_disk.specs.Files.{file, with_file};
 ghost use Rattle.ss_disk.specs.Moments.{LeavesOnly};
@@ -40,9 +40,9 @@ fn selector_byte(which: FileNo) -> u8
     }
 }
 
-/// What stands in front of an image of this length.
+/// What stands in front of an image of this length, in the new form.
 fn front(alloc: Global, mode: Mode, first: u64, image: u64) -> Result<Vec<u8>, NoMemory>
-    ensures { IfOk result (λ bytes. bytes.items ≡ magic mode ++ number_bytes 8 first ++ number_bytes 8 image) }
+    ensures { IfOk result (λ bytes. bytes.items ≡ magic true mode ++ number_bytes 8 first ++ number_bytes 8 image) }
 {
     let magic = magic_of(mode);
     let mut bytes = Vec::from_slice(alloc, &magic)?;
@@ -127,11 +127,11 @@ fn switch<D: Disk>(
     requires fits { length front.now + length image.now < 2 ^ 64 }
     requires open { D.kind.tells → (s : Stood) × (gate : ℕ) × IsOpenAt (D.kind.seen disk.old) current gate s }
     ensures switched { D.kind.tells → (s : Stood) (gate place : ℕ) → IsOpenAt (D.kind.seen disk.old) current gate s → place ≤ 2 ^ 60
-        → front.now ++ image.now ≡ head_bytes s.mode place image.now
+        → front.now ++ image.now ≡ head_bytes true s.mode place image.now
         → OnOk result (IsOpenAt (D.kind.seen disk.new) (other_file current) (length front.now + length image.now) (renewed s.mode place image.now)) }
     ensures durable { D.kind.honest → OnOk result (IsSettled D.kind disk.new) }
     ensures moments { D.kind.honest → (s : Stood) (gate place : ℕ) → IsOpenAt (D.kind.seen disk.old) current gate s → place ≤ 2 ^ 60
-        → front.now ++ image.now ≡ head_bytes s.mode place image.now → IsSettled D.kind disk.old
+        → front.now ++ image.now ≡ head_bytes true s.mode place image.now → IsSettled D.kind disk.old
         → LeavesOnly D.kind.moment D.kind.images disk.old disk.new (λ crashed. StandsFor crashed s ⊎ StandsFor crashed (renewed s.mode place image.now)) }
     ensures some { D.kind.honest → LeavesSome D.kind.moment D.kind.images (D.kind.moment disk.old) disk.new }
     ensures kept { D.kind.tells → (s : Stood) (gate : ℕ) → IsOpenAt (D.kind.seen disk.old) current gate s → IsErrOf result DiskError.NoMemory
@@ -150,7 +150,7 @@ impl<D: Disk> CmdLog<D> {
     ghost use Rattle.ss_cmdlog.specs.Renewing.{Renews};
 
     /// Puts a generation with this image, at the place of all that the log has, in place of the current one, in the same mode: a
-    /// checkpoint.
+    /// checkpoint. It is of the new form, whatever the current one is.
     ///
     /// The new generation is written into the other file and synced; then the selector names that file, and is synced. A
     /// crash at any moment leaves something (`some`): the generation that there was, with all its groups, or the new one, whatever
@@ -168,6 +168,8 @@ impl<D: Disk> CmdLog<D> {
         ensures first_stays { OnErr result (self.new.first ≡ self.old.first) }
         ensures count { self.new.count ≡ self.old.count }
         ensures same { self.new.mode ≡ self.old.mode }
+        ensures form { OnOk result (self.new.bodies ≡ true) }
+        ensures form_stays { OnErr result (self.new.bodies ≡ self.old.bodies) }
         ensures cause { HasLogCause (D.kind.faults self.old.disk) (D.kind.faults self.new.disk) self.old.halted self.new.halted result }
         ensures some { D.kind.honest → LeavesSome D.kind.moment D.kind.images (D.kind.moment self.old.disk) self.new.disk }
         ensures halted { (faults : ℕ) → self.old.halted ≡ Some faults → (result ≡ Err (LogError.Halted faults)) × (self.new ≡ self.old) }
@@ -183,6 +185,7 @@ impl<D: Disk> CmdLog<D> {
         };
         match switch(&mut self.disk, self.file, front.as_slice(), image) {
             Ok(()) => {
+                self.bodies = true;
                 self.file = other_file(self.file);
                 self.gate = gate as u64;
                 self.first = place;

@@ -1,5 +1,6 @@
 //! Bytes that can't be.
 
+use crate::continued::answer_of as answer_of_continued;
 use crate::renewals::twice_renewed;
 use crate::stores::{answer_of as read_of, store_of_steps};
 use crate::weak::store_among_steps;
@@ -43,11 +44,20 @@ fn is_done(alloc: Global, disk: &mut MemoryDisk, given: &str) -> Result<bool, Wr
     }
 }
 
-/// What is read of a disk to which was done what words say.
-fn read_behind(alloc: Global, disk: MemoryDisk, given: &str) -> Result<String, Wrong> {
+/// What is read of a disk to which was done what words say, or what is in its files where the store goes on.
+fn read_behind(
+    alloc: Global,
+    disk: MemoryDisk,
+    given: &str,
+    goes_on: bool,
+) -> Result<String, Wrong> {
     let mut disk = disk;
     let done = is_done(alloc, &mut disk, given);
-    let answer = read_of(alloc, disk);
+    let answer = if goes_on {
+        answer_of_continued(alloc, disk)
+    } else {
+        read_of(alloc, disk)
+    };
     if done? {
         return answer;
     }
@@ -57,17 +67,23 @@ fn read_behind(alloc: Global, disk: MemoryDisk, given: &str) -> Result<String, W
 /// What is read of a store of three steps behind an image of two bytes, to which was done what words say.
 pub fn answer_of(alloc: Global, given: &str) -> Result<String, Wrong> {
     let disk = store_of_steps(alloc)?;
-    read_behind(alloc, disk, given)
+    read_behind(alloc, disk, given, false)
 }
 
 /// The same of a weak store of a call and a push, among steps.
 pub fn answer_of_weak(alloc: Global, given: &str) -> Result<String, Wrong> {
     let disk = store_among_steps(alloc)?;
-    read_behind(alloc, disk, given)
+    read_behind(alloc, disk, given, false)
 }
 
 /// The same of a store whose generation was renewed twice, each time behind three steps.
 pub fn answer_of_renewed(alloc: Global, given: &str) -> Result<String, Wrong> {
     let disk = twice_renewed(alloc)?;
-    read_behind(alloc, disk, given)
+    read_behind(alloc, disk, given, false)
+}
+
+/// What is in the files of the store of three steps that was damaged so, where it goes on.
+pub fn files_continued(alloc: Global, given: &str) -> Result<String, Wrong> {
+    let disk = store_of_steps(alloc)?;
+    read_behind(alloc, disk, given, true)
 }

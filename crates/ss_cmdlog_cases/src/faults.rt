@@ -1,7 +1,8 @@
 //! A disk that fails in one call.
 
-ghost use Rattle.std.specs.Prelude.{◌≡◌, length, All};
+ghost use Rattle.std.specs.Prelude.{◌≡◌, false, length, All};
 ghost use Rattle.ss_record.specs.Bounds.{IsRecordable};
+ghost use Rattle.ss_cmdlog.specs.Logged.{is_install};
 
 use crate::crashes::crashes_from;
 use crate::stores::{answer_of, three_steps};
@@ -72,6 +73,7 @@ pub fn one_call(alloc: Global, call: u64) -> Result<Seq<u64>, NoMemory> {
 /// A store of these entries on a disk that fails at one call: what a flush of them again answers, and the disk behind that.
 fn flushes_of(alloc: Global, entries: &Seq<Entry>, call: u64) -> Result<String, Wrong>
     requires recordable { All IsRecordable entries.now }
+    requires formed { All (λ e. is_install e ≡ false) entries.now }
     requires three { length entries.now ≡ 3 }
 {
     let fails = one_call(alloc, call)?;

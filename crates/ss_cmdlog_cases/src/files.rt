@@ -1,7 +1,8 @@
-//! The bytes of a small store: those that docs/FORMATS.md shows field by field.
+//! The bytes of a small store: those that docs/STORE.md shows field by field.
 
-ghost use Rattle.std.specs.Prelude.{◌≡◌, length, All, IfOk};
+ghost use Rattle.std.specs.Prelude.{◌≡◌, false, length, All, IfOk};
 ghost use Rattle.ss_record.specs.Bounds.{IsRecordable};
+ghost use Rattle.ss_cmdlog.specs.Logged.{is_install};
 
 use crate::stores::store_with;
 use crate::words::file_of;
@@ -13,7 +14,8 @@ use std::alloc::Global;
 
 /// A call of procedure 2 with the row `[7,"hi"]`, with index 5 of client 3.
 fn call(alloc: Global) -> Result<Entry, Wrong>
-    ensures { IfOk result IsRecordable }
+    ensures recordable { IfOk result IsRecordable }
+    ensures formed { IfOk result (λ e. is_install e ≡ false) }
 {
     let Ok(word) = text_of(alloc, b"hi") else {
         return Err(Wrong::NoMemory);
@@ -28,7 +30,8 @@ fn call(alloc: Global) -> Result<Entry, Wrong>
 
 /// A push of source `s1` with number 9 to stream 4, one row `[-1]`, with index 1 of client 0.
 fn push(alloc: Global) -> Result<Entry, Wrong>
-    ensures { IfOk result IsRecordable }
+    ensures recordable { IfOk result IsRecordable }
+    ensures formed { IfOk result (λ e. is_install e ≡ false) }
 {
     let row = Seq::from_vec(vec![in alloc; Value::Int(-1)]?);
     let rows = Seq::from_vec(vec![in alloc; row]?);
@@ -48,6 +51,7 @@ fn push(alloc: Global) -> Result<Entry, Wrong>
 /// Both of them, in one group.
 pub fn group(alloc: Global) -> Result<Seq<Entry>, Wrong>
     ensures recordable { IfOk result (λ entries. All IsRecordable entries) }
+    ensures formed { IfOk result (λ entries. All (λ e. is_install e ≡ false) entries) }
     ensures two { IfOk result (λ entries. length entries ≡ 2) }
 {
     let first = call(alloc)?;
@@ -62,7 +66,7 @@ fn store(alloc: Global) -> Result<MemoryDisk, Wrong> {
 }
 
 /// Bytes as two hexadecimal digits each.
-fn digits_of(alloc: Global, bytes: &[u8]) -> Result<String, Wrong> {
+pub fn digits_of(alloc: Global, bytes: &[u8]) -> Result<String, Wrong> {
     let mut text = String::new(alloc);
     for byte in bytes {
         let space = if text.is_empty() { "" } else { " " };
@@ -73,7 +77,7 @@ fn digits_of(alloc: Global, bytes: &[u8]) -> Result<String, Wrong> {
 }
 
 /// The bytes of a file.
-fn bytes_of(alloc: Global, disk: &mut MemoryDisk, which: FileNo) -> Result<Vec<u8>, Wrong> {
+pub fn bytes_of(alloc: Global, disk: &mut MemoryDisk, which: FileNo) -> Result<Vec<u8>, Wrong> {
     let Ok(len) = disk.len(which) else {
         return Err(Wrong::text(alloc, "no length"));
     };

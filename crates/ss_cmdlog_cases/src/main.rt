@@ -2,7 +2,7 @@
 //! counts them: which bytes are read as what, where the first byte that can't be is told, what a crash in each call of a
 //! store's making, of a flush and of a new generation leaves, and what a disk that fails there.
 //!
-//! The contracts say all of it of every store. That their definitions say what a person reads off docs/FORMATS.md, and that
+//! The contracts say all of it of every store. That their definitions say what a person reads off docs/STORE.md, and that
 //! the calls answer at all, these cases show.
 //!
 //! ```text
@@ -16,9 +16,11 @@
 //! renewed     DAMAGE ~ ANSWER    what is read of a damaged store whose generation was renewed twice
 //! weak        DAMAGE ~ ANSWER    what is read of a damaged weak store of a call and a push, among steps
 //! left_out    CALL ~ STORY       what flushes to a weak log answer, where the disk fails at this call
+//! continued   DAMAGE ~ BYTES     both files of a damaged store behind a flush, a new generation and an install
 //! ```
 //!
-//! FILE is `selector`, `first` or `second`; bytes stand as two hexadecimal digits each, and `|` parts fields. What is read of a store is `empty`;
+//! FILE is `selector`, `first` or `second`; bytes stand as two hexadecimal digits each, with `*` and a number behind them where one
+//! is there so often, and `|` parts fields. What is read of a store is `empty`;
 //! its first place and the number of its entries, as in `0+3`; or the file and the first byte that can't be, as in `1@27`. A
 //! crash has three answers: where each unsynced range holds its old bytes, its new ones, and dashes. In a STORY they stand
 //! behind their call, for each call from the first that matters.
@@ -26,12 +28,13 @@
 //! - `words`: bytes, numbers and files from text, and text as an answer
 //! - `records`: records at their bounds
 //! - `stores`: stores on a disk in memory, and what is read of one
-//! - `files`: the bytes of one, as docs/FORMATS.md shows them; `damage`: bytes that can't be
+//! - `files`: the bytes of one, as docs/STORE.md shows them; `damage`: bytes that can't be
 //! - `crashes`: a crash in each call; `faults`: a disk that fails in each call
 //! - `renewals`: new generations, and a disk that fails in each call of one
-//! - `weak`: weak logs, which leave steps out
+//! - `weak`: weak logs, which leave steps out; `continued`: stores of either form that go on
 #![tactic(auto)]
 
+mod continued;
 mod crashes;
 mod damage;
 mod faults;
@@ -58,7 +61,8 @@ fn form_of(word: &str) -> Option<BlockForm> {
         | "renewals"
         | "renewed"
         | "weak"
-        | "left_out" => Some(BlockForm {
+        | "left_out"
+        | "continued" => Some(BlockForm {
             behind: Behind::Nothing,
             has_rows: true,
         }),
@@ -78,6 +82,7 @@ fn answer_of(alloc: Global, kind: &str, given: &str) -> Result<String, Wrong> {
         "renewed" => damage::answer_of_renewed(alloc, given),
         "weak" => damage::answer_of_weak(alloc, given),
         "left_out" => weak::flushes_failing_at(alloc, given),
+        "continued" => damage::files_continued(alloc, given),
         _ => faults::opening_failing_at(alloc, given),
     }
 }

@@ -17,11 +17,12 @@ fn is_in_front(alloc: Global, entry: &Entry, taken: usize, bytes: &[u8]) -> Resu
     Ok(again.len() == taken && bytes.starts_with(again.as_slice()))
 }
 
-/// What an entry is, with the number of its values or rows, and the number of bytes that it takes.
+/// What an entry is, with the number of its values, its rows or its text's bytes, and the number of bytes that it takes.
 fn words_of(alloc: Global, entry: &Entry, taken: usize) -> Result<String, Wrong> {
     let (kind, count) = match entry {
         Entry::Call { args, .. } => ("call", args.len()),
         Entry::Push { rows, .. } => ("push", rows.len()),
+        Entry::Install { text, .. } => ("install", text.len()),
         Entry::Step { .. } => return Ok(format!(in alloc; "step in {taken}")?),
     };
     Ok(format!(in alloc; "{kind} of {count} in {taken}")?)

@@ -1,9 +1,10 @@
 //! New generations, and a disk that fails in one call of one.
 
-ghost use Rattle.std.specs.Prelude.{◌≡◌, ◌≤◌, ◌+◌, length, All, OnOk};
+ghost use Rattle.std.specs.Prelude.{◌≡◌, ◌≤◌, ◌+◌, true, false, length, All, OnOk};
 ghost use Rattle.ss_record.specs.Bounds.{IsRecordable};
 ghost use Rattle.ss_cmdlog.specs.Generation.{Stood};
 ghost use Rattle.ss_cmdlog.specs.Log.{IsOpen};
+ghost use Rattle.ss_cmdlog.specs.Logged.{is_install};
 
 use crate::faults::{disk_after, one_call, refusal_of, words_of as words_of_flush};
 use crate::stores::three_steps;
@@ -42,6 +43,7 @@ fn words_of_both(
 /// disk behind that.
 fn renewal_of(alloc: Global, entries: &Seq<Entry>, call: u64) -> Result<String, Wrong>
     requires recordable { All IsRecordable entries.now }
+    requires formed { All (λ e. is_install e ≡ false) entries.now }
     requires three { length entries.now ≡ 3 }
 {
     let fails = one_call(alloc, call)?;
@@ -73,16 +75,18 @@ pub fn renewal_failing_at(alloc: Global, given: &str) -> Result<String, Wrong> {
 }
 
 /// Flushes three entries, and renews the generation behind them.
-fn renew_behind<D: Disk>(
+pub fn renew_behind<D: Disk>(
     log: &mut CmdLog<D>,
     entries: &Seq<Entry>,
     image: &[u8],
 ) -> Result<(), LogError>
     requires open { (s : Stood) × IsOpen D.kind log.old s }
     requires recordable { All IsRecordable entries.now }
+    requires formed { All (λ e. is_install e ≡ false) entries.now }
     requires three { length entries.now ≡ 3 }
-    requires small { log.old.count ≤ 3 }
+    requires small { log.old.count ≤ 100 }
     ensures open { OnOk result ((s : Stood) × IsOpen D.kind log.new s) }
+    ensures form { OnOk result (log.new.bodies ≡ true) }
     ensures count { OnOk result (log.new.count ≡ log.old.count + 3) }
 {
     let receipt = log.flush(entries)?;
@@ -94,6 +98,7 @@ fn renew_behind<D: Disk>(
 /// first time on is there, and in the first file what there is since the second time.
 fn renewed_behind(alloc: Global, entries: &Seq<Entry>) -> Result<MemoryDisk, Wrong>
     requires recordable { All IsRecordable entries.now }
+    requires formed { All (λ e. is_install e ≡ false) entries.now }
     requires three { length entries.now ≡ 3 }
 {
     let disk = MemoryDisk::new(alloc, Seq::new(alloc));

@@ -2,8 +2,9 @@
 //!
 //! A disk has many lists, which are let go wherever a call may fail while it is there. So what may fail borrows it.
 
-ghost use Rattle.std.specs.Prelude.{◌≡◌, ◌≤◌, ◌^◌, length, All, IfOk};
+ghost use Rattle.std.specs.Prelude.{◌≡◌, ◌≤◌, ◌^◌, false, length, All, IfOk};
 ghost use Rattle.ss_record.specs.Bounds.{IsRecordable};
+ghost use Rattle.ss_cmdlog.specs.Logged.{is_install};
 
 use crate::words::said;
 use ss_case_files::Wrong;
@@ -16,6 +17,7 @@ use std::alloc::Global;
 /// Steps on the batches 0, 1 and 2, each with a record of 11 bytes.
 pub fn three_steps(alloc: Global) -> Result<Seq<Entry>, Wrong>
     ensures recordable { IfOk result (λ entries. All IsRecordable entries) }
+    ensures formed { IfOk result (λ entries. All (λ e. is_install e ≡ false) entries) }
     ensures three { IfOk result (λ entries. length entries ≡ 3) }
 {
     let mut entries = Seq::new(alloc);
@@ -39,6 +41,7 @@ pub fn store_with(
     group: &Seq<Entry>,
 ) -> Result<MemoryDisk, Wrong>
     requires recordable { All IsRecordable group.now }
+    requires formed { All (λ e. is_install e ≡ false) group.now }
     requires within { length group.now ≤ 2 ^ 60 }
 {
     let disk = MemoryDisk::new(alloc, Seq::new(alloc));
@@ -74,8 +77,8 @@ fn words_of(
 }
 
 /// A disk.
-struct Kept {
-    disk: MemoryDisk,
+pub struct Kept {
+    pub disk: MemoryDisk,
 }
 
 // By hand, so that letting it go is one call.
@@ -87,7 +90,7 @@ impl Drop for Kept {
 
 impl Kept {
     /// The disk itself.
-    fn into_disk(self) -> MemoryDisk
+    pub fn into_disk(self) -> MemoryDisk
         ensures { result ≡ self.disk }
     {
         let Kept { disk } = self;

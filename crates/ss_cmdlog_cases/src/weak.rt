@@ -1,9 +1,10 @@
 //! Weak logs, which leave steps out.
 
-ghost use Rattle.std.specs.Prelude.{◌≡◌, ◌≤◌, ◌+◌, length, All, OnOk};
+ghost use Rattle.std.specs.Prelude.{◌≡◌, ◌≤◌, ◌+◌, false, length, All, OnOk};
 ghost use Rattle.ss_record.specs.Bounds.{IsRecordable};
 ghost use Rattle.ss_cmdlog.specs.Generation.{Stood};
 ghost use Rattle.ss_cmdlog.specs.Log.{IsOpen};
+ghost use Rattle.ss_cmdlog.specs.Logged.{is_install};
 
 use crate::faults::{disk_after, one_call, words_of};
 use crate::files::group;
@@ -25,6 +26,8 @@ fn flush_among<D: Disk>(
     requires open { (s : Stood) × IsOpen D.kind log.old s }
     requires steps { All IsRecordable steps.now }
     requires asked { All IsRecordable asked.now }
+    requires steps_formed { All (λ e. is_install e ≡ false) steps.now }
+    requires asked_formed { All (λ e. is_install e ≡ false) asked.now }
     requires three { length steps.now ≡ 3 }
     requires two { length asked.now ≡ 2 }
     requires small { log.old.count ≡ 0 }
@@ -43,6 +46,8 @@ fn flushed_among(
 ) -> Result<(Result<Receipt, LogError>, MemoryDisk), Wrong>
     requires steps { All IsRecordable steps.now }
     requires asked { All IsRecordable asked.now }
+    requires steps_formed { All (λ e. is_install e ≡ false) steps.now }
+    requires asked_formed { All (λ e. is_install e ≡ false) asked.now }
     requires three { length steps.now ≡ 3 }
     requires two { length asked.now ≡ 2 }
 {

@@ -27,14 +27,23 @@ pub fn file_of(alloc: Global, word: &str) -> Result<FileNo, Wrong> {
     }
 }
 
-/// The bytes that hexadecimal digits spell, two a byte.
+/// Adds the byte that two hexadecimal digits spell, as often as the number behind `*` says, if there is one.
+fn add_word(alloc: Global, word: &str, bytes: &mut Vec<u8>) -> Result<(), Wrong> {
+    let (digits, many) = word.split_once('*').unwrap_or((word, "1"));
+    let many = number_of(alloc, many)?;
+    let Ok(byte) = u8::from_str_radix(digits, 16) else {
+        return Err(Wrong::text(alloc, "no byte"));
+    };
+    let run = vec![in alloc; byte; many as usize]?;
+    bytes.extend_from_slice(run.as_slice())?;
+    Ok(())
+}
+
+/// The bytes that hexadecimal digits spell, two a byte: `00*8` are eight of 0.
 pub fn bytes_of(alloc: Global, text: &str) -> Result<Vec<u8>, Wrong> {
     let mut bytes = Vec::new(alloc);
     for word in text.split_whitespace() {
-        match u8::from_str_radix(word, 16) {
-            Ok(byte) => bytes.push(byte)?,
-            Err(_) => return Err(Wrong::text(alloc, "no byte")),
-        }
+        add_word(alloc, word, &mut bytes)?;
     }
     Ok(bytes)
 }

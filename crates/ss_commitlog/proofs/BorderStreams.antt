@@ -11,7 +11,7 @@ use Rattle.ss_value.specs.Rows.{Row, Rows}
 use Rattle.ss_model.specs.declared.catalog.Catalog.{Catalog}
 use Rattle.ss_model.specs.declared.catalog.Procedure.{Procedure}
 use Rattle.ss_model.specs.declared.entry.Entry.{Entry}
-use Rattle.ss_model.specs.declared.entry.Entry.TheVariants.{Call, Push, Step as StepEntry}
+use Rattle.ss_model.specs.declared.entry.Entry.TheVariants.{Call, Push, Step as StepEntry, Install}
 use Rattle.ss_model.specs.declared.entry.Listed.{Listed}
 use Rattle.ss_model.specs.declared.entry.Outcome.TheVariants.{Done, Duplicate, Gap}
 use Rattle.ss_model.specs.Database.{Database, Applied, apply, apply_call, apply_step, accept_batch, append_batches, emits_to, is_border_stream, next_number, stream_batches}
@@ -59,6 +59,7 @@ module _ (catalog : Catalog) (wired : IsWired catalog) (n : ℕ) (db : Database)
   entry_stays (Push client index t source seq rows) a is off =
       let other : s ≢ t = λ e. (let hit : true ≡ false = sym (eqb_self (border_home catalog n s)) ∙ ap (λ x. touches catalog n (Push client index x source seq rows) (border_home catalog n s)) e ∙ off in cc) in
       ap (λ (x : Applied). stream_batches x.db s) (sym (of_value _ _ a is)) ∙ pushed t seq source rows (next_number db t source) _ _ other
+  entry_stays (Install client index q text) a is off = ap (λ (x : Applied). stream_batches x.db s) (sym (of_value _ _ a is))
   entry_stays (StepEntry q r) a is off = stepped q r (slice_get catalog.procedures q) a refl is
 
   pub behind_entry : (e : Entry) → touches catalog n e (border_home catalog n s) ≡ false → stream_batches (database_after catalog db e) s ≡ stream_batches db s

@@ -16,7 +16,7 @@ use Rattle.ss_model.specs.declared.catalog.ProcedureKind.{ProcedureKind}
 use Rattle.ss_model.specs.declared.catalog.ProcedureKind.TheVariants.{Call as CallKind, Border, Interior}
 use Rattle.ss_model.specs.declared.catalog.Procedure.{Procedure}
 use Rattle.ss_model.specs.declared.entry.Entry.{Entry}
-use Rattle.ss_model.specs.declared.entry.Entry.TheVariants.{Call, Push, Step as StepEntry}
+use Rattle.ss_model.specs.declared.entry.Entry.TheVariants.{Call, Push, Step as StepEntry, Install}
 use Rattle.ss_model.specs.declared.entry.Outcome.TheVariants.{Done, Duplicate, Gap}
 use Rattle.ss_model.specs.declared.entry.Listed.{Listed}
 use Rattle.ss_model.specs.declared.entry.Emitted.{Emitted}
@@ -71,6 +71,7 @@ unfolding apply
 counts_follow catalog d (Call client index n args) a is = called_counts catalog d client n args (slice_get catalog.procedures n) a is
 counts_follow catalog d (Push client index s source seq rows) a is =
     ap (λ (x : Applied). x.db.counts) (sym (of_value _ _ a is)) ∙ pushed_counts d s source seq rows (next_number d s source) _ _
+counts_follow catalog d (Install client index n text) a is = ap (λ (x : Applied). x.db.counts) (sym (of_value _ _ a is))
 counts_follow catalog d (StepEntry n r) a is = stepped_counts catalog d n r (slice_get catalog.procedures n) a is
 
 -- ---- a step's batch
@@ -105,6 +106,7 @@ can_count : (catalog : Catalog) (d : Database) (e : Entry) (a : Applied) → app
 unfolding apply
 can_count catalog d (Call client index n args) a is accepted many few = tt
 can_count catalog d (Push client index s source seq rows) a is accepted many few = tt
+can_count catalog d (Install client index n text) a is accepted many few = tt
 can_count catalog d (StepEntry q r) a is accepted many few = step_counts catalog d q r (slice_get catalog.procedures q) a refl is accepted many few
 
 -- what holds of each input holds of one that is found among them

@@ -8,7 +8,7 @@ use Rattle.ss_value.specs.Rows.{Rows}
 use Rattle.ss_model.specs.declared.catalog.Catalog.{Catalog}
 use Rattle.ss_model.specs.declared.catalog.Procedure.{Procedure}
 use Rattle.ss_model.specs.declared.entry.Entry.{Entry}
-use Rattle.ss_model.specs.declared.entry.Entry.TheVariants.{Call, Push, Step as StepEntry}
+use Rattle.ss_model.specs.declared.entry.Entry.TheVariants.{Call, Push, Step as StepEntry, Install}
 use Rattle.ss_model.specs.declared.entry.Emitted.{Emitted}
 use Rattle.ss_model.specs.declared.entry.Listed.{Listed}
 use Rattle.ss_model.specs.Accepted.{Accepted}
@@ -36,6 +36,7 @@ token_of role (k ∷ ks) i = ⊎_elim (λ (e : role ≡ k.role). (k, inl refl, s
 same_batches : (catalog : Catalog) (e : Entry) (a b : Applied) → a.outcome ≡ b.outcome → a.emitted ≡ b.emitted → emitted_batches catalog e a ≡ emitted_batches catalog e b
 same_batches catalog (Call client index q args) a b o em = refl
 same_batches catalog (Push client index s source seq rows) a b o em = ap (pushed_batch s rows) o
+same_batches catalog (Install client index q text) a b o em = refl
 same_batches catalog (StepEntry q r) a b o em = ap (λ (x : List Rows). output_batches catalog x (slice_get catalog.procedures q)) em
 
 -- an entry that has the same effect gives the same
@@ -56,11 +57,13 @@ has_inputs : (catalog : Catalog) (d : Database) (e : Entry) (a : Applied) → ap
 unfolding apply
 has_inputs catalog d (Call client index q args) a is = tt
 has_inputs catalog d (Push client index s source seq rows) a is = tt
+has_inputs catalog d (Install client index q text) a is = tt
 has_inputs catalog d (StepEntry q r) a is = λ p named. step_inputs catalog d q r p a (ap (apply_step catalog d q r) (sym named) ∙ is)
 
 is_known : (catalog : Catalog) (db : Database) (ks : List Known) (e : Entry) (k : Known) → In k ks → IsKnownTo catalog db ks e (known_database catalog db k)
 is_known catalog db ks (Call client index q args) k i = tt
 is_known catalog db ks (Push client index s source seq rows) k i = tt
+is_known catalog db ks (Install client index q text) k i = tt
 is_known catalog db ks (StepEntry q r) k i = (k, i, refl)
 
 module _ (catalog : Catalog) (accepted : Accepted catalog) (parts : ℕ) (some : 1 ≤ parts) (db : Database) (list : List Item) (ks : List Known) (one : (k : Known) → In k ks → k.list ≡ list) (first : Known)

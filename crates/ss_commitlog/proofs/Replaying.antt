@@ -6,7 +6,7 @@ use Rattle.std.specs.List.{AllByRecursion}
 use Rattle.ss_lemmas.proofs.LoopItem.{some_at}
 use Rattle.ss_model.specs.declared.catalog.Catalog.{Catalog}
 use Rattle.ss_model.specs.declared.entry.Entry.{Entry}
-use Rattle.ss_model.specs.declared.entry.Entry.TheVariants.{Call, Push, Step as StepEntry}
+use Rattle.ss_model.specs.declared.entry.Entry.TheVariants.{Call, Push, Step as StepEntry, Install}
 use Rattle.ss_model.specs.declared.entry.Outcome.{Outcome}
 use Rattle.ss_model.specs.declared.entry.Listed.{Listed}
 use Rattle.ss_model.specs.declared.entry.Emitted.{Emitted}
@@ -74,6 +74,7 @@ pub known_inputs : (catalog : Catalog) (parts : ℕ) (db : Database) (list : Lis
     → IsKnownTo catalog db ks e source → HasInputs catalog e source → SameInputs catalog e (after catalog db (listed_of list)) source
 known_inputs catalog parts db list ks (Call client index q args) source all known has = tt
 known_inputs catalog parts db list ks (Push client index s name seq rows) source all known has = tt
+known_inputs catalog parts db list ks (Install client index q text) source all known has = tt
 known_inputs catalog parts db list ks (StepEntry q r) source all known has = λ p is.
     let (k, i, same) = known in
     let b = all k i in

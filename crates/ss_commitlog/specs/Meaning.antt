@@ -3,7 +3,7 @@ use Rattle.std.specs.Prelude.{◌≡◌, ◌≤◌, ◌<◌, ℕ, Bool, true, fa
 use Rattle.std.specs.List.{AllByRecursion}
 use Rattle.ss_model.specs.declared.catalog.Catalog.{Catalog}
 use Rattle.ss_model.specs.declared.entry.Entry.{Entry}
-use Rattle.ss_model.specs.declared.entry.Entry.TheVariants.{Call, Push, Step as StepEntry}
+use Rattle.ss_model.specs.declared.entry.Entry.TheVariants.{Call, Push, Step as StepEntry, Install}
 use Rattle.ss_model.specs.declared.entry.Listed.{Listed}
 use Rattle.ss_model.specs.Database.{Database}
 use Rattle.ss_model.specs.Replays.{Replays}
@@ -22,6 +22,7 @@ abbrev pub is_of_client : ℕ → Entry → Bool
 is_of_client c (Call client index q args) = client == c
 is_of_client c (Push client index s source seq rows) = client == c
 is_of_client c (StepEntry q r) = false
+is_of_client c (Install client index q text) = client == c
 
 -- whether an entry concerns a role: its client's, or that of a partition that it touches
 abbrev pub concerns : Catalog → ℕ → Entry → Role → Bool
@@ -40,6 +41,7 @@ abbrev pub HasClientBelow : ℕ → Entry → Type 0
 HasClientBelow clients (Call client index q args) = client < clients
 HasClientBelow clients (Push client index s source seq rows) = client < clients
 HasClientBelow clients (StepEntry q r) = Unit {0}
+HasClientBelow clients (Install client index q text) = client < clients
 
 -- so is that of each entry of a list
 abbrev pub HaveClientsBelow : ℕ → List Listed → Type 0

@@ -1,8 +1,9 @@
 -- The catalogue is accepted, and what both clients ask for is right.
-use Rattle.std.proofs.Common.{◌≡◌, ◌==◌, inl, inr, ⊎_elim, ℕ, zero, suc, nat_lt, cond, codes, true, List, [], ◌∷◌, length, slice_get, refl, sym, ap, ◌∙◌, subst, Some, None, unwrap_or, arith}
+use Rattle.std.proofs.Common.{◌≡◌, ◌==◌, inl, inr, ⊎_elim, ℕ, zero, suc, nat_lt, cond, codes, Bool, true, false, List, [], ◌∷◌, length, slice_get, refl, sym, ap, ◌∙◌, subst, Some, None, unwrap_or, arith}
 use Rattle.std.proofs.lemmas.Bool.{and_from, lt-ltb}
 use Rattle.std.specs.Cmp.Lexicographic.{slice_cmp}
 use Rattle.std.specs.Ordering.{nat_cmp}
+use Rattle.std.specs.Str.{bytes_eq}
 use Rattle.std.specs.FinMap.{get-empty}
 use Rattle.std.specs.declared.option.Option.{Option}
 use Rattle.ss_lemmas.proofs.Numbers.{eqb_is, eqb_self}
@@ -12,7 +13,8 @@ use Rattle.ss_model.specs.declared.entry.Outcome.TheVariants.{Done}
 use Rattle.ss_model.specs.Accepted.{Accepted, UsesItsOwn}
 use Rattle.ss_model.specs.Batches.{pushed_batch}
 use Rattle.ss_model.specs.Bodies.{run_body}
-use Rattle.ss_model.specs.Database.{Database, apply, batch_count, empty_database, input_batches, is_ready, next_number, numbered_push, only_when, stepped_on, stream_batches}
+use Rattle.ss_model.specs.declared.catalog.Procedure.{Procedure}
+use Rattle.ss_model.specs.Database.{Applied, Database, apply, batch_count, body_text, empty_database, input_batches, is_ready, next_number, numbered_push, only_when, present, run_procedure, stepped, stepped_on, stream_batches, with_body}
 use Rattle.ss_model.specs.Typing.{catalog_typed}
 use Rattle.ss_model.proofs.CallerLemmas.{Tested, accepted_of, tested_of}
 use Rattle.ss_model_laws.proofs.CallerLemmas.{matching_stays}
@@ -109,12 +111,23 @@ ready_by (suc n) bs rows e =
     let none : cond true None (slice_get bs 0) ≡ Some rows = sym (ap (λ b. cond b None (slice_get bs 0)) taken) ∙ e in
     absurd (cc)
 
+-- no body is there to be installed, so in each database the procedure has its own
+own_body : (b : Bool) → with_body (cond b taker.body taker.body) taker ≡ taker
+own_body true = refl
+own_body false = refl
+
+taker_present : (d : Database) → present workflow d 0 taker ≡ taker
+taker_present d = own_body (bytes_eq [] (body_text d 0))
+
+abbrev ran : Database → Procedure → Applied
+ran d p = stepped d 0 0 taker (run_procedure workflow 0 p [] (input_batches d 0 taker) d.contents)
+
 step_gives : (d : Database) (rows : Rows) → found_batch d 0 0 0 ≡ Some rows → Gives workflow d step []
 unfolding apply run_body
 step_gives d rows e =
     let r = ready_by (batch_count d 0) (stream_batches d 0) rows e in
     let ready : is_ready d 0 0 taker ≡ true = and_from _ _ (and_from _ _ refl r.0) (and_from _ _ r.1 refl) in
-    (stepped_on workflow d 0 0 taker (input_batches d 0 taker), ap (λ b. only_when b (Some (stepped_on workflow d 0 0 taker (input_batches d 0 taker)))) ready, refl, refl)
+    (stepped_on workflow d 0 0 taker (input_batches d 0 taker), ap (λ b. only_when b (Some (stepped_on workflow d 0 0 taker (input_batches d 0 taker)))) ready, ap (λ p. (ran d p).outcome) (taker_present d), refl)
 
 pub step_right : (k : Known) (rows : Rows) → k.role ≡ Part 0 → found_batch (known_database workflow (empty_database workflow) k) 0 0 0 ≡ Some rows → IsRight workflow 2 (empty_database workflow) (k ∷ []) step []
 step_right k rows is found =

@@ -23,7 +23,7 @@ abbrev pub note : Procedure
 note = record { name = codes "note"; kind = CallKind; args = []; inputs = []; touch = Part 1; body = [] }
 
 abbrev pub workflow : Catalog
-workflow = record { tables = []; streams = stream ∷ []; windows = []; triggers = []; procedures = taker ∷ note ∷ []; text = [] }
+workflow = record { tables = []; streams = stream ∷ []; windows = []; triggers = []; procedures = taker ∷ note ∷ []; own_texts = []; spares = []; text = [] }
 
 -- client 0 pushes an empty batch
 abbrev pub push : Listed

@@ -9,7 +9,7 @@ use Rattle.std.specs.Option.{option_map}
 use Rattle.std.specs.List.{AllByRecursion, cons_option, filter_map, list_all}
 use Rattle.ss_model.specs.declared.catalog.Catalog.{Catalog}
 use Rattle.ss_model.specs.declared.entry.Entry.{Entry}
-use Rattle.ss_model.specs.declared.entry.Entry.TheVariants.{Call, Push, Step as StepEntry}
+use Rattle.ss_model.specs.declared.entry.Entry.TheVariants.{Call, Push, Step as StepEntry, Install}
 use Rattle.ss_model.specs.declared.entry.Listed.{Listed}
 use Rattle.ss_model.specs.Database.{Database, Applied, apply, empty_database}
 use Rattle.ss_model.specs.Replays.{Replays, after, entry_outcome}
@@ -42,6 +42,11 @@ index_below client index (Push c i s source seq rows) rest t h = by (c == client
     by : (b : Bool) → cond b (nat_lt i index) true ≡ true → AllByRecursion (λ i. i < index) (cons_option (cond b (Some i) None) rest)
     by true t = (ltb-true i index t, h)
     by false t = h
+index_below client index (Install c i q text) rest t h = by (c == client) t
+  where
+    by : (b : Bool) → cond b (nat_lt i index) true ≡ true → AllByRecursion (λ i. i < index) (cons_option (cond b (Some i) None) rest)
+    by true t = (ltb-true i index t, h)
+    by false t = h
 index_below client index (StepEntry q r) rest t h = h
 
 indexes_below : (client index : ℕ) (list : List Listed) → list_all (λ (l : Listed). has_lower_index client index l.entry) list ≡ true → AllByRecursion (λ i. i < index) (filter_map (λ (l : Listed). client_index client l.entry) list)
@@ -61,6 +66,7 @@ module _ (client : ℕ) (list : List Listed) (rises : Rising (filter_map (λ (l 
   one_index_more : (e : Entry) → is_next_index e list ≡ true → Rising (indexes ++ cons_option (client_index client e) [])
   one_index_more (Call c i q args) t = own_index c i t (c == client) refl
   one_index_more (Push c i s source seq rows) t = own_index c i t (c == client) refl
+  one_index_more (Install c i q text) t = own_index c i t (c == client) refl
   one_index_more (StepEntry q r) t = subst Rising (sym (append-nil indexes)) rises
 
 -- ---- a commit

@@ -84,6 +84,11 @@ fn has_lower_index(client: u8, index: u64, entry: &Entry) -> bool
             index: earlier,
             ..
         } => *other != client || *earlier < index,
+        Entry::Install {
+            client: other,
+            index: earlier,
+            ..
+        } => *other != client || *earlier < index,
         Entry::Step { .. } => true,
     }
 }
@@ -103,6 +108,7 @@ fn is_next_index(entry: &Entry, list: &[Listed]) -> bool
     match entry {
         Entry::Call { client, index, .. } => all_lower(*client, *index, list),
         Entry::Push { client, index, .. } => all_lower(*client, *index, list),
+        Entry::Install { client, index, .. } => all_lower(*client, *index, list),
         Entry::Step { .. } => true,
     }
 }

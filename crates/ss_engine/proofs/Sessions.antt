@@ -7,7 +7,7 @@ use Rattle.ss_value.specs.Rows.{Rows}
 use Rattle.ss_model.specs.declared.catalog.Catalog.{Catalog}
 use Rattle.ss_model.specs.declared.entry.Answer.{Answer}
 use Rattle.ss_model.specs.declared.entry.Entry.{Entry}
-use Rattle.ss_model.specs.declared.entry.Entry.TheVariants.{Call, Push, Step as StepEntry}
+use Rattle.ss_model.specs.declared.entry.Entry.TheVariants.{Call, Push, Step as StepEntry, Install}
 use Rattle.ss_model.specs.declared.entry.Listed.{Listed}
 use Rattle.ss_model.specs.declared.entry.Request.{Request}
 use Rattle.ss_model.specs.Database.{Database, empty_database, stream_batches}
@@ -46,6 +46,7 @@ none_further starts k rs none =
 others_entry : (clients k : ℕ) → clients ≤ k → (e : Entry) → HasClientBelow clients e → is_of k e ≡ false
 others_entry clients k past (Call client index q args) below = others_request clients k client past below
 others_entry clients k past (Push client index s source seq rows) below = others_request clients k client past below
+others_entry clients k past (Install client index q text) below = others_request clients k client past below
 others_entry clients k past (StepEntry q r) below = refl
 
 no_entry : (clients k first : ℕ) → clients ≤ k → (list : List Listed) → HaveClientsBelow clients list → mine k first list ≡ []

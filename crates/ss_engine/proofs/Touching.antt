@@ -1,5 +1,6 @@
 -- The partitions that an entry touches, and the marks in hand.
 use Rattle.std.proofs.Common.{◌≡◌, ◌≤◌, ◌<◌, ◌+◌, ◌≢◌, ◌⊎◌, inl, inr, ⊎_elim, ◌↔◌, ℕ, zero, suc, Bool, true, false, cond, ◌==◌, List, [], ◌∷◌, map, length, get_or, refl, sym, ap, ◌∙◌, subst, IfNone, Some, None, slice_get, unwrap_or, arith}
+use Rattle.std.proofs.lemmas.Bool.{lt-ltb}
 use Rattle.std.proofs.lemmas.Bool.Decides.{eqb_tells}
 use Rattle.std.proofs.lemmas.List.FromFn.{length-map-range_with_len}
 use Rattle.std.proofs.lemmas.Option.{slice_get-get_or}
@@ -13,7 +14,7 @@ use Rattle.ss_value.specs.Rows.{Row}
 use Rattle.ss_model.specs.declared.catalog.Catalog.{Catalog}
 use Rattle.ss_model.specs.declared.catalog.Procedure.{Procedure}
 use Rattle.ss_model.specs.declared.entry.Entry.{Entry}
-use Rattle.ss_model.specs.declared.entry.Entry.TheVariants.{Call, Push, Step as StepEntry}
+use Rattle.ss_model.specs.declared.entry.Entry.TheVariants.{Call, Push, Step as StepEntry, Install}
 use Rattle.ss_model.specs.Accepted.{Accepted}
 use Rattle.ss_model.specs.Database.{Database, fits_entry, has_call, has_step, is_streaming}
 use Rattle.ss_model.specs.Partitions.{in_touch_set, home_of, home_partition, border_procedure, procedure_touches, touches}
@@ -75,6 +76,7 @@ module _ (catalog : Catalog) (accepted : Accepted catalog) (n : ℕ) (some : 1 �
   pub some_touched : (e : Entry) → fits_entry catalog e ≡ true → (p : ℕ) × (touches catalog n e p ≡ true)
   some_touched (Call client index q args) fits = let (p, is) = called client args (slice_get catalog.procedures q) fits in by_procedure q p args is
   some_touched (Push client index s source seq rows) fits = (home_partition n (border_procedure catalog s), eqb_self (home_partition n (border_procedure catalog s)))
+  some_touched (Install client index q text) fits = (0, lt-ltb 0 n (omega arith))
   some_touched (StepEntry q r) fits = let (p, is, streaming) = streams (slice_get catalog.procedures q) fits in by_procedure q p [] is
 
   pub some_member : (e : Entry) (set : ℕ) → HasJust set (touches catalog n e) → fits_entry catalog e ≡ true → (p : ℕ) × IsBitSet set p

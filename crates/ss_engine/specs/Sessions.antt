@@ -1,5 +1,5 @@
 -- What a run of clients in threads comes to, and what its disk then has.
-use Rattle.std.specs.Prelude.{◌≡◌, ◌⊎◌, ◌≤◌, ◌<◌, ◌+◌, ℕ, List, [], length, Option, Some, IfSome, IfNone, IsOk, Result, Err}
+use Rattle.std.specs.Prelude.{◌≡◌, ◌⊎◌, ◌≤◌, ◌<◌, ◌+◌, ℕ, List, [], length, Option, Some, IfSome, IfNone, IsOk, Result, Err, true}
 use Rattle.ss_disk.specs.Kinds.{DiskKind, present}
 use Rattle.std.specs.List.{AllByRecursion}
 use Rattle.ss_model.specs.declared.catalog.Catalog.{Catalog}
@@ -78,6 +78,8 @@ module _ {D : Type 0} (kind : DiskKind D) where
   pub record OpensOn (recovery : Recovery) (catalog : Catalog) (db : Database) (first : ℕ) (log : CmdLog D) : Type 0 where
     pub stood : Stood
     pub going : IsOpen kind log stood
+    -- bodies may be in it, so whatever runs may be logged
+    pub formed : stood.bodies ≡ true
     pub count : log.count ≡ first
     pub began : kind.tells → BeganAt recovery catalog db first
     pub held : kind.tells → HoldsFront recovery catalog db first [] 0 stood

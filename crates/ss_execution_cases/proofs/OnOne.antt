@@ -4,7 +4,7 @@ use Rattle.std.proofs.Math.ListN.{length-set}
 use Rattle.ss_lemmas.proofs.Numbers.{eqb_is}
 use Rattle.ss_model.specs.declared.catalog.Catalog.{Catalog}
 use Rattle.ss_model.specs.declared.entry.Entry.{Entry}
-use Rattle.ss_model.specs.declared.entry.Entry.TheVariants.{Call, Push, Step as StepEntry}
+use Rattle.ss_model.specs.declared.entry.Entry.TheVariants.{Call, Push, Step as StepEntry, Install}
 use Rattle.ss_model.specs.Accepted.{Accepted}
 use Rattle.ss_model.specs.Contents.{Contents}
 use Rattle.ss_model.specs.Database.{Database, NextNumbers, Applied, apply}
@@ -31,6 +31,7 @@ own_is p q e = eqb_is p q (by (p == q) e)
 pub none_at_hand : (catalog : Catalog) (db : Database) (e : Entry) → TakesNone e → AreAtHand catalog db e []
 none_at_hand catalog db (Call client index q args) none = refl
 none_at_hand catalog db (Push client index s source seq rows) none = refl
+none_at_hand catalog db (Install client index q text) none = refl
 none_at_hand catalog db (StepEntry q r) none = absurd none
 
 module _ (catalog : Catalog) (accepted : Accepted catalog) (n : ℕ) (some : 1 ≤ n) (e : Entry) (p : ℕ) (only : TouchesOnly catalog n e p) where
@@ -49,6 +50,7 @@ module _ (catalog : Catalog) (accepted : Accepted catalog) (n : ℕ) (some : 1 �
         contents = subst (λ (c : Contents). Holds catalog s c) (sym same.contents) holds.contents;
         counts = holds.counts ∙ sym same.counts;
         numbers = subst (λ (ns : List NextNumbers). SameNumbers ns s.sources) (sym same.next_numbers) holds.numbers;
+        bodies = holds.bodies ∙ sym same.bodies;
       }
 
   -- so all of them hold their parts of what it leaves

@@ -15,7 +15,7 @@ ghost use Rattle.ss_shard.specs.Shards.{IsCommitted};
 
 use crate::executions::check_line;
 use ss_case_files::{Wrong, compare};
-use ss_case_lists::{catalog_of, procedure_number, stream_number, window_number};
+use ss_case_lists::{catalog_of_lines, procedure_number, stream_number, window_number};
 use ss_model::Catalog;
 use ss_report::rows_json;
 use ss_shard::{Database, Shard, holds_itself, join, opening, split};
@@ -184,6 +184,6 @@ fn check_on_each(alloc: Global, catalog: &Catalog, lines: &[String]) -> Result<(
 
 /// A block `joined`, on 1 to 8 partitions.
 pub fn check_joined(alloc: Global, base: &str, lines: &[String]) -> Result<(), Wrong> {
-    let catalog = catalog_of(alloc, base)?;
+    let catalog = catalog_of_lines(alloc, base, lines)?;
     check_on_each(alloc, &catalog, lines)
 }

@@ -1,9 +1,9 @@
 //! The program `ss_execution_cases`: runs the cases of executions by themselves and of plans, in the files that the command
 //! line names, and counts them.
 //!
-//! - `executions`: calls, pushes and steps by themselves, with the batches that they take
+//! - `executions`: calls, pushes, installs and steps by themselves, with the batches that they take
 //! - `joining`: the same on a database that is split and joined again behind each
-//! - `touching`: calls and pushes on the shards that they touch
+//! - `touching`: calls, pushes and installs on the shards that they touch
 //! - `plans`: how the rows are found that a step looks for
 #![tactic(auto)]
 

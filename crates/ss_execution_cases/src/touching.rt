@@ -1,7 +1,7 @@
 //! Executions on the shards that they touch, of databases of 1 to 8 partitions.
 //!
 //! ```text
-//! touching BASE    lines of calls and pushes, each with what it comes to
+//! touching BASE    lines of calls, pushes and installs, each with what it comes to
 //! ```
 //!
 //! Each runs on the shard that it touches alone, or else on all of them, united for it. Outcomes are as in `executions`.
@@ -15,7 +15,7 @@ ghost use Rattle.ss_execution_cases.specs.Held.{AreOfOne, TakesNone, TouchesOnly
 
 use crate::executions::request_in;
 use ss_case_files::{Wrong, compare};
-use ss_case_lists::{catalog_of, outcome_words};
+use ss_case_lists::{catalog_of_lines, outcome_words};
 use ss_case_texts::outcome_of;
 use ss_model::{Catalog, Entry, Outcome};
 use ss_model_laws::{touched_run, untouched_stay};
@@ -254,6 +254,6 @@ fn check_on_each(alloc: Global, catalog: &Catalog, lines: &[String]) -> Result<(
 
 /// A block `touching`, on 1 to 8 partitions.
 pub fn check_touching(alloc: Global, base: &str, lines: &[String]) -> Result<(), Wrong> {
-    let catalog = catalog_of(alloc, base)?;
+    let catalog = catalog_of_lines(alloc, base, lines)?;
     check_on_each(alloc, &catalog, lines)
 }

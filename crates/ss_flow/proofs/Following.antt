@@ -7,7 +7,7 @@ use Rattle.ss_value.specs.Rows.{Rows}
 use Rattle.ss_model.specs.declared.catalog.Catalog.{Catalog}
 use Rattle.ss_model.specs.declared.catalog.Procedure.{Procedure}
 use Rattle.ss_model.specs.declared.entry.Entry.{Entry}
-use Rattle.ss_model.specs.declared.entry.Entry.TheVariants.{Call, Push, Step as StepEntry}
+use Rattle.ss_model.specs.declared.entry.Entry.TheVariants.{Call, Push, Step as StepEntry, Install}
 use Rattle.ss_model.specs.declared.entry.Outcome.{Outcome}
 use Rattle.ss_model.specs.declared.entry.Outcome.TheVariants.{Done, Aborted, Duplicate, Gap}
 use Rattle.ss_model.specs.Accepted.{Accepted}
@@ -68,11 +68,13 @@ module _ (catalog : Catalog) (db : Database) (shape : HasShape catalog db) where
   cursors_are : (e : Entry) (a : Applied) → apply catalog db e ≡ Some a → (s : ℕ) → consumer_cursors catalog a.db s ≡ cursors_after e s
   cursors_are (Call c i q args) a is s = same_counts a s (effect catalog db (Call c i q args) a shape is).counts
   cursors_are (Push c i t source seq rows) a is s = same_counts a s (effect catalog db (Push c i t source seq rows) a shape is).counts
+  cursors_are (Install c i q text) a is s = same_counts a s (effect catalog db (Install c i q text) a shape is).counts
   cursors_are (StepEntry q r) a is s = stepped q r a is s (procedure_takes catalog q s) refl
 
   may_pass : (e : Entry) (a : Applied) → apply catalog db e ≡ Some a → (s : ℕ) → MayPass catalog e s (kept_stream catalog db s)
   may_pass (Call c i q args) a is s = tt
   may_pass (Push c i t source seq rows) a is s = tt
+  may_pass (Install c i q text) a is s = tt
   may_pass (StepEntry q r) a is s = may_step q r a is s
 
   stepped_kept : (q s : ℕ) (b : Bool) → cond b (passed_by (kept_stream catalog db s) q) (kept_stream catalog db s) ≡ pending_from 0 (stream_batches db s) (cond b (map (moved_cursor q) (consumer_cursors catalog db s)) (consumer_cursors catalog db s))
@@ -83,6 +85,7 @@ module _ (catalog : Catalog) (db : Database) (shape : HasShape catalog db) where
   pub passed_kept : (e : Entry) (s : ℕ) → passed_at catalog e s (kept_stream catalog db s) ≡ pending_from 0 (stream_batches db s) (cursors_after e s)
   passed_kept (Call c i q args) s = refl
   passed_kept (Push c i t source seq rows) s = refl
+  passed_kept (Install c i q text) s = refl
   passed_kept (StepEntry q r) s = stepped_kept q s (procedure_takes catalog q s)
 
   pub stream_follows : (e : Entry) (a : Applied) → apply catalog db e ≡ Some a → (s : ℕ) → s < length catalog.streams → StreamFollows catalog db e a s
@@ -120,6 +123,7 @@ pub batches_below : (catalog : Catalog) → Accepted catalog → (e : Entry) (a 
 batches_below catalog accepted (Call c i q args) a fits = tt
 batches_below catalog accepted (Push c i s source seq rows) a fits =
     pushed_below (length catalog.streams) s rows a.outcome (accepted.structure.streams.wired.border_there s (second_of_two _ _ (first_of_two _ _ (first_of_two _ _ (first_of_two _ _ fits)))))
+batches_below catalog accepted (Install c i q text) a fits = tt
 batches_below catalog accepted (StepEntry q r) a fits = outputs_below catalog a.emitted (slice_get catalog.procedures q)
 
 pub batches_have_streams : (catalog : Catalog) → Accepted catalog → (db : Database) (e : Entry) (a : Applied) → apply catalog db e ≡ Some a → AreOfStreams (length catalog.streams) (emitted_batches catalog e a)

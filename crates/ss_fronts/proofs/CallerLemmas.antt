@@ -1,8 +1,8 @@
 -- What crates above may rely on: the lemmas of this crate that they cite.
 
--- A strong log has all entries, and a weak one the calls and pushes.
+-- A strong log has all entries, and a weak one the requests.
 pub use Rattle.ss_fronts.proofs.Lists.{all_logged, asked_logged}
--- So many calls and pushes are those of some first entries, and of two parts of a list those of both.
+-- So many requests are those of some first entries, and of two parts of a list those of both.
 pub use Rattle.ss_fronts.proofs.Lists.{asked_take, between_more}
 -- What is behind the first list and some of the next one.
 pub use Rattle.ss_fronts.proofs.Lists.{drop_behind}

@@ -1,5 +1,5 @@
 -- An image of the database behind a list has all of the list, in both modes.
-use Rattle.std.proofs.Common.{◌≡◌, ◌∙◌, ℕ, ◌+◌, List, [], ◌++◌, length, take, drop, get_or, refl, sym, ap, subst, arith, length-append, length-take-le}
+use Rattle.std.proofs.Common.{◌≡◌, ◌∙◌, true, ℕ, ◌+◌, List, [], ◌++◌, length, take, drop, get_or, refl, sym, ap, subst, arith, length-append, length-take-le}
 use Rattle.std.proofs.lemmas.List.{drop_all, take_all}
 use Rattle.ss_model.specs.declared.catalog.Catalog.{Catalog}
 use Rattle.ss_model.specs.declared.entry.Listed.{Listed}
@@ -31,11 +31,11 @@ had_alike catalog x y same n had =
     }
 
 module _ (catalog : Catalog) (db : Database) (first : ℕ) (list : List Listed) (accepted : Accepted catalog) (whole : WholeDatabase catalog db) (had : HadAtMost first db)
-    (fits : FitsImage (kept catalog (after catalog db list))) where
+    (fits : FitsImage true catalog (kept catalog (after catalog db list))) where
   strong_checkpoint : FrontCheckpointsStand → HoldsStrongFront catalog db first list (length list) (checkpoint_of modes.Strong catalog (first + length list) (after catalog db list))
   strong_checkpoint stand =
       let all : take (length list) list ≡ list = take_all (length list) list (omega arith) in
-      let front = stand catalog db first list (length list) accepted whole had (omega arith) (subst (λ (l : List Listed). FitsImage (kept catalog (after catalog db l))) (sym all) fits) in record {
+      let front = stand catalog db first list (length list) accepted whole had (omega arith) (subst (λ (l : List Listed). FitsImage true catalog (kept catalog (after catalog db l))) (sym all) fits) in record {
         within = omega arith;
         replayed = subst (λ (d : Database). Replayed catalog (checkpoint_of modes.Strong catalog (first + length list) d) (first + length list) (kept catalog (after catalog db (take (length list) list))))
             (ap (after catalog db) all) front;
@@ -61,12 +61,12 @@ module _ (catalog : Catalog) (db : Database) (first : ℕ) (list : List Listed) 
         (kept_carries catalog db (after catalog o.db o.known) led.reached list).after
         ∙ ap (kept catalog) (sym (ap (after catalog o.db) (take_all end history (omega (arith, long))) ∙ (goes_on catalog o.db o.known list).ends))
 
-    image : IsImageAt catalog (first + length list) (image_bytes catalog (kept catalog (after catalog db list))) last
+    image : IsImageAt catalog true (first + length list) (image_bytes true catalog (kept catalog (after catalog db list))) last
     image = record {
       whole = (stay catalog accepted).along o.db (take end history) led.whole;
       had = had_alike catalog (after catalog db list) last reached (first + length list) (bounded catalog accepted db whole first had.streams list);
-      fits = subst FitsImage reached fits;
-      spelled = ap (image_bytes catalog) reached;
+      fits = subst (FitsImage true catalog) reached fits;
+      spelled = ap (image_bytes true catalog) reached;
     }
 
     nothing : drop end (take end history) ≡ []
@@ -81,7 +81,7 @@ module _ (catalog : Catalog) (db : Database) (first : ℕ) (list : List Listed) 
           read = record {
             weak = refl;
             first = place;
-            image = subst (λ (n : ℕ). IsImageAt catalog n (image_bytes catalog (kept catalog (after catalog db list))) last) place image;
+            image = subst (λ (n : ℕ). IsImageAt catalog true n (image_bytes true catalog (kept catalog (after catalog db list))) last) place image;
             entries_are = sym (ap (λ (l : List Listed). asked_of (listed_entries l)) nothing);
           };
         }

@@ -65,7 +65,7 @@ module _ (goes_on : ReplaysGoOn) (more : GenerationsGoOn) (stand : FrontsStand) 
       let added = take some behind in
       let is : flat_map (λ (es : List Entry). es) groups ≡ listed_entries added = are ∙ all_logged (take some (listed_entries behind)) ∙ take-map (λ (l : Listed). l.entry) some behind in
       let later : IsBehind s (with_groups s groups) (listed_entries added) =
-      record { mode = refl; first = refl; image = refl; entries = flat_map-append (λ (es : List Entry). es) s.groups groups ∙ ap (λ (es : List Entry). entries_of s ++ es) is } in
+      record { bodies = refl; mode = refl; first = refl; image = refl; entries = flat_map-append (λ (es : List Entry). es) s.groups groups ∙ ap (λ (es : List Entry). entries_of s ++ es) is } in
       let now = more catalog s (with_groups s groups) (first + held) reached added h.replayed (front_replays goes_on catalog reached behind some rest) later in
       let place : first + held + length added ≡ first + (held + some) = omega (arith, length-take-le some behind few) in record {
         within = omega (arith, few, length-drop held list, h.within);

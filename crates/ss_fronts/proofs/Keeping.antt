@@ -26,7 +26,7 @@ use Rattle.ss_fronts.proofs.WeakFronts.{as_prefix, FirstGroupsHold, generation_s
 -- ---- what clients asked for, and what a log counts
 
 module _ (files : FilesStandForOne) (catalog : Catalog) (db : Database) (first : ℕ) (history : List Listed) where
-  -- files that stand for a generation have as many calls and pushes as it has
+  -- files that stand for a generation have as many requests as it has
   asked_of_generation : (held n : ℕ) (s : Stood) (image : Files) → HasWeakFront catalog db first history held s → StandsFor image s → HasAsked catalog db first history n image
       → n ≤ length (asked_between 0 held history)
   asked_of_generation held n s image h stands has =
@@ -46,7 +46,7 @@ module _ (files : FilesStandForOne) (catalog : Catalog) (db : Database) (first :
     abbrev imaged : ℕ
     imaged = length (asked_between 0 h.before history)
 
-    -- so many of the calls and pushes, in the log's count
+    -- so many of the requests, in the log's count
     abbrev counted : ℕ → ℕ
     counted n = s.first + (n - imaged)
 

@@ -2,7 +2,7 @@
 use Rattle.std.proofs.Common.{◌≡◌, ◌∙◌, ℕ, zero, suc, ◌+◌, ◌≤◌, List, [], ◌∷◌, ◌++◌, length, take, drop, refl, sym, ap, arith, length-append, length-take-le, take-add, take-append-drop}
 use Rattle.std.proofs.lemmas.List.{drop_at, drop-append-le, drop-drop, map-append, take-take}
 use Rattle.ss_model.specs.declared.entry.Entry.{Entry}
-use Rattle.ss_model.specs.declared.entry.Entry.TheVariants.{Call, Push, Step as StepEntry}
+use Rattle.ss_model.specs.declared.entry.Entry.TheVariants.{Call, Push, Step as StepEntry, Install}
 use Rattle.ss_model.specs.declared.entry.Listed.{Listed}
 use Rattle.ss_model.specs.declared.entry.Mode.TheVariants.{Strong, Weak}
 use Rattle.ss_model.specs.Asked.{asked_of, listed_entries}
@@ -10,7 +10,7 @@ use Rattle.ss_weak_lists.proofs.CallerLemmas.{asked_append}
 use Rattle.ss_cmdlog.specs.Logged.{logged}
 use Rattle.ss_fronts.specs.WeakFronts.{asked_between, between}
 
--- a strong log has all entries, and a weak one the calls and pushes
+-- a strong log has all entries, and a weak one the requests
 pub all_logged : (entries : List Entry) → logged Strong entries ≡ entries
 all_logged [] = refl
 all_logged (e ∷ es) = ap (λ (l : List Entry). e ∷ l) (all_logged es)
@@ -18,7 +18,7 @@ all_logged (e ∷ es) = ap (λ (l : List Entry). e ∷ l) (all_logged es)
 pub asked_logged : (entries : List Entry) → logged Weak entries ≡ asked_of entries
 asked_logged entries = refl
 
--- so many first calls and pushes are those of some first entries
+-- so many first requests are those of some first entries
 pub asked_take : (k : ℕ) (es : List Entry) → k ≤ length (asked_of es) → (n : ℕ) × (n ≤ length es) × (asked_of (take n es) ≡ take k (asked_of es))
 asked_take zero es few = (zero, omega arith, refl)
 asked_take (suc k) [] few = absurd (omega arith)
@@ -28,6 +28,9 @@ asked_take (suc k) (Call client index q args ∷ es) few =
 asked_take (suc k) (Push client index s source seq rows ∷ es) few =
     let rest = asked_take k es (omega (arith, few)) in
     (suc rest.0, omega (arith, rest.1), ap (λ z. Push client index s source seq rows ∷ z) rest.2)
+asked_take (suc k) (Install client index q text ∷ es) few =
+    let rest = asked_take k es (omega (arith, few)) in
+    (suc rest.0, omega (arith, rest.1), ap (λ z. Install client index q text ∷ z) rest.2)
 asked_take (suc k) (StepEntry q r ∷ es) few =
     let rest = asked_take (suc k) es few in
     (suc rest.0, omega (arith, rest.1), rest.2)
@@ -36,11 +39,11 @@ asked_take (suc k) (StepEntry q r ∷ es) few =
 pub drop_behind : (known list : List Listed) (n : ℕ) → drop (length known + n) (known ++ list) ≡ drop n list
 drop_behind known list n = sym (drop-drop n (length known) (known ++ list)) ∙ ap (drop n) (drop_at known list (length known) refl)
 
--- the calls and pushes of one list behind another
+-- the requests of one list behind another
 asked_both : (one other : List Listed) → asked_of (listed_entries (one ++ other)) ≡ asked_of (listed_entries one) ++ asked_of (listed_entries other)
 asked_both one other = ap asked_of (map-append (λ (l : Listed). l.entry) one other) ∙ asked_append (listed_entries one) (listed_entries other)
 
--- the calls and pushes of some entries more
+-- the requests of some entries more
 pub between_more : (before held n : ℕ) (history : List Listed) → before ≤ held → held ≤ length history
     → asked_between before (held + n) history ≡ asked_between before held history ++ asked_of (listed_entries (take n (drop held history)))
 between_more before held n history ordered within =
@@ -48,7 +51,7 @@ between_more before held n history ordered within =
     ap (drop before) (take-add held n history) ∙ drop-append-le before (take held history) (take n (drop held history)) (omega (arith, ordered, length-take-le held history within)) in
     ap (λ l. asked_of (listed_entries l)) parts ∙ asked_both (between before held history) (take n (drop held history))
 
--- up to a position there are the calls and pushes before an earlier one, and those between the two
+-- up to a position there are the requests before an earlier one, and those between the two
 pub asked_count : (before some : ℕ) (history : List Listed) → before ≤ some
     → length (asked_between 0 some history) ≡ length (asked_between 0 before history) + length (asked_between before some history)
 asked_count before some history ordered =

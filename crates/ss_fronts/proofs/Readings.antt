@@ -40,9 +40,9 @@ module _ (files : FilesStandForOne) (catalog : Catalog) (image : Files) (place o
   reads_kept tells (inr a) (inl b) = absurd (not_both image a.stood b.empty a.stands)
   reads_kept tells (inr a) (inr b) =
       let one = (subst (λ (s : Stood). IsReadAs catalog s place x es) (files image a.stood b.stood a.stands b.stands) a.read).image in
-      tells catalog x y one.whole b.read.image.whole one.fits b.read.image.fits (sym one.spelled ∙ b.read.image.spelled)
+      tells b.stood.bodies catalog x y one.whole b.read.image.whole one.fits b.read.image.fits (sym one.spelled ∙ b.read.image.spelled)
 
--- Fronts of two histories with the same beginning, that files are read as, have as many calls and pushes.
+-- Fronts of two histories with the same beginning, that files are read as, have as many requests.
 pub as_many_asked : FilesStandForOne → (catalog : Catalog) (x y : Database) (first : ℕ) (history long : List Listed) → ((n : ℕ) → n ≤ length history → take n long ≡ take n history)
     → (least most : ℕ) (image : Files) (f : ReadsWeakFront catalog x first history least image) (g : ReadsWeakFront catalog y first long most image)
     → length (asked_between 0 f.some history) ≡ length (asked_between 0 g.some long)

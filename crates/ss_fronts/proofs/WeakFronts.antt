@@ -1,6 +1,6 @@
 -- Fronts of the history of a weak run: what a generation leaves, over a flush, where the history grows, and from each database of which
 -- the same is kept.
-use Rattle.std.proofs.Common.{◌≡◌, ◌∙◌, inl, inr, ℕ, ◌+◌, ◌≤◌, List, ◌++◌, length, take, drop, sym, ap, subst, arith, length-append, length-drop}
+use Rattle.std.proofs.Common.{◌≡◌, ◌∙◌, inl, inr, Bool, ℕ, ◌+◌, ◌≤◌, List, ◌++◌, length, take, drop, sym, ap, subst, arith, length-append, length-drop}
 use Rattle.std.specs.Prelude.{get_or}
 use Rattle.std.specs.List.{flat_map}
 use Rattle.std.proofs.lemmas.Grind.{flat_map-append}
@@ -31,7 +31,7 @@ abbrev pub FirstGroupsHold : Type 0
 FirstGroupsHold = (entries : List Entry) (j : ℕ) → (n : ℕ) × (n ≤ length entries) × (flat_map (λ (es : List Entry). es) (take j (groups_of entries)) ≡ take n entries)
 
 module _ (catalog : Catalog) (db : Database) (first : ℕ) (history : List Listed) where
-  -- a generation has more of the history, where its groups have the calls and pushes of the next entries
+  -- a generation has more of the history, where its groups have the requests of the next entries
   pub front_more : (held : ℕ) (s : Stood) (n : ℕ) (groups : List (List Entry)) → HasWeakFront catalog db first history held s → n ≤ length (drop held history)
       → flat_map (λ (es : List Entry). es) groups ≡ asked_of (listed_entries (take n (drop held history))) → HasWeakFront catalog db first history (held + n) (with_groups s groups)
   front_more held s n groups h few are = record {
@@ -73,7 +73,7 @@ module _ (catalog : Catalog) (db : Database) (first : ℕ) (history : List Liste
   }
 
   module _ (firsts_hold : FirstGroupsHold) where
-    -- the first groups have the calls and pushes of some next entries
+    -- the first groups have the requests of some next entries
     pub some_groups : (held : ℕ) (s : Stood) (j : ℕ) → HasWeakFront catalog db first history held s
         → (more : ℕ) × (held ≤ more) × HasWeakFront catalog db first history more (with_groups s (take j (groups_of (asked_of (listed_entries (drop held history))))))
     some_groups held s j h =
@@ -122,7 +122,7 @@ module _ (catalog : Catalog) (db : Database) (first : ℕ) (history more : List 
     read = record {
       weak = h.read.weak;
       first = h.read.first;
-      image = subst (λ (l : List Listed). IsImageAt catalog (first + h.before) s.image (after catalog db l)) (sym (same_front h.before (omega (arith, h.ordered, h.within)))) h.read.image;
+      image = subst (λ (l : List Listed). IsImageAt catalog s.bodies (first + h.before) s.image (after catalog db l)) (sym (same_front h.before (omega (arith, h.ordered, h.within)))) h.read.image;
       entries_are = h.read.entries_are ∙ sym (same_asked h.before held h.within);
     };
   }
@@ -130,16 +130,16 @@ module _ (catalog : Catalog) (db : Database) (first : ℕ) (history more : List 
 -- ---- from each database
 
 module _ (catalog : Catalog) (whole : WholenessStays) (carries : KeptCarries) where
-  image_from : (x y : Database) → kept catalog x ≡ kept catalog y → (place : ℕ) (bytes : List ℕ) → IsImageAt catalog place bytes x → IsImageAt catalog place bytes y
-  image_from x y k place bytes i =
+  image_from : (x y : Database) → kept catalog x ≡ kept catalog y → (bodies : Bool) (place : ℕ) (bytes : List ℕ) → IsImageAt catalog bodies place bytes x → IsImageAt catalog bodies place bytes y
+  image_from x y k bodies place bytes i =
       let same = from_kept catalog x y k in record {
         whole = whole catalog x y k i.whole;
         had = record {
           streams = λ s. subst (λ (n : ℕ). n ≤ place) (same.lengths s) (i.had.streams s);
           counts = λ q. subst (λ (n : ℕ). n ≤ place) (λ j. get_or (same.counts j) q 0) (i.had.counts q);
         };
-        fits = subst FitsImage k i.fits;
-        spelled = i.spelled ∙ ap (image_bytes catalog) k;
+        fits = subst (FitsImage bodies catalog) k i.fits;
+        spelled = i.spelled ∙ ap (image_bytes bodies catalog) k;
       }
 
   reads_from : (x y : Database) → kept catalog x ≡ kept catalog y → (image : Files) (place : ℕ) (entries : List Entry) → WeakReads catalog image place x entries → WeakReads catalog image place y entries
@@ -147,7 +147,7 @@ module _ (catalog : Catalog) (whole : WholenessStays) (carries : KeptCarries) wh
   reads_from x y k image place entries (inr g) = inr (record {
     stood = g.stood;
     stands = g.stands;
-    read = record { weak = g.read.weak; first = g.read.first; image = image_from x y k place g.stood.image g.read.image; entries_are = g.read.entries_are };
+    read = record { weak = g.read.weak; first = g.read.first; image = image_from x y k g.stood.bodies place g.stood.image g.read.image; entries_are = g.read.entries_are };
   })
 
   pub front_from : (x y : Database) → kept catalog x ≡ kept catalog y → (first : ℕ) (history : List Listed) (least : ℕ) (image : Files) → ReadsWeakFront catalog x first history least image

@@ -22,7 +22,7 @@ abbrev pub mode_of : Recovery → Mode
 mode_of Strong = modes.Strong
 mode_of (Weak o) = modes.Weak
 
--- the calls and pushes behind the origin led to this place, with a settling before each and behind the last, and to a database of which
+-- the requests behind the origin led to this place, with a settling before each and behind the last, and to a database of which
 -- the same is kept as of this one
 pub record LedTo (catalog : Catalog) (o : Origin) (db : Database) (first : ℕ) : Type 0 where
   pub whole : WholeDatabase catalog o.db
@@ -37,7 +37,7 @@ BeganAt Strong catalog db first = Unit {0}
 BeganAt (Weak o) catalog db first = LedTo catalog o db first
 
 -- The files are what a run began at. A strong store stands for so many executions and for the database; a weak one is read as the origin,
--- with the calls and pushes that led from there to the database.
+-- with the requests that led from there to the database.
 abbrev pub StoodAs : Recovery → Catalog → Database → ℕ → Files → Type 0
 StoodAs Strong catalog db first image = Stands catalog image first (kept catalog db)
 StoodAs (Weak o) catalog db first image = WeakReads catalog image o.place o.db (asked_of (listed_entries o.known))
@@ -48,13 +48,13 @@ fresh_recovery modes.Strong catalog = Strong
 fresh_recovery modes.Weak catalog = Weak (record { place = 0; db = empty_database catalog; known = [] })
 
 -- The files are a front of the run's list that ends at this place at least. In strong mode they stand for it. In weak mode they are read
--- as a database of the run's history, with the calls and pushes behind it; the history is what the origin led to, and then the list.
+-- as a database of the run's history, with the requests behind it; the history is what the origin led to, and then the list.
 abbrev pub FrontStands : Recovery → Catalog → Database → ℕ → List Listed → ℕ → Files → Type 0
 FrontStands Strong catalog db first list least image = StandsForFront catalog db first list least image
 FrontStands (Weak o) catalog db first list least image = ReadsWeakFront catalog o.db o.place (o.known ++ list) least image
 
--- The files have so much at least, whatever it is a front of: in strong mode so many executions, and in weak mode so many of the calls
--- and pushes of the history.
+-- The files have so much at least, whatever it is a front of: in strong mode so many executions, and in weak mode so many of the requests
+-- of the history.
 abbrev pub AtLeast : Recovery → Catalog → List Listed → ℕ → Files → Type 0
 AtLeast Strong catalog list n image = StandsForAtLeast catalog n image
 AtLeast (Weak o) catalog list n image = HasAsked catalog o.db o.place (o.known ++ list) n image
@@ -68,7 +68,7 @@ pub record HoldsStrongFront (catalog : Catalog) (db : Database) (first : ℕ) (l
   pub within : held ≤ length list
   pub replayed : Replayed catalog s (first + held) (kept catalog (after catalog db (take held list)))
 
--- a generation has the first entries of the list, so many; a weak one has their calls and pushes
+-- a generation has the first entries of the list, so many; a weak one has their requests
 abbrev pub HoldsFront : Recovery → Catalog → Database → ℕ → List Listed → ℕ → Stood → Type 0
 HoldsFront Strong catalog db first list held s = HoldsStrongFront catalog db first list held s
 HoldsFront (Weak o) catalog db first list held s = HasWeakFront catalog o.db o.place (o.known ++ list) (length o.known + held) s

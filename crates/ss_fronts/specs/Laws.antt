@@ -1,6 +1,6 @@
 -- Fronts of a list, in both modes: they go on where the list does, over a flush and over a checkpoint, and what a generation has of a list
 -- is one.
-use Rattle.std.specs.Prelude.{◌≡◌, ◌⊎◌, ◌≤◌, ℕ, ◌+◌, List, ◌++◌, length, take, drop}
+use Rattle.std.specs.Prelude.{◌≡◌, ◌⊎◌, ◌≤◌, true, ℕ, ◌+◌, List, ◌++◌, length, take, drop}
 use Rattle.std.specs.List.{flat_map}
 use Rattle.ss_model.specs.declared.catalog.Catalog.{Catalog}
 use Rattle.ss_model.specs.declared.entry.Entry.{Entry}
@@ -64,7 +64,7 @@ HeldFrontsStand =
 abbrev pub CheckpointsHold : Type 0
 CheckpointsHold =
     (recovery : Recovery) (catalog : Catalog) (db : Database) (first : ℕ) (list : List Listed) → Accepted catalog → WholeDatabase catalog db → HadAtMost first db →
-    BeganAt recovery catalog db first → Replays catalog db list → FitsImage (kept catalog (after catalog db list)) →
+    BeganAt recovery catalog db first → Replays catalog db list → FitsImage true catalog (kept catalog (after catalog db list)) →
     HoldsFront recovery catalog db first list (length list) (checkpoint_of (mode_of recovery) catalog (first + length list) (after catalog db list))
 
 module _ (D : Type 0) (moment : D → ℕ) (images : D → ℕ → Files → Type 0) where

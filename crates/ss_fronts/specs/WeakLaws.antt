@@ -18,7 +18,7 @@ WeaklyStandsForOne =
     (catalog : Catalog) → Accepted catalog → (image : Files) (m n : ℕ) (j k : Kept) → WeaklyStands catalog image m j → WeaklyStands catalog image n k →
     (m ≡ n) × (j ≡ k)
 
--- What is recovered of a front: the weak list of the calls and pushes between two positions of the history, of which is known what
+-- What is recovered of a front: the weak list of the requests between two positions of the history, of which is known what
 -- the model says of it, and the files stand for the place and the database behind it.
 pub record FrontRecovers (catalog : Catalog) (db : Database) (first : ℕ) (history : List Listed) (least : ℕ) (image : Files)
     (front : ReadsWeakFront catalog db first history least image) : Type 0 where

@@ -14,11 +14,11 @@ use Rattle.ss_cmdlog.specs.Store.{IsEmpty, StandsFor, entries_of}
 use Rattle.ss_model.specs.Asked.{listed_entries}
 use Rattle.ss_standing.specs.Standing.{IsImageAt}
 
--- a weak generation is read as this database, at this place, with these entries behind its image
+-- a weak generation, with bodies or without, is read as this database, at this place, with these entries behind its image
 pub record IsReadAs (catalog : Catalog) (s : Stood) (place : ℕ) (db : Database) (entries : List Entry) : Type 0 where
   pub weak : s.mode ≡ Weak
   pub first : s.first ≡ place
-  pub image : IsImageAt catalog place s.image db
+  pub image : IsImageAt catalog s.bodies place s.image db
   pub entries_are : entries_of s ≡ entries
 
 -- an empty disk is read as the empty database, at place 0, with no entries

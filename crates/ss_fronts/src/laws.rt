@@ -75,7 +75,7 @@ pub fn weakly_stands_for_one()
     entries_tell_a_list();
 }
 
-/// A front of the history of a weak run is recovered to the weak list of its calls and pushes, of which is known what the model
+/// A front of the history of a weak run is recovered to the weak list of its requests, of which is known what the model
 /// says of it.
 pub fn fronts_recover()
     ensures { FrontsRecover }

@@ -1,5 +1,5 @@
 -- Partitions, one by one: the shards of a list with the marks of another.
-use Rattle.std.proofs.Common.{◌≡◌, ◌<◌, ℕ, zero, suc, ◌||◌, Bool, true, false, List, [], ◌∷◌, ◌++◌, ◌==◌, inl, inr, map, length, get_or, refl, sym, ap, subst, ◌∙◌, arith, append_assoc, length-append}
+use Rattle.std.proofs.Common.{◌≡◌, ◌≤◌, ◌<◌, ℕ, zero, suc, ◌||◌, Bool, true, false, List, [], ◌∷◌, ◌++◌, ◌==◌, inl, inr, map, length, get_or, refl, sym, ap, subst, ◌∙◌, arith, append_assoc, length-append}
 use Rattle.std.proofs.Math.Seq.{get_or-append_seam}
 use Rattle.std.specs.List.{AllByRecursion, AllPairs}
 use Rattle.atomic_table.specs.Seated.{TableId}
@@ -47,6 +47,10 @@ fresh held (p ∷ ps) up = (
 
 -- ---- shards with their marks
 
+-- where one runs there are some
+some_run : (p n : ℕ) → p < n → 1 ≤ n
+some_run p n runs = omega arith
+
 module _ (catalog : Catalog) (n : ℕ) (db : Database) where
   pub as_many : (ss : List ShardValue) (ks : List Known) → ArePartitions catalog n db ss ks → length ss ≡ length ks
   as_many [] [] all = refl
@@ -91,16 +95,16 @@ module _ (catalog : Catalog) (n : ℕ) (db : Database) where
   have_own (s ∷ ss) (k ∷ ks) all = ((all.0).parts, have_own ss ks all.1)
 
   -- of one partition: what it holds by its mark's list it holds of a database that agrees with the mark, and back
-  to_one : (s : ShardValue) (k : Known) (d : Database) → part catalog n s.number d ≡ part catalog n s.number (known_database catalog db k)
+  to_one : (s : ShardValue) (k : Known) (d : Database) → s.number < n → part catalog n s.number d ≡ part catalog n s.number (known_database catalog db k)
       → HoldsParts catalog n (s.number ∷ []) s (known_database catalog db k) → HoldsParts catalog n (s.number ∷ []) s d
-  to_one s k d same =
-      holds_same_parts catalog n (known_database catalog db k) d (s.number ∷ []) (omega arith)
+  to_one s k d runs same =
+      holds_same_parts catalog n (some_run s.number n runs) (known_database catalog db k) d (s.number ∷ []) (omega arith)
       (λ p among. subst (λ (q : ℕ). part catalog n q (known_database catalog db k) ≡ part catalog n q d) (own_is s.number p among) (sym same)) s
 
-  from_one : (s : ShardValue) (k : Known) (d : Database) → part catalog n s.number d ≡ part catalog n s.number (known_database catalog db k)
+  from_one : (s : ShardValue) (k : Known) (d : Database) → s.number < n → part catalog n s.number d ≡ part catalog n s.number (known_database catalog db k)
       → HoldsParts catalog n (s.number ∷ []) s d → HoldsParts catalog n (s.number ∷ []) s (known_database catalog db k)
-  from_one s k d same =
-      holds_same_parts catalog n d (known_database catalog db k) (s.number ∷ []) (omega arith)
+  from_one s k d runs same =
+      holds_same_parts catalog n (some_run s.number n runs) d (known_database catalog db k) (s.number ∷ []) (omega arith)
       (λ p among. subst (λ (q : ℕ). part catalog n q d ≡ part catalog n q (known_database catalog db k)) (own_is s.number p among) same) s
 
   -- the shards hold their own of each database that agrees with their marks
@@ -109,7 +113,7 @@ module _ (catalog : Catalog) (n : ℕ) (db : Database) where
   hold_own d [] (k ∷ ks) all agrees = absurd all
   hold_own d (s ∷ ss) [] all agrees = absurd all
   hold_own d (s ∷ ss) (k ∷ ks) all agrees = (
-    to_one s k d (agrees s.number k (inl refl) (all.0).own) (all.0).holds,
+    to_one s k d (all.0).runs (agrees s.number k (inl refl) (all.0).own) (all.0).holds,
     hold_own d ss ks all.1 (λ p l i is. agrees p l (inr i) is),
   )
 
@@ -126,7 +130,7 @@ module _ (catalog : Catalog) (n : ℕ) (db : Database) where
           runs = run.0;
           own = own;
           parts = have.0;
-          holds = from_one s k d (agrees s.number k (inl refl) own) hold.0;
+          holds = from_one s k d run.0 (agrees s.number k (inl refl) own) hold.0;
         },
         partitions_of d ss ks run.1 rest have.1 hold.1 (λ p l i is. agrees p l (inr i) is),
       )

@@ -11,9 +11,9 @@ use Rattle.ss_lemmas.proofs.Numbers.{eqb_self, eqb_is}
 use Rattle.ss_value.specs.Rows.{Row, Rows}
 use Rattle.ss_model.specs.declared.catalog.Catalog.{Catalog}
 use Rattle.ss_model.specs.declared.entry.Asked.{Asked}
-use Rattle.ss_model.specs.declared.entry.Asked.TheVariants.{Call as CallAsked, Push as PushAsked}
+use Rattle.ss_model.specs.declared.entry.Asked.TheVariants.{Call as CallAsked, Push as PushAsked, Install as InstallAsked}
 use Rattle.ss_model.specs.declared.entry.Entry.{Entry}
-use Rattle.ss_model.specs.declared.entry.Entry.TheVariants.{Call, Push, Step as StepEntry}
+use Rattle.ss_model.specs.declared.entry.Entry.TheVariants.{Call, Push, Step as StepEntry, Install}
 use Rattle.ss_model.specs.declared.entry.Listed.{Listed}
 use Rattle.ss_model.specs.declared.entry.Outcome.{Outcome}
 use Rattle.ss_model.specs.declared.entry.Outcome.TheVariants.{Done, Aborted, Duplicate, Gap}
@@ -57,6 +57,7 @@ abbrev owed_of : Catalog → Entry → ℕ
 owed_of catalog (Call c i q args) = 1
 owed_of catalog (Push c i s source seq rows) = 1 + workflow_size catalog s
 owed_of catalog (StepEntry q r) = 0
+owed_of catalog (Install c i q text) = 1
 
 left : (b : Bool) (long now count counted grown : ℕ) → counted ≡ count → now ≤ long + grown → cond b (now - counted) 0 ≤ cond b (long - count) 0 + cond b grown 0
 left true long now count counted grown same le = omega (arith, same, le)
@@ -78,12 +79,13 @@ module _ (catalog : Catalog) (accepted : Accepted catalog) where
         (λ (past : length catalog.streams ≤ s). let none = ap length (get_or_past a.db.streams s [] (omega (arith, shape, past))) in omega (arith, none))
         (cases_lt s (length catalog.streams))
 
-    call_leaves : (c i n : ℕ) (args : Row) (a : Applied) → apply catalog db (Call c i n args) ≡ Some a → pending_steps catalog a.db ≤ pending_steps catalog db
-    call_leaves c i n args a is =
-        let k = effect catalog db (Call c i n args) a in_step.matched.shape is in
+    -- an entry that takes no batch and adds none, as a call and an install
+    none_leaves : (a : Applied) → length a.db.streams ≡ length catalog.streams → ((q : ℕ) → batch_count a.db q ≡ batch_count db q)
+        → ((s : ℕ) → s < length catalog.streams → length (stream_batches a.db s) ≡ length (stream_batches db s) + 0) → pending_steps catalog a.db ≤ pending_steps catalog db
+    none_leaves a shape counts lengths =
         sum_by-le-sum_by (pending_batches catalog a.db) (pending_batches catalog db) (procedure_numbers catalog) (λ q. no_more (streams_on catalog q) (pending_batches catalog a.db q) (pending_batches catalog db q)
-        (left (streams_on catalog q) (length (stream_batches db (border_stream catalog q))) (length (stream_batches a.db (border_stream catalog q))) (batch_count db q) (batch_count a.db q) 0 (k.counts q)
-        (grows a (border_stream catalog q) 0 k.shaped.streams (k.lengths (border_stream catalog q)))))
+        (left (streams_on catalog q) (length (stream_batches db (border_stream catalog q))) (length (stream_batches a.db (border_stream catalog q))) (batch_count db q) (batch_count a.db q) 0 (counts q)
+        (grows a (border_stream catalog q) 0 shape (lengths (border_stream catalog q)))))
       where
         no_more : (b : Bool) (m n : ℕ) → m ≤ n + cond b 0 0 → m ≤ n
         no_more true m n le = omega (arith, le)
@@ -103,7 +105,12 @@ module _ (catalog : Catalog) (accepted : Accepted catalog) where
         one_more false p m n le = le
 
     entry_leaves : (e : Entry) (a : Applied) → apply catalog db e ≡ Some a → pending_steps catalog a.db + 1 ≤ pending_steps catalog db + owed_of catalog e
-    entry_leaves (Call c i q args) a is = let le = call_leaves c i q args a is in omega (arith, le)
+    entry_leaves (Call c i q args) a is =
+        let k = effect catalog db (Call c i q args) a in_step.matched.shape is in
+        let le = none_leaves a k.shaped.streams k.counts k.lengths in omega (arith, le)
+    entry_leaves (Install c i q text) a is =
+        let k = effect catalog db (Install c i q text) a in_step.matched.shape is in
+        let le = none_leaves a k.shaped.streams k.counts k.lengths in omega (arith, le)
     entry_leaves (Push c i s source seq rows) a is = let le = push_leaves c i s source seq rows a is in omega (arith, le)
     entry_leaves (StepEntry q r) a is = let less = lower_pending catalog accepted db in_step q r a is in omega (arith, less)
 
@@ -151,11 +158,19 @@ apart_call : (c i q : ℕ) (args : Row) (x : Entry) → IsAbove c i x → is_sam
 apart_call c i q args (Call d j p more) later = apart c i d j (later j)
 apart_call c i q args (Push d j t source seq rows) later = refl
 apart_call c i q args (StepEntry p r) later = refl
+apart_call c i q args (Install d j p text) later = refl
 
 apart_push : (c i s : ℕ) (source : List ℕ) (seq : ℕ) (rows : Rows) (x : Entry) → IsAbove c i x → is_same_request (Push c i s source seq rows) x ≡ false
 apart_push c i s source seq rows (Call d j p more) later = refl
 apart_push c i s source seq rows (Push d j t name n others) later = apart c i d j (later j)
 apart_push c i s source seq rows (StepEntry p r) later = refl
+apart_push c i s source seq rows (Install d j p text) later = refl
+
+apart_install : (c i q : ℕ) (text : List ℕ) (x : Entry) → IsAbove c i x → is_same_request (Install c i q text) x ≡ false
+apart_install c i q text (Call d j p args) later = refl
+apart_install c i q text (Push d j t source seq rows) later = refl
+apart_install c i q text (StepEntry p r) later = refl
+apart_install c i q text (Install d j p other) later = apart c i d j (later j)
 
 none_later : (c i : ℕ) (e : Entry) → ((x : Entry) → IsAbove c i x → is_same_request e x ≡ false) → (place : ℕ) (ls : List Listed)
     → AllByRecursion (λ k. i < k) (filter_map (λ (l : Listed). client_index c l.entry) ls) → is_none (find_listed place e ls) ≡ true
@@ -220,6 +235,12 @@ module _ (catalog : Catalog) (requests : List Request) where
         let above = rising_above i later (subst (λ o. Rising (cons_option o later)) index (rises c)) in
         let itself : is_same_request (Push c i s source seq rows) (Push c i s source seq rows) ≡ true = λ k. eqb_self c k && eqb_self i k in
         newly (Push c i s source seq rows) (ap (is_same_request (Push c i s source seq rows)) is ∙ itself) (none_later c i (Push c i s source seq rows) (apart_push c i s source seq rows) (place + 1) ls above) asked
+    one_more rises (Install c i q text) is asked =
+        let later = filter_map (λ (x : Listed). client_index c x.entry) ls in
+        let index : client_index c l.entry ≡ Some i = ap (client_index c) is ∙ ap (λ b. cond b (Some i) None) (eqb_self c) in
+        let above = rising_above i later (subst (λ o. Rising (cons_option o later)) index (rises c)) in
+        let itself : is_same_request (Install c i q text) (Install c i q text) ≡ true = λ k. eqb_self c k && eqb_self i k in
+        newly (Install c i q text) (ap (is_same_request (Install c i q text)) is ∙ itself) (none_later c i (Install c i q text) (apart_install c i q text) (place + 1) ls above) asked
 
   -- what the entries of the list owe is owed by requests that are found in it
   list_found : (place : ℕ) (list : List Listed) → AllByRecursion (λ (l : Listed). IsAsked requests l.entry) list → ((client : ℕ) → Rising (filter_map (λ (l : Listed). client_index client l.entry) list))
@@ -233,6 +254,7 @@ module _ (catalog : Catalog) (requests : List Request) where
   asked_owes : (c i : ℕ) (what : Asked) → (owed_of catalog (asked_entry c i what) ≡ owed_by catalog what) × (1 ≤ owed_by catalog what)
   asked_owes c i (CallAsked q args) = (refl, omega arith)
   asked_owes c i (PushAsked s source seq rows) = (refl, omega arith)
+  asked_owes c i (InstallAsked q text) = (refl, omega arith)
 
   -- and each request that isn't found owes one at least
   all_owed : (list : List Listed) (earlier rs : List Request)

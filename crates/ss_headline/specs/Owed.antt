@@ -4,7 +4,7 @@ use Rattle.std.specs.List.{AllByRecursion, count_by, filter_map, sum_by}
 use Rattle.std.specs.Option.{is_none}
 use Rattle.ss_model.specs.declared.catalog.Catalog.{Catalog}
 use Rattle.ss_model.specs.declared.entry.Asked.{Asked}
-use Rattle.ss_model.specs.declared.entry.Asked.TheVariants.{Call as CallAsked, Push as PushAsked}
+use Rattle.ss_model.specs.declared.entry.Asked.TheVariants.{Call as CallAsked, Push as PushAsked, Install as InstallAsked}
 use Rattle.ss_model.specs.declared.entry.Listed.{Listed}
 use Rattle.ss_model.specs.declared.entry.Request.{Request}
 use Rattle.ss_model.specs.Accepted.{Accepted}
@@ -23,6 +23,7 @@ workflow_size catalog s = count_by (λ q. streams_on catalog q && border_stream 
 abbrev pub owed_by : Catalog → Asked → ℕ
 owed_by catalog (CallAsked q args) = 1
 owed_by catalog (PushAsked s source seq rows) = 1 + workflow_size catalog s
+owed_by catalog (InstallAsked q text) = 1
 
 -- what the requests owe, and the steps that are pending before them
 abbrev pub owed : Catalog → Database → List Request → ℕ

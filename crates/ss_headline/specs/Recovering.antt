@@ -13,12 +13,12 @@ use Rattle.ss_fronts.specs.WeakFronts.{ReadsWeakFront}
 use Rattle.ss_fronts.specs.WeakLaws.{FrontRecovers}
 use Rattle.ss_headline.specs.Disks.{DiskChange, AtEachMoment}
 
--- what a weak recovery makes of files: they are a front, of which is known what recovering its calls and pushes comes to
+-- what a weak recovery makes of files: they are a front, of which is known what recovering its requests comes to
 pub record RecoversAsFront (catalog : Catalog) (o : Origin) (list : List Listed) (least : ℕ) (image : Files) : Type 0 where
   pub front : ReadsWeakFront catalog o.db o.place (o.known ++ list) least image
   pub recovers : FrontRecovers catalog o.db o.place (o.known ++ list) least image front
 
--- behind a weak session that ended as done recovery has all calls and pushes since the image, with the pushes' outcomes
+-- behind a weak session that ended as done recovery has all requests since the image, with the pushes' outcomes
 pub record RecoversAll (catalog : Catalog) (o : Origin) (list : List Listed) (image : Files) : Type 0 where
   pub recovered : RecoversAsFront catalog o list (o.place + length (o.known ++ list)) image
   pub to_the_end : recovered.front.some ≡ length (o.known ++ list)
@@ -31,7 +31,7 @@ AllRecovers =
     RecoversAll catalog o list image
 
 module _ {D : Type 0} (disk_of : D → D → DiskChange) where
-  -- law: whatever a crash in a weak session leaves anew, recovery has of it the weak list of its calls and pushes, with what is known of it
+  -- law: whatever a crash in a weak session leaves anew, recovery has of it the weak list of its requests, with what is known of it
   abbrev pub CrashesRecover : Type 0
   CrashesRecover =
       (catalog : Catalog) → Accepted catalog → (o : Origin) (db : Database) (first : ℕ) (list : List Listed) (least : ℕ) (old new : D) →

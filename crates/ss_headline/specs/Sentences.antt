@@ -36,7 +36,7 @@ abbrev pub WhereverACrashFalls : Recovery → Catalog → Database → ℕ → L
 WhereverACrashFalls recovery catalog db first list disk = AtEachMoment disk (FrontStands recovery catalog db first list first)
 
 -- So much that a crash at some moment of the call could not take, a crash at no later moment takes: so many executions, or on a weak store
--- so many of the calls and pushes of the list and what it goes on from.
+-- so many of the requests of the list and what it goes on from.
 abbrev pub ReceiptsStay : Recovery → Catalog → List Listed → DiskChange → Type 0
 ReceiptsStay recovery catalog list disk = disk.honest → (n : ℕ) → disk.stays (AtLeast recovery catalog list n)
 

@@ -99,7 +99,7 @@ pub fn stopped_runs<D: Disk>()
     sessions_hold_from_each::<D>();
 }
 
-/// Whatever a crash in a weak session leaves anew, recovery has of it the weak list of its calls and pushes (`crashes`), and
+/// Whatever a crash in a weak session leaves anew, recovery has of it the weak list of its requests (`crashes`), and
 /// behind a session that ended as done of all of them (`all`): it replays, has the orders, leaves no batch pending, and its
 /// pushes come to what they came to. It doesn't matter which database of those is named of which the same is kept
 /// (`from_each`).

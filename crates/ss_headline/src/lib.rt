@@ -5,10 +5,10 @@
 //! procedures of its workflow in graph order and none twice, every receipted execution stands, and at the end each accepted
 //! batch has met each of them exactly once. The next call on the disk goes on from there.
 //!
-//! A run on a weak store differs in what a crash leaves: not the list, but its calls and pushes behind an image, from which
-//! recovery runs the steps again. So what it replies may differ from what was told before; but of what is receipted no call
-//! and no push is lost, each push comes to what it came to, and each accepted batch has met its procedures exactly once.
-//! All is said by one parameter, the run's `Recovery`.
+//! A run on a weak store differs in what a crash leaves: not the list, but its requests behind an image, from which
+//! recovery runs the steps again. So what it replies may differ from what was told before; but of what is receipted no
+//! request is lost, each push comes to what it came to, and each accepted batch has met its procedures exactly once. All is
+//! said by one parameter, the run's `Recovery`.
 //!
 //! - `specs/Sentences` has a name for each sentence, and the two sessions in which they stand together, a whole and a
 //!   stopped one; `specs/Disks` says what a call did to its disk
@@ -30,8 +30,8 @@
 //!   strong store is one from every place and database that the disk stood for (`runs_hold_from_each`).
 //! - What is receipted stands at each later moment of the call: in both sessions, so much that a crash at some moment could
 //!   not take, a crash at no later moment takes (`ReceiptsStay`); on a strong store so many executions, and on a weak one so
-//!   many of the calls and pushes.
-//! - What recovery makes of whatever a crash leaves in a weak session is the weak list of its calls and pushes, which
+//!   many of the requests.
+//! - What recovery makes of whatever a crash leaves in a weak session is the weak list of its requests, which
 //!   replays, has the orders and leaves no batch pending, and whose pushes come to what they came to (`crashes_recover`).
 //! - Two runs on one strong store go on from each other (`calls_go_on`). Where nothing was pending on the disk before a call,
 //!   a crash leaves what is promised and nothing else (`quiet_leaves`).

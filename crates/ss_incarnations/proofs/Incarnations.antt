@@ -1,7 +1,7 @@
 -- A run goes on over the faults of its disk.
 use Rattle.std.proofs.Common.{◌≡◌, ◌⊎◌, inl, inr, ℕ, ◌+◌, ◌≤◌, List, [], ◌++◌, length, take, refl, sym, ap, subst, ◌∙◌, arith, length-append, length-take-le}
 use Rattle.ss_model.specs.declared.catalog.Catalog.{Catalog}
-use Rattle.ss_model.specs.Database.{Database, empty_database}
+use Rattle.ss_model.specs.Database.{Database}
 use Rattle.ss_model.specs.Orders.{ReplaysHaveOrders}
 use Rattle.ss_model.specs.Recovery.{Strong}
 use Rattle.ss_model.specs.Replays.{ReplaysGoOn, after}
@@ -10,7 +10,6 @@ use Rattle.ss_disk.specs.Files.{Files}
 use Rattle.ss_disk.specs.Kinds.{DiskKind, present}
 use Rattle.ss_disk.specs.Moments.{LeavesOnly}
 use Rattle.ss_disk.proofs.CallerLemmas.{leaves_less, stays_join}
-use Rattle.ss_cmdlog.specs.Store.{IsEmpty}
 use Rattle.ss_standing.specs.Laws.{StandsForOne}
 use Rattle.ss_standing.specs.Standing.{Prefix, Stands, StandsForAtLeast, StandsForFront}
 use Rattle.ss_standing.proofs.CallerLemmas.{front_replays}
@@ -19,10 +18,12 @@ use Rattle.ss_headline.specs.Disks.{DiskChange, disk_of}
 use Rattle.ss_headline.specs.Laws.{FewStandBehind}
 use Rattle.ss_headline.specs.Layers.{Opened}
 use Rattle.ss_headline.specs.Sentences.{ReceiptsStay}
-use Rattle.ss_headline.proofs.CallerLemmas.{crashes_join, drained_carried, no_list_stands, receipts_join, stands_as_empty}
+use Rattle.ss_headline.proofs.CallerLemmas.{crashes_join, drained_carried, no_list_stands, receipts_join}
 use Rattle.ss_incarnations.specs.Incarnations.{Incarnation}
+use Rattle.ss_incarnations.specs.Openings.{StandForSame}
 use Rattle.ss_incarnations.specs.Reopening.{Lived, FirstIncarnation, NoneIsReopened, NoEngineIsOpened, OneMoreIncarnation}
 use Rattle.ss_incarnations.proofs.Few.{few_joined}
+use Rattle.ss_incarnations.proofs.Openings.{stands_so}
 use Rattle.ss_incarnations.proofs.Fronts.{behind_front, front_before, last_goes_on}
 
 module _ {D : Type 0} (kind : DiskKind D) where
@@ -91,18 +92,18 @@ module _ {D : Type 0} (kind : DiskKind D) where
         stays_lived catalog db first last earlier old mid new lived
         (λ true'.
         let fronts = lived.every_receipt_stands.fronts true' in
-        leaves_less kind.moment kind.images mid new (Left mid (λ image. IsEmpty (kind.seen mid) × Stands catalog image 0 (kept catalog (empty_database catalog)))) (Front catalog db first last)
+        leaves_less kind.moment kind.images mid new (Left mid (StandForSame catalog (kind.seen mid))) (Front catalog db first last)
         (none.nothing_ran true') (λ image left. either catalog db first last mid image fronts (fronts (kind.seen mid) (sees mid true')) left))
         (none.receipts_stay last.list)
       where
         either : (catalog : Catalog) (db : Database) (first : ℕ) (last : Incarnation) (mid : D) (image : Files) → ((some : Files) → present kind mid some → Front catalog db first last some)
-            → Front catalog db first last (kind.seen mid) → Left mid (λ i. IsEmpty (kind.seen mid) × Stands catalog i 0 (kept catalog (empty_database catalog))) image → Front catalog db first last image
+            → Front catalog db first last (kind.seen mid) → Left mid (StandForSame catalog (kind.seen mid)) image → Front catalog db first last image
         either catalog db first last mid image fronts here (inl left) = fronts image left
         either catalog db first last mid image fronts here (inr made) = record {
           some = here.some;
           within = here.within;
           enough = here.enough;
-          stands = stands_as_empty one catalog (after catalog db (take here.some last.list)) (first + here.some) (kind.seen mid) image here.stands made.0 made.1;
+          stands = stands_so one catalog (kind.seen mid) image (first + here.some) (kept catalog (after catalog db (take here.some last.list))) made here.stands;
         }
 
     -- what was found is a front of the last list

@@ -19,9 +19,9 @@ use Rattle.ss_model.specs.declared.catalog.Procedure.{Procedure}
 use Rattle.ss_model.specs.declared.entry.Answer.{Answer}
 use Rattle.ss_model.specs.declared.entry.Answer.TheVariants.{Listed as ListedAnswer, NoMemory, ListFull, Halted}
 use Rattle.ss_model.specs.declared.entry.Asked.{Asked}
-use Rattle.ss_model.specs.declared.entry.Asked.TheVariants.{Call as CallAsked, Push as PushAsked}
+use Rattle.ss_model.specs.declared.entry.Asked.TheVariants.{Call as CallAsked, Push as PushAsked, Install as InstallAsked}
 use Rattle.ss_model.specs.declared.entry.Entry.{Entry}
-use Rattle.ss_model.specs.declared.entry.Entry.TheVariants.{Call, Push, Step as StepEntry}
+use Rattle.ss_model.specs.declared.entry.Entry.TheVariants.{Call, Push, Step as StepEntry, Install}
 use Rattle.ss_model.specs.declared.entry.Listed.{Listed}
 use Rattle.ss_model.specs.declared.entry.Outcome.{Outcome}
 use Rattle.ss_model.specs.declared.entry.Outcome.TheVariants.{Done, Duplicate, Gap}
@@ -141,6 +141,8 @@ module _ (s : ℕ) (source : List ℕ) (db : Database) where
     unfolding apply
     counts (Call client index q args) a is = called client index q args _ a is
     counts (StepEntry q r) a is = run q r _ a is
+    counts (Install client index q text) a is =
+        let same = some_same _ a (of_when _ _ a is).1 in other (Install client index q text) a refl (ap (λ (x : Applied). x.db.next_numbers) (sym same))
     counts (Push client index t name seq rows) a is =
         let fits = of_when _ _ a is in
         let border = (and_parts _ _ (and_parts _ _ (and_parts _ _ (and_parts _ _ fits.0).0).0).0).1 in
@@ -267,10 +269,12 @@ among_mine client s source place (l ∷ ls) all = by (is_of client l.entry) refl
 pub same_push : (s : ℕ) (source : List ℕ) (c d i j : ℕ) (what : Asked) → is_push_of s source (asked_entry c i what) ≡ is_push_of s source (asked_entry d j what)
 same_push s source c d i j (CallAsked q args) = refl
 same_push s source c d i j (PushAsked t name seq rows) = refl
+same_push s source c d i j (InstallAsked q text) = refl
 
 pub same_number : (s : ℕ) (source : List ℕ) (c d i j : ℕ) (what : Asked) → number_of s source (asked_entry c i what) ≡ number_of s source (asked_entry d j what)
 same_number s source c d i j (CallAsked q args) = refl
 same_number s source c d i j (PushAsked t name seq rows) = refl
+same_number s source c d i j (InstallAsked q text) = refl
 
 -- one that is not listed is not the source's
 not_its : (s : ℕ) (source : List ℕ) (r : Request) (rs : List Request) {numbers : List ℕ} → numbers ≡ asked_numbers s source rs → (is_push_of s source (entry_asked r) ≡ true → ⊥)
@@ -311,6 +315,7 @@ asked_its client s source earlier (r ∷ rs) all = (here, asked_its client s sou
     its : (what : Asked) → r.client ≡ client → is_of client (asked_entry r.client index what) ≡ true
     its (CallAsked q args) same = (Decides-eqb r.client client).1 same
     its (PushAsked t name seq rows) same = (Decides-eqb r.client client).1 same
+    its (InstallAsked q text) same = (Decides-eqb r.client client).1 same
 
     here : IsIts client s source (asked_entry r.client index r.what)
     here it = its r.what (all.0 (same_push s source r.client r.client 0 index r.what ∙ it))
@@ -318,6 +323,7 @@ asked_its client s source earlier (r ∷ rs) all = (here, asked_its client s sou
 asked_is_its : (client s : ℕ) (source : List ℕ) (requests : List Request) (e : Entry) → OnlyFrom client s source requests → IsAsked requests e → IsIts client s source e
 asked_is_its client s source requests (Call c i q args) all asked = λ it. absurd (false≢true it)
 asked_is_its client s source requests (StepEntry q r) all asked = λ it. absurd (false≢true it)
+asked_is_its client s source requests (Install c i q text) all asked = λ it. absurd (false≢true it)
 asked_is_its client s source requests (Push c i t name seq rows) all asked =
     All-contains (IsIts client s source) (asked_entries requests) (Push c i t name seq rows) (All-from_recursion (IsIts client s source) (asked_entries requests) (asked_its client s source [] requests all)) asked
 

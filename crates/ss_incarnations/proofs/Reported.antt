@@ -6,9 +6,9 @@ use Rattle.ss_lemmas.proofs.Numbers.{eqb_self}
 use Rattle.ss_model.specs.declared.entry.Answer.{Answer}
 use Rattle.ss_model.specs.declared.entry.Answer.TheVariants.{Listed as ListedAnswer, NoMemory, ListFull, Halted}
 use Rattle.ss_model.specs.declared.entry.Asked.{Asked}
-use Rattle.ss_model.specs.declared.entry.Asked.TheVariants.{Call as CallAsked, Push as PushAsked}
+use Rattle.ss_model.specs.declared.entry.Asked.TheVariants.{Call as CallAsked, Push as PushAsked, Install as InstallAsked}
 use Rattle.ss_model.specs.declared.entry.Entry.{Entry}
-use Rattle.ss_model.specs.declared.entry.Entry.TheVariants.{Call, Push, Step as StepEntry}
+use Rattle.ss_model.specs.declared.entry.Entry.TheVariants.{Call, Push, Step as StepEntry, Install}
 use Rattle.ss_model.specs.declared.entry.Listed.{Listed}
 use Rattle.ss_model.specs.declared.entry.Outcome.{Outcome}
 use Rattle.ss_model.specs.declared.entry.Request.{Request}
@@ -26,6 +26,7 @@ abbrev index_of : Entry → ℕ
 index_of (Call c i q args) = i
 index_of (Push c i s source seq rows) = i
 index_of (StepEntry q r) = 0
+index_of (Install c i q text) = i
 
 abbrev Among : Entry → List Entry → Type 0
 Among e [] = ⊥
@@ -96,10 +97,12 @@ own_index : (client : ℕ) (e : Entry) → is_of client e ≡ true → client_in
 own_index client (Call c i q args) is = ap (λ b. cond b (Some i) None) is
 own_index client (Push c i t name seq rows) is = ap (λ b. cond b (Some i) None) is
 own_index client (StepEntry q r) is = cc
+own_index client (Install c i q text) is = ap (λ b. cond b (Some i) None) is
 
 index_asked : (c i : ℕ) (what : Asked) → index_of (asked_entry c i what) ≡ i
 index_asked c i (CallAsked q args) = refl
 index_asked c i (PushAsked t name seq rows) = refl
+index_asked c i (InstallAsked q text) = refl
 
 -- ---- rising numbers
 
@@ -283,8 +286,10 @@ module _ (s : ℕ) (source : List ℕ) where
       → Contains (asked_entries requests) f × (client_index client f ≡ client_index client e)
   push_found client requests (Call c i q args) f is same asked = absurd (cc)
   push_found client requests (StepEntry q r) f is same asked = absurd (cc)
+  push_found client requests (Install c i q text) f is same asked = absurd (cc)
   push_found client requests (Push c i t name seq rows) (Call d j p more) is same asked = absurd (cc)
   push_found client requests (Push c i t name seq rows) (StepEntry p r) is same asked = absurd (cc)
+  push_found client requests (Push c i t name seq rows) (Install d j p text) is same asked = absurd (cc)
   push_found client requests (Push c i t name seq rows) (Push d j u other number others) is same asked =
       let parts = and_parts (c == d) (i == j) same in
       (asked, sym (λ k. cond (eqb-true c d parts.0 k == client) (Some (eqb-true i j parts.1 k)) None))
@@ -292,6 +297,7 @@ module _ (s : ℕ) (source : List ℕ) where
   push_asked : (requests : List Request) (e : Entry) → is_push_of s source e ≡ true → IsAsked requests e → Contains (asked_entries requests) e
   push_asked requests (Call c i q args) is asked = asked
   push_asked requests (StepEntry q r) is asked = absurd (cc)
+  push_asked requests (Install c i q text) is asked = asked
   push_asked requests (Push c i t name seq rows) is asked = asked
 
   module _ (client : ℕ) (requests : List Request) (only : OnlyFrom client s source requests) (list : List Listed) (asked : AllByRecursion (λ (l : Listed). IsAsked requests l.entry) list) where

@@ -2,24 +2,27 @@
 use Rattle.std.specs.Prelude.{◌≡◌, ◌⊎◌, ◌≤◌, ℕ, List}
 use Rattle.ss_model.specs.declared.catalog.Catalog.{Catalog}
 use Rattle.ss_model.specs.declared.entry.Listed.{Listed}
-use Rattle.ss_model.specs.declared.entry.Mode.TheVariants as modes
-use Rattle.ss_model.specs.Database.{Database, empty_database}
+use Rattle.ss_model.specs.Database.{Database}
 use Rattle.ss_model.specs.Recovery.{Strong}
-use Rattle.ss_model.specs.Settling.{kept}
+use Rattle.ss_model.specs.Settling.{Kept}
+use Rattle.ss_disk.specs.Files.{Files}
 use Rattle.ss_disk.specs.Kinds.{DiskKind}
-use Rattle.ss_cmdlog.specs.Store.{IsEmpty}
 use Rattle.ss_standing.specs.Standing.{Stands}
-use Rattle.ss_headline.specs.Disks.{DiskChange, disk_of, NothingRan}
+use Rattle.ss_headline.specs.Disks.{DiskChange, disk_of, AtEachMoment}
 use Rattle.ss_headline.specs.Layers.{Opened}
 use Rattle.ss_headline.specs.Sentences.{ReceiptsStay}
 
--- no store was opened: nothing ran, what is receipted stays, and reads give what they gave, or, of an empty disk on which a store was being
--- made, what stands for the empty database
+-- both stand for the same
+abbrev pub StandForSame : Catalog → Files → Files → Type 0
+StandForSame catalog a b = (count : ℕ) × (k : Kept) × Stands catalog a count k × Stands catalog b count k
+
+-- No store was opened, but one may have been made on an empty disk, or a checkpoint in place of a store of an older form: wherever a crash
+-- fell, it left what it might have left before, or what stands for the same as the disk did; what is receipted stays; and reads give what
+-- they gave, or what stands for the same.
 pub record NotOpened (catalog : Catalog) (disk : DiskChange) : Type 0 where
-  pub nothing_ran : NothingRan modes.Strong catalog disk
+  pub nothing_ran : AtEachMoment disk (StandForSame catalog disk.seen_before)
   pub receipts_stay : (list : List Listed) → ReceiptsStay Strong catalog list disk
-  pub reads : disk.honest →
-      (disk.seen_now ≡ disk.seen_before) ⊎ (IsEmpty disk.seen_before × Stands catalog disk.seen_now 0 (kept catalog (empty_database catalog)))
+  pub reads : disk.honest → (disk.seen_now ≡ disk.seen_before) ⊎ StandForSame catalog disk.seen_before disk.seen_now
 
 module _ {D : Type 0} (kind : DiskKind D) where
   abbrev pub change : D → D → DiskChange

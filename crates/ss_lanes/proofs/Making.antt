@@ -11,7 +11,7 @@ use Rattle.ss_model.specs.declared.catalog.Catalog.{Catalog}
 use Rattle.ss_model.specs.declared.entry.Answer.{Answer}
 use Rattle.ss_model.specs.declared.entry.Answer.TheVariants.{Listed as ListedAnswer, NoMemory, ListFull, Halted}
 use Rattle.ss_model.specs.declared.entry.Asked.{Asked}
-use Rattle.ss_model.specs.declared.entry.Asked.TheVariants.{Call as CallAsked, Push as PushAsked}
+use Rattle.ss_model.specs.declared.entry.Asked.TheVariants.{Call as CallAsked, Push as PushAsked, Install as InstallAsked}
 use Rattle.ss_model.specs.declared.entry.Request.{Request}
 use Rattle.ss_model.specs.Database.{fits_entry}
 use Rattle.ss_model.specs.Report.{asked_entry, entries_behind}
@@ -34,6 +34,7 @@ use Rattle.ss_lanes.proofs.Telling.{same_faults}
 any_index : (catalog : Catalog) (client i j : ℕ) (what : Asked) → fits_entry catalog (asked_entry client i what) ≡ true → fits_entry catalog (asked_entry client j what) ≡ true
 any_index catalog client i j (CallAsked q args) fits = fits
 any_index catalog client i j (PushAsked s source seq rows) fits = fits
+any_index catalog client i j (InstallAsked q text) fits = fits
 
 fits_behind : (catalog : Catalog) (earlier rs : List Request) → list_all (fits_entry catalog) (entries_behind earlier rs) ≡ true
     → (n : ℕ) (r : Request) → slice_get rs n ≡ Some r → (i : ℕ) → fits_entry catalog (asked_entry r.client i r.what) ≡ true

@@ -4,7 +4,7 @@ use Rattle.std.proofs.lemmas.List.{nil_from_length}
 use Rattle.ss_lemmas.proofs.Ends.{ends_alike}
 use Rattle.ss_model.specs.declared.catalog.Catalog.{Catalog}
 use Rattle.ss_model.specs.declared.entry.Entry.{Entry}
-use Rattle.ss_model.specs.declared.entry.Entry.TheVariants.{Call, Push, Step as StepEntry}
+use Rattle.ss_model.specs.declared.entry.Entry.TheVariants.{Call, Push, Step as StepEntry, Install}
 use Rattle.ss_model.specs.declared.entry.Listed.{Listed}
 use Rattle.ss_report_laws.specs.Replies.{is_of, mine}
 use Rattle.ss_commitlog.specs.declared.role.Role.{Role}
@@ -38,6 +38,7 @@ of_client_is : (c : ℕ) (e : Entry) → is_of_client c e ≡ is_of c e
 of_client_is c (Call client index q args) = refl
 of_client_is c (Push client index s source seq rows) = refl
 of_client_is c (StepEntry q r) = refl
+of_client_is c (Install client index q text) = refl
 
 mine_spared : (catalog : Catalog) (parts c first : ℕ) (rest : List Item) → ((i : Item) → In i rest → concerns catalog parts i.listed.entry (Client c) ≡ false) → mine_in c first rest ≡ []
 mine_spared catalog parts c first [] quiet = refl

@@ -1,14 +1,14 @@
 //! Whether a reply is the one that is waited for, compared by value. `slot` asks it with the slot's lock held.
 
 ghost use Rattle.std.specs.Prelude.{◌≡◌, ◌↔◌, IsTrue};
-ghost use Rattle.ss_model.specs.declared.entry.Entry.TheVariants.{Call, Push};
+ghost use Rattle.ss_model.specs.declared.entry.Entry.TheVariants.{Call, Push, Install};
 ghost use Rattle.ss_model.specs.Report.{asked_entry};
 ghost use Rattle.ss_lanes.specs.Owning.{IsOwn};
 
 use crate::reply::Reply;
 use crate::ticket::Ticket;
 use ss_model::{Asked, Entry, Life};
-use ss_value::{Name, Row, Rows};
+use ss_value::{Name, Row, Rows, Seq};
 
 /// Whether two rows are equal. Linear in the shorter one.
 fn same_row(a: &Row, b: &Row) -> bool
@@ -78,6 +78,28 @@ fn is_push(
     }
 }
 
+/// Whether two texts are equal. Linear in the shorter one.
+fn same_text(a: &Seq<u8>, b: &Seq<u8>) -> bool
+    ensures { IsTrue result ↔ (a.now ≡ b.now) }
+{
+    a.as_slice() == b.as_slice()
+}
+
+/// Whether an entry is this install. Linear in the text.
+fn is_install(entry: &Entry, client: u8, index: u64, procedure: u16, text: &Seq<u8>) -> bool
+    ensures { IsTrue result ↔ (entry.now ≡ Install client index procedure text.now) }
+{
+    match entry {
+        Entry::Install {
+            client: by,
+            index: number,
+            procedure: of,
+            text: given,
+        } => *by == client && *number == index && *of == procedure && same_text(given, text),
+        _ => false,
+    }
+}
+
 /// Whether an entry is what a client asks for with the request of this index, in each value and name. Linear in these.
 fn is_entry_of(entry: &Entry, client: u8, index: u64, what: &Asked) -> bool
     ensures { IsTrue result ↔ (entry.now ≡ asked_entry client index what.now) }
@@ -90,6 +112,7 @@ fn is_entry_of(entry: &Entry, client: u8, index: u64, what: &Asked) -> bool
             seq,
             rows,
         } => is_push(entry, client, index, *stream, source, *seq, rows),
+        Asked::Install { procedure, text } => is_install(entry, client, index, *procedure, text),
     }
 }
 

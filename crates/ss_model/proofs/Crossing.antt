@@ -9,6 +9,7 @@ use Rattle.ss_sql_trees.proofs.Crossing.{condition_sync, query_sync, statement_s
 use Rattle.ss_model.specs.contracts.catalog.Step as step
 use Rattle.ss_model.specs.contracts.catalog.Inner as inner
 use Rattle.ss_model.specs.contracts.catalog.Procedure as procedure
+use Rattle.ss_model.specs.contracts.catalog.Body as body
 use Rattle.ss_model.specs.contracts.catalog.TriggerDef as trigger
 use Rattle.ss_model.specs.contracts.catalog.Catalog as catalog
 use Rattle.ss_model.specs.contracts.entry.Entry as entry
@@ -46,8 +47,14 @@ procedure_sync = let s = step_sync in search (crosses, sendable) depth 60 fits 3
 trigger_sync : IsSync trigger.the_row
 trigger_sync = let s = statement_sync in search (crosses, sendable) depth 60 fits 30000
 
+body_sync : IsSync body.the_row
+body_sync = let s = step_sync in search (crosses, sendable) depth 60 fits 30000
+
+bodies_sync : IsSync (seq.the_row body.the_row)
+bodies_sync = let b = body_sync in search (crosses, sendable) depth 60 fits 30000
+
 pub catalog_sync : IsSync catalog.the_row
-catalog_sync = let p = procedure_sync in let t = trigger_sync in search (crosses, sendable) depth 60 fits 30000
+catalog_sync = let p = procedure_sync in let t = trigger_sync in let b = bodies_sync in search (crosses, sendable) depth 60 fits 30000
 
 -- ---- requests and entries
 

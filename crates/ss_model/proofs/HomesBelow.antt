@@ -1,5 +1,5 @@
 -- The partition of a value and a home are partitions that run.
-use Rattle.std.proofs.Common.{◌≡◌, ◌≤◌, ◌<◌, ◌+◌, ℕ, zero, suc, pos, negsuc, Bool, true, false, cond, [], Some, None, unwrap_or, arith, sum}
+use Rattle.std.proofs.Common.{◌≤◌, ◌<◌, ◌+◌, ℕ, zero, suc, pos, negsuc, Bool, true, false, cond, [], Some, None, unwrap_or, arith, sum}
 use Rattle.std.proofs.Math.Nat.{mod-lt}
 use Rattle.std.specs.declared.option.Option.{Option}
 use Rattle.std.specs.List.{find, range_with_len}

@@ -5,10 +5,10 @@ use Rattle.ss_model.specs.declared.catalog.Catalog.{Catalog}
 use Rattle.ss_model.specs.Database.{Database}
 
 abbrev pub no_catalog : Catalog
-no_catalog = record { tables = []; streams = []; windows = []; triggers = []; procedures = []; text = [] }
+no_catalog = record { tables = []; streams = []; windows = []; triggers = []; procedures = []; own_texts = []; spares = []; text = [] }
 
 abbrev pub no_database : Database
-no_database = record { contents = record { tables = []; windows = [] }; streams = []; counts = []; next_numbers = [] }
+no_database = record { contents = record { tables = []; windows = [] }; streams = []; counts = []; next_numbers = []; bodies = [] }
 
 abbrev pub no_table : TableId
 no_table = record { words = 0; slots = 0; views_name = 0; atom = 0; block = 0; offset = 0; slot_names = [] }

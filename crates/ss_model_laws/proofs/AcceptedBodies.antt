@@ -5,6 +5,7 @@ use Rattle.std.specs.List.{filter, list_all}
 use Rattle.std.proofs.lemmas.Bool.{and_from}
 use Rattle.ss_lemmas.proofs.EachOf.{all_from}
 use Rattle.ss_value.specs.Rows.{Row, Rows}
+use Rattle.ss_model.specs.declared.catalog.Body.{Body}
 use Rattle.ss_model.specs.declared.catalog.Catalog.{Catalog}
 use Rattle.ss_model.specs.declared.catalog.Procedure.{Procedure}
 use Rattle.ss_model.specs.declared.catalog.TriggerDef.{TriggerDef}
@@ -29,7 +30,7 @@ use Rattle.ss_model.specs.CatalogForm.{step_of_kind, body_within_limit, has_fram
 use Rattle.ss_model.specs.Typing.{procedure_typed}
 use Rattle.ss_model.specs.Scopes.{procedure_in_scope}
 use Rattle.ss_model.specs.Accepted.{Accepted}
-use Rattle.ss_model.specs.AcceptedBodies.{with_bodies, AcceptedFrame, OwnBodies}
+use Rattle.ss_model.specs.AcceptedBodies.{AcceptedFrame, OwnBodies, OtherBodies}
 use Rattle.ss_lemmas.proofs.Bools.{first_of_two, second_of_two, at_index}
 use Rattle.ss_model.proofs.CallerLemmas.{calls_of}
 
@@ -78,12 +79,16 @@ body_is : (context : Context) (body : List Step) (s : Contents) → run_body con
 unfolding run_body
 body_is context body s = λ i. try_fold (λ x. step_is context x i) body (execution_start context.catalog s) >>= try_fold (close_window context) (owned_batch_windows context.catalog context.procedure)
 
-module _ (catalog : Catalog) (bodies : ℕ → List Step) (q : ℕ) (args : Row) (batches : List Rows) (split_value : Option Value) where
+module _ (catalog : Catalog) (procedures : List Procedure) (spares : List (List Body)) (q : ℕ) (args : Row) (batches : List Rows) (split_value : Option Value) where
+  -- with other procedures, and with other bodies to be installed
+  abbrev other : Catalog
+  other = record catalog { procedures = procedures; spares = spares }
+
   abbrev before : Context
   before = record { catalog = catalog; procedure = q; args = args; batches = batches; split_value = split_value }
 
   abbrev changed : Context
-  changed = record { catalog = with_bodies catalog bodies; procedure = q; args = args; batches = batches; split_value = split_value }
+  changed = record { catalog = other; procedure = q; args = args; batches = batches; split_value = split_value }
 
   made_same : (inserted : Rows) (params : Row) (st : Statement) (s : Contents) → statement_effect changed inserted params st s ≡ statement_effect before inserted params st s
   unfolding insert_row update_rows delete_rows visible_table
@@ -96,15 +101,15 @@ module _ (catalog : Catalog) (bodies : ℕ → List Step) (q : ℕ) (args : Row)
   unfolding visible_table
   query_same inserted params x s = refl
 
-  closed_same : (cascade : Cascade) (n : ℕ) (unit : Rows) (w : Execution) → close_unit (with_bodies catalog bodies) cascade n unit w ≡ close_unit catalog cascade n unit w
+  closed_same : (cascade : Cascade) (n : ℕ) (unit : Rows) (w : Execution) → close_unit other cascade n unit w ≡ close_unit catalog cascade n unit w
   unfolding close_unit
   closed_same cascade n unit w = refl
 
-  staged_same : (cascade : Cascade) (k : UnitKind) (n : ℕ) (row : Row) (w : Execution) → stage_by_unit k (with_bodies catalog bodies) cascade n row w ≡ stage_by_unit k catalog cascade n row w
+  staged_same : (cascade : Cascade) (k : UnitKind) (n : ℕ) (row : Row) (w : Execution) → stage_by_unit k other cascade n row w ≡ stage_by_unit k catalog cascade n row w
   staged_same cascade RowsUnit n row w = closed_same cascade n (row ∷ []) w
   staged_same cascade BatchesUnit n row w = refl
 
-  applied_same : (cascade : Cascade) (w : Execution) (x : StatementEffect) → apply_effect (with_bodies catalog bodies) cascade w x ≡ apply_effect catalog cascade w x
+  applied_same : (cascade : Cascade) (w : Execution) (x : StatementEffect) → apply_effect other cascade w x ≡ apply_effect catalog cascade w x
   applied_same cascade w (Wrote s) = refl
   applied_same cascade w (Staged n rows) = λ i. try_fold (λ row v. staged_same cascade ((window_def catalog n).unit) n row v i) rows w
 
@@ -148,8 +153,8 @@ module _ (catalog : Catalog) (bodies : ℕ → List Step) (q : ℕ) (args : Row)
       body_is changed body s ∙ body_same (trigger_cascade changed) body s
       ∙ ap (λ (c : Cascade). body_with c before body s) (nested_same (length catalog.windows)) ∙ sym (body_is before body s)
 
-pub run_reads_one : (catalog : Catalog) (bodies : ℕ → List Step) (q : ℕ) (p : Procedure) (args : Row) (batches : List Rows) (s : Contents) → run_procedure (with_bodies catalog bodies) q p args batches s ≡ run_procedure catalog q p args batches s
-run_reads_one catalog bodies q p args batches s = ap (body_result catalog s) (run_same catalog bodies q args batches (split_value_for p.touch args) p.body s)
+pub run_reads_one : (catalog : Catalog) (procedures : List Procedure) (spares : List (List Body)) (q : ℕ) (p : Procedure) (args : Row) (batches : List Rows) (s : Contents) → run_procedure (record catalog { procedures = procedures; spares = spares }) q p args batches s ≡ run_procedure catalog q p args batches s
+run_reads_one catalog procedures spares q p args batches s = ap (body_result catalog s) (run_same catalog procedures spares q args batches (split_value_for p.touch args) p.body s)
 
 -- ---- in parts
 
@@ -199,7 +204,7 @@ module _ (catalog : Catalog) where
     structure = a.structure;
   }
 
-  bodies_in : Accepted catalog → OwnBodies catalog
+  pub bodies_in : Accepted catalog → OwnBodies catalog
   bodies_in a q p is = record {
     kind = second_of_two _ _ (at_index is_of_kind catalog.procedures (kinds a.form) q p is);
     size = at_index (λ p. body_within_limit p.body) catalog.procedures (second_of_two _ _ (limits a.form)) q p is;
@@ -210,15 +215,16 @@ module _ (catalog : Catalog) where
     emits = λ s. refl;
   }
 
-  pub joined : AcceptedFrame catalog → OwnBodies catalog → Accepted catalog
-  joined f b = record {
+  pub joined : AcceptedFrame catalog → OwnBodies catalog → OtherBodies catalog → Accepted catalog
+  joined f b o = record {
     form = form_of f.form b;
     typed = and_from _ _ (all_from (procedure_typed catalog) catalog.procedures (λ q p is. (b q p is).typed)) f.triggers_typed;
     in_scope = and_from _ _ (all_from (procedure_in_scope catalog) catalog.procedures (λ q p is. (b q p is).in_scope)) f.triggers_in_scope;
     call_steps = λ q p is call. calls_of p.kind p.body call (b q p is).kind;
     uses = λ q p is. let body = b q p is in record { local = body.local; limited = body.limited };
+    spares = o;
     structure = f.structure;
   }
 
-  pub in_parts : Accepted catalog ↔ (AcceptedFrame catalog × OwnBodies catalog)
-  in_parts = (λ a. (frame_in a, bodies_in a), λ parts. joined parts.0 parts.1)
+  pub in_parts : Accepted catalog ↔ (AcceptedFrame catalog × (OwnBodies catalog × OtherBodies catalog))
+  in_parts = (λ a. (frame_in a, (bodies_in a, a.spares)), λ parts. joined parts.0 (parts.1).0 (parts.1).1)

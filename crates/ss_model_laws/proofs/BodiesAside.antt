@@ -10,17 +10,17 @@ use Rattle.ss_model.specs.declared.catalog.Catalog.{Catalog}
 use Rattle.ss_model.specs.declared.catalog.Procedure.{Procedure}
 use Rattle.ss_model.specs.declared.catalog.Step.{Step}
 use Rattle.ss_model.specs.declared.entry.Entry.{Entry}
-use Rattle.ss_model.specs.declared.entry.Entry.TheVariants.{Call, Push, Step as StepEntry}
+use Rattle.ss_model.specs.declared.entry.Entry.TheVariants.{Call, Push, Step as StepEntry, Install}
 use Rattle.ss_model.specs.declared.entry.Emitted.{Emitted}
 use Rattle.ss_model.specs.Results.{map_indexed}
 use Rattle.ss_model.specs.Contents.{window_owner, window_def, kept_units}
-use Rattle.ss_model.specs.Database.{Database, Applied, empty_database, fits_entry, has_call, has_step, stream_schema, batch_count, stream_batches, is_border, takes_stream, is_ready, is_call}
+use Rattle.ss_model.specs.Database.{Database, Applied, empty_database, fits_entry, has_call, has_step, stream_schema, batch_count, stream_batches, is_border, takes_stream, is_ready, is_call, with_body, own_text, has_body}
 use Rattle.ss_model.specs.Orders.{MatchesCounts}
-use Rattle.ss_model.specs.Partitions.{home_partition, home_of, home_of_owner, window_partition, row_partition, border_procedure, procedure_touches, touches, part}
+use Rattle.ss_model.specs.Partitions.{home_partition, home_of, home_of_owner, window_partition, row_partition, border_procedure, procedure_touches, touches, part, seen_bodies}
 use Rattle.ss_model.specs.Settling.{emitting_procedure, kept, least_count, rank_from, rank, is_ready_now, lower_rank, next_settled}
 use Rattle.ss_model.specs.Batches.{output_batches, emitted_batches}
 use Rattle.ss_model.specs.WholeDatabase.{batch_fits, WholeDatabase}
-use Rattle.ss_model.specs.AcceptedBodies.{with_body, with_bodies, AcceptedBodies}
+use Rattle.ss_model.specs.AcceptedBodies.{with_bodies, AcceptedBodies}
 use Rattle.ss_model.specs.BodiesAside.{SameBodiesAside}
 use Rattle.ss_model_laws.proofs.ChangedBodies.{changed, length_same, at_number, was_there, has_same, takes_same, border_same, emits_same, emitter_same, stream_same}
 
@@ -32,6 +32,10 @@ found_home n s bodies (p ∷ ps) = by (cond (is_border p.kind) (takes_stream s p
     by : (b : Bool) → home_partition n (find (λ p. cond (is_border p.kind) (takes_stream s p) false) (changed (λ q. bodies (suc q)) ps)) ≡ home_partition n (find (λ p. cond (is_border p.kind) (takes_stream s p) false) ps) → home_partition n (cond b (Some (with_body (bodies 0) p)) (find (λ p. cond (is_border p.kind) (takes_stream s p) false) (changed (λ q. bodies (suc q)) ps))) ≡ home_partition n (cond b (Some p) (find (λ p. cond (is_border p.kind) (takes_stream s p) false) ps))
     by true rest = refl
     by false rest = rest
+
+own_same : (own : ℕ → List ℕ) (bodies : ℕ → List Step) (ps : List Procedure) → map_indexed (λ q p. own q) (changed bodies ps) ≡ map_indexed (λ q p. own q) ps
+own_same own bodies [] = refl
+own_same own bodies (p ∷ ps) = λ i. own 0 ∷ own_same (λ q. own (suc q)) (λ q. bodies (suc q)) ps i
 
 module _ (catalog : Catalog) (bodies : ℕ → List Step) where
   abbrev other : Catalog
@@ -62,6 +66,7 @@ module _ (catalog : Catalog) (bodies : ℕ → List Step) where
   touched_same n (Call client index q args) p = named_same (λ o. procedure_touches n o args p) q (λ d. refl)
   touched_same n (Push client index s source seq rows) p = ap (λ h. p == h) (stream_home_same n s)
   touched_same n (StepEntry q r) p = named_same (λ o. procedure_touches n o [] p) q (λ d. refl)
+  touched_same n (Install client index q text) p = refl
 
   part_same : (n p : ℕ) (db : Database) → part other n p db ≡ part catalog n p db
   unfolding part
@@ -70,6 +75,7 @@ module _ (catalog : Catalog) (bodies : ℕ → List Step) where
     windows = map_indexed (λ w us. cond (window_same n w i == p) us []) db.contents.windows;
     counts = map_indexed (λ q c. cond (home_same n q i == p) c 0) db.counts;
     next_numbers = map_indexed (λ s m. cond (stream_home_same n s i == p) m finmap.empty) db.next_numbers;
+    bodies = seen_bodies catalog (nat_lt p n) db.bodies;
   }
 
   least_same : (db : Database) (s : ℕ) → least_count other db s ≡ least_count catalog db s
@@ -83,6 +89,7 @@ module _ (catalog : Catalog) (bodies : ℕ → List Step) where
     streams = map_indexed (λ s bs. (length bs, (least_same db s i, drop (least_same db s i) bs))) db.streams;
     counts = db.counts;
     next_numbers = db.next_numbers;
+    bodies = db.bodies;
   }
 
   empty_same : empty_database other ≡ empty_database catalog
@@ -91,12 +98,14 @@ module _ (catalog : Catalog) (bodies : ℕ → List Step) where
     streams = replicate (length catalog.streams) [];
     counts = replicate (length_same bodies catalog.procedures i) 0;
     next_numbers = replicate (length catalog.streams) finmap.empty;
+    bodies = own_same (own_text catalog) bodies catalog.procedures i;
   }
 
   fits_same : (e : Entry) → fits_entry other e ≡ fits_entry catalog e
   fits_same (Call client index q args) = named_same (has_call client args) q (λ p. refl)
   fits_same (Push client index s source seq rows) = λ i. nat_lt client 8 && border_same catalog bodies s i && nat_le (length rows) 1024 && nat_lt seq (2 ^ 63) && list_all (fits_schema (stream_schema catalog s)) rows
   fits_same (StepEntry q r) = named_same has_step q (λ p. refl)
+  fits_same (Install client index q text) = λ i. nat_lt client 8 && nat_lt q (length_same bodies catalog.procedures i) && nat_le (length text) 1048576 && has_body catalog q text
 
   ready_same : (db : Database) (q : ℕ) → is_ready_now other db q ≡ is_ready_now catalog db q
   ready_same db q = has_same catalog bodies (is_ready db q (batch_count db q)) (λ body p. refl) q
@@ -125,6 +134,7 @@ module _ (catalog : Catalog) (bodies : ℕ → List Step) where
     batches_same : (e : Entry) (a : Applied) → emitted_batches other e a ≡ emitted_batches catalog e a
     batches_same (Call client index q args) a = refl
     batches_same (Push client index s source seq rows) a = refl
+    batches_same (Install client index q text) a = refl
     batches_same (StepEntry q r) a = ap (output_batches other a.emitted) (at_number bodies catalog.procedures q) ∙ by (slice_get catalog.procedures q) refl
       where
         by : (o : Option Procedure) → slice_get catalog.procedures q ≡ o → output_batches other a.emitted (option_map (with_body (bodies q)) o) ≡ output_batches catalog a.emitted o
@@ -151,6 +161,8 @@ module _ (catalog : Catalog) (bodies : ℕ → List Step) where
       batches = λ s. subst (λ n. list_all (batch_fits (stream_schema catalog s)) (drop n (stream_batches db s)) ≡ true) (sym (least_same db s)) (k.batches s);
       calls = λ q p is. let c = was_there catalog bodies q p is in subst (λ (z : Procedure). is_call z.kind ≡ true → batch_count db q ≡ 0) c.is (k.calls q c.was c.stood);
       next_numbers = λ s source n is. let m = k.next_numbers s source n is in record { border = border_same catalog bodies s ∙ m.border; at_least = m.at_least; at_most = m.at_most };
+      body_count = k.body_count ∙ sym (length_same bodies catalog.procedures);
+      bodies = λ q p is. let c = was_there catalog bodies q p is in k.bodies q c.was c.stood;
     }
 
     whole_back : (db : Database) → WholeDatabase other db → WholeDatabase catalog db
@@ -161,6 +173,8 @@ module _ (catalog : Catalog) (bodies : ℕ → List Step) where
       batches = λ s. subst (λ n. list_all (batch_fits (stream_schema catalog s)) (drop n (stream_batches db s)) ≡ true) (least_same db s) (k.batches s);
       calls = λ q p is. k.calls q (with_body (bodies q) p) (at_number bodies catalog.procedures q ∙ ap (option_map (with_body (bodies q))) is);
       next_numbers = λ s source n is. let m = k.next_numbers s source n is in record { border = sym (border_same catalog bodies s) ∙ m.border; at_least = m.at_least; at_most = m.at_most };
+      body_count = k.body_count ∙ length_same bodies catalog.procedures;
+      bodies = λ q p is. k.bodies q (with_body (bodies q) p) (at_number bodies catalog.procedures q ∙ ap (option_map (with_body (bodies q))) is);
     }
 
     pub bodies_aside : SameBodiesAside catalog bodies

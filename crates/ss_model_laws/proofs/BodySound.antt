@@ -31,7 +31,7 @@ use Rattle.ss_model.specs.Expressions.{cmp_holds, expr_value}
 use Rattle.ss_model.specs.Contents.{Contents, window_units, append_unit, window_def, visible_end}
 use Rattle.ss_model.specs.Statements.{Context, Execution, Cascade, when_moved, close_unit, stage_by_unit, stage_row, context_query, StatementEffect, Wrote, Staged, apply_effect, statement_effect, execute_statement, run_triggers, cascade_to_depth, trigger_cascade, is_on_window, is_on_stream}
 use Rattle.ss_model.specs.Bodies.{exceeds_row_limit, check_condition, execute_abort_if, execute_inner, emit_rows, execute_step, is_batches_unit, is_closed_by, owned_batch_windows, close_window, execution_start, run_body}
-use Rattle.ss_model.specs.Database.{body_result, run_procedure, split_value_for, stream_schema}
+use Rattle.ss_model.specs.Database.{body_result, run_procedure, split_value_for, stream_schema, Database, present}
 use Rattle.ss_model.specs.Typing.{window_schema, input_schema, schemas_of, inner_typed, step_typed, trigger_schema, trigger_typed, procedure_typed, catalog_typed}
 use Rattle.ss_model.specs.Scopes.{statement_in_scope, inner_in_scope, step_in_scope, is_on_a_stream, trigger_in_scope, procedure_in_scope, catalog_in_scope}
 use Rattle.ss_model.specs.WholeDatabase.{has_unit_size, unit_fits, WholeContents, batch_fits}
@@ -42,6 +42,8 @@ use Rattle.ss_model.proofs.CallerLemmas.{when_ok_then, anything}
 use Rattle.ss_model_laws.proofs.QuerySound.{all_append}
 use Rattle.ss_model_laws.proofs.WholeChanges.{when_ok_unless, append_whole}
 use Rattle.ss_model_laws.proofs.StatementSound.{AtHand, try_fold_when_ok, each_of, all_test, query_fits, EffectWhole, effect_whole}
+use Rattle.ss_model.specs.Accepted.{Accepted}
+use Rattle.ss_model_laws.proofs.Present.{present_accepted}
 
 -- contents that are whole, units and batches whose rows fit
 pub record WholeExecution (catalog : Catalog) (w : Execution) : Type 0 where
@@ -276,3 +278,11 @@ run_whole catalog typed in_scope q p args batches s is fits inputs h =
     let context : Context = record { catalog = catalog; procedure = q; args = args; batches = batches; split_value = split_value_for p.touch args } in
     result_whole catalog s (run_body context p.body s) h
     (body_whole context typed in_scope p (at_index (procedure_typed catalog) catalog.procedures (first_of_two _ _ typed) q p is) (at_index (procedure_in_scope catalog) catalog.procedures (first_of_two _ _ in_scope) q p is) fits inputs s h)
+
+-- the same of a procedure as it is in a database
+pub present_whole : (catalog : Catalog) (accepted : Accepted catalog) (q : ℕ) (p : Procedure) → slice_get catalog.procedures q ≡ Some p → (db : Database) (args : Row) (batches : List Rows) (s : Contents) → fits_schema p.args args ≡ true → ((i : ℕ) → FitAll (input_schema catalog p.inputs [] i) (get_or batches i [])) → WholeContents catalog s → WholeResult catalog (run_procedure catalog q (present catalog db q p) args batches s)
+present_whole catalog accepted q p is db args batches s fits inputs h =
+    let here : Procedure = present catalog db q p in
+    let may = present_accepted catalog accepted q p is db in
+    let context : Context = record { catalog = catalog; procedure = q; args = args; batches = batches; split_value = split_value_for p.touch args } in
+    result_whole catalog s (run_body context here.body s) h (body_whole context accepted.typed accepted.in_scope here may.typed may.in_scope fits inputs s h)

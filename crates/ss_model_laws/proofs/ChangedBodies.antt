@@ -4,11 +4,12 @@ use Rattle.std.specs.Option.{option_map}
 use Rattle.std.specs.declared.option.Option.{Option}
 use Rattle.std.specs.List.{find, list_all, list_any, range_with_len}
 use Rattle.ss_value.specs.Rows.{Row}
+use Rattle.ss_model.specs.declared.catalog.Body.{Body}
 use Rattle.ss_model.specs.declared.catalog.Catalog.{Catalog}
 use Rattle.ss_model.specs.declared.catalog.Procedure.{Procedure}
 use Rattle.ss_model.specs.declared.catalog.Step.{Step}
 use Rattle.ss_model.specs.Results.{map_indexed}
-use Rattle.ss_model.specs.Database.{emits_to, is_streaming, is_border, is_border_stream, takes_stream}
+use Rattle.ss_model.specs.Database.{emits_to, is_streaming, is_border, is_border_stream, takes_stream, with_body, spare_bodies}
 use Rattle.ss_model.specs.Orders.{IsWired, procedure_emits, procedure_has, procedure_takes}
 use Rattle.ss_model.specs.Claims.{UsesOnly}
 use Rattle.ss_model.specs.Partitions.{local_claims}
@@ -16,9 +17,11 @@ use Rattle.ss_model.specs.Settling.{border_stream, border_stream_from, first_inp
 use Rattle.ss_model.specs.Feeds.{Reaches, at_once, through, BatchesGoForward}
 use Rattle.ss_model.specs.CatalogForm.{has_frame, head_of_kind, has_distinct_names, numbers_in_range, counts_within_limits, has_window_sizes, has_distinct_numbers, has_parts, all_distinct, source_names, columns_distinct, numbers_distinct, listed_parts, touch_in_range, trigger_in_range, placement_in_range}
 use Rattle.ss_model.specs.Accepted.{Accepted, AcceptedStructure, IsArg, IsSomewhere, StreamsEndWell}
-use Rattle.ss_model.specs.AcceptedBodies.{with_body, with_bodies, AcceptedBody, AcceptedBodies, AcceptedFrame, OwnBodies, BodiesMayChange}
+use Rattle.ss_model.specs.AcceptedBodies.{with_bodies, AcceptedBodies, AcceptedFrame, OwnBodies, BodiesMayChange, OtherBodies}
 use Rattle.ss_lemmas.proofs.Bools.{some_same}
 use Rattle.ss_model_laws.proofs.AcceptedBodies.{in_parts, joined}
+use Rattle.ss_model.specs.Spares.{AcceptedBody, AcceptedSpares}
+use Rattle.ss_lemmas.proofs.EachOf.{all_with}
 
 -- ---- lists of procedures with other bodies
 
@@ -236,8 +239,14 @@ module _ (catalog : Catalog) (bodies : ℕ → List Step) where
         let k = was_there q p is in
         subst (λ (z : Procedure). AcceptedBody other q z z.body) k.is (body_there q k.was k.stood (bodies q) (accepted q k.was k.stood))
 
+    other_bodies : OtherBodies catalog → OtherBodies other
+    other_bodies o q p is =
+        let k = was_there q p is in
+        subst (λ (z : Procedure). AcceptedSpares other q z) k.is
+        (all_with (λ (b : Body). AcceptedBody catalog q k.was b.steps) (λ (b : Body). AcceptedBody other q (with_body (bodies q) k.was) b.steps) (λ b s. body_there q k.was k.stood b.steps s) (spare_bodies catalog q) (o q k.was k.stood))
+
     pub may_change : Accepted catalog → BodiesMayChange catalog bodies
     may_change a = record {
-      accepted = joined other (frame ((in_parts catalog).0 a).0) own_bodies;
+      accepted = joined other (frame ((in_parts catalog).0 a).0) own_bodies (other_bodies a.spares);
       same = λ q p is body. (body_back q p is body, body_there q p is body);
     }

@@ -1,5 +1,5 @@
 -- An entry whose partitions are held does beside blanks what it does on the whole database.
-use Rattle.std.proofs.Common.{◌≡◌, ◌≤◌, ℕ, suc, ◌==◌, Bool, true, false, cond, List, [], ◌∷◌, length, get_or, slice_get, refl, sym, ap, subst, ◌∙◌, Some, None, arith}
+use Rattle.std.proofs.Common.{◌≡◌, ◌≤◌, ℕ, suc, ◌==◌, Bool, true, false, cond, List, [], ◌∷◌, length, get_or, slice_get, refl, sym, ap, subst, ◌∙◌, Some, None, arith, nat_lt}
 use Rattle.std.proofs.lemmas.Bool.{true≢false}
 use Rattle.std.proofs.lemmas.Bool.Decides.{Decides-eqb}
 use Rattle.std.specs.List.{AllByRecursion}
@@ -8,18 +8,19 @@ use Rattle.ss_value.specs.Rows.{Row}
 use Rattle.ss_value.specs.Order.{row_cmp}
 use Rattle.ss_model.specs.declared.catalog.Catalog.{Catalog}
 use Rattle.ss_model.specs.declared.entry.Entry.{Entry}
-use Rattle.ss_model.specs.declared.entry.Entry.TheVariants.{Call, Push, Step as StepEntry}
+use Rattle.ss_model.specs.declared.entry.Entry.TheVariants.{Call, Push, Step as StepEntry, Install}
 use Rattle.ss_model.specs.Results.{map_indexed}
 use Rattle.ss_model.specs.Contents.{Table, Window}
 use Rattle.ss_model.specs.Database.{Database, NextNumbers, Applied, apply, stream_batches}
-use Rattle.ss_model.specs.Partitions.{row_partition, window_partition, home_of, home_partition, border_procedure, touches, part}
+use Rattle.ss_model.specs.Partitions.{row_partition, window_partition, home_of, home_partition, border_procedure, touches, part, seen_bodies}
 use Rattle.ss_model.specs.Accepted.{Accepted}
 use Rattle.ss_model.specs.parts.Locality.{SameInputs, SameApplied, SameEffect, LeavesParts}
-use Rattle.ss_model.specs.parts.HeldParts.{elsewhere_blank, HoldsTouched}
+use Rattle.ss_model.specs.parts.HeldParts.{elsewhere_blank, HoldsTouched, holds_some}
 use Rattle.ss_model.proofs.CallerLemmas.{cut_within, get_cut, same_table}
 use Rattle.ss_model_kept.proofs.CallerLemmas.{length-map_index}
 use Rattle.ss_model_laws.proofs.PartLocality.{same_part}
 use Rattle.ss_model_laws.proofs.EntryLocality.{entry_is_local}
+use Rattle.ss_model_laws.proofs.SeenBodies.{seen_length, seen_there, seen_swap, held_is_some}
 
 -- ---- a list that is made of another, and that one of a third
 
@@ -55,6 +56,7 @@ pub record SameLengths (x y : Database) : Type 0 where
   pub windows : length x.contents.windows ≡ length y.contents.windows
   pub counts : length x.counts ≡ length y.counts
   pub next_numbers : length x.next_numbers ≡ length y.next_numbers
+  pub bodies : length x.bodies ≡ length y.bodies
 
 module _ (catalog : Catalog) (n p : ℕ) where
   abbrev own_rows : ℕ → Table → Table
@@ -77,6 +79,7 @@ module _ (catalog : Catalog) (n p : ℕ) where
     windows = sym (length-map_index own_units x.contents.windows) ∙ ap (λ d. length d.windows) e ∙ length-map_index own_units y.contents.windows;
     counts = sym (length-map_index own_count x.counts) ∙ ap (λ d. length d.counts) e ∙ length-map_index own_count y.counts;
     next_numbers = sym (length-map_index own_numbers x.next_numbers) ∙ ap (λ d. length d.next_numbers) e ∙ length-map_index own_numbers y.next_numbers;
+    bodies = sym (seen_length catalog (nat_lt p n) x.bodies) ∙ ap (λ d. length d.bodies) e ∙ seen_length catalog (nat_lt p n) y.bodies;
   }
 
   module _ (held : ℕ → Bool) where
@@ -104,16 +107,27 @@ module _ (catalog : Catalog) (n p : ℕ) where
         (twice own_units held_units db.contents.windows (λ w us. both_there (window_partition catalog n w == p) (held (window_partition catalog n w)) us [] (at_part true h (window_partition catalog n w))))
         (twice own_count held_count db.counts (λ q c. both_there (home_of catalog n q == p) (held (home_of catalog n q)) c 0 (at_part true h (home_of catalog n q))))
         (twice own_numbers held_numbers db.next_numbers (λ s m. both_there (home_partition n (border_procedure catalog s) == p) (held (home_partition n (border_procedure catalog s))) m finmap.empty (at_part true h (home_partition n (border_procedure catalog s)))))
+        (seen_there catalog (nat_lt p n) (holds_some n held) db.bodies (held_is_some n held p h))
 
-    -- a part that is not held is blank, and so the same in any two databases whose lists are as long
-    pub blank_alike : held p ≡ false → (x y : Database) → SameLengths x y → part catalog n p (elsewhere_blank catalog n held x) ≡ part catalog n p (elsewhere_blank catalog n held y)
+    -- the bodies of a part, where some partition that runs is held
+    abbrev seen_here : Database → List (List ℕ)
+    seen_here db = seen_bodies catalog (nat_lt p n) (seen_bodies catalog (holds_some n held) db.bodies)
+
+    -- a part that is not held is blank but for the bodies, and so the same in any two databases whose lists are as long, and whose bodies are
+    pub blank_alike : held p ≡ false → (x y : Database) → SameLengths x y → seen_here x ≡ seen_here y → part catalog n p (elsewhere_blank catalog n held x) ≡ part catalog n p (elsewhere_blank catalog n held y)
     unfolding part
-    blank_alike h x y long =
+    blank_alike h x y long bodies =
         same_part _ _
         (alike own_rows held_rows finmap.empty x.contents.tables y.contents.tables long.tables (λ t m. no_rows m (λ key. held (row_partition catalog n t key)) (λ key. row_partition catalog n t key == p) (λ key. at_part false h (row_partition catalog n t key))))
         (alike own_units held_units [] x.contents.windows y.contents.windows long.windows (λ w us. never_both (window_partition catalog n w == p) (held (window_partition catalog n w)) us [] (at_part false h (window_partition catalog n w))))
         (alike own_count held_count 0 x.counts y.counts long.counts (λ q c. never_both (home_of catalog n q == p) (held (home_of catalog n q)) c 0 (at_part false h (home_of catalog n q))))
         (alike own_numbers held_numbers finmap.empty x.next_numbers y.next_numbers long.next_numbers (λ s m. never_both (home_partition n (border_procedure catalog s) == p) (held (home_partition n (border_procedure catalog s))) m finmap.empty (at_part false h (home_partition n (border_procedure catalog s)))))
+        bodies
+
+-- equal parts have equal bodies
+part_seen : (catalog : Catalog) (n p : ℕ) (x y : Database) → part catalog n p x ≡ part catalog n p y → seen_bodies catalog (nat_lt p n) x.bodies ≡ seen_bodies catalog (nat_lt p n) y.bodies
+unfolding part
+part_seen catalog n p x y e = ap (λ d. d.bodies) e
 
 -- ---- entries
 
@@ -124,6 +138,7 @@ same_batches x y r (s ∷ ss) e = ((λ i. slice_get (get_or (e i) s []) r), same
 same_inputs : (catalog : Catalog) (e : Entry) (x y : Database) → x.streams ≡ y.streams → SameInputs catalog e x y
 same_inputs catalog (Call client index q args) x y e = tt
 same_inputs catalog (Push client index s source seq rows) x y e = tt
+same_inputs catalog (Install client index q text) x y e = tt
 same_inputs catalog (StepEntry q r) x y e = λ p is. same_batches x y r p.inputs e
 
 module _ (catalog : Catalog) (accepted : Accepted catalog) (n : ℕ) (some : 1 ≤ n) (held : ℕ → Bool) (e : Entry) (holds : HoldsTouched catalog n held e) (db : Database) where
@@ -143,6 +158,12 @@ module _ (catalog : Catalog) (accepted : Accepted catalog) (n : ℕ) (some : 1 �
     left_whole : (p : ℕ) → touches catalog n e p ≡ false → part catalog n p y.db ≡ part catalog n p db
     left_whole = subst (λ o. LeavesParts catalog n e db o) ey ((entry_is_local catalog accepted n some e).leaves db)
 
+    -- an untouched part has the bodies that it had, and so what is seen of them
+    seen_same : (p : ℕ) → touches catalog n e p ≡ false → seen_here catalog n p held db ≡ seen_here catalog n p held y.db
+    seen_same p t =
+        seen_swap catalog (nat_lt p n) (holds_some n held) db.bodies ∙ ap (seen_bodies catalog (holds_some n held)) (sym (part_seen catalog n p y.db db (left_whole p t)))
+        ∙ seen_swap catalog (holds_some n held) (nat_lt p n) y.db.bodies
+
     pub blanks_stay : (p : ℕ) → part catalog n p x.db ≡ part catalog n p (elsewhere_blank catalog n held y.db)
     blanks_stay p = by (held p) refl (touches catalog n e p) refl
       where
@@ -150,4 +171,4 @@ module _ (catalog : Catalog) (accepted : Accepted catalog) (n : ℕ) (some : 1 �
         by true h true t = same_effect.parts p t ∙ sym (held_part_stays catalog n p held h y.db)
         by true h false t = left_beside p t ∙ held_part_stays catalog n p held h db ∙ sym (left_whole p t) ∙ sym (held_part_stays catalog n p held h y.db)
         by false h true t = absurd (true≢false (sym (holds p t) ∙ h))
-        by false h false t = left_beside p t ∙ blank_alike catalog n p held h db y.db (same_lengths catalog n p db y.db (sym (left_whole p t)))
+        by false h false t = left_beside p t ∙ blank_alike catalog n p held h db y.db (same_lengths catalog n p db y.db (sym (left_whole p t))) (seen_same p t)

@@ -6,6 +6,7 @@ use Rattle.std.proofs.Math.Nat.{mod-lt}
 use Rattle.std.specs.List.{find, range_with_len}
 use Rattle.ss_lemmas.proofs.Numbers.{eqb_self}
 use Rattle.ss_value.specs.Rows.{Row, Rows, column_value}
+use Rattle.ss_model.specs.declared.catalog.Step.{Step}
 use Rattle.ss_model.specs.declared.catalog.Catalog.{Catalog}
 use Rattle.ss_model.specs.declared.catalog.ProcedureKind.{ProcedureKind}
 use Rattle.ss_model.specs.declared.catalog.ProcedureKind.TheVariants.{Call as CallKind, Border, Interior}
@@ -13,13 +14,17 @@ use Rattle.ss_model.specs.declared.catalog.Procedure.{Procedure}
 use Rattle.ss_model.specs.declared.catalog.Touch.{Touch}
 use Rattle.ss_model.specs.declared.catalog.Touch.TheVariants.{Part, Arg, Multi, All}
 use Rattle.ss_model.specs.Contents.{window_owner}
-use Rattle.ss_model.specs.Database.{is_call, is_streaming}
+use Rattle.ss_model.specs.Database.{Database, is_call, is_streaming, present, with_body}
 use Rattle.ss_model.specs.Orders.{procedure_has}
 use Rattle.ss_model.specs.Claims.{UsesOnly}
 use Rattle.ss_value.specs.ValuePartition.{value_partition}
 use Rattle.ss_model.specs.Partitions.{in_touch_set, home_partition, home_of}
 use Rattle.ss_model.specs.Accepted.{Accepted, IsArg, IsSomewhere}
 use Rattle.ss_model.specs.parts.Locality.{UsesTouched, inside_scope, touched_keys, touched_windows, context_of}
+use Rattle.ss_model.specs.Spares.{AcceptedBody}
+use Rattle.ss_model.proofs.CallerLemmas.{calls_of}
+use Rattle.ss_model_laws.proofs.AcceptedBodies.{bodies_in}
+use Rattle.ss_model_laws.proofs.Present.{present_accepted}
 use Rattle.ss_model_laws.proofs.TouchedUses.{call_covered, stream_covered}
 
 -- some partition is touched
@@ -76,14 +81,29 @@ module _ (catalog : Catalog) (accepted : Accepted catalog) (n : ℕ) (some : 1 �
   home_in args s =
       ap (λ o. in_touch_set n p.touch args (home_partition n o)) is ∙ home_touched n p args some (accepted.structure.no_arg q p is s) (accepted.structure.somewhere q p is)
 
-  streaming_uses : (args : Row) (batches : List Rows) → is_streaming p.kind ≡ true → UsesOnly (inside_scope (touched_keys catalog n p args) (touched_windows catalog n p args) (context_of catalog q p args batches)) catalog q args p
-  streaming_uses args batches s = stream_covered catalog n q p args batches some accepted.structure.keyed (accepted.structure.no_arg q p is s) (home_in args s) ((accepted.uses q p is).local args)
+  -- a body that the procedure may have
+  module _ (body : List Step) (may : AcceptedBody catalog q p body) where
+    abbrev changed : Procedure
+    changed = with_body body p
 
-  uses_in : (args : Row) (batches : List Rows) (k : ProcedureKind) → p.kind ≡ k → UsesOnly (inside_scope (touched_keys catalog n p args) (touched_windows catalog n p args) (context_of catalog q p args batches)) catalog q args p
-  uses_in args batches CallKind e =
-      call_covered catalog n q p args batches some accepted.structure.keyed (λ w o. call_streams p.kind e (owned_by w o)) (accepted.call_steps q p is (ap is_call e)) ((accepted.uses q p is).local args)
-  uses_in args batches Border e = streaming_uses args batches (ap is_streaming e)
-  uses_in args batches Interior e = streaming_uses args batches (ap is_streaming e)
+    abbrev Inside : Row → List Rows → Type 0
+    Inside args batches = UsesOnly (inside_scope (touched_keys catalog n changed args) (touched_windows catalog n changed args) (context_of catalog q changed args batches)) catalog q args changed
+
+    streaming_uses : (args : Row) (batches : List Rows) → is_streaming p.kind ≡ true → Inside args batches
+    streaming_uses args batches s = stream_covered catalog n q changed args batches some accepted.structure.keyed (accepted.structure.no_arg q p is s) (home_in args s) (may.local args)
+
+    uses_in : (args : Row) (batches : List Rows) (k : ProcedureKind) → p.kind ≡ k → Inside args batches
+    uses_in args batches CallKind e =
+        call_covered catalog n q changed args batches some accepted.structure.keyed (λ w o. call_streams p.kind e (owned_by w o)) (calls_of p.kind body (ap is_call e) may.kind) (may.local args)
+    uses_in args batches Border e = streaming_uses args batches (ap is_streaming e)
+    uses_in args batches Interior e = streaming_uses args batches (ap is_streaming e)
+
+    pub body_touched : UsesTouched catalog n q (with_body body p)
+    body_touched = record { uses = λ args batches. uses_in args batches p.kind refl; home = λ s args. home_in args s }
 
   pub uses_touched : UsesTouched catalog n q p
-  uses_touched = record { uses = λ args batches. uses_in args batches p.kind refl; home = λ s args. home_in args s }
+  uses_touched = body_touched p.body (bodies_in catalog accepted q p is)
+
+  -- as it is in a database
+  pub present_touched : (db : Database) → UsesTouched catalog n q (present catalog db q p)
+  present_touched db = body_touched (present catalog db q p).body (present_accepted catalog accepted q p is db)

@@ -5,6 +5,7 @@ pub mod Batches
 pub mod BesideBlanks
 pub mod BlankItems
 pub mod BodiesAside
+pub mod BodyInPlace
 pub mod BodySound
 pub mod CallerLemmas
 pub mod ChangedBodies
@@ -18,13 +19,17 @@ pub mod KeptLists
 pub mod ListLocality
 pub mod LocalClaims
 pub mod Orders
+pub mod OwnBodies
 pub mod PartLocality
 pub mod PartsAreAll
+pub mod Present
 pub mod QuerySound
 pub mod Readiness
+pub mod SeenBodies
 pub mod Settled
 pub mod Slides
 pub mod Sound
+pub mod SparesAside
 pub mod SplitParts
 pub mod StatementSound
 pub mod TableRows

@@ -1,5 +1,6 @@
 -- A database by its parts.
-use Rattle.std.proofs.Common.{◌≡◌, ℕ, ◌==◌, true, List, [], refl, sym, ap, ◌∙◌}
+use Rattle.std.proofs.Common.{◌≡◌, ◌≤◌, ℕ, ◌==◌, true, [], refl, sym, ap, ◌∙◌}
+use Rattle.std.proofs.lemmas.Bool.{lt-ltb}
 use Rattle.std.proofs.lemmas.List.{ext_get_or}
 use Rattle.std.specs.FinMap as finmap
 use Rattle.ss_model.specs.declared.catalog.Catalog.{Catalog}
@@ -11,6 +12,7 @@ use Rattle.ss_model.proofs.CallerLemmas.{retain_all}
 use Rattle.ss_model_kept.proofs.CallerLemmas.{parts_agree}
 use Rattle.ss_lemmas.proofs.Numbers.{eqb_self}
 use Rattle.ss_model_laws.proofs.BlankItems.{read_both}
+use Rattle.ss_model_laws.proofs.EntryLocality.{bodies_from}
 use Rattle.ss_model_laws.proofs.HeldParts.{same_lengths}
 
 module _ (catalog : Catalog) (n : ℕ) (x y : Database) (same : (p : ℕ) → part catalog n p x ≡ part catalog n p y) where
@@ -27,6 +29,9 @@ module _ (catalog : Catalog) (n : ℕ) (x y : Database) (same : (p : ℕ) → pa
       ext_get_or finmap.empty x.next_numbers y.next_numbers (same_lengths catalog n 0 x y (same 0)).next_numbers
       (λ s _. read_both (λ i. home i == home s) finmap.empty x.next_numbers y.next_numbers s (ap (λ d. d.next_numbers) (same (home s))) (eqb_self (home s)))
 
+  bodies_same : 1 ≤ n → x.bodies ≡ y.bodies
+  bodies_same some = bodies_from catalog n x y 0 (lt-ltb 0 n some) (same 0)
+
   contents_same : x.contents ≡ y.contents
   unfolding table_at window_units
   contents_same =
@@ -35,5 +40,5 @@ module _ (catalog : Catalog) (n : ℕ) (x y : Database) (same : (p : ℕ) → pa
       let windows : x.contents.windows ≡ y.contents.windows = ext_get_or [] x.contents.windows y.contents.windows agree.window_count (λ w _. agree.windows w refl) in
       (λ i. record { tables = tables i; windows = windows i })
 
-pub parts_are_all : (catalog : Catalog) (n : ℕ) (x y : Database) → ((p : ℕ) → part catalog n p x ≡ part catalog n p y) → SameButStreams x y
-parts_are_all catalog n x y same = record { contents = contents_same catalog n x y same; counts = counts_same catalog n x y same; next_numbers = numbers_same catalog n x y same }
+pub parts_are_all : (catalog : Catalog) (n : ℕ) → 1 ≤ n → (x y : Database) → ((p : ℕ) → part catalog n p x ≡ part catalog n p y) → SameButStreams x y
+parts_are_all catalog n some x y same = record { contents = contents_same catalog n x y same; counts = counts_same catalog n x y same; next_numbers = numbers_same catalog n x y same; bodies = bodies_same catalog n x y same some }

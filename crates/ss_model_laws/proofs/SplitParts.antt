@@ -1,19 +1,18 @@
 -- A database split into its parts.
-use Rattle.std.proofs.Common.{◌≡◌, ◌≤◌, ◌<◌, ◌%◌, ℕ, ◌==◌, nat_lt, Bool, true, false, cond, List, [], map, length, get_or, refl, sym, ap, subst, ◌∙◌, Some, None, arith}
+use Rattle.std.proofs.Common.{◌≡◌, ◌≤◌, ◌<◌, ℕ, ◌==◌, nat_lt, Bool, true, false, cond, List, [], get_or, refl, sym, ap, ◌∙◌, Some, None, arith}
 use Rattle.std.proofs.Math.Nat.{mod-lt}
-use Rattle.std.proofs.lemmas.Bool.{ltb-true, ltb-false}
+use Rattle.std.proofs.lemmas.Bool.{lt-ltb, ltb-true, ltb-false}
 use Rattle.std.proofs.lemmas.List.FromFn.{get_or-map-range_with_len}
 use Rattle.std.specs.declared.option.Option.{Option}
-use Rattle.std.specs.List.{range_with_len}
 use Rattle.std.specs.FinMap as finmap
 use Rattle.ss_value.specs.Rows.{Row, column_value}
 use Rattle.ss_value.specs.Order.{row_cmp}
 use Rattle.ss_model.specs.declared.catalog.Catalog.{Catalog}
 use Rattle.ss_model.specs.declared.catalog.Placement.{Placement}
 use Rattle.ss_model.specs.declared.catalog.Placement.TheVariants.{Part as PlacedAt, By}
-use Rattle.ss_model.specs.Contents.{Table, table_at, window_units, window_owner, table_placement, key_columns, key_position}
+use Rattle.ss_model.specs.Contents.{Table, table_at, window_owner, key_position}
 use Rattle.ss_model.specs.Database.{Database, batch_count}
-use Rattle.ss_model.specs.Partitions.{key_partition, row_partition, window_partition, home_of, home_of_owner, home_partition, border_procedure, DatabasePart, part}
+use Rattle.ss_model.specs.Partitions.{key_partition, row_partition, window_partition, home_of, home_of_owner, home_partition, border_procedure, part, seen_bodies}
 use Rattle.ss_model.specs.parts.HeldParts.{SameButStreams}
 use Rattle.ss_model.specs.parts.SplitParts.{split_parts, StandsOnce, EachStandsOnce}
 use Rattle.ss_model.proofs.CallerLemmas.{get_cut, home_below, same_table, value_part_below}
@@ -22,7 +21,9 @@ use Rattle.ss_lemmas.proofs.Numbers.{eqb_apart}
 use Rattle.ss_model_laws.proofs.BlankItems.{blank_slot}
 use Rattle.ss_model_laws.proofs.PartLocality.{same_part}
 use Rattle.ss_model_laws.proofs.HeldParts.{same_lengths}
+use Rattle.ss_model_laws.proofs.EntryLocality.{not_below}
 use Rattle.ss_model_laws.proofs.PartsAreAll.{parts_are_all}
+use Rattle.ss_model_laws.proofs.SeenBodies.{seen_all, seen_none}
 
 -- ---- each thing has its home on a partition that runs
 
@@ -59,6 +60,10 @@ module _ (catalog : Catalog) (n : ℕ) (some : 1 ≤ n) where
     unfolding part
     numbers_once s = record { runs = border_below s; stands = λ p. blank_slot (λ i. home_partition n (border_procedure catalog i) == p) finmap.empty db.next_numbers s }
 
+    bodies_there : (p : ℕ) → p < n → (part catalog n p db).bodies ≡ db.bodies
+    unfolding part
+    bodies_there p l = ap (λ b. seen_bodies catalog b db.bodies) (lt-ltb p n l) ∙ seen_all catalog db.bodies
+
     pub each_stands_once : EachStandsOnce catalog n db
     each_stands_once = record {
       rows = λ t key. record {
@@ -67,6 +72,7 @@ module _ (catalog : Catalog) (n : ℕ) (some : 1 ≤ n) where
       };
       windows = λ w. record { runs = window_below w; stands = λ p. part_window catalog n db p w };
       counts = counts_once;
+      bodies = bodies_there;
       next_numbers = numbers_once;
     }
 
@@ -91,6 +97,7 @@ module _ (catalog : Catalog) (n : ℕ) (some : 1 ≤ n) where
         (same_slots _ x.contents.windows y.contents.windows [] long.windows (λ w. not_there _ _ [] (elsewhere _ (window_below w)) ∙ sym (not_there _ _ [] (elsewhere _ (window_below w)))))
         (same_slots _ x.counts y.counts 0 long.counts (λ q. not_there _ _ 0 (elsewhere _ (home_runs q)) ∙ sym (not_there _ _ 0 (elsewhere _ (home_runs q)))))
         (same_slots _ x.next_numbers y.next_numbers finmap.empty long.next_numbers (λ s. not_there _ _ finmap.empty (elsewhere _ (border_below s)) ∙ sym (not_there _ _ finmap.empty (elsewhere _ (border_below s)))))
+        (ap (λ b. seen_bodies catalog b x.bodies) (not_below p n past) ∙ seen_none catalog x.bodies y.bodies long.bodies ∙ sym (ap (λ b. seen_bodies catalog b y.bodies) (not_below p n past)))
 
   -- ---- equal splits
 
@@ -109,4 +116,4 @@ module _ (catalog : Catalog) (n : ℕ) (some : 1 ≤ n) where
         by false e = all_blank p (ltb-false p n e) x y (below_same 0 some)
 
     pub splits_determine : SameButStreams x y
-    splits_determine = parts_are_all catalog n x y each_same
+    splits_determine = parts_are_all catalog n some x y each_same

@@ -1,5 +1,5 @@
 -- The empty database of an accepted catalogue is whole, and a whole database stays so.
-use Rattle.std.proofs.Common.{◌≡◌, ◌≤◌, ◌<◌, ◌+◌, ◌-◌, ◌^◌, ℕ, zero, suc, nat_lt, nat_le, Bool, true, false, cond, ◌==◌, List, [], ◌∷◌, ◌++◌, map, drop, get_or, length, replicate, slice_get, refl, sym, ap, ◌∙◌, subst, Some, None, unwrap_or, ◌⊎◌, inl, inr, ◌≢◌, arith, length-set}
+use Rattle.std.proofs.Common.{◌≡◌, ◌≤◌, ◌<◌, ◌+◌, ◌-◌, ◌^◌, ℕ, zero, suc, nat_lt, nat_le, Bool, true, false, cond, ◌==◌, List, [], ◌∷◌, ◌++◌, map, drop, get_or, length, replicate, slice_get, refl, sym, ap, ◌∙◌, subst, Some, None, unwrap_or, ◌⊎◌, inl, inr, ◌≢◌, arith, length-set, set}
 use Rattle.std.proofs.lemmas.Bool.{ltb-true, ltb-false, and_from, or_right, or_left}
 use Rattle.std.proofs.lemmas.Bool.Decides.{Decides-eqb, eqb_tells}
 use Rattle.std.proofs.lemmas.List.{length-replicate, get_or_past}
@@ -7,6 +7,7 @@ use Rattle.std.proofs.Math.Nat.{le_trans}
 use Rattle.std.specs.Option.{option_map}
 use Rattle.std.specs.declared.option.Option.{Option}
 use Rattle.std.specs.List.{list_all, list_any}
+use Rattle.std.specs.Str.{bytes_eq}
 use Rattle.std.specs.Ordering.{nat_cmp, eq_by_cmp}
 use Rattle.std.specs.Cmp.Lexicographic.{slice_cmp, nat_list_cmp_total}
 use Rattle.std.specs.FinMap as finmap
@@ -23,11 +24,11 @@ use Rattle.ss_model.specs.declared.catalog.Placement.TheVariants.{Part, By}
 use Rattle.ss_model.specs.declared.catalog.Procedure.{Procedure}
 use Rattle.ss_model.specs.declared.catalog.TableDef.{TableDef}
 use Rattle.ss_model.specs.declared.entry.Entry.{Entry}
-use Rattle.ss_model.specs.declared.entry.Entry.TheVariants.{Call, Push, Step as StepEntry}
+use Rattle.ss_model.specs.declared.entry.Entry.TheVariants.{Call, Push, Step as StepEntry, Install}
 use Rattle.ss_model.specs.declared.entry.Listed.{Listed}
 use Rattle.ss_model.specs.declared.entry.Outcome.TheVariants.{Done, Duplicate, Gap}
 use Rattle.ss_model.specs.Contents.{table_at, window_units, first_kept, kept_units}
-use Rattle.ss_model.specs.Database.{Database, NextNumbers, Applied, empty_database, apply, apply_call, apply_step, accept_batch, append_batches, next_number, push_fits, batch_count, stream_batches, stream_schema, takes_stream, emits_to, is_call, is_streaming, has_step, fits_entry}
+use Rattle.ss_model.specs.Database.{Database, NextNumbers, Applied, empty_database, apply, apply_call, apply_step, accept_batch, append_batches, next_number, push_fits, batch_count, stream_batches, stream_schema, takes_stream, emits_to, is_call, is_streaming, has_step, fits_entry, has_body, has_spare, own_text, body_text}
 use Rattle.ss_model.specs.Replays.{database_after, after}
 use Rattle.ss_model.specs.Orders.{procedure_takes, procedure_has}
 use Rattle.ss_model.specs.CatalogForm.{is_of_kind, inputs_of_kind, args_of_kind}
@@ -45,7 +46,8 @@ use Rattle.ss_model.proofs.CallerLemmas.{applied_fits}
 use Rattle.ss_model_laws.proofs.InStep.{in_step_next, empty_in_step}
 use Rattle.ss_model_laws.proofs.Batches.{grows_by_one, grown_length, stream_grows}
 use Rattle.ss_model_laws.proofs.StatementSound.{each_of, window_of}
-use Rattle.ss_model_laws.proofs.BodySound.{run_whole}
+use Rattle.ss_model_laws.proofs.BodySound.{present_whole}
+use Rattle.ss_model_laws.proofs.OwnBodies.{as_many_own, own_at, same_text}
 
 below_next : (a b : ℕ) → a < b → a + 1 ≤ b
 below_next a b h = omega arith
@@ -164,7 +166,7 @@ module _ (catalog : Catalog) (accepted : Accepted catalog) where
   call_left db client q args (Some p) a is h e =
       let known = of_when _ _ a e in
       subst (Left db) (some_same _ a known.1) (record {
-        contents = (run_whole catalog accepted.typed accepted.in_scope q p args [] db.contents is (second_of_two _ _ known.0) (λ i. tt) h.contents).contents;
+        contents = (present_whole catalog accepted q p is db args [] db.contents (second_of_two _ _ known.0) (λ i. tt) h.contents).contents;
         next_count = h.next_count;
         batches = h.batches;
         next_numbers = h.next_numbers;
@@ -229,7 +231,7 @@ module _ (catalog : Catalog) (accepted : Accepted catalog) where
       let known = of_when _ _ a e in
       let streaming : is_streaming p.kind ≡ true = first_of_two _ _ (first_of_two _ _ known.0) in
       let count : batch_count db q ≡ r = (Decides-eqb _ _).0 (second_of_two _ _ (first_of_two _ _ known.0)) in
-      let run = run_whole catalog accepted.typed accepted.in_scope q p [] (map (λ s. get_or (stream_batches db s) r []) p.inputs) db.contents is
+      let run = present_whole catalog accepted q p is db [] (map (λ s. get_or (stream_batches db s) r []) p.inputs) db.contents
       (no_args p.kind p.args streaming (second_of_two _ _ (first_of_two _ _ (kinds q p is))))
       (λ i. inputs_fit catalog (λ s. get_or (stream_batches db s) r []) p.inputs i (λ s t. one_fits (stream_schema catalog s) (least_count catalog db s) r (stream_batches db s) (reads_kept catalog q r p is db s count t) (h.batches s))) h.contents in
       let same = some_same _ a known.1 in
@@ -249,12 +251,15 @@ module _ (catalog : Catalog) (accepted : Accepted catalog) where
       let same = some_same _ a known.1 in
       subst (Left db) same (push_left client t seq source rows known.0 db (next_number db t source) _ _ h (subst (λ z. LeastRises db z.db) (sym same) rises))
   left db (StepEntry q r) a h rises e = step_left db q r (slice_get catalog.procedures q) a refl h rises e
+  left db (Install client index q text) a h rises e =
+      subst (Left db) (some_same _ a (of_when _ _ a e).1) (record { contents = h.contents; next_count = h.next_count; batches = h.batches; next_numbers = h.next_numbers })
 
   -- ---- counts
 
   risen : (db : Database) (e : Entry) (q : ℕ) → WasReady catalog db e → batch_count db q ≤ counted e q (batch_count db q)
   risen db (Call client index n args) q ready = omega arith
   risen db (Push client index t source seq rows) q ready = omega arith
+  risen db (Install client index n text) q ready = omega arith
   risen db (StepEntry n r) q ready = by (eqb_tells q n)
     where
       by : ((q == n ≡ true) × (q ≡ n)) ⊎ ((q == n ≡ false) × (q ≢ n)) → batch_count db q ≤ cond (q == n) (suc r) (batch_count db q)
@@ -271,11 +276,50 @@ module _ (catalog : Catalog) (accepted : Accepted catalog) where
       by : (e : Entry) → fits_entry catalog e ≡ true → counted e q (batch_count db q) ≡ 0
       by (Call client index n args) f = h.calls q p is call
       by (Push client index t source seq rows) f = h.calls q p is call
+      by (Install client index n text) f = h.calls q p is call
       by (StepEntry n r) f = at_step (eqb_tells q n)
         where
           at_step : ((q == n ≡ true) × (q ≡ n)) ⊎ ((q == n ≡ false) × (q ≢ n)) → cond (q == n) (suc r) (batch_count db q) ≡ 0
           at_step (inl same) = absurd (call_or_not p.kind call (sym (ap has_step (ap (slice_get catalog.procedures) (sym same.1) ∙ is)) ∙ f))
           at_step (inr other) = ap (λ b. cond b (suc r) (batch_count db q)) other.0 ∙ h.calls q p is call
+
+  -- ---- bodies
+
+  -- as many bodies as before, and each procedure that had one which it may have has such a one
+  abbrev BodiesLeft : Database → Database → Type 0
+  BodiesLeft x y = (length y.bodies ≡ length x.bodies) × ((q : ℕ) → has_body catalog q (body_text x q) ≡ true → has_body catalog q (body_text y q) ≡ true)
+
+  as_before : (x y : Database) → y.bodies ≡ x.bodies → BodiesLeft x y
+  as_before x y e = (ap length e, λ q h. ap (λ bodies. has_body catalog q (get_or bodies q [])) e ∙ h)
+
+  installed : (db : Database) (n : ℕ) (text : List ℕ) → has_body catalog n text ≡ true → BodiesLeft db (record db { bodies = set db.bodies n text })
+  installed db n text has = (
+    length-set db.bodies n text,
+    λ q h. set_one (λ t. has_body catalog q t ≡ true) db.bodies n q text [] h (λ e. subst (λ z. has_body catalog z text ≡ true) e has),
+  )
+
+  call_bodies : (db : Database) (client q : ℕ) (args : Row) (o : Option Procedure) (a : Applied) → apply_call catalog db client q args o ≡ Some a → a.db.bodies ≡ db.bodies
+  call_bodies db client q args None a e = cc
+  call_bodies db client q args (Some p) a e = ap (λ z. z.db.bodies) (sym (some_same _ a (of_when _ _ a e).1))
+
+  step_bodies : (db : Database) (q r : ℕ) (o : Option Procedure) (a : Applied) → apply_step catalog db q r o ≡ Some a → a.db.bodies ≡ db.bodies
+  step_bodies db q r None a e = cc
+  step_bodies db q r (Some p) a e = ap (λ z. z.db.bodies) (sym (some_same _ a (of_when _ _ a e).1))
+
+  push_bodies : (db : Database) (t seq : ℕ) (source : List ℕ) (rows : Rows) (next : ℕ) (b c : Bool) → (cond {A = Applied} b (record { db = accept_batch db t source seq rows; outcome = Done []; emitted = [] }) (cond {A = Applied} c (record { db = db; outcome = Duplicate next; emitted = [] }) (record { db = db; outcome = Gap next; emitted = [] }))).db.bodies ≡ db.bodies
+  push_bodies db t seq source rows next true c = refl
+  push_bodies db t seq source rows next false true = refl
+  push_bodies db t seq source rows next false false = refl
+
+  bodies_left : (db : Database) (e : Entry) (a : Applied) → apply catalog db e ≡ Some a → BodiesLeft db a.db
+  unfolding apply
+  bodies_left db (Call client index q args) a e = as_before db a.db (call_bodies db client q args (slice_get catalog.procedures q) a e)
+  bodies_left db (Push client index t source seq rows) a e =
+      as_before db a.db (ap (λ z. z.db.bodies) (sym (some_same _ a (of_when _ _ a e).1)) ∙ push_bodies db t seq source rows (next_number db t source) _ _)
+  bodies_left db (StepEntry q r) a e = as_before db a.db (step_bodies db q r (slice_get catalog.procedures q) a e)
+  bodies_left db (Install client index n text) a e =
+      let known = of_when _ _ a e in
+      subst (λ z. BodiesLeft db z.db) (some_same _ a known.1) (installed db n text (second_of_two _ _ known.0))
 
   -- ---- whole databases
 
@@ -290,6 +334,8 @@ module _ (catalog : Catalog) (accepted : Accepted catalog) where
         batches = l.batches;
         calls = still_none db e a h k (applied_fits catalog db e a is);
         next_numbers = l.next_numbers;
+        body_count = (bodies_left db e a is).0 ∙ h.body_count;
+        bodies = λ q p at. (bodies_left db e a is).1 q (h.bodies q p at);
       }
 
   pub next_whole : (db : Database) (e : Entry) → WholeDatabase catalog db → WholeDatabase catalog (database_after catalog db e)
@@ -312,6 +358,8 @@ module _ (catalog : Catalog) (accepted : Accepted catalog) where
         let m = least_count catalog (empty_database catalog) s in
         subst (λ bs. list_all (batch_fits (stream_schema catalog s)) (drop m bs) ≡ true) (sym (get_or-alike (length catalog.streams) s [])) (all_dropped (batch_fits (stream_schema catalog s)) m [] refl);
     calls = λ q p is call. get_or-alike (length catalog.procedures) q 0;
+    body_count = as_many_own (own_text catalog) catalog.procedures;
+    bodies = λ q p at. subst (λ text. has_body catalog q text ≡ true) (sym (own_at (own_text catalog) catalog.procedures q p at)) (or_left (bytes_eq (own_text catalog q) (own_text catalog q)) (has_spare catalog q (own_text catalog q)) (same_text (own_text catalog q)));
     next_numbers = λ s source n is. let no : None ≡ Some n = sym (ap (λ m. finmap.get m source) (get_or-alike (length catalog.streams) s finmap.empty) ∙ get-empty (slice_cmp nat_cmp) source) ∙ is in cc;
   }
 
@@ -388,5 +436,7 @@ module _ (catalog : Catalog) (x y : Database) (same : SameKeptDatabase catalog x
         subst (λ k. list_all (batch_fits (stream_schema catalog s)) (drop k (stream_batches y s)) ≡ true) (same_least catalog x y s same.counts (same.lengths s))
         (subst (λ bs. list_all (batch_fits (stream_schema catalog s)) bs ≡ true) (same.tails s (least_count catalog x s) (omega arith)) (h.batches s));
     calls = λ q p is call. sym (same_count q) ∙ h.calls q p is call;
+    body_count = sym (ap length same.bodies) ∙ h.body_count;
+    bodies = λ q p at. ap (λ bodies. has_body catalog q (get_or bodies q [])) (sym same.bodies) ∙ h.bodies q p at;
     next_numbers = λ s source n is. h.next_numbers s source n (ap (λ ms. finmap.get (get_or ms s finmap.empty) source) same.next_numbers ∙ is);
   }

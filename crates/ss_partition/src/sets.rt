@@ -101,5 +101,6 @@ pub fn touch_set(catalog: &Catalog, entry: &Entry, parts: u8) -> PartSet
         } => touched_by_procedure(catalog, *procedure, args.as_slice(), parts),
         Entry::Push { stream, .. } => one_partition(border_home(catalog, *stream, parts)),
         Entry::Step { procedure, .. } => touched_by_procedure(catalog, *procedure, &[], parts),
+        Entry::Install { .. } => all_partitions(parts),
     }
 }

@@ -2,7 +2,7 @@
 use Rattle.std.proofs.Common.{◌≡◌, ◌<◌, ◌^◌, ◌∙◌, ℕ, List, length, Some, ap, arith}
 use Rattle.ss_model.specs.declared.catalog.Catalog.{Catalog}
 use Rattle.ss_model.specs.declared.entry.Entry.{Entry}
-use Rattle.ss_model.specs.declared.entry.Entry.TheVariants.{Call, Push, Step as StepEntry}
+use Rattle.ss_model.specs.declared.entry.Entry.TheVariants.{Call, Push, Step as StepEntry, Install}
 use Rattle.ss_model.specs.Database.{Database, Applied, apply, batch_count}
 use Rattle.ss_model.specs.InStep.{IsInStep}
 use Rattle.ss_model.specs.Orders.{HasShape}
@@ -35,6 +35,7 @@ module _ (catalog : Catalog) (db : Database) (step : IsInStep catalog db) (n : �
   pub countable_on : (e : Entry) (a : Applied) → apply catalog db e ≡ Some a → IsCountable e
   countable_on (Call client index q args) a is = tt
   countable_on (Push client index s source seq rows) a is = tt
+  countable_on (Install client index q text) a is = tt
   countable_on (StepEntry q r) a is =
       let next : batch_count db q ≡ r = (steps_move catalog db q r a step.matched.shape is).before in
       let many = had.counts q in

@@ -22,13 +22,19 @@ use Rattle.ss_model.specs.declared.catalog.Step.TheVariants.{Sql, AbortIf, ForEa
 use Rattle.ss_model.specs.declared.catalog.TableDef.{TableDef}
 use Rattle.ss_model.specs.Accepted.{Accepted}
 use Rattle.ss_model.specs.CatalogForm.{numbers_in_range}
+use Rattle.ss_model.specs.Database.{Database, empty_database, present}
 use Rattle.ss_model.specs.Contents.{key_columns}
 use Rattle.ss_model.specs.Scopes.{procedure_in_scope, trigger_in_scope, is_on_a_stream, step_in_scope, inner_in_scope, statement_in_scope, target_in_scope}
 use Rattle.ss_model.specs.Typing.{procedure_typed, trigger_typed, trigger_schema, input_schema, schemas_of, step_typed, inner_typed, target_schema}
 use Rattle.ss_model.proofs.CallerLemmas.{few_triggers, numbers_of}
+use Rattle.ss_model_laws.proofs.CallerLemmas.{present_accepted}
 use Rattle.ss_lemmas.proofs.Bools.{first_of_two, second_of_two, at_index}
 use Rattle.ss_plan.specs.Statements.{FitsTables, FitsTarget}
-use Rattle.ss_proc.specs.Executions.{InnerRuns, StepRuns, MayRun}
+use Rattle.ss_shard.specs.Bodies.{present_on, texts_of}
+use Rattle.ss_shard.specs.Shards.{IsOf}
+use Rattle.ss_shard.specs.ShardValue.{ShardValue}
+use Rattle.ss_shard.proofs.CallerLemmas.{present_held}
+use Rattle.ss_proc.specs.Executions.{InnerRuns, StepRuns, MayRun, ProcedureRuns}
 
 -- ---- what the form says
 
@@ -137,9 +143,21 @@ module _ (catalog : Catalog) (accepted : Accepted catalog) where
     few = few_triggers catalog accepted.form;
   }
 
-  -- each step of each procedure may run
-  pub body_fits : (q : ℕ) (p : Procedure) → slice_get catalog.procedures q ≡ Some p → AllByRecursion (StepRuns catalog) p.body
-  body_fits q p is =
+  own_fits : (q : ℕ) (p : Procedure) → slice_get catalog.procedures q ≡ Some p → AllByRecursion (StepRuns catalog) p.body
+  own_fits q p is =
       let typed : procedure_typed catalog p ≡ true = at_index (procedure_typed catalog) catalog.procedures (first_of_two _ _ accepted.typed) q p is in
       let scope : procedure_in_scope catalog p ≡ true = at_index (procedure_in_scope catalog) catalog.procedures (first_of_two _ _ accepted.in_scope) q p is in
       steps_run catalog all_keys p.inputs p.args p.body typed scope
+
+  -- each step of each procedure may run, whatever body it has
+  pub body_fits : (q : ℕ) (p : Procedure) → slice_get catalog.procedures q ≡ Some p → ProcedureRuns catalog q p
+  body_fits q p is = record {
+    own = own_fits q p is;
+    installed = λ db. let a = present_accepted catalog accepted q p is db in steps_run catalog all_keys p.inputs p.args (present catalog db q p).body a.typed a.in_scope;
+  }
+
+  -- so may those that it has on a shard
+  pub present_fits : (shard : ShardValue) → IsOf catalog shard → (q : ℕ) (p : Procedure) → slice_get catalog.procedures q ≡ Some p → AllByRecursion (StepRuns catalog) (present_on catalog shard q p).body
+  present_fits shard of_catalog q p is =
+      let db : Database = record (empty_database catalog) { bodies = texts_of catalog shard.bodies } in
+      subst (λ (d : Procedure). AllByRecursion (StepRuns catalog) d.body) (present_held catalog shard db refl of_catalog q p is) ((body_fits q p is).installed db)

@@ -10,7 +10,7 @@ use Rattle.ss_value.specs.Rows.{Rows}
 use Rattle.ss_model.specs.declared.catalog.Procedure.{Procedure}
 use Rattle.ss_model.specs.declared.catalog.Catalog.{Catalog}
 use Rattle.ss_model.specs.declared.entry.Entry.{Entry}
-use Rattle.ss_model.specs.declared.entry.Entry.TheVariants.{Call, Push, Step as StepEntry}
+use Rattle.ss_model.specs.declared.entry.Entry.TheVariants.{Call, Push, Step as StepEntry, Install}
 use Rattle.ss_model.specs.Accepted.{Accepted}
 use Rattle.ss_model.specs.Database.{Database, batch_count, stream_batches, is_ready, is_ready_entry, takes_stream}
 use Rattle.ss_model.specs.Orders.{procedure_takes}
@@ -84,4 +84,5 @@ module _ (catalog : Catalog) (db : Database) where
   pub finds : Accepted catalog → (streams : ReservedStreams) → AreStreamsOf catalog db streams.streams → (e : Entry) → is_ready_entry catalog db e ≡ true → Finds streams e
   finds accepted streams are (Call client index p args) ready = record { there = tt; at_hand = refl; next = λ shard holds. tt }
   finds accepted streams are (Push client index s source seq rows) ready = record { there = tt; at_hand = refl; next = λ shard holds. tt }
+  finds accepted streams are (Install client index p text) ready = record { there = tt; at_hand = refl; next = λ shard holds. tt }
   finds accepted streams are (StepEntry q r) ready = finds_step accepted streams are q r (slice_get catalog.procedures q) refl ready

@@ -9,6 +9,7 @@ pub mod RolledBack
 pub mod Batches
 pub mod Standing
 pub mod Pushing
+pub mod Installing
 pub mod Fitting
 pub mod Premises
 pub mod OnParts

@@ -1,18 +1,18 @@
 -- What ran on each database that a shard stood for ran beside blanks.
-use Rattle.std.proofs.Common.{◌≡◌, ◌≤◌, ℕ, Bool, List, slice_get, sym, ◌∙◌, Some, None}
+use Rattle.std.proofs.Common.{◌≤◌, ℕ, Bool, List, slice_get, sym, ◌∙◌, Some, None}
 use Rattle.std.specs.declared.option.Option.{Option}
 use Rattle.ss_value.specs.Rows.{Rows}
 use Rattle.ss_model.specs.declared.catalog.Catalog.{Catalog}
 use Rattle.ss_model.specs.declared.catalog.Procedure.{Procedure}
 use Rattle.ss_model.specs.declared.entry.Entry.{Entry}
-use Rattle.ss_model.specs.declared.entry.Entry.TheVariants.{Call, Push, Step as StepEntry}
+use Rattle.ss_model.specs.declared.entry.Entry.TheVariants.{Call, Push, Step as StepEntry, Install}
 use Rattle.ss_model.specs.Accepted.{Accepted}
 use Rattle.ss_model.specs.Database.{Database, apply}
 use Rattle.ss_model.specs.parts.HeldParts.{elsewhere_blank, blank_after, RunsBesideBlanks}
 use Rattle.ss_shard.specs.ShardValue.{ShardValue}
 use Rattle.ss_shard.specs.Parts.{is_among}
-use Rattle.ss_proc.specs.Entries.{AreBatchesOf, AreAtHand, Ran, RanOnEach}
-use Rattle.ss_proc.specs.Parts.{RanBeside, RanOnParts}
+use Rattle.ss_proc.specs.Entries.{AreBatchesOf, AreAtHand, RanOnEach}
+use Rattle.ss_proc.specs.Parts.{RanOnParts}
 use Rattle.ss_proc.specs.declared.runner.Executed.{Executed}
 use Rattle.ss_lemmas.proofs.Results.{map_some}
 
@@ -25,6 +25,7 @@ module _ (catalog : Catalog) (n : ℕ) (held : ℕ → Bool) (db : Database) whe
   hand_beside_blanks : (e : Entry) (batches : List Rows) → AreAtHand catalog db e batches → AreAtHand catalog (elsewhere_blank catalog n held db) e batches
   hand_beside_blanks (Call client index q args) batches hand = hand
   hand_beside_blanks (Push client index s source seq rows) batches hand = hand
+  hand_beside_blanks (Install client index q text) batches hand = hand
   hand_beside_blanks (StepEntry q r) batches hand = of_procedure r batches (slice_get catalog.procedures q) hand
 
 pub ran_on_parts : RunsBesideBlanks → (catalog : Catalog) → Accepted catalog → (n : ℕ) → 1 ≤ n → (held : List ℕ) (old new : ShardValue) (e : Entry) (batches : List Rows) (executed : Executed) →

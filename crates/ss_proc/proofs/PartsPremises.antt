@@ -1,5 +1,5 @@
 -- The law of executions on parts at a shard that meets its premises: of two partitions it holds that of a push.
-use Rattle.std.proofs.Common.{◌≡◌, ◌==◌, ℕ, Bool, pos, codes, true, cond, List, [], ◌∷◌, refl, sym, ap, subst, ◌∙◌, arith, None}
+use Rattle.std.proofs.Common.{◌≡◌, ℕ, pos, codes, true, List, [], ◌∷◌, refl, sym, ap, subst, arith, None}
 use Rattle.std.specs.Prelude.{unwrap_or}
 use Rattle.std.specs.FinMap as finite
 use Rattle.std.specs.FinMap.{get-empty}
@@ -40,6 +40,8 @@ shard = record {
   windows = empty_windows sliding_seen.windows;
   cursors = 0 ∷ 0 ∷ [];
   sources = finite.empty ∷ [];
+  bodies = 0 ∷ 0 ∷ [];
+  coming = None;
 }
 
 abbrev before : Database
@@ -53,6 +55,7 @@ holds = record {
   contents = record { tables = ap (λ m. m ∷ []) (all_rows _); windows = refl };
   counts = refl;
   numbers = record { streams = refl; numbers = λ s source. refl };
+  bodies = refl;
 }
 
 abbrev batch : Rows
@@ -73,7 +76,7 @@ is_first = ap (λ o. push_outcome 0 (unwrap_or o 0)) (sym (get-empty (slice_cmp 
 
 -- it is accepted on each database that the shard stands for
 ran : RanOnEach sliding_seen shard shard first_push [] executed
-ran db stands hand = push_ran sliding_seen shard shard db stands 0 0 0 (codes "a") 0 batch refl (record { streams = refl; numbers = λ s source. refl }) refl executed is_first refl
+ran db stands hand = push_ran sliding_seen shard shard db stands 0 0 0 (codes "a") 0 batch refl (record { streams = refl; numbers = λ s source. refl }) refl refl executed is_first refl
 
 -- and so on each of which the shard holds the part
 beside : RunsBesideBlanks → RanBeside sliding_seen 2 held before first_push executed shard

@@ -1,25 +1,22 @@
 -- What a push comes to on each database that a shard stands for.
-use Rattle.std.proofs.Common.{◌≡◌, ◌+◌, ◌==◌, ◌<◌, ◌^◌, ◌&&◌, nat_lt, nat_le, ℕ, zero, suc, true, false, cond, List, [], ◌∷◌, ◌++◌, map, get_or, set, length, length-set, refl, sym, ap, subst, ◌∙◌, Option, Some, None, Bool, arith}
-use Rattle.std.specs.List.{list_all}
+use Rattle.std.proofs.Common.{◌≡◌, ◌+◌, ◌==◌, ◌<◌, ◌^◌, ◌&&◌, nat_lt, ℕ, zero, suc, true, false, cond, List, [], ◌∷◌, map, set, length, length-set, refl, sym, ap, subst, ◌∙◌, Some, None, Bool, arith}
 use Rattle.std.specs.Prelude.{unwrap_or}
 use Rattle.std.specs.Ordering.{eq_by_cmp, nat_cmp}
 use Rattle.std.specs.Cmp.Lexicographic.{slice_cmp, nat_list_cmp_total}
 use Rattle.std.specs.FinMap as finite
-use Rattle.std.proofs.lemmas.Bool.{eqb-true, ltb-true}
-use Rattle.std.proofs.lemmas.Bool.Decides.{nat_tests}
-use Rattle.std.proofs.lemmas.List.{get_or-set_other}
+use Rattle.std.proofs.lemmas.Bool.{ltb-true}
 use Rattle.ss_value.specs.Rows.{Rows}
 use Rattle.ss_model.specs.declared.catalog.Catalog.{Catalog}
-use Rattle.ss_model.specs.declared.entry.Emitted.{Emitted}
 use Rattle.ss_model.specs.declared.entry.Entry.{Entry}
 use Rattle.ss_model.specs.declared.entry.Entry.TheVariants.{Push}
 use Rattle.ss_model.specs.declared.entry.Outcome.{Outcome}
-use Rattle.ss_model.specs.declared.entry.Outcome.TheVariants.{Done, Aborted, Duplicate, Gap}
+use Rattle.ss_model.specs.declared.entry.Outcome.TheVariants.{Done, Duplicate, Gap}
 use Rattle.ss_model.specs.Contents.{Contents}
 use Rattle.ss_model.specs.Accepted.{Accepted}
 use Rattle.ss_model.specs.Batches.{pushed_batch}
-use Rattle.ss_model.specs.Database.{NextNumbers, Database, Applied, apply, only_when, push_fits, numbered_push, next_number, is_border_stream, stream_schema, fits_entry, accept_batch}
+use Rattle.ss_model.specs.Database.{NextNumbers, Database, Applied, apply, only_when, push_fits, numbered_push, next_number, accept_batch}
 use Rattle.ss_lemmas.proofs.Bools.{first_of_two, second_of_two}
+use Rattle.ss_shard.specs.Bodies.{texts_of, with_coming}
 use Rattle.ss_shard.specs.ShardValue.{ShardValue}
 use Rattle.ss_shard.specs.Sources.{number_of, numbers_at, number_in, SameNumbers, with_number, push_outcome}
 use Rattle.ss_shard.specs.Contents.{tables_of}
@@ -106,7 +103,7 @@ both_set one two s source n same = record {
 -- ---- a push
 
 module _ (catalog : Catalog) (old new : ShardValue) (db : Database) (holds : HoldsDatabase catalog old db) (client index s : ℕ) (source : List ℕ) (seq : ℕ) (rows : Rows) (fits : push_fits catalog client s seq rows ≡ true)
-    (same : SameNumbers old.sources new.sources) (rest : new ≡ record old { sources = new.sources }) where
+    (same : SameNumbers old.sources new.sources) (rest : new ≡ record old { sources = new.sources }) (nothing : old.coming ≡ None) where
   abbrev next : ℕ
   next = next_number db s source
 
@@ -126,11 +123,11 @@ module _ (catalog : Catalog) (old new : ShardValue) (db : Database) (holds : Hol
   still : HoldsDatabase catalog new db
   unfolding mid
   still = subst (λ (h : ShardValue). HoldsDatabase catalog h db) (sym rest)
-      (record { contents = record { tables = holds.contents.tables; windows = holds.contents.windows }; counts = holds.counts; numbers = alike })
+      (record { contents = record { tables = holds.contents.tables; windows = holds.contents.windows }; counts = holds.counts; numbers = alike; bodies = holds.bodies })
 
   came : (e : Executed) (a : Applied) → apply catalog db (Push client index s source seq rows) ≡ Some a → e.outcome ≡ a.outcome → e.emitted ≡ pushed_batch s rows e.outcome
-      → (a.db).contents ≡ db.contents → (a.db).counts ≡ db.counts → SameNumbers (a.db).next_numbers (number_raised s source seq e.outcome new.sources) → Ran catalog db (Push client index s source seq rows) e new
-  came e a value folds gave contents counts numbers = record {
+      → (a.db).contents ≡ db.contents → (a.db).counts ≡ db.counts → (a.db).bodies ≡ db.bodies → SameNumbers (a.db).next_numbers (number_raised s source seq e.outcome new.sources) → Ran catalog db (Push client index s source seq rows) e new
+  came e a value folds gave contents counts bodies numbers = record {
     applied = a;
     value = value;
     outcome = folds;
@@ -138,6 +135,7 @@ module _ (catalog : Catalog) (old new : ShardValue) (db : Database) (holds : Hol
     leaves = subst (Holds catalog new) (sym contents) still.contents;
     counts = still.counts ∙ sym counts;
     numbers = numbers;
+    bodies = ap (λ (h : ShardValue). texts_of catalog (with_coming h.coming h.bodies)) rest ∙ ap (λ c. texts_of catalog (with_coming c old.bodies)) nothing ∙ holds.bodies ∙ sym bodies;
   }
 
   pub push_ran : (e : Executed) → e.outcome ≡ push_outcome seq (number_in old.sources s source) → e.emitted ≡ pushed_batch s rows e.outcome → Ran catalog db (Push client index s source seq rows) e new
@@ -147,13 +145,13 @@ module _ (catalog : Catalog) (old new : ShardValue) (db : Database) (holds : Hol
           → apply catalog db (Push client index s source seq rows) ≡ Some (cond b (record { db = accept_batch db s source seq rows; outcome = Done []; emitted = [] }) (cond c (record { db = db; outcome = Duplicate next; emitted = [] }) (record { db = db; outcome = Gap next; emitted = [] })))
           → e.outcome ≡ cond b (Done []) (cond c (Duplicate next) (Gap next)) → Ran catalog db (Push client index s source seq rows) e new
       by true c value is =
-          came e (record { db = accept_batch db s source seq rows; outcome = Done []; emitted = [] }) value is gave refl refl
+          came e (record { db = accept_batch db s source seq rows; outcome = Done []; emitted = [] }) value is gave refl refl refl
           (subst (λ o. SameNumbers (accept_batch db s source seq rows).next_numbers (number_raised s source seq o new.sources)) (sym is) (both_set db.next_numbers new.sources s source (seq + 1) alike))
       by false true value is =
-          came e (record { db = db; outcome = Duplicate next; emitted = [] }) value is gave refl refl
+          came e (record { db = db; outcome = Duplicate next; emitted = [] }) value is gave refl refl refl
           (subst (λ o. SameNumbers db.next_numbers (number_raised s source seq o new.sources)) (sym is) alike)
       by false false value is =
-          came e (record { db = db; outcome = Gap next; emitted = [] }) value is gave refl refl
+          came e (record { db = db; outcome = Gap next; emitted = [] }) value is gave refl refl refl
           (subst (λ o. SameNumbers db.next_numbers (number_raised s source seq o new.sources)) (sym is) alike)
 
 -- ---- what is the same stands for the same
@@ -163,13 +161,15 @@ holds_same catalog old new same db holds = record {
   contents = record { tables = ap tables_of same.tables ∙ holds.contents.tables; windows = ap (map kept_part) same.windows ∙ holds.contents.windows };
   counts = same.cursors ∙ holds.counts;
   numbers = alike_again db.next_numbers old.sources new.sources holds.numbers same.sources;
+  bodies = ap (texts_of catalog) same.bodies.0 ∙ holds.bodies;
 }
 
 -- ---- an entry that is committed
 
-pub keeps_so : (catalog : Catalog) (e : Entry) (outcome : Outcome) (old new : ShardValue) → ((s : Contents) → Holds catalog old s → Holds catalog new s) → new.cursors ≡ counts_after e old.cursors → new.sources ≡ numbers_after e outcome old.sources → Commits catalog e outcome old new
-keeps_so catalog e outcome old new holds cursors sources db executed ran same = record {
+pub keeps_so : (catalog : Catalog) (e : Entry) (outcome : Outcome) (old new : ShardValue) → ((s : Contents) → Holds catalog old s → Holds catalog new s) → new.cursors ≡ counts_after e old.cursors → new.sources ≡ numbers_after e outcome old.sources → new.bodies ≡ with_coming old.coming old.bodies → Commits catalog e outcome old new
+keeps_so catalog e outcome old new holds cursors sources bodies db executed ran same = record {
   contents = holds (ran.applied).db.contents ran.leaves;
   counts = cursors ∙ ran.counts;
   numbers = subst (SameNumbers (ran.applied).db.next_numbers) (sym sources) (subst (λ o. SameNumbers (ran.applied).db.next_numbers (numbers_after e o old.sources)) same ran.numbers);
+  bodies = ap (texts_of catalog) bodies ∙ ran.bodies;
 }

@@ -1,5 +1,5 @@
 -- Lists of rows of which only the first are begun.
-use Rattle.std.proofs.Common.{◌≡◌, ◌<◌, ◌≤◌, ◌+◌, ◌-◌, ℕ, zero, suc, List, [], ◌∷◌, ◌++◌, set, get_or, replicate, length, length-append, refl, sym, ap, ◌∙◌, subst, arith, append_assoc}
+use Rattle.std.proofs.Common.{◌≡◌, ◌<◌, ◌≤◌, ◌+◌, ◌-◌, ℕ, zero, suc, List, [], ◌∷◌, ◌++◌, set, get_or, replicate, length, length-append, refl, sym, ap, ◌∙◌, arith, append_assoc}
 use Rattle.std.proofs.lemmas.List.{length-replicate, replicate-append-replicate, replicate_more, set-append_left}
 use Rattle.std.proofs.Math.ListN.{get_or-append}
 use Rattle.ss_value.specs.Rows.{Rows}

@@ -9,17 +9,22 @@ use Rattle.ss_model.specs.declared.catalog.Catalog.{Catalog}
 use Rattle.ss_model.specs.declared.catalog.Procedure.{Procedure}
 use Rattle.ss_model.specs.declared.entry.Entry.TheVariants.{Call, Step as StepEntry}
 use Rattle.ss_model.specs.declared.entry.Outcome.{Outcome}
-use Rattle.ss_model.specs.Database.{Database, Applied, BodyResult, apply, apply_call, apply_step, call_fits, has_call, has_step, fits_entry, only_when, run_procedure, is_ready, is_streaming, input_batches, stepped, stream_batches, output_streams}
+use Rattle.ss_model.specs.Database.{Database, Applied, BodyResult, apply, apply_call, apply_step, call_fits, has_call, has_step, fits_entry, only_when, run_procedure, is_ready, is_streaming, input_batches, stepped, stream_batches, output_streams, present}
+use Rattle.ss_shard.specs.Bodies.{present_on, texts_of, with_coming}
 use Rattle.ss_shard.specs.ShardValue.{ShardValue}
 use Rattle.ss_shard.specs.Contents.{contents_of}
 use Rattle.ss_shard.specs.Shards.{IsOf}
 use Rattle.ss_shard.specs.Windows.{HoldsDatabase, own_database}
-use Rattle.ss_shard.proofs.CallerLemmas.{carried, alike_again}
+use Rattle.ss_shard.proofs.CallerLemmas.{carried, alike_again, present_held}
 use Rattle.ss_proc.specs.declared.runner.Executed.{Executed}
 use Rattle.ss_model.specs.Batches.{output_batches}
 use Rattle.ss_shard.specs.Shards.{CanRollBack}
 use Rattle.ss_shard.specs.Sources.{SameNumbers}
 use Rattle.ss_proc.specs.Entries.{batches_at, batches_for, Ran}
+
+-- where no body is to come, the bodies stay
+same_bodies : (catalog : Catalog) (old new : ShardValue) (db : Database) → HoldsDatabase catalog old db → CanRollBack old new → new.coming ≡ None → texts_of catalog (with_coming new.coming new.bodies) ≡ db.bodies
+same_bodies catalog old new db holds back nothing = ap (λ c. texts_of catalog (with_coming c new.bodies)) nothing ∙ ap (texts_of catalog) back.bodies ∙ holds.bodies
 
 -- ---- a call
 
@@ -30,18 +35,19 @@ module _ (catalog : Catalog) (old new : ShardValue) (is : IsOf catalog old) (now
   abbrev called : BodyResult → Applied
   called r = record { db = record (own_database old db) { contents = r.contents }; outcome = r.outcome; emitted = [] }
 
-  call_value : run_procedure catalog n p args [] (contents_of old) ≡ left → apply catalog (own_database old db) (Call client index n args) ≡ Some (called left)
+  call_value : run_procedure catalog n (present catalog db n p) args [] (contents_of old) ≡ left → apply catalog (own_database old db) (Call client index n args) ≡ Some (called left)
   unfolding apply
   call_value ran =
       let call : call_fits client p args ≡ true = ap (has_call client args) (sym found) ∙ fits in
       ap (apply_call catalog (own_database old db) client n args) found
-      ∙ ap (λ b. only_when b (Some (called (run_procedure catalog n p args [] (contents_of old))))) call
+      ∙ ap (λ b. only_when b (Some (called (run_procedure catalog n (present catalog db n p) args [] (contents_of old))))) call
       ∙ ap (λ r. Some (called r)) ran
 
-  pub call_ran : run_procedure catalog n p args [] (contents_of old) ≡ left → CanRollBack old new → (e : Executed) → e.outcome ≡ outcome → e.emitted ≡ [] → Ran catalog db (Call client index n args) e new
-  call_ran ran back e folds none =
-      let c = carried catalog old new is now db holds (Call client index n args) (called left) (call_value ran) refl in
-      record { applied = c.applied; value = c.value; outcome = folds ∙ c.outcome; emitted = none; leaves = c.leaves; counts = back.cursors ∙ holds.counts ∙ sym c.counts; numbers = subst (λ ns. SameNumbers ns new.sources) (sym c.numbers) (alike_again db.next_numbers old.sources new.sources holds.numbers back.sources) }
+  pub call_ran : run_procedure catalog n (present_on catalog old n p) args [] (contents_of old) ≡ left → CanRollBack old new → new.coming ≡ None → (e : Executed) → e.outcome ≡ outcome → e.emitted ≡ [] → Ran catalog db (Call client index n args) e new
+  call_ran ran back nothing e folds none =
+      let there = ap (λ d. run_procedure catalog n d args [] (contents_of old)) (present_held catalog old db holds.bodies is n p found) ∙ ran in
+      let c = carried catalog old new is now db holds (Call client index n args) (called left) (call_value there) refl in
+      record { applied = c.applied; value = c.value; outcome = folds ∙ c.outcome; emitted = none; leaves = c.leaves; counts = back.cursors ∙ holds.counts ∙ sym c.counts; numbers = subst (λ ns. SameNumbers ns new.sources) (sym c.numbers) (alike_again db.next_numbers old.sources new.sources holds.numbers back.sources); bodies = same_bodies catalog old new db holds back nothing ∙ sym c.bodies }
 
 -- ---- a step
 
@@ -83,17 +89,18 @@ module _ (catalog : Catalog) (old new : ShardValue) (is : IsOf catalog old) (now
       ∙ (λ i. equal_test (get_or db.counts n 0) r counted i && list_all (λ s. nat_lt r (length (stream_batches db s))) p.inputs)
       ∙ all_there db r p.inputs batches at_hand
 
-  step_value : run_procedure catalog n p [] batches (contents_of old) ≡ result → apply catalog here (StepEntry n r) ≡ Some (stepped here n r p result)
+  step_value : run_procedure catalog n (present catalog db n p) [] batches (contents_of old) ≡ result → apply catalog here (StepEntry n r) ≡ Some (stepped here n r p result)
   unfolding apply
   step_value ran =
       ap (apply_step catalog here n r) found
-      ∙ ap (λ b. only_when b (Some (stepped here n r p (run_procedure catalog n p [] (input_batches here r p) (contents_of old))))) ready
-      ∙ ap (λ bs. Some (stepped here n r p (run_procedure catalog n p [] bs (contents_of old)))) (same_batches db r p.inputs batches at_hand)
+      ∙ ap (λ b. only_when b (Some (stepped here n r p (run_procedure catalog n (present catalog db n p) [] (input_batches here r p) (contents_of old))))) ready
+      ∙ ap (λ bs. Some (stepped here n r p (run_procedure catalog n (present catalog db n p) [] bs (contents_of old)))) (same_batches db r p.inputs batches at_hand)
       ∙ ap (λ x. Some (stepped here n r p x)) ran
 
-  pub step_ran : run_procedure catalog n p [] batches (contents_of old) ≡ result → CanRollBack old new → (e : Executed) → e.outcome ≡ outcome → e.emitted ≡ batches_for (output_streams catalog p) emitted → Ran catalog db (StepEntry n r) e new
-  step_ran ran back e folds gave =
-      let c = carried catalog old new is now db holds (StepEntry n r) (stepped here n r p result) (step_value ran) refl in
+  pub step_ran : run_procedure catalog n (present_on catalog old n p) [] batches (contents_of old) ≡ result → CanRollBack old new → new.coming ≡ None → (e : Executed) → e.outcome ≡ outcome → e.emitted ≡ batches_for (output_streams catalog p) emitted → Ran catalog db (StepEntry n r) e new
+  step_ran ran back nothing e folds gave =
+      let there = ap (λ d. run_procedure catalog n d [] batches (contents_of old)) (present_held catalog old db holds.bodies is n p found) ∙ ran in
+      let c = carried catalog old new is now db holds (StepEntry n r) (stepped here n r p result) (step_value there) refl in
       record {
         applied = c.applied;
         value = c.value;
@@ -102,6 +109,7 @@ module _ (catalog : Catalog) (old new : ShardValue) (is : IsOf catalog old) (now
         leaves = c.leaves;
         counts = ap (λ counts. set counts n (r + 1)) (back.cursors ∙ holds.counts) ∙ sym c.counts;
         numbers = subst (λ ns. SameNumbers ns new.sources) (sym c.numbers) (alike_again db.next_numbers old.sources new.sources holds.numbers back.sources);
+        bodies = same_bodies catalog old new db holds back nothing ∙ sym c.bodies;
       }
     where
       by : (o : Option Procedure) → o ≡ Some p → (es : List Rows) → batches_for (output_streams catalog p) es ≡ output_batches catalog es o

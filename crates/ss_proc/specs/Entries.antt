@@ -5,12 +5,13 @@ use Rattle.ss_model.specs.declared.catalog.Catalog.{Catalog}
 use Rattle.ss_model.specs.declared.catalog.Procedure.{Procedure}
 use Rattle.ss_model.specs.declared.entry.Emitted.{Emitted}
 use Rattle.ss_model.specs.declared.entry.Entry.{Entry}
-use Rattle.ss_model.specs.declared.entry.Entry.TheVariants.{Call, Push, Step as StepEntry}
+use Rattle.ss_model.specs.declared.entry.Entry.TheVariants.{Push, Step as StepEntry}
 use Rattle.ss_model.specs.declared.entry.Outcome.{Outcome}
 use Rattle.ss_model.specs.declared.entry.Outcome.TheVariants.{Done}
 use Rattle.ss_model.specs.Database.{NextNumbers, Database, Applied, apply, stream_batches, run_procedure}
 use Rattle.ss_model.specs.Batches.{emitted_batches}
 use Rattle.ss_shard.specs.ShardValue.{ShardValue}
+use Rattle.ss_shard.specs.Bodies.{IsBodyNumber, present_on, text_numbered, texts_of, with_coming}
 use Rattle.ss_shard.specs.Contents.{contents_of}
 use Rattle.ss_shard.specs.Sources.{HasSource, SameNumbers, with_number}
 use Rattle.ss_shard.specs.Windows.{Holds, HoldsDatabase}
@@ -31,7 +32,7 @@ abbrev pub AreBatchesOf : Database → ℕ → List Rows → Option Procedure �
 AreBatchesOf db r batches None = Unit {0}
 AreBatchesOf db r batches (Some p) = batches_at db r p ≡ map Some batches
 
--- the batches at hand are those that an entry takes from the streams of a database; a call and a push take none
+-- the batches at hand are those that an entry takes from the streams of a database; but for a step it takes none
 abbrev pub AreAtHand : Catalog → Database → Entry → List Rows → Type 0
 AreAtHand catalog db (StepEntry n r) batches = AreBatchesOf db r batches (slice_get catalog.procedures n)
 AreAtHand catalog db _ batches = batches ≡ []
@@ -66,7 +67,7 @@ EntryHasSource (Push client index s source seq rows) outcome sources = HasSource
 EntryHasSource _ outcome sources = Unit {0}
 
 -- an entry has run on a database that the shard stood for: it has a value there, with this outcome and these batches, the shard
--- stands for the tables and windows after it, and the commit gives the counts and next numbers after it
+-- stands for the tables and windows after it, and the commit gives the counts, next numbers and bodies after it
 pub record Ran (catalog : Catalog) (db : Database) (e : Entry) (executed : Executed) (shard : ShardValue) : Type 0 where
   pub applied : Applied
   pub value : apply catalog db e ≡ Some applied
@@ -75,6 +76,7 @@ pub record Ran (catalog : Catalog) (db : Database) (e : Entry) (executed : Execu
   pub leaves : Holds catalog shard (applied.db).contents
   pub counts : counts_after e shard.cursors ≡ (applied.db).counts
   pub numbers : SameNumbers (applied.db).next_numbers (numbers_after e executed.outcome shard.sources)
+  pub bodies : texts_of catalog (with_coming shard.coming shard.bodies) ≡ (applied.db).bodies
 
 -- an entry has run on each database that the shard stood for and from which these batches were taken
 abbrev pub RanOnEach : Catalog → ShardValue → ShardValue → Entry → List Rows → Executed → Type 0
@@ -85,11 +87,18 @@ abbrev pub Commits : Catalog → Entry → Outcome → ShardValue → ShardValue
 Commits catalog e outcome old new =
     (db : Database) (executed : Executed) (ran : Ran catalog db e executed old) → executed.outcome ≡ outcome → HoldsDatabase catalog new (ran.applied).db
 
--- the procedure of a number came to this with these arguments and batches
+-- the procedure of a number, with the body that it has on the shard, came to this with these arguments and batches
 abbrev pub ProcedureRan : Catalog → ℕ → Row → List Rows → ShardValue → ShardValue → BodyResult → Type 0
 ProcedureRan catalog n args batches old new left =
     (p : Procedure) → slice_get catalog.procedures n ≡ Some p →
-    run_procedure catalog n p args batches (contents_of old) ≡ record { contents = contents_of new; outcome = left.outcome; emitted = left.emitted }
+    run_procedure catalog n (present_on catalog old n p) args batches (contents_of old) ≡ record { contents = contents_of new; outcome = left.outcome; emitted = left.emitted }
+
+-- a procedure's body with this text is to come on a shard
+pub record Installs (catalog : Catalog) (n : ℕ) (text : List ℕ) (old new : ShardValue) : Type 0 where
+  pub number : ℕ
+  pub text_is : text_numbered catalog n number ≡ text
+  pub steps_are : IsBodyNumber catalog n number
+  pub noted : new ≡ record old { coming = Some (n, number) }
 
 -- the number of a step's batch is far from the end of 64 bits, so that a count can go beyond it
 abbrev pub IsCountable : Entry → Type 0

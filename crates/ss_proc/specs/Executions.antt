@@ -11,6 +11,7 @@ use Rattle.ss_model.specs.declared.catalog.Step.TheVariants.{Sql, AbortIf, ForEa
 use Rattle.ss_model.specs.declared.entry.Reason.TheVariants.{ReplyFull}
 use Rattle.ss_model.specs.declared.catalog.Procedure.{Procedure}
 use Rattle.ss_model.specs.Accepted.{Accepted}
+use Rattle.ss_model.specs.Database.{Database, present}
 use Rattle.ss_model.specs.Results.{OrAbort, abort_when}
 use Rattle.ss_model.specs.Statements.{Context, Execution}
 use Rattle.ss_model.specs.Bodies.{exceeds_row_limit}
@@ -82,7 +83,12 @@ StepRuns catalog (Return q) = Unit {0}
 abbrev pub longer_reply : Rows → Rows → OrAbort Rows
 longer_reply reply rows = abort_when (exceeds_row_limit reply rows) ReplyFull (Ok (reply ++ rows))
 
+-- the steps of a procedure may run, with its own body and with the one that it has in any database
+pub record ProcedureRuns (catalog : Catalog) (q : ℕ) (p : Procedure) : Type 0 where
+  pub own : AllByRecursion (StepRuns catalog) p.body
+  pub installed : (db : Database) → AllByRecursion (StepRuns catalog) (present catalog db q p).body
+
 -- law: executions of an accepted catalogue may run
 abbrev pub BodiesRun : Type 0
 BodiesRun =
-    (catalog : Catalog) → Accepted catalog → MayRun catalog × ((q : ℕ) (p : Procedure) → slice_get catalog.procedures q ≡ Some p → AllByRecursion (StepRuns catalog) p.body)
+    (catalog : Catalog) → Accepted catalog → MayRun catalog × ((q : ℕ) (p : Procedure) → slice_get catalog.procedures q ≡ Some p → ProcedureRuns catalog q p)

@@ -1,6 +1,6 @@
 //! The whole body of a procedure.
 
-ghost use Rattle.std.specs.Prelude.{◌≡◌, ◌≤◌, length, IfOk, OnErr, IfErr};
+ghost use Rattle.std.specs.Prelude.{◌≡◌, ◌≤◌, None, length, IfOk, OnErr, IfErr};
 ghost use Rattle.std.specs.List.{AllByRecursion};
 ghost use Rattle.std.specs.Option.{option_map};
 ghost use Rattle.ss_value.specs.Rows.{Row, column_value};
@@ -86,6 +86,7 @@ pub fn run_body(
     ensures ok { IfOk result (BodyLeaves given.now body.now shard.old shard.new) }
     ensures of_catalog { IsOf given.now.catalog.now shard.new }
     ensures back { IfOk result (λ left. CanRollBack shard.old shard.new) }
+    ensures none { IfOk result (λ left. shard.new.coming ≡ None) }
     ensures err { OnErr result (Same shard.old shard.new) }
     ensures committed { OnErr result (IsCommitted given.now.catalog.now shard.new) }
 {

@@ -4,6 +4,7 @@ ghost use Rattle.std.specs.Prelude.{◌≡◌, map};
 ghost use Rattle.ss_model.specs.Database.{Database};
 ghost use Rattle.ss_model.specs.declared.catalog.Catalog.{Catalog};
 ghost use Rattle.ss_model.specs.Contents.{Contents};
+ghost use Rattle.ss_shard.specs.Bodies.{with_coming};
 ghost use Rattle.ss_shard.specs.ShardValue.{ShardValue};
 ghost use Rattle.ss_shard.specs.Shards.{IsOf, CanRollBack, Same, IsCommitted};
 ghost use Rattle.ss_shard.specs.Parts.{dealing_of};
@@ -14,7 +15,7 @@ use ss_model::{Entry, Outcome};
 use ss_shard::Shard;
 use ss_value::Name;
 
-/// Takes an execution back: tables, windows, counts and next numbers are as they were when it began. Linear in its changes,
+/// Takes an execution back: tables, windows, counts, next numbers and bodies are as they were when it began. Linear in its changes,
 /// each of which costs a call of its table or window; takes no memory.
 pub fn rollback(shard: &mut Shard)
     requires { (before : ShardValue) × CanRollBack before shard.old }
@@ -35,7 +36,7 @@ fn raise_count(shard: &mut Shard, entry: &Entry)
         Entry::Step { procedure, batch } => {
             shard.set_cursor(*procedure, *batch + 1);
         }
-        Entry::Call { .. } | Entry::Push { .. } => {}
+        Entry::Call { .. } | Entry::Push { .. } | Entry::Install { .. } => {}
     }
 }
 
@@ -62,12 +63,12 @@ fn raise_number_of_entry(shard: &mut Shard, entry: &Entry, outcome: &Outcome)
             seq,
             ..
         } => raise_number(shard, *stream, source, *seq, outcome),
-        Entry::Call { .. } | Entry::Step { .. } => {}
+        Entry::Call { .. } | Entry::Step { .. } | Entry::Install { .. } => {}
     }
 }
 
 /// Makes an execution final: it can't be taken back any more, and the next one may begin. A step, done or aborted, has then
-/// taken its batch, and the source of an accepted push has its number raised.
+/// taken its batch, the source of an accepted push has its number raised, and a procedure has the body that was installed.
 ///
 /// Linear in the changes, each of which costs at most a call of its table or window; for a push logarithmic in its stream's
 /// sources. Takes no memory.
@@ -82,6 +83,7 @@ pub fn commit(shard: &mut Shard, entry: &Entry, outcome: &Outcome)
     ensures holds { (catalog : Catalog) (s : Contents) → IsOf catalog shard.old → Holds catalog shard.old s → Holds catalog shard.new s }
     ensures counts { shard.new.cursors ≡ counts_after entry.now shard.old.cursors }
     ensures numbers { shard.new.sources ≡ numbers_after entry.now outcome.now shard.old.sources }
+    ensures bodies { shard.new.bodies ≡ with_coming shard.old.coming shard.old.bodies }
     ensures unchanged { shard.new.number ≡ shard.old.number }
     ensures dealt { map dealing_of shard.new.tables ≡ map dealing_of shard.old.tables }
     ensures committed { (catalog : Catalog) → IsOf catalog shard.old → IsCommitted catalog shard.new }

@@ -1,6 +1,6 @@
 //! What executes an entry.
 
-ghost use Rattle.std.specs.Prelude.{◌≡◌, ◌≤◌, ◌<◌, true, length, slice_get, IfOk, OnErr};
+ghost use Rattle.std.specs.Prelude.{◌≡◌, ◌≤◌, ◌<◌, None, true, length, slice_get, IfOk, OnErr};
 ghost use Rattle.ss_model.specs.Accepted.{Accepted};
 ghost use Rattle.ss_model.specs.Database.{fits_entry};
 ghost use Rattle.ss_shard.specs.ShardValue.{ShardValue};
@@ -11,6 +11,7 @@ ghost use Rattle.ss_shard.specs.Windows.{HoldsDatabase};
 ghost use Rattle.ss_proc.specs.Entries.{IsNext, EntryHasSource, ProcedureRan, RanOnEach};
 
 use crate::bodies::{BodyResult, run_body, touched_argument};
+use crate::installs::run_install;
 use crate::outputs::emitted_batches;
 use crate::pushes::run_push;
 use crate::work::Given;
@@ -26,7 +27,7 @@ pub struct Executed {
     /// Its outcome.
     pub outcome: Outcome,
     /// Its batches: of a step one for each stream that its procedure emits to, in rising order of streams, and of an accepted
-    /// push its own. A call has none.
+    /// push its own. A call and an install have none.
     pub emitted: Seq<Emitted>,
 }
 
@@ -39,9 +40,9 @@ pub trait Runner {
     /// `rollback`: it alone knows whether the entry has its place in the list.
     ///
     /// Answers exactly the outcome and the batches that the entry has on whatever database the shard stands for, and leaves
-    /// the tables and windows that the entry leaves: after an abort those from before, with empty batches. Counts and next
-    /// numbers stay until the commit. After out of memory the shard stands for what it stood for, and nothing is left to roll
-    /// back.
+    /// the tables and windows that the entry leaves: after an abort those from before, with empty batches. Counts, next
+    /// numbers and bodies stay until the commit. After out of memory the shard stands for what it stood for, and nothing is
+    /// left to roll back.
     ///
     /// That the batches are those of the database is a premise of what is promised (`RanOnEach`), instead of one of the
     /// call: whoever executes a step got its batches from the list that it knows, and the clause serves each database of
@@ -67,11 +68,11 @@ pub trait Runner {
         ensures committed { OnErr result (IsCommitted catalog.now shard.new) };
 }
 
-/// The runner that reads bodies as they stand in the catalogue.
+/// The runner that reads bodies as they stand in the catalogue: of each procedure the one that it has on the shard.
 #[derive(Clone, Copy, Debug, PartialEq, Eq, Drop)]
 pub struct PlainRunner;
 
-/// Runs the body of a procedure with these arguments and batches, all of it or nothing.
+/// Runs the body that a procedure has on a shard with these arguments and batches, all of it or nothing.
 fn run_procedure(
     alloc: Global,
     catalog: &Catalog,
@@ -86,6 +87,7 @@ fn run_procedure(
     ensures ok { IfOk result (ProcedureRan catalog.now number args.now batches.now shard.old shard.new) }
     ensures of_catalog { IsOf catalog.now shard.new }
     ensures back { IfOk result (λ left. CanRollBack shard.old shard.new) }
+    ensures none { IfOk result (λ left. shard.new.coming ≡ None) }
     ensures err { OnErr result (Same shard.old shard.new) }
     ensures committed { OnErr result (IsCommitted catalog.now shard.new) }
 {
@@ -97,7 +99,8 @@ fn run_procedure(
         arg: touched_argument(&procedure.touch),
         batches,
     };
-    run_body(alloc, &given, procedure.body.as_slice(), shard)
+    let body = shard.body(catalog, number);
+    run_body(alloc, &given, body, shard)
 }
 
 /// What an execution came to, with the batches of the streams that its procedure emits to. Out of memory rolls the execution
@@ -132,7 +135,8 @@ fn with_outputs(
 impl Runner for PlainRunner {
     /// Costs what the steps of the body and their triggers cost, and for an abort at most as much again. Its own memory is that
     /// of its open units, batches and reply; the changes are noted in the shard. A push is logarithmic in its stream's sources,
-    /// and takes a copy of its rows.
+    /// and takes a copy of its rows. An install is linear in the texts of the bodies that its procedure may have, and takes no
+    /// memory.
     fn execute(
         &self,
         alloc: Global,
@@ -172,6 +176,11 @@ impl Runner for PlainRunner {
                 rows,
                 ..
             } => run_push(alloc, shard, *stream, source, *seq, rows),
+            Entry::Install {
+                procedure,
+                text,
+                ..
+            } => Ok(run_install(alloc, catalog, shard, *procedure, text.as_slice())),
         }
     }
 }

@@ -15,8 +15,8 @@ sstore runs transactions and stream workflows on one database, and prints replie
 With --checkpoint 1..1000000 a run or a voter puts an image of the database in place of the log, each time so many entries
 behind the last one, so that recovery has less to replay.
 With --restarts 0..16 one whose disk failed opens it again and goes on, so often at most; 0 where nothing is said.
-With --recovery weak a store logs calls and pushes alone, and a recovery runs them again with their workflows; it has no
-restarts. A store keeps its mode: strong, where nothing is said, logs all executions.
+With --recovery weak a store logs calls, pushes and installs alone, and a recovery runs them again with their workflows;
+it has no restarts. A store keeps its mode: strong, where nothing is said, logs all executions.
 
 The first word is where the store is: a folder, which has to be there and is held by one process at a time, or - for
 memory, which ends with the program.
@@ -29,7 +29,8 @@ docs/TUTORIAL.md goes from an idea to a catalogue; docs/FORMATS.md says what may
 ";
 
 /// What `sstore --version` prints: the program's version, and the magic with which its stores begin.
-const VERSION: &str = "sstore 0.12, stores of formats SSTORE1 and SSTOREW\n";
+const VERSION: &str =
+    "sstore 0.12, stores of format SSTORE2, and of the older SSTORE1 and SSTOREW\n";
 
 /// What is printed for a word that stands alone and asks for it. No such word is a command, so none is lost.
 pub fn asked_text(words: &[String]) -> Option<&'static str> {

@@ -139,6 +139,7 @@ module _ {D : Type 0} (recovery : Recovery) (every : Option ℕ) (catalog : Cata
           halt = inl (going, refl, still ∙ calm_since before (kind.faults old.disk) old.halted fault h.halt none);
           going = λ _. record {
             generation = with_groups s groups;
+            formed = (h.going none).formed;
             opened_at = open';
             held = λ told. subst (λ (n : ℕ). HoldsFront recovery catalog db first list n (with_groups s groups)) place (holds_more told);
             ends = ends;

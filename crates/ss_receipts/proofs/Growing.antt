@@ -33,6 +33,7 @@ module _ {D : Type 0} (recovery : Recovery) (every : Option ℕ) (catalog : Cata
         going = λ none.
             let goes = h.going none in record {
               generation = goes.generation;
+              formed = goes.formed;
               opened_at = goes.opened_at;
               held = λ told. grows.generations (count - first) goes.generation (goes.held told);
               ends = λ told. subst (λ (l : List Listed). EndAs every (entries_of goes.generation) (logged (mode_of recovery) (listed_entries l))) (sym (front_same list more count h.within)) (goes.ends told);

@@ -1,5 +1,5 @@
 -- What a log holds of the empty list, where it was just opened.
-use Rattle.std.proofs.Common.{◌≡◌, ◌∙◌, inl, ℕ, zero, suc, ◌-◌, List, [], ◌++◌, take, Option, append-nil, refl, sym, ap, subst, arith}
+use Rattle.std.proofs.Common.{◌≡◌, true, ◌∙◌, inl, ℕ, zero, suc, ◌-◌, List, [], ◌++◌, take, Option, append-nil, refl, sym, ap, subst, arith}
 use Rattle.ss_disk.specs.Kinds.{DiskKind}
 use Rattle.ss_model.specs.declared.catalog.Catalog.{Catalog}
 use Rattle.ss_model.specs.declared.entry.Listed.{Listed}
@@ -29,9 +29,9 @@ no_front (suc n) = refl
 module _ {D : Type 0} (recovery : Recovery) (every : Option ℕ) (catalog : Catalog) (db : Database) (first : ℕ) (kind : DiskKind D)
     (honest_tells : kind.honest → kind.tells) (fronts : HeldFrontsStand) where
   -- where the past is that of its own disk
-  pub holds_at_opening : (log : CmdLog D) (s : Stood) → IsOpen kind log s → log.count ≡ first → (kind.tells → BeganAt recovery catalog db first) → (kind.tells → HoldsFront recovery catalog db first [] 0 s)
+  pub holds_at_opening : (log : CmdLog D) (s : Stood) → IsOpen kind log s → s.bodies ≡ true → log.count ≡ first → (kind.tells → BeganAt recovery catalog db first) → (kind.tells → HoldsFront recovery catalog db first [] 0 s)
       → Holds recovery every catalog db first (kind.moment log.disk) (kind.faults log.disk) (past_of kind.images log.disk) kind [] log first 0
-  holds_at_opening log s open' counted began held = record {
+  holds_at_opening log s open' formed counted began held = record {
     began = began;
     begun = omega arith;
     within = omega arith;
@@ -40,6 +40,7 @@ module _ {D : Type 0} (recovery : Recovery) (every : Option ℕ) (catalog : Cata
     halt = inl (open'.going, refl, refl);
     going = λ none. record {
       generation = s;
+      formed = formed;
       opened_at = open';
       held = λ told. subst (λ (n : ℕ). HoldsFront recovery catalog db first [] n s) (omega arith) (held told);
       ends = λ told. end_behind every (entries_of s) (entries_of s) (logged (mode_of recovery) (listed_entries (take (first - first) [])))

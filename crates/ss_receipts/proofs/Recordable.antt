@@ -12,7 +12,7 @@ use Rattle.ss_model.specs.declared.catalog.Catalog.{Catalog}
 use Rattle.ss_model.specs.declared.catalog.Procedure.{Procedure}
 use Rattle.ss_model.specs.declared.catalog.StreamDef.{StreamDef}
 use Rattle.ss_model.specs.declared.entry.Entry.{Entry}
-use Rattle.ss_model.specs.declared.entry.Entry.TheVariants.{Call, Push, Step}
+use Rattle.ss_model.specs.declared.entry.Entry.TheVariants.{Call, Push, Step, Install}
 use Rattle.ss_model.specs.declared.entry.Listed.{Listed}
 use Rattle.ss_model.specs.declared.entry.Outcome.{Outcome}
 use Rattle.ss_model.specs.Accepted.{Accepted}
@@ -62,6 +62,7 @@ module _ (catalog : Catalog) (accepted : Accepted catalog) where
   fitting_recordable : (e : Entry) → fits_entry catalog e ≡ true → IsRecordable e
   fitting_recordable (Call client index n args) fits = call_recordable client index n args (slice_get catalog.procedures n) refl fits
   fitting_recordable (Push client index s source seq rows) fits = push_recordable client index s source seq rows fits
+  fitting_recordable (Install client index n text) fits = (ltb-true client 8 (first_of_two _ _ (first_of_two _ _ (first_of_two _ _ fits))), leb-true (length text) 1048576 (second_of_two _ _ (first_of_two _ _ fits)))
   fitting_recordable (Step n r) fits = tt
 
   -- an entry that has an outcome has a value

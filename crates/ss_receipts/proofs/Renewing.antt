@@ -1,5 +1,5 @@
 -- What a log holds of a list, over a checkpoint behind all of it.
-use Rattle.std.proofs.Common.{◌≡◌, ◌∙◌, ◌⊎◌, inl, inr, ⊎_elim, ℕ, ◌+◌, ◌-◌, ◌≤◌, List, length, take, Option, Some, None, IsSome, refl, sym, subst, arith}
+use Rattle.std.proofs.Common.{◌≡◌, true, ◌∙◌, ◌⊎◌, inl, inr, ⊎_elim, ℕ, ◌+◌, ◌-◌, ◌≤◌, List, length, take, Option, Some, None, IsSome, refl, sym, subst, arith}
 use Rattle.ss_value.specs.FaultCounts.{Rose}
 use Rattle.ss_model.specs.declared.catalog.Catalog.{Catalog}
 use Rattle.ss_model.specs.declared.entry.Listed.{Listed}
@@ -58,7 +58,7 @@ module _ {D : Type 0} (recovery : Recovery) (every : Option ℕ) (catalog : Cata
 
   -- the image of all of it
   abbrev image_of_all : List ℕ
-  image_of_all = image_bytes catalog (kept catalog (after catalog db list))
+  image_of_all = image_bytes true catalog (kept catalog (after catalog db list))
 
   next_held : kind.tells → HoldsFront recovery catalog db first list (length list) next
   next_held told =
@@ -95,16 +95,16 @@ module _ {D : Type 0} (recovery : Recovery) (every : Option ℕ) (catalog : Cata
 
     module _ (later : kind.faults old.disk ≤ kind.faults new.disk) where
       -- the log goes on, on a generation that has the same
-      holds_on_one : (g : Stood) → new.halted ≡ None → kind.faults new.disk ≡ kind.faults old.disk → new.count ≡ old.count → IsOpen kind new g → (kind.tells → HoldsFront recovery catalog db first list (count - first) g)
+      holds_on_one : (g : Stood) → new.halted ≡ None → kind.faults new.disk ≡ kind.faults old.disk → new.count ≡ old.count → IsOpen kind new g → g.bodies ≡ true → (kind.tells → HoldsFront recovery catalog db first list (count - first) g)
           → (kind.tells → EndAs every (entries_of g) (logged (mode_of recovery) (listed_entries (take (count - first) list)))) → Holds recovery every catalog db first opened before past kind list new count 0
-      holds_on_one g going still same open' held ends = record {
+      holds_on_one g going still same open' formed held ends = record {
         began = h.began;
         begun = h.begun;
         within = h.within;
         counted = λ _. same ∙ h.counted none;
         later = omega (arith, h.later, later);
         halt = inl (going, refl, still ∙ calm_since before (kind.faults old.disk) old.halted fault h.halt none);
-        going = λ _. record { generation = g; opened_at = open'; held = held; ends = ends };
+        going = λ _. record { generation = g; formed = formed; opened_at = open'; held = held; ends = ends };
         crashes = crashes;
         receipt = receipt;
         stands_on = stands_on;
@@ -113,12 +113,12 @@ module _ {D : Type 0} (recovery : Recovery) (every : Option ℕ) (catalog : Cata
       -- on the new one
       pub holds_renewed : new.halted ≡ None → kind.faults new.disk ≡ kind.faults old.disk → new.count ≡ old.count → IsOpen kind new next → Holds recovery every catalog db first opened before past kind list new count 0
       holds_renewed going still same open' =
-          holds_on_one next going still same open' (λ told. subst (λ (n : ℕ). HoldsFront recovery catalog db first list n next) (sym end) (next_held told))
+          holds_on_one next going still same open' refl (λ told. subst (λ (n : ℕ). HoldsFront recovery catalog db first list n next) (sym end) (next_held told))
           (λ told. end_anew every (logged (mode_of recovery) (listed_entries (take (count - first) list))) asked)
 
       -- on the one that there was
       pub holds_kept : new.halted ≡ None → kind.faults new.disk ≡ kind.faults old.disk → new.count ≡ old.count → IsOpen kind new s → Holds recovery every catalog db first opened before past kind list new count 0
-      holds_kept going still same open' = holds_on_one s going still same open' (h.going none).held (h.going none).ends
+      holds_kept going still same open' = holds_on_one s going still same open' (h.going none).formed (h.going none).held (h.going none).ends
 
       -- the disk failed
       pub holds_failed : (n : ℕ) → new.halted ≡ Some n → n ≡ kind.faults new.disk → Rose (kind.faults old.disk) (kind.faults new.disk)

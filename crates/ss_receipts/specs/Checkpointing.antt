@@ -58,8 +58,8 @@ pub record IsImageBehind (catalog : Catalog) (db : Database) (first : ℕ) (list
   pub replays : Replays catalog db list
   pub end : place ≡ first + length list
   pub small : place ≤ 2 ^ 60
-  pub fits : FitsImage (kept catalog (after catalog db list))
-  pub spelled : bytes ≡ image_bytes catalog (kept catalog (after catalog db list))
+  pub fits : FitsImage true catalog (kept catalog (after catalog db list))
+  pub spelled : bytes ≡ image_bytes true catalog (kept catalog (after catalog db list))
 
 -- by the end of the list and the faults that are told: the current generation begins at this end, or the disk has failed
 abbrev pub IsCheckpointed : ℕ → ℕ → Result ℕ DurableError → Type 0

@@ -1,5 +1,5 @@
 -- What a command log and its disk hold of a list that began at the opening.
-use Rattle.std.specs.Prelude.{◌≡◌, ◌⊎◌, ℕ, ◌+◌, ◌-◌, ◌≤◌, ◌^◌, List, length, take, drop, Option, Some, None}
+use Rattle.std.specs.Prelude.{◌≡◌, ◌⊎◌, true, ℕ, ◌+◌, ◌-◌, ◌≤◌, ◌^◌, List, length, take, drop, Option, Some, None}
 use Rattle.ss_disk.specs.Files.{Files}
 use Rattle.ss_disk.specs.Kinds.{DiskKind, present}
 use Rattle.ss_model.specs.declared.catalog.Catalog.{Catalog}
@@ -30,6 +30,8 @@ HaltedAt before now halted fault = ((halted ≡ None) × (fault ≡ 0) × (now �
 pub record GoesOnAt {D : Type 0} (recovery : Recovery) (every : Option ℕ) (kind : DiskKind D) (catalog : Catalog) (db : Database) (first : ℕ) (list : List Listed) (log : CmdLog D) (count : ℕ) : Type 0 where
   pub generation : Stood
   pub opened_at : IsOpen kind log generation
+  -- bodies may be in it
+  pub formed : generation.bodies ≡ true
   pub held : kind.tells → HoldsFront recovery catalog db first list (count - first) generation
   pub ends : kind.tells → EndAs every (entries_of generation) (logged (mode_of recovery) (listed_entries (take (count - first) list)))
 

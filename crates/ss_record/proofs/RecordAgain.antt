@@ -7,12 +7,12 @@ use Rattle.ss_lemmas.proofs.Bools.{first_of_two, second_of_two}
 use Rattle.ss_value.specs.Rows.{Row, Rows}
 use Rattle.ss_value.specs.Words.{is_name, is_letter, is_word_byte}
 use Rattle.ss_model.specs.declared.entry.Entry.{Entry}
-use Rattle.ss_model.specs.declared.entry.Entry.TheVariants.{Call, Push, Step}
+use Rattle.ss_model.specs.declared.entry.Entry.TheVariants.{Call, Push, Step, Install}
 use Rattle.ss_record.specs.declared.record.RecordError.TheVariants.{Truncated, BadField}
 use Rattle.ss_record.specs.Numbers.{number_bytes}
 use Rattle.ss_record.specs.Spelling.{row_bytes, name_bytes, record_bytes}
 use Rattle.ss_record.specs.Bounds.{IsShort, IsTypedRow, IsRecordable, IsTyped}
-use Rattle.ss_record.specs.Records.{◌>>>◌, in_record, client_at, index_at, order_at, seq_at, count_at, fields_at, name_bytes_at, name_at, rows_at, batch_at, step_at, call_at, push_at, record_at}
+use Rattle.ss_record.specs.Records.{◌>>>◌, in_record, client_at, index_at, order_at, seq_at, count_at, fields_at, name_bytes_at, name_at, rows_at, batch_at, body_bytes_at, body_at, step_at, call_at, push_at, install_at, record_at}
 use Rattle.ss_record.proofs.Again.{number_again, row_again}
 
 client_again : (c : ℕ) (rest : List ℕ) → c < 8 → client_at (c ∷ rest) ≡ Ok (c, rest)
@@ -75,8 +75,18 @@ batch_again : (rs : Rows) (rest : List ℕ) → length rs ≤ 1024 → All IsSho
 unfolding batch_at
 batch_again rs rest few short typed = ap (λ q. q >>> λ n. rows_at n.0 n.1) (count_again (length rs) (flat_map row_bytes rs ++ rest) few) ∙ rows_again rs rest short typed
 
+body_again : (t rest : List ℕ) → length t ≤ 1048576 → body_at (number_bytes 4 (length t) ++ (t ++ rest)) ≡ Ok (t, rest)
+unfolding body_at body_bytes_at
+body_again t rest few =
+    let fits : nat_le (length t) 1048576 ≡ true = grind (arith, nat_tests) in
+    let enough : nat_lt (length (t ++ rest)) (length t) ≡ false = (let le : length t ≤ length (t ++ rest) = omega (arith, length-append t rest) in grind (arith, nat_tests)) in
+    ap (λ r. in_record r >>> λ n. cond (nat_le n.0 1048576) (cond (nat_lt (length n.1) n.0) (Err Truncated) (Ok (take n.0 n.1, drop n.0 n.1))) (Err BadField)) (number_again 4 (length t) (t ++ rest) (omega arith))
+    ∙ ap (λ b. cond b (cond (nat_lt (length (t ++ rest)) (length t)) (Err Truncated) (Ok (take (length t) (t ++ rest), drop (length t) (t ++ rest)))) (Err BadField)) fits
+    ∙ ap (λ b. cond b (Err Truncated) (Ok (take (length t) (t ++ rest), drop (length t) (t ++ rest)))) enough
+    ∙ (λ k. Ok (take_at t rest (length t) refl k, drop_at t rest (length t) refl k))
+
 pub record_again : (e : Entry) (rest : List ℕ) → IsRecordable e → IsTyped e → record_at (record_bytes e ++ rest) ≡ Ok (e, rest)
-unfolding record_at call_at push_at step_at
+unfolding record_at call_at push_at step_at install_at
 record_again (Call c i p args) rest ok typed =
     let regroup : record_bytes (Call c i p args) ++ rest ≡ 1 ∷ c ∷ (number_bytes 8 i ++ (number_bytes 2 p ++ (row_bytes args ++ rest))) = simp append_assoc in
     ap record_at regroup
@@ -100,3 +110,10 @@ record_again (Step p b) rest ok typed =
     ap record_at regroup
     ∙ ap (λ r. r >>> λ q. index_at q.1 >>> λ j. Ok (Step q.0 j.0, j.1)) (order_again p (number_bytes 8 b ++ rest) typed.0)
     ∙ ap (λ r. r >>> λ j. Ok (Step p j.0, j.1)) (index_again b rest typed.1)
+record_again (Install c i p t) rest ok typed =
+    let regroup : record_bytes (Install c i p t) ++ rest ≡ 4 ∷ c ∷ (number_bytes 8 i ++ (number_bytes 2 p ++ (number_bytes 4 (length t) ++ (t ++ rest)))) = simp append_assoc in
+    ap record_at regroup
+    ∙ ap (λ r. r >>> λ x. index_at x.1 >>> λ j. order_at j.1 >>> λ q. body_at q.1 >>> λ a. Ok (Install x.0 j.0 q.0 a.0, a.1)) (client_again c (number_bytes 8 i ++ (number_bytes 2 p ++ (number_bytes 4 (length t) ++ (t ++ rest)))) ok.0)
+    ∙ ap (λ r. r >>> λ j. order_at j.1 >>> λ q. body_at q.1 >>> λ a. Ok (Install c j.0 q.0 a.0, a.1)) (index_again i (number_bytes 2 p ++ (number_bytes 4 (length t) ++ (t ++ rest))) typed.0)
+    ∙ ap (λ r. r >>> λ q. body_at q.1 >>> λ a. Ok (Install c i q.0 a.0, a.1)) (order_again p (number_bytes 4 (length t) ++ (t ++ rest)) typed.1)
+    ∙ ap (λ r. r >>> λ a. Ok (Install c i p a.0, a.1)) (body_again t rest ok.1)

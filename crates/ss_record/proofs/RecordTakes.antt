@@ -9,15 +9,15 @@ use Rattle.ss_value.specs.declared.text.ValueError.{ValueError}
 use Rattle.ss_value.specs.Rows.{Row, Rows}
 use Rattle.ss_value.specs.Words.{is_name}
 use Rattle.ss_model.specs.declared.entry.Entry.{Entry}
-use Rattle.ss_model.specs.declared.entry.Entry.TheVariants.{Call, Push, Step}
+use Rattle.ss_model.specs.declared.entry.Entry.TheVariants.{Call, Push, Step, Install}
 use Rattle.ss_record.specs.declared.record.RecordError.{RecordError}
 use Rattle.ss_record.specs.declared.record.RecordError.TheVariants.{Truncated, BadKind, BadField}
 use Rattle.ss_record.specs.Numbers.{IsBytes, number_bytes}
 use Rattle.ss_record.specs.Spelling.{row_bytes, name_bytes, record_bytes}
 use Rattle.ss_record.specs.Bounds.{IsShort, IsRecordable, IsTypedRow, IsTyped}
 use Rattle.ss_record.specs.Reading.{number_at, byte_at, row_at}
-use Rattle.ss_record.specs.Records.{◌>>>◌, in_record, client_at, index_at, order_at, seq_at, count_at, fields_at, name_bytes_at, name_at, rows_at, batch_at, step_at, call_at, push_at, record_at}
-use Rattle.ss_record.proofs.Takes.{takes_number, number_takes, respelled_2, row_takes, rest_bytes_of}
+use Rattle.ss_record.specs.Records.{◌>>>◌, in_record, client_at, index_at, order_at, seq_at, count_at, fields_at, name_bytes_at, name_at, rows_at, batch_at, body_bytes_at, body_at, step_at, call_at, push_at, install_at, record_at}
+use Rattle.ss_record.proofs.Takes.{takes_number, number_takes, respelled_2, respelled_4, row_takes, rest_bytes_of}
 
 bind_ok : {A B : Type 0} (r : Result A RecordError) (f : A → Result B RecordError) (y : B) → (r >>> f) ≡ Ok y → (x : A) × (r ≡ Ok x) × (f x ≡ Ok y)
 bind_ok (Ok x) f y h = (x, refl, h)
@@ -140,6 +140,26 @@ batch_takes bytes rs rest are read =
     let rows = rows_takes count.0.0 count.0.1 rs rest number.1 count.2 in
     (number.0 ∙ (λ k. number_bytes 2 ((sym rows.2) k) ++ rows.0 k), rows.1, subst (λ (n : ℕ). n ≤ 1024) (sym rows.2) number.2, rows.3, rows.4)
 
+body_bytes_takes : (n : ℕ) (bytes t rest : List ℕ) → IsBytes bytes → body_bytes_at n bytes ≡ told t rest → (bytes ≡ t ++ rest) × IsBytes rest × (length t ≡ n)
+unfolding body_bytes_at
+body_bytes_takes n bytes t rest are read =
+    let long = barred_ok (nat_lt (length bytes) n) (told (take n bytes) (drop n bytes)) Truncated (t, rest) read in
+    let short = long.0 in
+    let enough : n ≤ length bytes = grind (arith, nat_tests) in
+    let both = ok_pair (take n bytes) t (drop n bytes) rest long.1 in
+    (sym (take-append-drop n bytes) ∙ (λ k. both.0 k ++ both.1 k), subst IsBytes both.1 (rest_bytes_of n bytes are), ap length (sym both.0) ∙ length-take-le n bytes enough)
+
+body_takes : (bytes t rest : List ℕ) → IsBytes bytes → body_at bytes ≡ told t rest → (bytes ≡ number_bytes 4 (length t) ++ (t ++ rest)) × IsBytes rest × (length t ≤ 1048576)
+unfolding body_at
+body_takes bytes t rest are read =
+    let number = bind_ok (in_record (number_at 4 bytes)) (λ n. if nat_le n.0 1048576 then body_bytes_at n.0 n.1 else Err BadField) (t, rest) read in
+    let parts = kept_ok (nat_le number.0.0 1048576) (body_bytes_at number.0.0 number.0.1) BadField (t, rest) number.2 in
+    let takes = takes_number 4 respelled_4 bytes number.0.0 number.0.1 are (in_record_ok (number_at 4 bytes) number.0.0 number.0.1 number.1) in
+    let text = body_bytes_takes number.0.0 number.0.1 t rest takes.1 parts.1 in
+    let small = parts.0 in
+    let below : number.0.0 ≤ 1048576 = grind (arith, nat_tests) in
+    (takes.0 ∙ (λ k. number_bytes 4 ((sym text.2) k) ++ text.0 k), text.1, subst (λ (n : ℕ). n ≤ 1048576) (sym text.2) below)
+
 abbrev pub IsTaken : List ℕ → Entry → List ℕ → Type 0
 IsTaken bytes e rest = (bytes ≡ record_bytes e ++ rest) × IsBytes rest × IsRecordable e × IsTyped e
 
@@ -215,18 +235,44 @@ push_takes kind bytes e rest are is read =
       subst IsTyped both.0 (index.2, order.2, name.2, batch.4),
     )
 
+install_spelled : (c i p : ℕ) (t rest : List ℕ) → record_bytes (Install c i p t) ++ rest ≡ 4 ∷ c ∷ (number_bytes 8 i ++ (number_bytes 2 p ++ (number_bytes 4 (length t) ++ (t ++ rest))))
+install_spelled c i p t rest = simp append_assoc
+
+install_takes : (kind : ℕ) (bytes : List ℕ) (e : Entry) (rest : List ℕ) → IsBytes bytes → kind ≡ 4 → install_at bytes ≡ told e rest → IsTaken (kind ∷ bytes) e rest
+unfolding install_at
+install_takes kind bytes e rest are is read =
+    let c = bind_ok (client_at bytes) (λ c. index_at c.1 >>> λ i. order_at i.1 >>> λ p. body_at p.1 >>> λ t. Ok (Install c.0 i.0 p.0 t.0, t.1)) (e, rest) read in
+    let i = bind_ok (index_at c.0.1) (λ i. order_at i.1 >>> λ p. body_at p.1 >>> λ t. Ok (Install c.0.0 i.0 p.0 t.0, t.1)) (e, rest) c.2 in
+    let p = bind_ok (order_at i.0.1) (λ p. body_at p.1 >>> λ t. Ok (Install c.0.0 i.0.0 p.0 t.0, t.1)) (e, rest) i.2 in
+    let t = bind_ok (body_at p.0.1) (λ t. Ok (Install c.0.0 i.0.0 p.0.0 t.0, t.1)) (e, rest) p.2 in
+    let both = ok_pair (Install c.0.0 i.0.0 p.0.0 t.0.0) e t.0.1 rest t.2 in
+    let client = client_takes bytes c.0.0 c.0.1 are c.1 in
+    let index = index_takes c.0.1 i.0.0 i.0.1 client.1 i.1 in
+    let order = order_takes i.0.1 p.0.0 p.0.1 index.1 p.1 in
+    let text = body_takes p.0.1 t.0.0 t.0.1 order.1 t.1 in
+    let regroup = install_spelled c.0.0 i.0.0 p.0.0 t.0.0 t.0.1 in (
+      (λ k. is k ∷ client.0 k) ∙ ap (λ (l : List ℕ). 4 ∷ c.0.0 ∷ l) (index.0 ∙ ap (λ (l : List ℕ). number_bytes 8 i.0.0 ++ l) (order.0 ∙ ap (λ (l : List ℕ). number_bytes 2 p.0.0 ++ l) text.0)) ∙ sym regroup
+          ∙ (λ k. record_bytes (both.0 k) ++ both.1 k),
+      subst IsBytes both.1 text.1,
+      subst IsRecordable both.0 (client.2, text.2),
+      subst IsTyped both.0 (index.2, order.2),
+    )
+
 -- a record and what is behind it
 pub record_takes : (bytes : List ℕ) (e : Entry) (rest : List ℕ) → IsBytes bytes → record_at bytes ≡ Ok (e, rest) → IsTaken bytes e rest
 unfolding record_at
 record_takes [] e rest are read = cc
 record_takes (kind ∷ bytes) e rest are read =
-    elim (chosen (kind == 1) (call_at bytes) (if kind == 2 then push_at bytes else if kind == 3 then step_at bytes else Err BadKind) (Ok (e, rest)) read) [
+    elim (chosen (kind == 1) (call_at bytes) (if kind == 2 then push_at bytes else if kind == 3 then step_at bytes else if kind == 4 then install_at bytes else Err BadKind) (Ok (e, rest)) read) [
       | inl call ↦ let one = call.0 in call_takes kind bytes e rest (λ i. are (suc i)) (grind (arith, nat_tests)) call.1
-      | inr other ↦ elim (chosen (kind == 2) (push_at bytes) (if kind == 3 then step_at bytes else Err BadKind) (Ok (e, rest)) other.1) [
+      | inr other ↦ elim (chosen (kind == 2) (push_at bytes) (if kind == 3 then step_at bytes else if kind == 4 then install_at bytes else Err BadKind) (Ok (e, rest)) other.1) [
         | inl push ↦ let two = push.0 in push_takes kind bytes e rest (λ i. are (suc i)) (grind (arith, nat_tests)) push.1
-        | inr more ↦ elim (chosen (kind == 3) (step_at bytes) (Err BadKind) (Ok (e, rest)) more.1) [
+        | inr more ↦ elim (chosen (kind == 3) (step_at bytes) (if kind == 4 then install_at bytes else Err BadKind) (Ok (e, rest)) more.1) [
           | inl step ↦ let three = step.0 in step_takes kind bytes e rest (λ i. are (suc i)) (grind (arith, nat_tests)) step.1
-          | inr none ↦ let h = none.1 in cc
+          | inr last ↦ elim (chosen (kind == 4) (install_at bytes) (Err BadKind) (Ok (e, rest)) last.1) [
+            | inl install ↦ let four = install.0 in install_takes kind bytes e rest (λ i. are (suc i)) (grind (arith, nat_tests)) install.1
+            | inr none ↦ let h = none.1 in cc
+          ]
         ]
       ]
     ]

@@ -1,12 +1,12 @@
 //! Entries from bytes.
 
-ghost use Rattle.std.specs.Prelude.{drop, IfOk};
+ghost use Rattle.std.specs.Prelude.{◌≡◌, drop, IfOk};
 ghost use Rattle.ss_record.specs.Found.{IsRecordInFront, FindsRecord};
-ghost use Rattle.ss_record.specs.Records.{client_at, index_at, order_at, seq_at, count_at, fields_at, step_at, call_at, name_bytes_at, name_at, rows_at, batch_at, push_at, record_at, Reads};
+ghost use Rattle.ss_record.specs.Records.{client_at, index_at, order_at, seq_at, count_at, fields_at, step_at, call_at, name_bytes_at, name_at, rows_at, batch_at, push_at, body_bytes_at, body_at, install_at, record_at, Reads};
 
-use crate::read::{byte_of, row_in, u16_of, u64_of};
+use crate::read::{byte_of, row_in, u16_of, u32_of, u64_of};
 use ss_model::Entry;
-use ss_value::{Name, Row, Rows, Seq, ValueError, name_of};
+use ss_value::{Name, NoMemory, Row, Rows, Seq, ValueError, name_of};
 use std::alloc::Global;
 
 /// Why a record is refused.
@@ -218,10 +218,72 @@ fn push_of(alloc: Global, bytes: &[u8]) -> Result<(Entry, &[u8]), RecordError>
     ))
 }
 
+/// A copy of some bytes.
+fn copy_of(alloc: Global, bytes: &[u8]) -> Result<Seq<u8>, NoMemory>
+    ensures { IfOk result (λ copy. copy ≡ bytes.now) }
+{
+    let mut copy = Vec::new(alloc);
+    copy.extend_from_slice(bytes)?;
+    Ok(Seq::from_vec(copy))
+}
+
+#[tactic(auto, unfolding(crate::specs::Records::body_bytes_at))]
+fn body_of_length(
+    alloc: Global,
+    bytes: &[u8],
+    count: usize,
+) -> Result<(Seq<u8>, &[u8]), RecordError>
+    ensures { Reads (λ x. (x.0, x.1.now)) result (body_bytes_at count bytes.now) }
+{
+    if bytes.len() < count {
+        return Err(RecordError::Truncated);
+    }
+    let (front, rest) = bytes.split_at(count);
+    match copy_of(alloc, front) {
+        Ok(text) => Ok((text, rest)),
+        Err(NoMemory) => Err(RecordError::NoMemory),
+    }
+}
+
+#[tactic(auto, unfolding(crate::specs::Records::body_at))]
+fn body_in(alloc: Global, bytes: &[u8]) -> Result<(Seq<u8>, &[u8]), RecordError>
+    ensures { Reads (λ x. (x.0, x.1.now)) result (body_at bytes.now) }
+{
+    match u32_of(bytes) {
+        Ok((count, rest)) => {
+            if count > 1_048_576 {
+                return Err(RecordError::BadField);
+            }
+            body_of_length(alloc, rest, count as usize)
+        }
+        Err(refused) => Err(RecordError::from(refused)),
+    }
+}
+
+#[tactic(auto, unfolding(crate::specs::Records::install_at))]
+fn install_of(alloc: Global, bytes: &[u8]) -> Result<(Entry, &[u8]), RecordError>
+    ensures { Reads (λ x. (x.0, x.1.now)) result (install_at bytes.now) }
+{
+    let (client, rest) = client_of(bytes)?;
+    let (index, rest) = index_of(rest)?;
+    let (procedure, rest) = order_of(rest)?;
+    let (text, rest) = body_in(alloc, rest)?;
+    Ok((
+        Entry::Install {
+            client,
+            index,
+            procedure,
+            text,
+        },
+        rest,
+    ))
+}
+
 /// The entry in front of the bytes, and the bytes behind it. Linear in its record.
 ///
 /// The first fault from the left is refused: `Truncated` where the bytes end, `BadKind` at a kind that is none, and
-/// `BadField` at a row, a name or a text that isn't one, a client over 7, over 1,024 rows, or a sequence number over 2^63 - 1.
+/// `BadField` at a row, a name or a text that isn't one, a client over 7, over 1,024 rows, a sequence number over
+/// 2^63 - 1, or a body of more than 1,048,576 bytes.
 #[tactic(auto, unfolding(crate::specs::Records::record_at))]
 pub fn entry_in(alloc: Global, bytes: &[u8]) -> Result<(Entry, &[u8]), RecordError>
     ensures { Reads (λ x. (x.0, x.1.now)) result (record_at bytes.now) }
@@ -230,6 +292,7 @@ pub fn entry_in(alloc: Global, bytes: &[u8]) -> Result<(Entry, &[u8]), RecordErr
         Ok((1, rest)) => call_of(alloc, rest),
         Ok((2, rest)) => push_of(alloc, rest),
         Ok((3, rest)) => step_of(rest),
+        Ok((4, rest)) => install_of(alloc, rest),
         Ok(_) => Err(RecordError::BadKind),
         Err(refused) => Err(RecordError::from(refused)),
     }

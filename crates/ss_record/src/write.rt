@@ -7,7 +7,7 @@ ghost use Rattle.ss_record.specs.Spelling.{value_bytes, row_bytes, name_bytes, r
 ghost use Rattle.ss_value.specs.Words.{is_name};
 ghost use Rattle.ss_record.specs.Bounds.{IsShort, IsRecordable, IsTypedValue, IsTypedRow, IsTyped};
 
-use crate::numbers::{push_u16, push_u64};
+use crate::numbers::{push_u16, push_u32, push_u64};
 use ss_model::Entry;
 use ss_value::{Name, NoMemory, Row, Rows, Value};
 use std::alloc::Global;
@@ -141,6 +141,16 @@ fn push_entry(out: &mut Vec<u8>, entry: &Entry) -> Result<(), NoMemory>
             out.push(3)?;
             push_u16(out, *procedure)?;
             push_u64(out, *batch)?;
+        }
+        Entry::Install {
+            client,
+            index,
+            procedure,
+            text,
+        } => {
+            push_front(out, 4, *client, *index, *procedure)?;
+            push_u32(out, text.len() as u32)?;
+            out.extend_from_slice(text.as_slice())?;
         }
     }
     Ok(())

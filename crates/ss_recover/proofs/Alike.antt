@@ -1,5 +1,5 @@
 -- What was recovered is told up to what is kept of it.
-use Rattle.std.proofs.Common.{◌≡◌, ◌∙◌, inl, inr, ⊎_elim, ℕ, [], Option, ap, sym}
+use Rattle.std.proofs.Common.{◌≡◌, ◌∙◌, inl, inr, ⊎_elim, ℕ, true, [], Option, ap, sym}
 use Rattle.ss_disk.specs.Kinds.{DiskKind, present}
 use Rattle.ss_model.specs.declared.catalog.Catalog.{Catalog}
 use Rattle.ss_model.specs.declared.entry.Mode.{Mode}
@@ -9,12 +9,20 @@ use Rattle.ss_model.specs.Settling.{Kept, kept}
 use Rattle.ss_model.specs.WholeDatabase.{WholenessStays}
 use Rattle.ss_disk.specs.Files.{Files}
 use Rattle.ss_disk.proofs.CallerLemmas.{leaves_less}
+use Rattle.ss_cmdlog.specs.Generation.{Stood}
+use Rattle.ss_cmdlog.specs.Renewing.{renewed}
+use Rattle.ss_standing.specs.Image.{image_bytes}
 use Rattle.ss_snapshot.proofs.CallerLemmas.{held_tells_kept, stands_alike}
 use Rattle.ss_fronts.proofs.CallerLemmas.{had_alike}
 use Rattle.ss_recover.specs.declared.recovered.Recovered.{Recovered}
-use Rattle.ss_recover.specs.Recovering.{IsRecovered, StandsForIt, WasRecovered, database_of, recovered_database, recovery_of}
+use Rattle.ss_recover.specs.Recovering.{GoesOnBehind, IsRecovered, StandsForIt, WasRecovered, database_of, recovered_database, recovery_of}
 use Rattle.ss_recover.proofs.Recoveries.{began_alike, front_alike, held_alike, stood_alike}
 use Rattle.ss_recover.proofs.Told.{told_keeps}
+
+-- a checkpoint of the one is one of the other
+behind_alike : (mode : Mode) (catalog : Catalog) (place : ℕ) (x y : Model) → kept catalog x ≡ kept catalog y → (read s : Stood) → GoesOnBehind mode catalog place x read s → GoesOnBehind mode catalog place y read s
+behind_alike mode catalog place x y same read s (inl stays) = inl stays
+behind_alike mode catalog place x y same read s (inr (old, is)) = inr (old, is ∙ ap (λ (k : Kept). renewed mode place (image_bytes true catalog k)) same)
 
 module _ {D : Type 0} (kind : DiskKind D) (stays : WholenessStays) (mode : Mode) (given : Option Catalog) (parts : ℕ) (old : D) (r : Recovered D) where
   abbrev recovery : Recovery
@@ -33,8 +41,11 @@ module _ {D : Type 0} (kind : DiskKind D) (stays : WholenessStays) (mode : Mode)
           few = goes.few;
           s = goes.s;
           of_mode = goes.of_mode;
+          formed = goes.formed;
           log = goes.log;
           count = goes.count;
+          read = goes.read;
+          read_image = goes.read_image;
           leads = record {
             opening = goes.leads.opening;
             image = goes.leads.image;
@@ -43,6 +54,7 @@ module _ {D : Type 0} (kind : DiskKind D) (stays : WholenessStays) (mode : Mode)
             placed = goes.leads.placed;
             reached = sym same ∙ goes.leads.reached;
           };
+          behind = behind_alike mode r.catalog r.first x y same goes.read goes.s goes.behind;
           began = λ told. began_alike r.catalog x y same recovery r.first (goes.began told);
           held = λ told. held_alike r.catalog x y same recovery r.first [] 0 goes.s (goes.held told);
         };

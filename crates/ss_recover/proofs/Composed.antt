@@ -1,5 +1,5 @@
 -- What holds behind a run that only reads holds from its beginning.
-use Rattle.std.proofs.Common.{◌≡◌, ◌∙◌, ◌⊎◌, inl, inr, ℕ, ◌≤◌, Option, Result, Ok, Err, subst}
+use Rattle.std.proofs.Common.{◌≡◌, ◌∙◌, ◌⊎◌, inl, inr, ℕ, ◌≤◌, Option, Result, Ok, Err, subst, sym}
 use Rattle.ss_disk.specs.Kinds.{DiskKind}
 use Rattle.ss_model.specs.declared.catalog.Catalog.{Catalog}
 use Rattle.ss_model.specs.declared.entry.Mode.{Mode}
@@ -9,13 +9,13 @@ use Rattle.ss_disk.proofs.CallerLemmas.{stays_fewer, stays_join}
 use Rattle.ss_cmdlog.specs.Opening.{OnlyReads}
 use Rattle.ss_cmdlog.specs.Store.{IsEmpty}
 use Rattle.ss_cmdlog.proofs.CallerLemmas.{reads_join}
-use Rattle.ss_fronts.specs.Fronts.{AtLeast, StoodAs, fresh_recovery}
+use Rattle.ss_fronts.specs.Fronts.{AtLeast, StoodAs}
 use Rattle.ss_recover.specs.declared.recovered.Recovered.{Recovered}
 use Rattle.ss_recover.specs.declared.error.RecoverError.{RecoverError}
 use Rattle.ss_recover.specs.declared.error.RecoverError.TheVariants.{NoMemory, DiskFault, Foreign, OtherMode, OtherCatalog, Nothing}
 use Rattle.ss_recover.specs.Faults.{HasFaultAt, IsStore}
-use Rattle.ss_recover.specs.Recovering.{IsRecovered, MayForm, MayHaveFormed, RefusesAsSaid, TellsFaults, recovery_of}
-use Rattle.ss_recover.proofs.Moments.{only_that, since, forms_since, rose_since}
+use Rattle.ss_recover.specs.Recovering.{IsRecovered, MayBegin, MayHaveFormed, MayMake, RefusesAsSaid, TellsFaults, recovery_of}
+use Rattle.ss_recover.proofs.Moments.{only_that, since, makes_since, rose_since}
 use Rattle.ss_recover.proofs.Recoveries.{stood_front}
 
 module _ {D : Type 0} (kind : DiskKind D) (told_by : kind.honest → kind.tells) (mode : Mode) (given : Option Catalog) (old mid : D)
@@ -32,9 +32,9 @@ module _ {D : Type 0} (kind : DiskKind D) (told_by : kind.honest → kind.tells)
         was = λ told. subst (λ (d : Files). IsEmpty d ⊎ IsStore mode d r.catalog) (reads.same told) (is.was told);
         stood = stood;
         moments = moments;
-        stands_on = λ true' list n.
-            let P = AtLeast recovery r.catalog list n in
-            stays_join kind.moment kind.images P (kind.moment old) mid r.log.disk _ (stays_fewer kind.moment kind.images P (kind.moment old) mid (reads.fewer true')) (is.moments true') (is.stands_on true' list n);
+        stands_on = λ true' more grows list n.
+            let P = AtLeast recovery more list n in
+            stays_join kind.moment kind.images P (kind.moment old) mid r.log.disk _ (stays_fewer kind.moment kind.images P (kind.moment old) mid (reads.fewer true')) (is.moments true') (is.stands_on true' more grows list n);
         quiet = λ true' only.
             let told = told_by true' in
             only_that kind old r.log.disk (kind.seen old) _ only (stood_front recovery r.catalog db r.first (kind.seen old) (is.goes_on.began told) (stood told)) (moments true');
@@ -43,19 +43,21 @@ module _ {D : Type 0} (kind : DiskKind D) (told_by : kind.honest → kind.tells)
   -- a store that may have been made behind it
   formed_since : (new : D) → kind.honest → MayHaveFormed kind mode given mid new → MayHaveFormed kind mode given old new
   formed_since new true' is = record {
-    moments = since kind old mid new _ _ (reads.moments true') (λ image. forms_since mode given (kind.seen old) (kind.seen mid) image same) is.moments;
+    moments = since kind old mid new _ _ (reads.moments true') (λ image. makes_since mode given (kind.seen old) (kind.seen mid) image same) is.moments;
     reads = by is.reads;
-    stands_on = λ catalog given_is list n.
-        let P = AtLeast (fresh_recovery mode catalog) catalog list n in
-        stays_join kind.moment kind.images P (kind.moment old) mid new _ (stays_fewer kind.moment kind.images P (kind.moment old) mid (reads.fewer true')) is.moments (is.stands_on catalog given_is list n);
+    stands_on = λ catalog more given_is grows recovery of_mode may list n.
+        let P = AtLeast recovery more list n in
+        let begins : MayBegin recovery more (kind.seen mid) = subst (MayBegin recovery more) (sym same) may in
+        stays_join kind.moment kind.images P (kind.moment old) mid new _ (stays_fewer kind.moment kind.images P (kind.moment old) mid (reads.fewer true')) is.moments
+        (is.stands_on catalog more given_is grows recovery of_mode begins list n);
   }
     where
       same : kind.seen mid ≡ kind.seen old
       same = reads.same (told_by true')
 
-      by : (kind.seen new ≡ kind.seen mid) ⊎ MayForm mode given (kind.seen mid) (kind.seen new) → (kind.seen new ≡ kind.seen old) ⊎ MayForm mode given (kind.seen old) (kind.seen new)
+      by : (kind.seen new ≡ kind.seen mid) ⊎ MayMake mode given (kind.seen mid) (kind.seen new) → (kind.seen new ≡ kind.seen old) ⊎ MayMake mode given (kind.seen old) (kind.seen new)
       by (inl stays) = inl (stays ∙ same)
-      by (inr forms) = inr (forms_since mode given (kind.seen old) (kind.seen mid) (kind.seen new) same forms)
+      by (inr makes) = inr (makes_since mode given (kind.seen old) (kind.seen mid) (kind.seen new) same makes)
 
   module _ (new : D) (later : kind.faults old ≤ kind.faults mid) where
     pub refused_since : (e : RecoverError) → RefusesAsSaid kind mode given mid new e → RefusesAsSaid kind mode given old new e

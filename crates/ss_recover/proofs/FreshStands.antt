@@ -17,7 +17,7 @@ use Rattle.ss_fronts.specs.WeakFronts.{HasAsked, asked_between}
 use Rattle.ss_fronts.specs.WeakReads.{WeakReads}
 
 -- a store isn't empty
-not_both : (image : Files) (s : Stood) → IsEmpty image → StandsFor image s → ⊥
+pub not_both : (image : Files) (s : Stood) → IsEmpty image → StandsFor image s → ⊥
 not_both image s empty stands = (let none : [] ≡ stands.byte ∷ [] = sym empty ∙ stands.selector in cc)
 
 -- how a store is had again that was made just now: of its history nothing is known

@@ -1,15 +1,16 @@
 -- The empty database by its image, and what an image is of.
-use Rattle.std.proofs.Common.{◌≡◌, ℕ, List, [], None, arith, refl, subst}
+use Rattle.std.proofs.Common.{◌≡◌, ℕ, Bool, true, List, [], None, arith, refl, subst}
 use Rattle.ss_model.specs.declared.catalog.Catalog.{Catalog}
 use Rattle.ss_model.specs.declared.entry.Listed.{Listed}
 use Rattle.ss_model.specs.declared.entry.Mode.{Mode}
 use Rattle.ss_model.specs.declared.entry.Mode.TheVariants.{Strong, Weak}
 use Rattle.ss_model.specs.Accepted.{Accepted}
-use Rattle.ss_model.specs.Database.{Database as Model, empty_database}
+use Rattle.ss_model.specs.Database.{Database as Model, empty_database, own_bodies}
 use Rattle.ss_model.specs.Settling.{border_stream, kept, next_settled}
 use Rattle.ss_model_laws.proofs.CallerLemmas.{at_rest, empty_whole}
 use Rattle.ss_cmdlog.specs.Generation.{Stood}
 use Rattle.ss_cmdlog.specs.Store.{entries_of}
+use Rattle.ss_standing.specs.FitsImage.{FitBodies}
 use Rattle.ss_standing.specs.Image.{empty_image_of}
 use Rattle.ss_standing.specs.Standing.{IsImageAt, Replayed}
 use Rattle.ss_standing.proofs.CallerLemmas.{empty_fits}
@@ -22,11 +23,11 @@ use Rattle.ss_replay.specs.Replaying.{IsOnAt}
 use Rattle.ss_replay.proofs.CallerLemmas.{empty_had}
 
 -- bytes that are the empty database's image are that at any place
-pub empty_image_at : (catalog : Catalog) → Accepted catalog → (first : ℕ) (bytes : List ℕ) → bytes ≡ empty_image_of catalog → IsImageAt catalog first bytes (empty_database catalog)
-empty_image_at catalog accepted first bytes is = record {
+pub empty_image_at : (catalog : Catalog) → Accepted catalog → FitBodies true catalog (own_bodies catalog) → (first : ℕ) (bytes : List ℕ) → bytes ≡ empty_image_of catalog → IsImageAt catalog true first bytes (empty_database catalog)
+empty_image_at catalog accepted fit first bytes is = record {
   whole = empty_whole catalog accepted;
   had = empty_had catalog first;
-  fits = empty_fits catalog;
+  fits = empty_fits true catalog fit;
   spelled = is;
 }
 
@@ -43,8 +44,8 @@ no_list Strong catalog accepted = refl
 no_list Weak catalog accepted = empty_settled catalog accepted
 
 -- what stands for a database can take entries from the place of its image on
-pub image_takes : (catalog : Catalog) (bytes : List ℕ) (first : ℕ) (database : Database) (db : Model) → IsImageOf bytes first catalog db → StandsFor catalog database db → IsOnAt catalog database first db
-image_takes catalog bytes first database db image stands = record {
+pub image_takes : (bodies : Bool) (catalog : Catalog) (bytes : List ℕ) (first : ℕ) (database : Database) (db : Model) → IsImageOf bodies bytes first catalog db → StandsFor catalog database db → IsOnAt catalog database first db
+image_takes bodies catalog bytes first database db image stands = record {
   on = record { stands = stands; whole = image.image.whole };
   had = image.image.had;
 }

@@ -9,8 +9,8 @@ use Rattle.ss_disk.specs.Crash.{Only}
 use Rattle.ss_disk.specs.Moments.{LeavesOnly}
 use Rattle.ss_disk.proofs.CallerLemmas.{runs_join, leaves_less, stays_fewer}
 use Rattle.ss_cmdlog.specs.Opening.{OnlyReads}
-use Rattle.ss_fronts.specs.Fronts.{AtLeast, fresh_recovery}
-use Rattle.ss_recover.specs.Recovering.{LeavesOldOr, MayForm, MayHaveFormed}
+use Rattle.ss_fronts.specs.Fronts.{AtLeast}
+use Rattle.ss_recover.specs.Recovering.{LeavesOldOr, MayHaveFormed, MayMake}
 
 -- a count that rose since a later moment rose since an earlier one
 pub rose_since : (before mid now : ℕ) → before ≤ mid → Rose mid now → Rose before now
@@ -31,7 +31,7 @@ module _ {D : Type 0} (kind : DiskKind D) where
   read_formed told_by mode given old new reads true' = record {
     moments = old_or old new _ (reads.moments true');
     reads = inl (reads.same (told_by true'));
-    stands_on = λ catalog is list n. stays_fewer kind.moment kind.images (AtLeast (fresh_recovery mode catalog) catalog list n) (kind.moment old) new (reads.fewer true');
+    stands_on = λ catalog more is grows recovery of_mode may list n. stays_fewer kind.moment kind.images (AtLeast recovery more list n) (kind.moment old) new (reads.fewer true');
   }
 
   -- what a run left at its end it left at some moment
@@ -45,6 +45,6 @@ module _ {D : Type 0} (kind : DiskKind D) where
       (leaves_less kind.moment kind.images mid new _ _ second
       (λ image either. ⊎_elim (λ (left : present kind mid image). inl (at_end old mid (present kind old) first image left)) (λ (p : P image). inr (more image p)) either))
 
--- a store that is being made on the same files
-pub forms_since : (mode : Mode) (given : Option Catalog) (old mid image : Files) → mid ≡ old → MayForm mode given mid image → MayForm mode given old image
-forms_since mode given old mid image same forms = subst (λ (d : Files). MayForm mode given d image) same forms
+-- a store that is being made on the same files, or in place of the same one
+pub makes_since : (mode : Mode) (given : Option Catalog) (old mid image : Files) → mid ≡ old → MayMake mode given mid image → MayMake mode given old image
+makes_since mode given old mid image same makes = subst (λ (d : Files). MayMake mode given d image) same makes

@@ -35,13 +35,14 @@ by_groups (es ∷ groups) n = by (nat_lt n (length es)) refl (by_groups groups (
 
 -- the record behind those of so many first entries
 pub placed_so : (loaded : Loaded) (s : Stood) → IsLoaded loaded s → (n : ℕ) → n ≤ length loaded.entries
-    → place_behind (length loaded.image) loaded.sizes (take n loaded.entries) ≡ image_place + length s.image + record_place s.groups n
+    → place_behind loaded.bodies (length loaded.image) loaded.sizes (take n loaded.entries) ≡ image_place s.bodies + length s.image + record_place s.groups n
 placed_so loaded s is n within =
     let many : length (take n loaded.entries) ≡ n = length-take-le n loaded.entries within in
     let front : take n loaded.entries ≡ take n (entries_of s) = ap (take n) is.entries in
     let begun : groups_begun loaded.sizes (length (take n loaded.entries)) ≡ groups_begun (map length s.groups) n = λ k. groups_begun (is.sizes k) (many k) in
     omega (
       arith,
+      ap image_place is.bodies,
       ap (λ (l : List ℕ). length l) is.image,
       by_groups s.groups n,
       begun,

@@ -1,12 +1,12 @@
 -- How a store is had again that stands for a generation, and what a run on it begins at.
-use Rattle.std.proofs.Common.{◌≡◌, ◌∙◌, inr, ℕ, ◌+◌, List, [], ◌++◌, length, take, drop, Result, Ok, ap, arith, refl, subst, sym, drop_at, take_at, length-append}
+use Rattle.std.proofs.Common.{◌≡◌, ◌∙◌, inr, ℕ, ◌+◌, List, [], ◌++◌, length, take, drop, Result, ap, arith, refl, subst, sym, drop_at, take_at, length-append}
 use Rattle.std.specs.List.{AllByRecursion}
 use Rattle.ss_model.specs.declared.catalog.Catalog.{Catalog}
 use Rattle.ss_model.specs.declared.entry.Entry.{Entry}
 use Rattle.ss_model.specs.declared.entry.Listed.{Listed}
 use Rattle.ss_model.specs.declared.entry.Mode.{Mode}
 use Rattle.ss_model.specs.declared.entry.Mode.TheVariants as modes
-use Rattle.ss_model.specs.Aborts.{IsCallOrPush}
+use Rattle.ss_model.specs.Aborts.{IsFromClient}
 use Rattle.ss_model.specs.Accepted.{Accepted}
 use Rattle.ss_model.specs.Asked.{asked_of, listed_entries}
 use Rattle.ss_model.specs.Database.{Database as Model}
@@ -20,7 +20,6 @@ use Rattle.ss_weak_lists.proofs.CallerLemmas.{asked_are}
 use Rattle.ss_disk.specs.Files.{Files}
 use Rattle.ss_cmdlog.specs.Generation.{Stood}
 use Rattle.ss_cmdlog.specs.Logged.{logged}
-use Rattle.ss_cmdlog.specs.Opening.{store_at}
 use Rattle.ss_cmdlog.specs.Store.{StandsFor, entries_of}
 use Rattle.ss_standing.specs.Checkpoints.{ImagesAreRead}
 use Rattle.ss_standing.specs.FitsImage.{FitsImage}
@@ -32,19 +31,13 @@ use Rattle.ss_fronts.specs.WeakFronts.{asked_between}
 use Rattle.ss_fronts.specs.WeakReads.{IsReadAs, WeakReads}
 use Rattle.ss_fronts.proofs.CallerLemmas.{had_alike}
 use Rattle.ss_recover.specs.Loading.{IsListOf}
-use Rattle.ss_recover.specs.Recovering.{LeadsTo, database_of, image_kept, kept_by, origin_by, recovery_on}
+use Rattle.ss_recover.specs.Recovering.{LeadsTo, database_of, image_kept, kept_by, origin_at, recovery_at}
 use Rattle.ss_recover.proofs.Images.{leads_replayed}
 use Rattle.ss_recover.proofs.Told.{told_keeps}
 
 -- how a store of this mode is had again that stands for this generation, where its entries led to this list
-abbrev pub recovery_at : Mode → Catalog → List Listed → Stood → Recovery
-recovery_at modes.Strong catalog known s = Strong
-recovery_at modes.Weak catalog known s = Weak (origin_by catalog known (Ok s))
-
--- what the files are read as tells it
-pub recovery_is : (mode : Mode) (catalog : Catalog) (seen : Files) (known : List Listed) (s : Stood) → store_at seen ≡ Ok s → recovery_on mode catalog seen known ≡ recovery_at mode catalog known s
-recovery_is modes.Strong catalog seen known s read = refl
-recovery_is modes.Weak catalog seen known s read = ap (λ (r : Result Stood (ℕ × ℕ)). Weak (origin_by catalog known r)) read
+abbrev pub recovery_by : Mode → Catalog → List Listed → Stood → Recovery
+recovery_by mode catalog known s = recovery_at mode catalog s.bodies s.first s.image known
 
 -- a run begins at this generation
 pub record RunsFrom (recovery : Recovery) (catalog : Catalog) (s : Stood) (reached : Model) (place : ℕ) : Type 0 where
@@ -54,28 +47,28 @@ pub record RunsFrom (recovery : Recovery) (catalog : Catalog) (s : Stood) (reach
 
 -- ---- a weak store
 
-module _ (again : ImagesAreRead) (stays : WholenessStays) (catalog : Catalog) (accepted : Accepted catalog) (s : Stood) (db : Model) (image : IsImageAt catalog s.first s.image db) (known : List Listed) where
+module _ (again : ImagesAreRead) (stays : WholenessStays) (catalog : Catalog) (accepted : Accepted catalog) (s : Stood) (db : Model) (image : IsImageAt catalog s.bodies s.first s.image db) (known : List Listed) where
   abbrev pub origin : Origin
-  origin = origin_by catalog known (Ok s)
+  origin = origin_at catalog s.bodies s.first s.image known
 
-  kept_is : image_kept catalog s ≡ kept catalog db
+  kept_is : image_kept catalog s.bodies s.first s.image ≡ kept catalog db
   kept_is =
-      let read = again catalog s.first s.image db accepted image in
+      let read = again s.bodies catalog s.first s.image db accepted image in
       let text = text_bytes catalog.text in
-      let behind : drop (length text) s.image ≡ kept_bytes catalog (kept catalog db) = ap (drop (length text)) read.0 ∙ drop_at text (kept_bytes catalog (kept catalog db)) (length text) refl in
-      ap (λ (r : Result Kept ℕ). kept_by catalog r) (ap (to_the_end (kept_in catalog s.first)) behind ∙ read.1)
+      let behind : drop (length text) s.image ≡ kept_bytes s.bodies catalog (kept catalog db) = ap (drop (length text)) read.0 ∙ drop_at text (kept_bytes s.bodies catalog (kept catalog db)) (length text) refl in
+      ap (λ (r : Result Kept ℕ). kept_by catalog r) (ap (to_the_end (kept_in s.bodies catalog s.first)) behind ∙ read.1)
 
   -- the same is kept of the database that the image tells as of the one that it is of
   pub same_kept : kept catalog db ≡ kept catalog origin.db
   same_kept = sym (ap (λ (k : Kept). kept catalog (database_of k)) kept_is ∙ told_keeps catalog db)
 
   -- so it is the image of this one too
-  pub origin_image : IsImageAt catalog s.first s.image origin.db
+  pub origin_image : IsImageAt catalog s.bodies s.first s.image origin.db
   origin_image = record {
     whole = stays catalog db origin.db same_kept image.whole;
     had = had_alike catalog db origin.db same_kept s.first image.had;
-    fits = subst FitsImage same_kept image.fits;
-    spelled = image.spelled ∙ ap (image_bytes catalog) same_kept;
+    fits = subst (FitsImage s.bodies catalog) same_kept image.fits;
+    spelled = image.spelled ∙ ap (image_bytes s.bodies catalog) same_kept;
   }
 
   module _ (carries : KeptCarriesWeak) (hold : WeakListsHoldAsked) (weak : s.mode ≡ modes.Weak) (asked : asked_of (entries_of s) ≡ entries_of s)
@@ -84,7 +77,7 @@ module _ (again : ImagesAreRead) (stays : WholenessStays) (catalog : Catalog) (a
     -- the entries are the calls and pushes of the list
     entries_are : entries_of s ≡ asked_of (listed_entries known)
     entries_are =
-        let all : AllByRecursion IsCallOrPush (entries_of s) = subst (λ (es : List Entry). AllByRecursion IsCallOrPush es) asked (asked_are (entries_of s)) in
+        let all : AllByRecursion IsFromClient (entries_of s) = subst (λ (es : List Entry). AllByRecursion IsFromClient es) asked (asked_are (entries_of s)) in
         sym (hold catalog db (entries_of s) (listed_entries known) all is_weak)
 
     led : LedTo catalog origin reached place
@@ -103,7 +96,7 @@ module _ (again : ImagesAreRead) (stays : WholenessStays) (catalog : Catalog) (a
     read_from first is entries are = record {
       weak = weak;
       first = sym is;
-      image = subst (λ (n : ℕ). IsImageAt catalog n s.image origin.db) (sym is) origin_image;
+      image = subst (λ (n : ℕ). IsImageAt catalog s.bodies n s.image origin.db) (sym is) origin_image;
       entries_are = entries_are ∙ sym are;
     }
 
@@ -123,7 +116,7 @@ module _ (again : ImagesAreRead) (stays : WholenessStays) (catalog : Catalog) (a
 
 -- what a generation's entries lead to a run begins at
 pub runs_from : ImagesAreRead → WholenessStays → KeptCarriesWeak → WeakListsHoldAsked → (catalog : Catalog) → Accepted catalog → (s : Stood) (known : List Listed) (place : ℕ) (reached : Model) → LeadsTo catalog s known place reached
-    → logged s.mode (entries_of s) ≡ entries_of s → (mode : Mode) → s.mode ≡ mode → RunsFrom (recovery_at mode catalog known s) catalog s reached place
+    → logged s.mode (entries_of s) ≡ entries_of s → (mode : Mode) → s.mode ≡ mode → RunsFrom (recovery_by mode catalog known s) catalog s reached place
 runs_from again stays carries hold catalog accepted s known place reached leads all modes.Strong strong =
     let replayed = leads_replayed catalog s known place reached leads strong in
     let none : place ≡ place + 0 = omega arith in

@@ -87,4 +87,4 @@ module _ (catalog : Catalog) (db : Model) where
   told_keeps =
       let windows = made_again window_at window_at (λ w. behind_blanks w.0 w.1) window_again db.contents.windows in
       let streams = made_again (stream_at db) (stream_at told) (λ s. behind_blanks s.0 s.1.1) stream_again db.streams in
-      λ i. record { tables = db.contents.tables; windows = windows i; streams = streams i; counts = db.counts; next_numbers = db.next_numbers }
+      λ i. record { tables = db.contents.tables; windows = windows i; streams = streams i; counts = db.counts; next_numbers = db.next_numbers; bodies = db.bodies }

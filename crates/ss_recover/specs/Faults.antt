@@ -1,5 +1,5 @@
 -- Which disks hold a store, and the first fault of one that isn't empty and holds none, by three passes over its current file.
-use Rattle.std.specs.Prelude.{◌≡◌, ◌≢◌, ◌⊎◌, ◌≤◌, ◌+◌, ◌-◌, ◌^◌, ℕ, nat_lt, if◌then◌else◌, List, [], ◌∷◌, length, take, Ok, Err}
+use Rattle.std.specs.Prelude.{◌≡◌, ◌≢◌, ◌⊎◌, ◌≤◌, ◌+◌, ◌-◌, ◌^◌, ℕ, Bool, true, false, nat_lt, if◌then◌else◌, List, [], ◌∷◌, length, take, Ok, Err}
 use Rattle.ss_model.specs.declared.catalog.Catalog.{Catalog}
 use Rattle.ss_model.specs.declared.entry.Entry.{Entry}
 use Rattle.ss_model.specs.declared.entry.Listed.{Listed}
@@ -18,13 +18,15 @@ use Rattle.ss_standing.specs.Standing.{listed_entries}
 use Rattle.ss_replay.specs.Replaying.{StopsBehind}
 use Rattle.ss_weak_lists.specs.Stops as weakly
 
--- in front of the image stand the magic, the first place and the image's length, of eight bytes each
-abbrev pub image_place : ℕ
-image_place = 24
+-- in front of the first place stands the magic: of nine bytes in the form in which bodies may be, with the one for the mode, and of eight in
+-- the older forms
+abbrev pub first_place : Bool → ℕ
+first_place true = 9
+first_place false = 8
 
--- and in front of the first place the magic
-abbrev pub first_place : ℕ
-first_place = 8
+-- and in front of the image the first place too, and the image's length, of eight bytes each
+abbrev pub image_place : Bool → ℕ
+image_place bodies = first_place bodies + 16
 
 -- in front of the records of a group stand its gate and two numbers of four bytes
 abbrev pub group_head : ℕ
@@ -62,9 +64,21 @@ abbrev pub StopsAfter : Mode → Catalog → Model → ℕ → List Entry → �
 StopsAfter Strong catalog db first entries n = (list : List Listed) × (n ≡ length list) × StopsBehind catalog db first entries list
 StopsAfter Weak catalog db first entries n = weakly.StopsBehind catalog db first entries n
 
+-- ---- whatever bodies may be installed
+
+-- what holds of each database of which the bytes are the image, of whatever catalogue with this one's text, which is read from it
+abbrev pub WithAnyBodies : Bool → List ℕ → ℕ → Catalog → (Catalog → Model → Type 0) → Type 0
+WithAnyBodies bodies image first catalog P = (other : Catalog) (db : Model) → other.text ≡ catalog.text → IsImageOf bodies image first other db → P other db
+
+-- behind such an image the entries stop, at this position at the latest
+abbrev pub NoneStopsLater : Mode → Bool → List ℕ → ℕ → Catalog → List Entry → ℕ → Type 0
+NoneStopsLater mode bodies image first catalog entries n =
+    WithAnyBodies bodies image first catalog (λ other db. (m : ℕ) × StopsAfter mode other db first entries m × m ≤ n)
+
 -- ---- stores
 
--- the files are a store of this mode and catalogue: the image is that of a database, and the entries replay on this one
+-- The files are a store of this mode and catalogue: the image is that of a database, and the entries replay on this one. The bodies that may
+-- be installed in the catalogue have among them each that the image and the entries name; two that have them are of one text.
 pub record IsStore (mode : Mode) (disk : Files) (catalog : Catalog) : Type 0 where
   pub which : ℕ
   pub s : Stood
@@ -72,7 +86,7 @@ pub record IsStore (mode : Mode) (disk : Files) (catalog : Catalog) : Type 0 whe
   pub of_mode : s.mode ≡ mode
   pub accepted : Accepted catalog
   pub db : Model
-  pub image : IsImageOf s.image s.first catalog db
+  pub image : IsImageOf s.bodies s.image s.first catalog db
   pub replays : ReplaysAs mode catalog db s.first (entries_of s)
 
 -- ---- the first fault
@@ -86,20 +100,21 @@ pub record HasForeignImage (disk : Files) (which at : ℕ) : Type 0 where
   pub s : Stood
   pub reads : ReadsAs disk which s
   pub offset : ℕ
-  pub foreign : IsForeignAt s.first s.image offset
-  pub place : at ≡ image_place + offset
+  pub foreign : IsForeignAt s.bodies s.first s.image offset
+  pub place : at ≡ image_place s.bodies + offset
 
--- the third: an entry doesn't replay behind those before it, and is told at its record
+-- the third: an entry doesn't replay behind those before it, and is told at its record; whatever bodies may be installed, none gets past it
 pub record HasForeignEntry (disk : Files) (which at : ℕ) : Type 0 where
   pub s : Stood
   pub reads : ReadsAs disk which s
   pub catalog : Catalog
   pub accepted : Accepted catalog
   pub db : Model
-  pub image : IsImageOf s.image s.first catalog db
+  pub image : IsImageOf s.bodies s.image s.first catalog db
   pub before : ℕ
   pub stops : StopsAfter s.mode catalog db s.first (entries_of s) before
-  pub place : at ≡ image_place + length s.image + record_place s.groups before
+  pub furthest : NoneStopsLater s.mode s.bodies s.image s.first catalog (entries_of s) before
+  pub place : at ≡ image_place s.bodies + length s.image + record_place s.groups before
 
 -- or settling the image of a weak store would pass the last place, and is told at the first place's first byte
 pub record HasForeignSettling (disk : Files) (which at : ℕ) : Type 0 where
@@ -109,9 +124,10 @@ pub record HasForeignSettling (disk : Files) (which at : ℕ) : Type 0 where
   pub catalog : Catalog
   pub accepted : Accepted catalog
   pub db : Model
-  pub image : IsImageOf s.image s.first catalog db
+  pub image : IsImageOf s.bodies s.image s.first catalog db
   pub past : weakly.PassesLast catalog db s.first
-  pub place : at ≡ first_place
+  pub others : WithAnyBodies s.bodies s.image s.first catalog (λ other d. weakly.PassesLast other d s.first)
+  pub place : at ≡ first_place s.bodies
 
 -- the first pass that finds a fault gives the place
 abbrev pub HasFaultAt : Files → ℕ → ℕ → Type 0

@@ -9,7 +9,7 @@ ghost use Rattle.ss_recover.specs.Recovering.{IsOwnCatalog, IsRecovered, Refuses
 
 use crate::error::RecoverError;
 use crate::recovered::Recovered;
-use ss_cmdlog::{CmdLog, LogError, what_is_spelled_is_read};
+use ss_cmdlog::{CmdLog, LogError};
 use ss_disk::Disk;
 use ss_model::{Catalog, Mode};
 use ss_model_laws::wholeness_stays;
@@ -21,7 +21,7 @@ use ss_weak_lists::{kept_carries_weak, weak_lists_hold_asked};
 use std::alloc::Global;
 
 /// The refusal of a call that makes a store.
-fn refusal(refused: LogError) -> RecoverError
+pub(crate) fn refusal(refused: LogError) -> RecoverError
     ensures { result ≡ forming_refusal refused }
 {
     match refused {
@@ -53,7 +53,6 @@ pub(crate) fn form<D: Disk>(
     kept_carries_weak();
     one_thing_stands_on::<D>();
     weak_lists_hold_asked();
-    what_is_spelled_is_read();
     wholeness_stays();
     let Ok(image) = empty_image(alloc, &catalog) else {
         return Err((RecoverError::NoMemory, disk));
@@ -68,6 +67,8 @@ pub(crate) fn form<D: Disk>(
             catalog,
             first: 0,
             known: Seq::new(alloc),
+            bodies: true,
+            image,
             log,
         }),
         Err((refused, disk)) => Err((refusal(refused), disk)),

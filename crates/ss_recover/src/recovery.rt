@@ -42,19 +42,25 @@ fn is_empty<D: Disk>(disk: &mut D) -> Result<bool, Failed>
 /// sets off its steps anew, in the order of settling. An empty disk is made a store of the given catalogue, in the mode that is
 /// asked. The database is dealt to so many partitions, 1 to 8.
 ///
+/// The catalogue that it gives has the bodies that may be installed: those of the given one, and those that the image and the
+/// entries name. A store of an older form, in which no body may be installed, goes on in the new form: a checkpoint of what is
+/// recovered takes its place.
+///
 /// Refuses `Nothing` where the disk is empty and no catalogue is given, unless a call fails, `OtherMode` where the store is of the
 /// mode that isn't asked, and else `OtherCatalog` where it is of another catalogue than is given, by their texts. `Foreign` tells
 /// the first byte that can't be in a disk that is neither empty nor a store of either mode: of the generation, else of its image,
-/// else the record of the first entry that doesn't replay, or byte 8 where settling the image would pass the last place.
-/// `DiskFault` comes exactly where the disk counted a fault.
+/// else the record of the first entry that doesn't replay, whatever bodies may be installed, or byte 9, in an older form byte 8,
+/// where settling the image would pass the last place. `DiskFault` comes exactly where the disk counted a fault.
 ///
 /// A crash at any moment leaves what it could leave before, or what stands for what is recovered. Behind `Foreign`, `OtherMode`,
 /// `OtherCatalog` and `Nothing` a read gives what it gave. Behind the other two an empty disk may have become a store of the
-/// given catalogue, before any execution; a crash leaves this or what it could leave before.
+/// given catalogue, before any execution, and one of an older form one of the new form that stands for the same; a crash leaves
+/// this or what it could leave before.
 ///
 /// Linear in the current file, which is read whole into one buffer, and costs an insert for each row of its image and what
-/// the entries cost to run; room for their list is made once. A disk that isn't empty has seven calls, of which none
-/// changes it; making a store takes nine.
+/// the entries cost to run; room for their list is made once. Each body that is named and isn't in the catalogue costs as much as
+/// reading the catalogue. A disk that isn't empty has seven calls, of which none changes it; renewing an older form takes seven
+/// more, and time linear in the database; making a store takes nine.
 pub fn recover<N: Runner, D: Disk>(
     alloc: Global,
     runner: &N,

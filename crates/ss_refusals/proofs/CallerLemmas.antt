@@ -7,6 +7,10 @@ pub use Rattle.ss_refusals.proofs.SourceTold.{source_told, source_held, refusal_
 -- How the program ends where reading its input was refused.
 pub use Rattle.ss_refusals.proofs.RefusedEnds.{at_end, leaves_so, refused_ends_refused, refused_ends_started, silent_ends}
 -- A line that says what it should isn't refused, and says one thing.
-pub use Rattle.ss_refusals.proofs.OneInput.{InputLaws, first_is_fine, has_value, later_is_fine, one_said, silent}
+pub use Rattle.ss_refusals.proofs.OneInput.{InputLaws, RequestLaws, first_is_fine, has_value, later_is_fine, one_said, silent}
+-- A catalogue goes on with the bodies that requests install, one after another.
+pub use Rattle.ss_refusals.proofs.Growing.{SoFar, bodies_for, none_read, own_read, grown_none, more_so_far, none_so_far, on_none, own_so_far, refused_value, same_so_far}
 -- Requests one after another, as their lines are read.
-pub use Rattle.ss_refusals.proofs.InputRequests.{asked_more, parts_at}
+pub use Rattle.ss_refusals.proofs.InputRequests.{each_fits, parts_at}
+-- How deep the value of a line nests.
+pub use Rattle.ss_refusals.proofs.InputDepth.{value_depth}

@@ -6,7 +6,7 @@ use Rattle.std.specs.List.{AllByRecursion, list_all, count_by}
 use Rattle.ss_lines.specs.declared.line.Line.{Line}
 use Rattle.ss_model.specs.declared.catalog.Catalog.{Catalog}
 use Rattle.ss_model.specs.declared.entry.Asked.{Asked}
-use Rattle.ss_model.specs.declared.entry.Asked.TheVariants.{Call, Push}
+use Rattle.ss_model.specs.declared.entry.Asked.TheVariants.{Call, Push, Install}
 use Rattle.ss_model.specs.declared.entry.Request.{Request}
 use Rattle.ss_model.specs.Database.{fits_entry}
 use Rattle.ss_model.specs.Report.{asked_entries, asked_entry, entries_behind}
@@ -54,6 +54,7 @@ EachFits-push catalog (x ∷ rs) r all fits = (all.0, EachFits-push catalog rs r
 fits_at : (catalog : Catalog) (client index : ℕ) (what : Asked) → fits_entry catalog (asked_entry client 0 what) ≡ true → fits_entry catalog (asked_entry client index what) ≡ true
 fits_at catalog client index (Call n args) fits = fits
 fits_at catalog client index (Push s source seq rows) fits = fits
+fits_at catalog client index (Install q text) fits = fits
 
 fit_behind : (catalog : Catalog) (earlier rs : List Request) → EachFits catalog rs → list_all (fits_entry catalog) (entries_behind earlier rs) ≡ true
 fit_behind catalog earlier [] all = refl

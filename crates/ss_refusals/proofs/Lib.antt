@@ -1,5 +1,6 @@
 pub mod CallerLemmas
 pub mod FieldFloats
+pub mod Growing
 pub mod InputDepth
 pub mod InputRequests
 pub mod OneInput

@@ -17,20 +17,25 @@ use Rattle.ss_catalog.specs.Reads.{Reads, Refuses}
 use Rattle.ss_catalog.specs.Answers.{IsReadOrRefused}
 use Rattle.ss_catalog_requests.specs.declared.request.RequestError.{RequestError}
 use Rattle.ss_catalog_requests.specs.declared.request.RequestError.TheVariants as request
-use Rattle.ss_catalog_requests.specs.Requests.{request_of, RefusesAs as RefusesRequestAs}
+use Rattle.ss_catalog_requests.specs.Answers.{Asks, HasOneRequest, HasOneRequestRefusal, IsAskedOrRefused, RefusesRequest as RefusesValue}
 use Rattle.ss_refusals.specs.declared.input.InputError.{InputError}
 use Rattle.ss_refusals.specs.declared.input.InputError.TheVariants.{Line as OfLine, NoCatalog, Catalog as OfCatalog, Request as OfRequest}
 use Rattle.ss_refusals.specs.Starts.{SaysCatalog, AsksFor, AskInOrder, StartLines, Starts}
 use Rattle.ss_refusals.specs.Refused.{RefusesCatalog, RefusesFirst, RefusesRequest, RefusesLater, RefusesAmong, RefusesLines, IsRefusedBy}
 use Rattle.ss_refusals.specs.Inputs.{says_nothing, HasOneStart, StartsOrRefused, HasOneRefusal}
 
--- what the laws of a catalogue's value say: one catalogue, not refused where it reads, and one refusal
+-- what the laws of a request's value say: one request, not refused where it asks, and one refusal
+pub record RequestLaws : Type 0 where
+  pub request : HasOneRequest
+  pub either : IsAskedOrRefused
+  pub refusal : HasOneRequestRefusal
+
+-- what the laws of a catalogue's value say, and those of a request's: one catalogue, not refused where it reads, and one refusal
 pub record InputLaws : Type 0 where
+  pub asking : RequestLaws
   pub reading : (d : Data) (a b : Catalog) → Reads d a → Reads d b → a ≡ b
   pub either : IsReadOrRefused
   pub refusal : (d : Data) (e f : CatalogError) → Refuses d e → Refuses d f → (e ≡ catalog.NoMemory → ⊥) → (f ≡ catalog.NoMemory → ⊥) → e ≡ f
-
--- ---- results
 
 -- ---- what says nothing
 
@@ -46,13 +51,9 @@ line_means r (cause.LineTooLong n) says h = h
 line_means r cause.InputTooLong says h = h
 line_means r (cause.NotJson n) says h = h
 
--- and so is one of a request
-request_means : {A : Type 0} (r : Result A RequestError) (e : RequestError) → says_nothing (OfRequest e) ≡ false → RefusesRequestAs r e → r ≡ Err e
-request_means r request.NoMemory says h = absurd (false≢true (sym says))
-request_means r (request.Shape n) says h = h
-request_means r (request.UnknownTarget n) says h = h
-request_means r (request.Arguments n) says h = h
-request_means r (request.TooManyRows n) says h = h
+-- a refusal of a request that says something isn't out of memory
+request_means : (e : RequestError) → says_nothing (OfRequest e) ≡ false → e ≡ request.NoMemory → ⊥
+request_means e says is = says_both (OfRequest request.NoMemory) refl (subst (λ (x : RequestError). says_nothing (OfRequest x) ≡ false) is says)
 
 -- a refusal of a catalogue that says something isn't out of memory
 catalog_means : (n : ℕ) (e : CatalogError) → says_nothing (OfCatalog n e) ≡ false → e ≡ catalog.NoMemory → ⊥
@@ -117,41 +118,42 @@ one_first laws l (OfRequest e) f p q h k = absurd h
 -- ---- a request's line
 
 -- a line asks for one request
-one_asked : (c : Catalog) (l : Line) (r s : Request) → AsksFor c l r → AsksFor c l s → r ≡ s
-one_asked c l r s h k =
-    ok_same (request_of c l.number k.value) r s (subst (λ (d : Data). request_of c l.number d ≡ Ok r) (one_value l h.value k.value h.json k.json) h.asks) k.asks
+one_asked : InputLaws → (c : Catalog) (l : Line) (r s : Request) → AsksFor c l r → AsksFor c l s → r ≡ s
+one_asked laws c l r s h k =
+    laws.asking.request c l.number k.value r s (subst (λ (d : Data). Asks c l.number d r) (one_value l h.value k.value h.json k.json) h.asks) k.asks
 
 -- which isn't refused
-asked_or_refused : (c : Catalog) (l : Line) (r : Request) (e : RequestError) → AsksFor c l r → says_nothing (OfRequest e) ≡ false → RefusesRequest c l e → ⊥
-asked_or_refused c l r e asks p h =
-    ok_or_err (request_of c l.number h.value) r e (subst (λ (d : Data). request_of c l.number d ≡ Ok r) (one_value l asks.value h.value asks.json h.json) asks.asks)
-    (request_means (request_of c l.number h.value) e p h.refused)
+asked_or_refused : InputLaws → (c : Catalog) (l : Line) (r : Request) (e : RequestError) → AsksFor c l r → says_nothing (OfRequest e) ≡ false → RefusesRequest c l e → ⊥
+asked_or_refused laws c l r e asks p h =
+    request_means e p
+    (laws.asking.either c l.number h.value r e (subst (λ (d : Data). Asks c l.number d r) (one_value l asks.value h.value asks.json h.json) asks.asks) h.refused)
 
 -- a line that asks for a request isn't refused
-pub later_is_fine : (c : Catalog) (l : Line) (r : Request) (e : InputError) → AsksFor c l r → says_nothing e ≡ false → RefusesLater c l e → ⊥
-later_is_fine c l r (OfLine e) asks p h = has_value l asks.value e asks.json p h
-later_is_fine c l r (OfRequest e) asks p h = asked_or_refused c l r e asks p h
-later_is_fine c l r NoCatalog asks p h = h
-later_is_fine c l r (OfCatalog n e) asks p h = h
+pub later_is_fine : InputLaws → (c : Catalog) (l : Line) (r : Request) (e : InputError) → AsksFor c l r → says_nothing e ≡ false → RefusesLater c l e → ⊥
+later_is_fine laws c l r (OfLine e) asks p h = has_value l asks.value e asks.json p h
+later_is_fine laws c l r (OfRequest e) asks p h = asked_or_refused laws c l r e asks p h
+later_is_fine laws c l r NoCatalog asks p h = h
+later_is_fine laws c l r (OfCatalog n e) asks p h = h
 
 -- two refusals of a request are one
-one_of_request : (c : Catalog) (l : Line) (e f : RequestError) → says_nothing (OfRequest e) ≡ false → says_nothing (OfRequest f) ≡ false → RefusesRequest c l e → RefusesRequest c l f → OfRequest e ≡ OfRequest f
-one_of_request c l e f p q h k =
-    let means : request_of c l.number k.value ≡ Err e = subst (λ (d : Data). request_of c l.number d ≡ Err e) (one_value l h.value k.value h.json k.json) (request_means (request_of c l.number h.value) e p h.refused) in
-    ap OfRequest (err_same (request_of c l.number k.value) e f means (request_means (request_of c l.number k.value) f q k.refused))
+one_of_request : InputLaws → (c : Catalog) (l : Line) (e f : RequestError) → says_nothing (OfRequest e) ≡ false → says_nothing (OfRequest f) ≡ false → RefusesRequest c l e → RefusesRequest c l f → OfRequest e ≡ OfRequest f
+one_of_request laws c l e f p q h k =
+    ap OfRequest
+    (laws.asking.refusal c l.number k.value e f (subst (λ (d : Data). RefusesValue c l.number d e) (one_value l h.value k.value h.json k.json) h.refused) k.refused
+    (request_means e p) (request_means f q))
 
 -- a request's line has one refusal
-one_later : (c : Catalog) (l : Line) (e f : InputError) → says_nothing e ≡ false → says_nothing f ≡ false → RefusesLater c l e → RefusesLater c l f → e ≡ f
-one_later c l (OfLine e) (OfLine f) p q h k = one_of_bytes l e f p q h k
-one_later c l (OfLine e) (OfRequest f) p q h k = absurd (has_value l k.value e k.json p h)
-one_later c l (OfLine e) NoCatalog p q h k = absurd k
-one_later c l (OfLine e) (OfCatalog m f) p q h k = absurd k
-one_later c l (OfRequest e) (OfLine f) p q h k = absurd (has_value l h.value f h.json q k)
-one_later c l (OfRequest e) (OfRequest f) p q h k = one_of_request c l e f p q h k
-one_later c l (OfRequest e) NoCatalog p q h k = absurd k
-one_later c l (OfRequest e) (OfCatalog m f) p q h k = absurd k
-one_later c l NoCatalog f p q h k = absurd h
-one_later c l (OfCatalog n e) f p q h k = absurd h
+one_later : InputLaws → (c : Catalog) (l : Line) (e f : InputError) → says_nothing e ≡ false → says_nothing f ≡ false → RefusesLater c l e → RefusesLater c l f → e ≡ f
+one_later laws c l (OfLine e) (OfLine f) p q h k = one_of_bytes l e f p q h k
+one_later laws c l (OfLine e) (OfRequest f) p q h k = absurd (has_value l k.value e k.json p h)
+one_later laws c l (OfLine e) NoCatalog p q h k = absurd k
+one_later laws c l (OfLine e) (OfCatalog m f) p q h k = absurd k
+one_later laws c l (OfRequest e) (OfLine f) p q h k = absurd (has_value l h.value f h.json q k)
+one_later laws c l (OfRequest e) (OfRequest f) p q h k = one_of_request laws c l e f p q h k
+one_later laws c l (OfRequest e) NoCatalog p q h k = absurd k
+one_later laws c l (OfRequest e) (OfCatalog m f) p q h k = absurd k
+one_later laws c l NoCatalog f p q h k = absurd h
+one_later laws c l (OfCatalog n e) f p q h k = absurd h
 
 -- ---- requests in order
 
@@ -167,47 +169,47 @@ asks_first c l ls [] all = absurd all
 asks_first c l ls (r ∷ rs) all = record { asked = r; asks = all.0; rest = rs; behind = all.1 }
 
 -- lines ask for one list of requests
-one_list : (c : Catalog) (ls : List Line) (xs ys : List Request) → AskInOrder c ls xs → AskInOrder c ls ys → xs ≡ ys
-one_list c [] [] [] h k = refl
-one_list c [] [] (y ∷ ys) h k = absurd k
-one_list c [] (x ∷ xs) ys h k = absurd h
-one_list c (l ∷ ls) [] ys h k = absurd h
-one_list c (l ∷ ls) (x ∷ xs) [] h k = absurd k
-one_list c (l ∷ ls) (x ∷ xs) (y ∷ ys) h k =
-    let first : x ≡ y = one_asked c l x y h.0 k.0 in
-    let rest : xs ≡ ys = one_list c ls xs ys h.1 k.1 in
+one_list : InputLaws → (c : Catalog) (ls : List Line) (xs ys : List Request) → AskInOrder c ls xs → AskInOrder c ls ys → xs ≡ ys
+one_list laws c [] [] [] h k = refl
+one_list laws c [] [] (y ∷ ys) h k = absurd k
+one_list laws c [] (x ∷ xs) ys h k = absurd h
+one_list laws c (l ∷ ls) [] ys h k = absurd h
+one_list laws c (l ∷ ls) (x ∷ xs) [] h k = absurd k
+one_list laws c (l ∷ ls) (x ∷ xs) (y ∷ ys) h k =
+    let first : x ≡ y = one_asked laws c l x y h.0 k.0 in
+    let rest : xs ≡ ys = one_list laws c ls xs ys h.1 k.1 in
     cc
 
 -- where all lines ask, none is refused
-all_fine : (c : Catalog) (before : List Line) (l : Line) (behind : List Line) (rs : List Request) (e : InputError)
+all_fine : InputLaws → (c : Catalog) (before : List Line) (l : Line) (behind : List Line) (rs : List Request) (e : InputError)
     → AskInOrder c (before ++ l ∷ behind) rs → says_nothing e ≡ false → RefusesLater c l e → ⊥
-all_fine c [] l behind rs e all p h =
+all_fine laws c [] l behind rs e all p h =
     let first : AsksFirst c l behind = asks_first c l behind rs all in
-    later_is_fine c l first.asked e first.asks p h
-all_fine c (x ∷ before) l behind rs e all p h =
+    later_is_fine laws c l first.asked e first.asks p h
+all_fine laws c (x ∷ before) l behind rs e all p h =
     let first : AsksFirst c x (before ++ l ∷ behind) = asks_first c x (before ++ l ∷ behind) rs all in
-    all_fine c before l behind first.rest e first.behind p h
+    all_fine laws c before l behind first.rest e first.behind p h
 
 -- the first of them that is refused has one place, and one refusal
-one_place : (c : Catalog) (bs cs : List Line) (l m : Line) (ls ms : List Line) (xs ys : List Request) (e f : InputError) → bs ++ l ∷ ls ≡ cs ++ m ∷ ms
+one_place : InputLaws → (c : Catalog) (bs cs : List Line) (l m : Line) (ls ms : List Line) (xs ys : List Request) (e f : InputError) → bs ++ l ∷ ls ≡ cs ++ m ∷ ms
     → AskInOrder c bs xs → AskInOrder c cs ys → says_nothing e ≡ false → says_nothing f ≡ false → RefusesLater c l e → RefusesLater c m f → e ≡ f
-one_place c [] [] l m ls ms xs ys e f parts a b p q h k =
+one_place laws c [] [] l m ls ms xs ys e f parts a b p q h k =
     let same : l ≡ m = cc in
-    one_later c m e f p q (subst (λ (x : Line). RefusesLater c x e) same h) k
-one_place c [] (y ∷ cs) l m ls ms xs ys e f parts a b p q h k =
+    one_later laws c m e f p q (subst (λ (x : Line). RefusesLater c x e) same h) k
+one_place laws c [] (y ∷ cs) l m ls ms xs ys e f parts a b p q h k =
     let same : l ≡ y = cc in
     let first : AsksFirst c y cs = asks_first c y cs ys b in
-    absurd (later_is_fine c y first.asked e first.asks p (subst (λ (x : Line). RefusesLater c x e) same h))
-one_place c (x ∷ bs) [] l m ls ms xs ys e f parts a b p q h k =
+    absurd (later_is_fine laws c y first.asked e first.asks p (subst (λ (x : Line). RefusesLater c x e) same h))
+one_place laws c (x ∷ bs) [] l m ls ms xs ys e f parts a b p q h k =
     let same : m ≡ x = cc in
     let first : AsksFirst c x bs = asks_first c x bs xs a in
-    absurd (later_is_fine c x first.asked f first.asks q (subst (λ (y : Line). RefusesLater c y f) same k))
-one_place c (x ∷ bs) (y ∷ cs) l m ls ms xs ys e f parts a b p q h k =
+    absurd (later_is_fine laws c x first.asked f first.asks q (subst (λ (y : Line). RefusesLater c y f) same k))
+one_place laws c (x ∷ bs) (y ∷ cs) l m ls ms xs ys e f parts a b p q h k =
     let behind : bs ++ l ∷ ls ≡ cs ++ m ∷ ms = cc in
-    one_place c bs cs l m ls ms (asks_first c x bs xs a).rest (asks_first c y cs ys b).rest e f behind (asks_first c x bs xs a).behind (asks_first c y cs ys b).behind p q h k
+    one_place laws c bs cs l m ls ms (asks_first c x bs xs a).rest (asks_first c y cs ys b).rest e f behind (asks_first c x bs xs a).behind (asks_first c y cs ys b).behind p q h k
 
-one_among : (c : Catalog) (ls : List Line) (e f : InputError) → says_nothing e ≡ false → says_nothing f ≡ false → RefusesAmong c ls e → RefusesAmong c ls f → e ≡ f
-one_among c ls e f p q h k = one_place c h.before k.before h.line k.line h.behind k.behind h.requests k.requests e f (sym h.parts ∙ k.parts) h.fine k.fine p q h.refused k.refused
+one_among : InputLaws → (c : Catalog) (ls : List Line) (e f : InputError) → says_nothing e ≡ false → says_nothing f ≡ false → RefusesAmong c ls e → RefusesAmong c ls f → e ≡ f
+one_among laws c ls e f p q h k = one_place laws c h.before k.before h.line k.line h.behind k.behind h.requests k.requests e f (sym h.parts ∙ k.parts) h.fine k.fine p q h.refused k.refused
 
 -- ---- lines
 
@@ -218,7 +220,7 @@ lines_fine laws (l ∷ ls) c rs e start p (inl h) = first_is_fine laws l c e sta
 lines_fine laws (l ∷ ls) c rs e start p (inr h) =
     let same : h.catalog ≡ c = one_said laws l h.catalog c h.says start.0 in
     let among : RefusesAmong c ls e = subst (λ (x : Catalog). RefusesAmong x ls e) same h.refused in
-    all_fine c among.before among.line among.behind rs e (subst (λ (xs : List Line). AskInOrder c xs rs) among.parts start.1) p among.refused
+    all_fine laws c among.before among.line among.behind rs e (subst (λ (xs : List Line). AskInOrder c xs rs) among.parts start.1) p among.refused
 
 -- lines have one refusal
 one_of_lines : InputLaws → (ls : List Line) (e f : InputError) → says_nothing e ≡ false → says_nothing f ≡ false → RefusesLines ls e → RefusesLines ls f → e ≡ f
@@ -227,14 +229,14 @@ one_of_lines laws (l ∷ ls) e f p q (inl h) (inl k) = one_first laws l e f p q 
 one_of_lines laws (l ∷ ls) e f p q (inl h) (inr k) = absurd (first_is_fine laws l k.catalog e k.says p h)
 one_of_lines laws (l ∷ ls) e f p q (inr h) (inl k) = absurd (first_is_fine laws l h.catalog f h.says q k)
 one_of_lines laws (l ∷ ls) e f p q (inr h) (inr k) =
-    one_among k.catalog ls e f p q (subst (λ (x : Catalog). RefusesAmong x ls e) (one_said laws l h.catalog k.catalog h.says k.says) h.refused) k.refused
+    one_among laws k.catalog ls e f p q (subst (λ (x : Catalog). RefusesAmong x ls e) (one_said laws l h.catalog k.catalog h.says k.says) h.refused) k.refused
 
 -- lines start as one
 one_start_of : InputLaws → (ls : List Line) (a b : Catalog) (xs ys : List Request) → StartLines ls a xs → StartLines ls b ys → (a ≡ b) × (xs ≡ ys)
 one_start_of laws [] a b xs ys h k = absurd h
 one_start_of laws (l ∷ ls) a b xs ys h k =
     let same : a ≡ b = one_said laws l a b h.0 k.0 in
-    (same, one_list b ls xs ys (subst (λ (c : Catalog). AskInOrder c ls xs) same h.1) k.1)
+    (same, one_list laws b ls xs ys (subst (λ (c : Catalog). AskInOrder c ls xs) same h.1) k.1)
 
 -- ---- inputs
 

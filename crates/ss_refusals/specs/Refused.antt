@@ -11,7 +11,7 @@ use Rattle.ss_model.specs.declared.entry.Request.{Request}
 use Rattle.ss_catalog.specs.declared.error.CatalogError.{CatalogError}
 use Rattle.ss_catalog.specs.Reads.{Refuses}
 use Rattle.ss_catalog_requests.specs.declared.request.RequestError.{RequestError}
-use Rattle.ss_catalog_requests.specs.Requests.{request_of, RefusesAs as RefusesRequestAs}
+use Rattle.ss_catalog_requests.specs.Answers.{RefusesRequest as RefusesValue}
 use Rattle.ss_refusals.specs.declared.input.InputError.{InputError}
 use Rattle.ss_refusals.specs.declared.input.InputError.TheVariants.{Line as OfLine, NoCatalog, Catalog as OfCatalog, Request as OfRequest}
 use Rattle.ss_refusals.specs.Starts.{SaysCatalog, AskInOrder}
@@ -38,7 +38,7 @@ RefusesFirst l (OfRequest e) = ⊥
 pub record RefusesRequest (catalog : Catalog) (l : Line) (e : RequestError) : Type 0 where
   pub value : Data
   pub json : value_at l ≡ Ok value
-  pub refused : RefusesRequestAs (request_of catalog l.number value) e
+  pub refused : RefusesValue catalog l.number value e
 
 -- a request's line is refused so, in the same order
 abbrev pub RefusesLater : Catalog → Line → InputError → Type 0

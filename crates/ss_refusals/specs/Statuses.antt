@@ -16,6 +16,8 @@ use Rattle.ss_catalog_requests.specs.declared.request.RequestError.{RequestError
 use Rattle.ss_catalog_requests.specs.declared.request.RequestError.TheVariants as request
 use Rattle.ss_refusals.specs.declared.input.InputError.{InputError}
 use Rattle.ss_refusals.specs.declared.input.InputError.TheVariants.{Line as OfLine, NoCatalog, Catalog as OfCatalog, Request as OfRequest}
+use Rattle.ss_refusals.specs.declared.refusals.FaultIn.{FaultIn}
+use Rattle.ss_refusals.specs.declared.refusals.FaultIn.TheVariants as fault_in
 use Rattle.ss_refusals.specs.declared.status.Status.{Status}
 use Rattle.ss_refusals.specs.declared.status.Status.TheVariants.{Done, Usage, Input, ReadFault, WriteFault, Disk, NoMemory, Foreign, OtherCatalog, Limit, OtherMode, Differs}
 
@@ -73,10 +75,6 @@ other_mode_text Weak = codes "[\"other_mode\",\"weak\"]\n"
 abbrev pub input_text : ℕ → List ℕ → List Data → List ℕ
 input_text line code about = line_text (array_of (string (codes "input") ∷ count line ∷ string code ∷ about))
 
--- what a fault of a SQL text is refused for
-abbrev pub sql_fault : List ℕ → ℕ → List ℕ → ℕ → List Data
-sql_fault name step code at = string name ∷ count step ∷ string code ∷ count at ∷ []
-
 -- ---- the texts of refusals
 
 -- the code of a fault of a SQL text
@@ -103,19 +101,29 @@ bytes_refusal (cause.LineTooLong line) = input_text line (codes "L2") []
 bytes_refusal cause.InputTooLong = input_text 0 (codes "L3") []
 bytes_refusal (cause.NotJson line) = input_text line (codes "L4") []
 
--- the bytes of a refusal of the catalogue on this line
-abbrev pub catalog_refusal : ℕ → CatalogError → List ℕ
-catalog_refusal line catalog.NoMemory = no_memory_text
-catalog_refusal line (catalog.Shape path) = input_text line (codes "C1") (string path ∷ [])
-catalog_refusal line (catalog.Twice name) = input_text line (codes "C2") (string name ∷ [])
-catalog_refusal line (catalog.Unknown name) = input_text line (codes "C3") (string name ∷ [])
-catalog_refusal line (catalog.SqlFault name step fault) = input_text line (codes "C4") (string name ∷ count step ∷ string (fault_code fault.code) ∷ count fault.at ∷ [])
-catalog_refusal line (catalog.WorkflowCycle name) = input_text line (codes "C5") (string name ∷ [])
-catalog_refusal line (catalog.TriggerCycle name) = input_text line (codes "C6") (string name ∷ [])
-catalog_refusal line (catalog.LocalityBroken name step) = input_text line (codes "C7") (string name ∷ count step ∷ [])
-catalog_refusal line (catalog.StreamEnds name) = input_text line (codes "C8") (string name ∷ [])
-catalog_refusal line (catalog.WindowOwner name) = input_text line (codes "C9") (string name ∷ [])
-catalog_refusal line (catalog.Limit counted) = input_text line (codes "C10") (string (counted_word counted) ∷ [])
+-- what a catalogue is refused for: the code, and what it is about; out of memory has none
+abbrev pub catalog_fault : CatalogError → List Data
+catalog_fault catalog.NoMemory = []
+catalog_fault (catalog.Shape path) = string (codes "C1") ∷ string path ∷ []
+catalog_fault (catalog.Twice name) = string (codes "C2") ∷ string name ∷ []
+catalog_fault (catalog.Unknown name) = string (codes "C3") ∷ string name ∷ []
+catalog_fault (catalog.SqlFault name step fault) = string (codes "C4") ∷ string name ∷ count step ∷ string (fault_code fault.code) ∷ count fault.at ∷ []
+catalog_fault (catalog.WorkflowCycle name) = string (codes "C5") ∷ string name ∷ []
+catalog_fault (catalog.TriggerCycle name) = string (codes "C6") ∷ string name ∷ []
+catalog_fault (catalog.LocalityBroken name step) = string (codes "C7") ∷ string name ∷ count step ∷ []
+catalog_fault (catalog.StreamEnds name) = string (codes "C8") ∷ string name ∷ []
+catalog_fault (catalog.WindowOwner name) = string (codes "C9") ∷ string name ∷ []
+catalog_fault (catalog.Limit counted) = string (codes "C10") ∷ string (counted_word counted) ∷ []
+
+-- a line that is refused for its catalogue, or for the body that it installs, whose fault is told behind the code C15
+abbrev pub fault_text : FaultIn → ℕ → List Data → List ℕ
+fault_text fault_in.Catalog line fault = line_text (array_of (string (codes "input") ∷ count line ∷ fault))
+fault_text fault_in.Body line fault = input_text line (codes "C15") fault
+
+-- the bytes of a refusal of the catalogue on this line, or of the body
+abbrev pub catalog_refusal : ℕ → CatalogError → FaultIn → List ℕ
+catalog_refusal line catalog.NoMemory fault_in.Catalog = no_memory_text
+catalog_refusal line e site = fault_text site line (catalog_fault e)
 
 -- the bytes of a refusal of a request
 abbrev pub request_refusal : RequestError → List ℕ
@@ -124,12 +132,13 @@ request_refusal (request.Shape line) = input_text line (codes "C11") []
 request_refusal (request.UnknownTarget line) = input_text line (codes "C12") []
 request_refusal (request.Arguments line) = input_text line (codes "C13") []
 request_refusal (request.TooManyRows line) = input_text line (codes "C14") []
+request_refusal (request.BadBody line e) = catalog_refusal line e fault_in.Body
 
 -- the bytes of a refusal; where there is no catalogue, that is refused as a whole, on line 1
 abbrev pub refusal_text : InputError → List ℕ
 refusal_text (OfLine e) = bytes_refusal e
 refusal_text NoCatalog = input_text 1 (codes "C1") (string (codes "$") ∷ [])
-refusal_text (OfCatalog line e) = catalog_refusal line e
+refusal_text (OfCatalog line e) = catalog_refusal line e fault_in.Catalog
 refusal_text (OfRequest e) = request_refusal e
 
 -- ---- the statuses of refusals

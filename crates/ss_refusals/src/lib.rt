@@ -15,8 +15,8 @@
 //!
 //! # Promises
 //!
-//! - `read_input`: just the catalogue and the requests that the bytes say (`ok`: `Starts`), which recovery and clients may be
-//!   given (`own`, `fit`); or the bytes' first refusal (`refused`: `IsRefusedBy`), with what it leaves of the source (`leaves`).
+//! - `read_input`: just the catalogue and the requests that the bytes say (`ok`: `Starts`), with the bodies that these install
+//!   (`goes_on`), which recovery and clients may be given (`own`, `fit`); or the bytes' first refusal (`refused`: `IsRefusedBy`), with what it leaves of the source (`leaves`).
 //! - `refuse` writes the text of the refusal and answers its status (`refused`: `ExitsRefused`), or says that there was no memory
 //!   for this text; `refuse_store` the same of a refusal of recovery (`told`: `TellsRefusal`). Which text and which status, each
 //!   refusal of an input by itself, `specs/Statuses` says.
@@ -45,7 +45,7 @@ mod status;
 mod store_refusals;
 
 pub use command_line::refuse_words;
-pub use input::{InputError, ParsedInput, catalog_at, read_input};
+pub use input::{InputError, ParsedInput, catalog_at, read_input, request_in};
 pub use laws::an_input_has_one_answer;
 pub use line::line_of;
 pub use refusals::{NO_MEMORY, USAGE, refuse, write_line};

@@ -3,7 +3,7 @@
 ghost use Rattle.std.specs.Prelude.{◌≡◌, ◌≤◌, [], ◌∷◌, IfOk, codes, string_bytes};
 ghost use Rattle.serde_json.specs.Data.{string};
 ghost use Rattle.ss_model.specs.ReportLines.{count};
-ghost use Rattle.ss_refusals.specs.Statuses.{input_text, sql_fault, fault_code, counted_word, bytes_refusal, catalog_refusal, request_refusal, refusal_text, bytes_status, catalog_status, request_status, refusal_status};
+ghost use Rattle.ss_refusals.specs.Statuses.{input_text, fault_text, fault_code, counted_word, bytes_refusal, catalog_refusal, request_refusal, refusal_text, bytes_status, catalog_status, request_status, refusal_status};
 ghost use Rattle.ss_refusals.specs.Sinks.{sink_of, Writes, ExitsRefused};
 
 use crate::input::InputError;
@@ -41,63 +41,90 @@ fn input_line(alloc: Global, line: u64, code: &str) -> Result<String, AllocError
     line_of(alloc, "input", &[Field::Number(line), Field::Text(code)])
 }
 
-/// A refused line with its code, and a word for what it is refused for.
+// ---- what a catalogue is refused for
+
+/// What a fault of a catalogue is told of.
+#[derive(Clone, Copy, Drop)]
+enum FaultIn {
+    /// The catalogue on the line.
+    Catalog,
+    /// The body that the line installs: with it in place the catalogue has the fault. It is told behind the code of such a line.
+    Body,
+}
+
+/// The code of a line that installs a body with which the catalogue is refused.
+const BAD_BODY: &str = "C15";
+
+/// A line that is refused for out of memory, which isn't told of a body.
+fn memory_line(alloc: Global, line: u64, site: FaultIn) -> Result<String, AllocError>
+    ensures { IfOk result (λ text. string_bytes text ≡ catalog_refusal line CatalogError.NoMemory site) }
+{
+    match site {
+        FaultIn::Catalog => String::from_str(alloc, NO_MEMORY),
+        FaultIn::Body => input_line(alloc, line, BAD_BODY),
+    }
+}
+
+/// A refused line with the fault's code, and a word for what it is about.
 fn word_line<'x>(
     alloc: Global,
     line: u64,
+    site: FaultIn,
     code: &'x str,
     word: &'x str,
 ) -> Result<String, AllocError>
-    ensures { IfOk result (λ text. string_bytes text ≡ input_text line code.now (string word.now ∷ [])) }
+    ensures { IfOk result (λ text. string_bytes text ≡ fault_text site line (string code.now ∷ string word.now ∷ [])) }
 {
-    let fields = [Field::Number(line), Field::Text(code), Field::Text(word)];
-    line_of(alloc, "input", &fields)
+    let (line, bad) = (Field::Number(line), Field::Text(BAD_BODY));
+    let (code, word) = (Field::Text(code), Field::Text(word));
+    match site {
+        FaultIn::Catalog => line_of(alloc, "input", &[line, code, word]),
+        FaultIn::Body => line_of(alloc, "input", &[line, bad, code, word]),
+    }
 }
 
-/// A refused line with its code, and the step of the procedure or trigger for which it is refused.
+/// A refused line with the fault's code, and the step of the procedure or trigger that it is about.
 fn step_line<'x>(
     alloc: Global,
     line: u64,
+    site: FaultIn,
     code: &'x str,
     name: &'x str,
     step: u32,
 ) -> Result<String, AllocError>
-    ensures { IfOk result (λ text. string_bytes text ≡ input_text line code.now (string name.now ∷ count step ∷ [])) }
+    ensures { IfOk result (λ text. string_bytes text ≡ fault_text site line (string code.now ∷ string name.now ∷ count step ∷ [])) }
 {
-    let fields = [
-        Field::Number(line),
-        Field::Text(code),
-        Field::Text(name),
-        Field::Number(u64::from(step)),
-    ];
-    line_of(alloc, "input", &fields)
+    let (line, bad) = (Field::Number(line), Field::Text(BAD_BODY));
+    let (code, name) = (Field::Text(code), Field::Text(name));
+    let step = Field::Number(u64::from(step));
+    match site {
+        FaultIn::Catalog => line_of(alloc, "input", &[line, code, name, step]),
+        FaultIn::Body => line_of(alloc, "input", &[line, bad, code, name, step]),
+    }
 }
 
-/// A line that is refused with its code for a SQL text: the step that has the text, the fault's own code, and its offset in
-/// bytes.
-fn fault_line<'x>(
+/// A line that is refused for a SQL text: the step that has the text, the code of the text's own fault, and its offset in bytes.
+fn text_line<'x>(
     alloc: Global,
     line: u64,
-    code: &'x str,
+    site: FaultIn,
     name: &'x str,
     step: u32,
     fault: &'x str,
     at: usize,
 ) -> Result<String, AllocError>
-    ensures { IfOk result (λ text. string_bytes text ≡ input_text line code.now (sql_fault name.now step fault.now at)) }
+    ensures { IfOk result (λ text. string_bytes text ≡ fault_text site line
+        (string (codes "C4") ∷ string name.now ∷ count step ∷ string fault.now ∷ count at ∷ [])) }
 {
-    let fields = [
-        Field::Number(line),
-        Field::Text(code),
-        Field::Text(name),
-        Field::Number(u64::from(step)),
-        Field::Text(fault),
-        Field::Number(at as u64),
-    ];
-    line_of(alloc, "input", &fields)
+    let (line, bad) = (Field::Number(line), Field::Text(BAD_BODY));
+    let (code, name) = (Field::Text("C4"), Field::Text(name));
+    let step = Field::Number(u64::from(step));
+    let (fault, at) = (Field::Text(fault), Field::Number(at as u64));
+    match site {
+        FaultIn::Catalog => line_of(alloc, "input", &[line, code, name, step, fault, at]),
+        FaultIn::Body => line_of(alloc, "input", &[line, bad, code, name, step, fault, at]),
+    }
 }
-
-// ---- what a catalogue is refused for
 
 fn fault_code(alloc: Global, code: u8) -> Result<String, AllocError>
     ensures { IfOk result (λ text. string_bytes text ≡ fault_code code) }
@@ -124,35 +151,42 @@ fn counted_word(counted: Counted) -> &'static str
 fn sql_line(
     alloc: Global,
     line: u64,
+    site: FaultIn,
     name: &str,
     step: u32,
     fault: SqlFault,
 ) -> Result<String, AllocError>
-    ensures { IfOk result (λ text. string_bytes text ≡ input_text line (codes "C4") (sql_fault name.now step (fault_code fault.code) fault.at)) }
+    ensures { IfOk result (λ text. string_bytes text ≡ fault_text site line
+        (string (codes "C4") ∷ string name.now ∷ count step ∷ string (fault_code fault.code) ∷ count fault.at ∷ [])) }
 {
     let code = fault_code(alloc, fault.code)?;
-    fault_line(alloc, line, "C4", name, step, code.as_str(), fault.at)
+    text_line(alloc, line, site, name, step, code.as_str(), fault.at)
 }
 
-fn catalog_line(alloc: Global, line: u64, error: &CatalogError) -> Result<String, AllocError>
-    ensures { IfOk result (λ text. string_bytes text ≡ catalog_refusal line error.now) }
+fn catalog_line(
+    alloc: Global,
+    line: u64,
+    site: FaultIn,
+    error: &CatalogError,
+) -> Result<String, AllocError>
+    ensures { IfOk result (λ text. string_bytes text ≡ catalog_refusal line error.now site) }
 {
     match error {
-        CatalogError::NoMemory => String::from_str(alloc, NO_MEMORY),
-        CatalogError::Shape(path) => word_line(alloc, line, "C1", path.as_str()),
-        CatalogError::Twice(name) => word_line(alloc, line, "C2", name.as_str()),
-        CatalogError::Unknown(name) => word_line(alloc, line, "C3", name.as_str()),
+        CatalogError::NoMemory => memory_line(alloc, line, site),
+        CatalogError::Shape(path) => word_line(alloc, line, site, "C1", path.as_str()),
+        CatalogError::Twice(name) => word_line(alloc, line, site, "C2", name.as_str()),
+        CatalogError::Unknown(name) => word_line(alloc, line, site, "C3", name.as_str()),
         CatalogError::SqlFault { name, step, fault } => {
-            sql_line(alloc, line, name.as_str(), *step, *fault)
+            sql_line(alloc, line, site, name.as_str(), *step, *fault)
         }
-        CatalogError::WorkflowCycle(name) => word_line(alloc, line, "C5", name.as_str()),
-        CatalogError::TriggerCycle(name) => word_line(alloc, line, "C6", name.as_str()),
+        CatalogError::WorkflowCycle(name) => word_line(alloc, line, site, "C5", name.as_str()),
+        CatalogError::TriggerCycle(name) => word_line(alloc, line, site, "C6", name.as_str()),
         CatalogError::LocalityBroken { name, step } => {
-            step_line(alloc, line, "C7", name.as_str(), *step)
+            step_line(alloc, line, site, "C7", name.as_str(), *step)
         }
-        CatalogError::StreamEnds(name) => word_line(alloc, line, "C8", name.as_str()),
-        CatalogError::WindowOwner(name) => word_line(alloc, line, "C9", name.as_str()),
-        CatalogError::Limit(counted) => word_line(alloc, line, "C10", counted_word(*counted)),
+        CatalogError::StreamEnds(name) => word_line(alloc, line, site, "C8", name.as_str()),
+        CatalogError::WindowOwner(name) => word_line(alloc, line, site, "C9", name.as_str()),
+        CatalogError::Limit(counted) => word_line(alloc, line, site, "C10", counted_word(*counted)),
     }
 }
 
@@ -170,15 +204,16 @@ fn bytes_line(alloc: Global, error: LineError) -> Result<String, AllocError>
     }
 }
 
-fn request_line(alloc: Global, error: RequestError) -> Result<String, AllocError>
-    ensures { IfOk result (λ text. string_bytes text ≡ request_refusal error) }
+fn request_line(alloc: Global, error: &RequestError) -> Result<String, AllocError>
+    ensures { IfOk result (λ text. string_bytes text ≡ request_refusal error.now) }
 {
     match error {
         RequestError::NoMemory => String::from_str(alloc, NO_MEMORY),
-        RequestError::Shape { line } => input_line(alloc, line, "C11"),
-        RequestError::UnknownTarget { line } => input_line(alloc, line, "C12"),
-        RequestError::Arguments { line } => input_line(alloc, line, "C13"),
-        RequestError::TooManyRows { line } => input_line(alloc, line, "C14"),
+        RequestError::Shape { line } => input_line(alloc, *line, "C11"),
+        RequestError::UnknownTarget { line } => input_line(alloc, *line, "C12"),
+        RequestError::Arguments { line } => input_line(alloc, *line, "C13"),
+        RequestError::TooManyRows { line } => input_line(alloc, *line, "C14"),
+        RequestError::BadBody { line, fault } => catalog_line(alloc, *line, FaultIn::Body, fault),
     }
 }
 
@@ -188,9 +223,9 @@ fn refusal_line(alloc: Global, error: &InputError) -> Result<String, AllocError>
 {
     match error {
         InputError::Line(error) => bytes_line(alloc, *error),
-        InputError::NoCatalog => word_line(alloc, 1, "C1", "$"),
-        InputError::Catalog { line, error } => catalog_line(alloc, *line, error),
-        InputError::Request(error) => request_line(alloc, *error),
+        InputError::NoCatalog => word_line(alloc, 1, FaultIn::Catalog, "C1", "$"),
+        InputError::Catalog { line, error } => catalog_line(alloc, *line, FaultIn::Catalog, error),
+        InputError::Request(error) => request_line(alloc, error),
     }
 }
 
@@ -215,8 +250,8 @@ fn catalog_status(error: &CatalogError) -> Status
     }
 }
 
-fn request_status(error: RequestError) -> Status
-    ensures { result ≡ request_status error }
+fn request_status(error: &RequestError) -> Status
+    ensures { result ≡ request_status error.now }
 {
     match error {
         RequestError::NoMemory => Status::NoMemory,
@@ -224,6 +259,7 @@ fn request_status(error: RequestError) -> Status
         RequestError::UnknownTarget { .. } => Status::Input,
         RequestError::Arguments { .. } => Status::Input,
         RequestError::TooManyRows { .. } => Status::Input,
+        RequestError::BadBody { .. } => Status::Input,
     }
 }
 
@@ -234,7 +270,7 @@ fn status_of(error: &InputError) -> Status
         InputError::Line(error) => bytes_status(*error),
         InputError::NoCatalog => Status::Input,
         InputError::Catalog { error, .. } => catalog_status(error),
-        InputError::Request(error) => request_status(*error),
+        InputError::Request(error) => request_status(error),
     }
 }
 

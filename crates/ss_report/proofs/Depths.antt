@@ -12,7 +12,7 @@ use Rattle.ss_model.specs.declared.entry.Reason.TheVariants.{Raised, KeyTaken, O
 use Rattle.ss_model.specs.declared.entry.Answer.{Answer}
 use Rattle.ss_model.specs.declared.entry.Answer.TheVariants.{Listed as ListedAnswer, NoMemory, ListFull, Halted}
 use Rattle.ss_model.specs.declared.entry.Entry.{Entry}
-use Rattle.ss_model.specs.declared.entry.Entry.TheVariants.{Call, Push, Step as StepEntry}
+use Rattle.ss_model.specs.declared.entry.Entry.TheVariants.{Call, Push, Step as StepEntry, Install}
 use Rattle.ss_model.specs.ReportLines.{value_data, row_data, rows_data, outcome_data, reply_line, entry_line, table_line, row_line, done_line, stopped_line}
 
 all_shallow : {A : Type 0} (f : A → Data) (n : ℕ) → ((x : A) → depth (f x) ≤ n) → (xs : List A) → items_depth (items_of (map f xs)) ≤ n
@@ -51,6 +51,7 @@ outcome_shallow catalog (Gap next) = omega arith
 pub entry_shallow : (catalog : Catalog) (place : ℕ) (outcome : Outcome) (e : Entry) → depth (entry_line catalog place outcome e) ≤ 127
 entry_shallow catalog place outcome (Call client index procedure args) = let inside = outcome_shallow catalog outcome in omega arith
 entry_shallow catalog place outcome (Push client index stream source seq rows) = let inside = outcome_shallow catalog outcome in omega arith
+entry_shallow catalog place outcome (Install client index procedure text) = let inside = outcome_shallow catalog outcome in omega arith
 entry_shallow catalog place outcome (StepEntry procedure batch) = let inside = outcome_shallow catalog outcome in omega arith
 
 pub reply_shallow : (catalog : Catalog) (line : ℕ) (answer : Answer) → depth (reply_line catalog line answer) ≤ 127

@@ -12,7 +12,7 @@ use Rattle.ss_value.specs.Rows.{Row, Rows}
 use Rattle.ss_model.specs.declared.catalog.Catalog.{Catalog}
 use Rattle.ss_model.specs.declared.catalog.Procedure.{Procedure}
 use Rattle.ss_model.specs.declared.entry.Entry.{Entry}
-use Rattle.ss_model.specs.declared.entry.Entry.TheVariants.{Call, Push, Step as StepEntry}
+use Rattle.ss_model.specs.declared.entry.Entry.TheVariants.{Call, Push, Step as StepEntry, Install}
 use Rattle.ss_model.specs.declared.entry.Listed.{Listed}
 use Rattle.ss_model.specs.declared.entry.Outcome.{Outcome}
 use Rattle.ss_model.specs.declared.entry.Request.{Request}
@@ -26,7 +26,7 @@ use Rattle.ss_lemmas.proofs.Bools.{first_of_two, second_of_two, some_same}
 use Rattle.ss_model.proofs.CallerLemmas.{applied_fits, tested}
 use Rattle.ss_report_laws.specs.OneList.{ReportsList}
 use Rattle.ss_report_laws.proofs.Lines.{texts, same_lines}
-use Rattle.ss_report_laws.proofs.LineText.{mark, entry_mark, marked, begins_entry, entry_begins, end_begins, name_of, call_client, push_client, step_name}
+use Rattle.ss_report_laws.proofs.LineText.{mark, entry_mark, marked, begins_entry, entry_begins, end_begins, name_of, call_client, push_client, install_client, step_name}
 use Rattle.ss_report_laws.proofs.Asked.{same_asked}
 use Rattle.ss_report_laws.proofs.Replies.{same_answers, in_both}
 use Rattle.ss_report_laws.proofs.SameIndices.{indices, same_indices}
@@ -37,7 +37,7 @@ pub applied_of : (o : Option Applied) (outcome : Outcome) → option_map (λ (a 
 applied_of None outcome e = absurd (cc)
 applied_of (Some a) outcome e = (a, refl)
 
--- the client of a call or a push is below 8
+-- the client of a call, a push or an install is below 8
 client_of_call : (client : ℕ) (args : Row) (o : Option Procedure) → has_call client args o ≡ true → client < 8
 client_of_call client args None h = absurd (both_ways false refl h)
 client_of_call client args (Some p) h = ltb-true client 8 (first_of_two _ _ (first_of_two _ _ h))
@@ -51,6 +51,11 @@ push_within : (catalog : Catalog) (db : Database) (c i s : ℕ) (source : List �
 push_within catalog db c i s source seq rows outcome e =
     let a = applied_of (apply catalog db (Push c i s source seq rows)) outcome e in
     ltb-true c 8 (first_of_two _ _ (first_of_two _ _ (first_of_two _ _ (first_of_two _ _ (applied_fits catalog db (Push c i s source seq rows) a.0 a.1)))))
+
+install_within : (catalog : Catalog) (db : Database) (c i q : ℕ) (text : List ℕ) (outcome : Outcome) → entry_outcome catalog db (Install c i q text) ≡ Some outcome → c < 8
+install_within catalog db c i q text outcome e =
+    let a = applied_of (apply catalog db (Install c i q text)) outcome e in
+    ltb-true c 8 (first_of_two _ _ (first_of_two _ _ (first_of_two _ _ (applied_fits catalog db (Install c i q text) a.0 a.1))))
 
 -- a procedure that is there, and as many batches as it has taken
 record Ready (catalog : Catalog) (db : Database) (q r : ℕ) : Type 0 where
@@ -112,7 +117,7 @@ same_steps catalog db q r p s accepted one two e =
     let rounds : r ≡ s = sym one.counted ∙ ap (batch_count db) same ∙ two.counted in
     ap₂ StepEntry same rounds
 
--- ---- a call's and a push's index
+-- ---- the index of a call, push or install
 
 answered : (client i : ℕ) → cond (client == client) (Some i) None ≡ Some i
 answered client i = rw (eq-eqb client client refl)
@@ -139,15 +144,25 @@ module _ (catalog : Catalog) (accepted : Accepted catalog) (requests : List Requ
       let index : i ≡ j = same_index c d i j (is c) (js c) client (same c) in
       same_asked c i requests (Call c i q args) (Call d j p more) asked also (answered c i) (ap (λ n. cond (n == c) (Some j) None) (sym client) ∙ answered c j ∙ ap Some (sym index))
   same_entry db place start o u (Call c i q args) (Push d j t name n more) is js h k asked also same text word = absurd (omega arith)
+  same_entry db place start o u (Call c i q args) (Install d j p body) is js h k asked also same text word = absurd (omega arith)
   same_entry db place start o u (Call c i q args) (StepEntry p s) is js h k asked also same text word = absurd (omega arith)
   same_entry db place start o u (Push c i s source seq rows) (Call d j p more) is js h k asked also same text word = absurd (omega arith)
   same_entry db place start o u (Push c i s source seq rows) (Push d j t name n more) is js h k asked also same text word =
       let client : c ≡ d = same_client c d (push_within catalog db c i s source seq rows o h) (push_within catalog db d j t name n more u k) (push_client catalog place start o u c i s d j t source name seq n rows more text) in
       let index : i ≡ j = same_index c d i j (is c) (js c) client (same c) in
       same_asked c i requests (Push c i s source seq rows) (Push d j t name n more) asked also (answered c i) (ap (λ n. cond (n == c) (Some j) None) (sym client) ∙ answered c j ∙ ap Some (sym index))
+  same_entry db place start o u (Push c i s source seq rows) (Install d j p body) is js h k asked also same text word = absurd (omega arith)
   same_entry db place start o u (Push c i s source seq rows) (StepEntry p r) is js h k asked also same text word = absurd (omega arith)
+  same_entry db place start o u (Install c i q text) (Call d j p more) is js h k asked also same line word = absurd (omega arith)
+  same_entry db place start o u (Install c i q text) (Push d j t name n more) is js h k asked also same line word = absurd (omega arith)
+  same_entry db place start o u (Install c i q text) (Install d j p body) is js h k asked also same line word =
+      let client : c ≡ d = same_client c d (install_within catalog db c i q text o h) (install_within catalog db d j p body u k) (install_client catalog place start o u c i q d j p text body line) in
+      let index : i ≡ j = same_index c d i j (is c) (js c) client (same c) in
+      same_asked c i requests (Install c i q text) (Install d j p body) asked also (answered c i) (ap (λ n. cond (n == c) (Some j) None) (sym client) ∙ answered c j ∙ ap Some (sym index))
+  same_entry db place start o u (Install c i q text) (StepEntry p r) is js h k asked also same line word = absurd (omega arith)
   same_entry db place start o u (StepEntry q r) (Call d j p more) is js h k asked also same text word = absurd (omega arith)
   same_entry db place start o u (StepEntry q r) (Push d j t name n more) is js h k asked also same text word = absurd (omega arith)
+  same_entry db place start o u (StepEntry q r) (Install d j p body) is js h k asked also same text word = absurd (omega arith)
   same_entry db place start o u (StepEntry q r) (StepEntry p s) is js h k asked also same text word =
       same_steps catalog db q r p s accepted (ready catalog db q r o h) (ready catalog db p s u k) (step_name catalog place start o u q r p s text)
 

@@ -8,9 +8,9 @@ use Rattle.ss_lemmas.proofs.Numbers.{eqb_self, eqb_is}
 use Rattle.ss_model.specs.declared.entry.Answer.{Answer}
 use Rattle.ss_model.specs.declared.entry.Answer.TheVariants.{Listed as ListedAnswer, NoMemory, ListFull, Halted}
 use Rattle.ss_model.specs.declared.entry.Asked.{Asked}
-use Rattle.ss_model.specs.declared.entry.Asked.TheVariants.{Call as CallAsked, Push as PushAsked}
+use Rattle.ss_model.specs.declared.entry.Asked.TheVariants.{Call as CallAsked, Push as PushAsked, Install as InstallAsked}
 use Rattle.ss_model.specs.declared.entry.Entry.{Entry}
-use Rattle.ss_model.specs.declared.entry.Entry.TheVariants.{Call, Push, Step as StepEntry}
+use Rattle.ss_model.specs.declared.entry.Entry.TheVariants.{Call, Push, Step as StepEntry, Install}
 use Rattle.ss_model.specs.declared.entry.Listed.{Listed}
 use Rattle.ss_model.specs.declared.entry.Outcome.{Outcome}
 use Rattle.ss_model.specs.declared.entry.Request.{Request}
@@ -43,11 +43,13 @@ not_equal m n h = grind (arith, nat_tests)
 abbrev client_of : Entry → ℕ
 client_of (Call c i q args) = c
 client_of (Push c i s source seq rows) = c
+client_of (Install c i q text) = c
 client_of (StepEntry q r) = 0
 
 abbrev number_of : Entry → ℕ
 number_of (Call c i q args) = i
 number_of (Push c i s source seq rows) = i
+number_of (Install c i q text) = i
 number_of (StepEntry q r) = 0
 
 abbrev IsClients : Entry → Type 0
@@ -57,38 +59,55 @@ IsClients e = Unit {0}
 own : (e : Entry) → IsClients e → is_of (client_of e) e ≡ true
 own (Call c i q args) h = eqb_self c
 own (Push c i s source seq rows) h = eqb_self c
+own (Install c i q text) h = eqb_self c
 own (StepEntry q r) h = absurd h
 
 of_own : (k : ℕ) (e : Entry) → is_of k e ≡ true → client_of e ≡ k
 of_own k (Call c i q args) h = eqb_is c k h
 of_own k (Push c i s source seq rows) h = eqb_is c k h
+of_own k (Install c i q text) h = eqb_is c k h
 of_own k (StepEntry q r) h = cc
 
 same_numbers : (e f : Entry) → is_same_request e f ≡ true → (client_of e ≡ client_of f) × (number_of e ≡ number_of f)
 same_numbers (Call c i q args) (Call d j p more) h = let b = and_parts (c == d) (i == j) h in (eqb_is c d b.0, eqb_is i j b.1)
 same_numbers (Push c i s source seq rows) (Push d j t name n more) h = let b = and_parts (c == d) (i == j) h in (eqb_is c d b.0, eqb_is i j b.1)
+same_numbers (Install c i q text) (Install d j p body) h = let b = and_parts (c == d) (i == j) h in (eqb_is c d b.0, eqb_is i j b.1)
 same_numbers (Call c i q args) (Push d j t name n more) h = cc
+same_numbers (Call c i q args) (Install d j p body) h = cc
 same_numbers (Call c i q args) (StepEntry p r) h = cc
 same_numbers (Push c i s source seq rows) (Call d j p more) h = cc
+same_numbers (Push c i s source seq rows) (Install d j p body) h = cc
 same_numbers (Push c i s source seq rows) (StepEntry p r) h = cc
+same_numbers (Install c i q text) (Call d j p more) h = cc
+same_numbers (Install c i q text) (Push d j t name n more) h = cc
+same_numbers (Install c i q text) (StepEntry p r) h = cc
 same_numbers (StepEntry q r) (Call d j p more) h = cc
 same_numbers (StepEntry q r) (Push d j t name n more) h = cc
+same_numbers (StepEntry q r) (Install d j p body) h = cc
 same_numbers (StepEntry q r) (StepEntry p m) h = cc
 
 same_clients : (e f : Entry) → is_same_request e f ≡ true → IsClients f
 same_clients (Call c i q args) (Call d j p more) h = tt
 same_clients (Push c i s source seq rows) (Push d j t name n more) h = tt
+same_clients (Install c i q text) (Install d j p body) h = tt
 same_clients (Call c i q args) (Push d j t name n more) h = tt
+same_clients (Call c i q args) (Install d j p body) h = tt
 same_clients (Call c i q args) (StepEntry p r) h = cc
 same_clients (Push c i s source seq rows) (Call d j p more) h = tt
+same_clients (Push c i s source seq rows) (Install d j p body) h = tt
 same_clients (Push c i s source seq rows) (StepEntry p r) h = cc
+same_clients (Install c i q text) (Call d j p more) h = tt
+same_clients (Install c i q text) (Push d j t name n more) h = tt
+same_clients (Install c i q text) (StepEntry p r) h = cc
 same_clients (StepEntry q r) (Call d j p more) h = tt
 same_clients (StepEntry q r) (Push d j t name n more) h = tt
+same_clients (StepEntry q r) (Install d j p body) h = tt
 same_clients (StepEntry q r) (StepEntry p m) h = cc
 
 same_itself : (e : Entry) → IsClients e → is_same_request e e ≡ true
 same_itself (Call c i q args) h = let a = eqb_self c in let b = eqb_self i in λ j. a j && b j
 same_itself (Push c i s source seq rows) h = let a = eqb_self c in let b = eqb_self i in λ j. a j && b j
+same_itself (Install c i q text) h = let a = eqb_self c in let b = eqb_self i in λ j. a j && b j
 same_itself (StepEntry q r) h = absurd h
 
 -- ---- where a client's entry stands
@@ -189,14 +208,17 @@ before c earlier = count_by (λ (x : Request). x.client == c) earlier
 asked_client : (c n : ℕ) (what : Asked) → client_of (asked_entry c n what) ≡ c
 asked_client c n (CallAsked q args) = refl
 asked_client c n (PushAsked s source seq rows) = refl
+asked_client c n (InstallAsked q text) = refl
 
 asked_number : (c n : ℕ) (what : Asked) → number_of (asked_entry c n what) ≡ n
 asked_number c n (CallAsked q args) = refl
 asked_number c n (PushAsked s source seq rows) = refl
+asked_number c n (InstallAsked q text) = refl
 
 asked_of : (c n : ℕ) (what : Asked) → IsClients (asked_entry c n what)
 asked_of c n (CallAsked q args) = tt
 asked_of c n (PushAsked s source seq rows) = tt
+asked_of c n (InstallAsked q text) = tt
 
 pub all_clients : (earlier rs : List Request) → AllByRecursion IsClients (entries_behind earlier rs)
 all_clients earlier [] = tt
@@ -265,6 +287,10 @@ one_asked requests l (Push c i s source seq rows) place ls is h =
     let head : is_of c l.entry ≡ true = subst (λ e. is_of c e ≡ true) (sym is) (eqb_self c) in
     let here = (subst (λ b. AllByRecursion (IsIn (asked_entries requests)) (cond b ((place, l) ∷ mine c (place + 1) ls) (mine c (place + 1) ls))) head (h c)).0 in
     subst (IsAsked requests) (sym is) (subst (Contains (asked_entries requests)) is here)
+one_asked requests l (Install c i q text) place ls is h =
+    let head : is_of c l.entry ≡ true = subst (λ e. is_of c e ≡ true) (sym is) (eqb_self c) in
+    let here = (subst (λ b. AllByRecursion (IsIn (asked_entries requests)) (cond b ((place, l) ∷ mine c (place + 1) ls) (mine c (place + 1) ls))) head (h c)).0 in
+    subst (IsAsked requests) (sym is) (subst (Contains (asked_entries requests)) is here)
 
 rest_mine : (P : ℕ × Listed → Type 0) (k place : ℕ) (l : Listed) (ls : List Listed) → AllByRecursion P (mine k place (l ∷ ls)) → AllByRecursion P (mine k (place + 1) ls)
 rest_mine P k place l ls h = by (is_of k l.entry) h
@@ -285,6 +311,7 @@ indexes k ps = filter_map (λ (p : ℕ × Listed). client_index k p.1.entry) ps
 no_index : (k : ℕ) (e : Entry) → is_of k e ≡ false → client_index k e ≡ None
 no_index k (Call c i q args) h = ap (λ b. cond b (Some i) None) h
 no_index k (Push c i s source seq rows) h = ap (λ b. cond b (Some i) None) h
+no_index k (Install c i q text) h = ap (λ b. cond b (Some i) None) h
 no_index k (StepEntry q r) h = refl
 
 pub indexes_mine : (k place : ℕ) (list : List Listed) → filter_map (λ (l : Listed). client_index k l.entry) list ≡ indexes k (mine k place list)
@@ -313,10 +340,12 @@ from_rises n (i ∷ j ∷ js) h = (let k : suc i ≤ j = h.1.0 in omega arith, f
 pub asked_index : (k c n : ℕ) (what : Asked) → client_index k (asked_entry c n what) ≡ cond (c == k) (Some n) None
 asked_index k c n (CallAsked q args) = refl
 asked_index k c n (PushAsked s source seq rows) = refl
+asked_index k c n (InstallAsked q text) = refl
 
 pub asked_is_of : (k c n : ℕ) (what : Asked) → is_of k (asked_entry c n what) ≡ (c == k)
 asked_is_of k c n (CallAsked q args) = refl
 asked_is_of k c n (PushAsked s source seq rows) = refl
+asked_is_of k c n (InstallAsked q text) = refl
 
 one_from : (k : ℕ) (earlier : List Request) (r : Request) (place : ℕ) (o : Outcome) (rest : List (ℕ × Listed)) → From (before k (earlier ++ r ∷ [])) (indexes k rest) → (b : Bool) → (r.client == k) ≡ b
     → From (before k earlier) (indexes k (cond (is_of k (asked_entry r.client (before r.client earlier) r.what)) (listed_at place o (asked_entry r.client (before r.client earlier) r.what) ∷ rest) rest))

@@ -1,5 +1,5 @@
 -- What stands where in the lines of a report.
-use Rattle.std.proofs.Common.{◌≡◌, ◌∙◌, ◌==◌, ◌||◌, ℕ, List, [], ◌∷◌, ◌++◌, Bool, true, false, not, decimal, codes, get_or, unwrap_or, refl, sym, ap, arith, append_assoc, slice_get}
+use Rattle.std.proofs.Common.{◌≡◌, ◌∙◌, ◌+◌, ◌==◌, ◌||◌, ℕ, List, [], ◌∷◌, ◌++◌, Bool, true, false, not, decimal, codes, get_or, unwrap_or, refl, sym, ap, arith, append_assoc, slice_get}
 use Rattle.std.specs.Option.{option_map}
 use Rattle.std.specs.List.{flat_map}
 use Rattle.std.specs.FinMap as finmap
@@ -13,7 +13,7 @@ use Rattle.ss_model.specs.declared.catalog.TableDef.{TableDef}
 use Rattle.ss_model.specs.declared.entry.Answer.{Answer}
 use Rattle.ss_model.specs.declared.entry.Answer.TheVariants.{Listed as ListedAnswer, NoMemory, ListFull, Halted}
 use Rattle.ss_model.specs.declared.entry.Entry.{Entry}
-use Rattle.ss_model.specs.declared.entry.Entry.TheVariants.{Call, Push, Step as StepEntry}
+use Rattle.ss_model.specs.declared.entry.Entry.TheVariants.{Call, Push, Step as StepEntry, Install}
 use Rattle.ss_model.specs.declared.entry.Listed.{Listed}
 use Rattle.ss_model.specs.declared.entry.Outcome.{Outcome}
 use Rattle.ss_value.specs.Rows.{Row, Rows}
@@ -77,13 +77,13 @@ same_replies catalog line a b e =
 
 -- ---- words
 
--- the third letter of the word that a line begins with
+-- the second and third letters, added up, of the word that a line begins with: no two words of a report share this
 abbrev pub mark : List ℕ → ℕ
-mark text = get_or text 4 0
+mark text = get_or text 3 0 + get_or text 4 0
 
--- the mark of `call`, `push` or `step`
+-- the mark of `call`, `push`, `install` or `step`
 abbrev pub is_entry_mark : ℕ → Bool
-is_entry_mark m = (m == 108) || (m == 115) || (m == 101)
+is_entry_mark m = (m == 205) || (m == 232) || (m == 225) || (m == 217)
 
 -- whether the first line is an entry's
 abbrev pub begins_entry : List (List ℕ) → Bool
@@ -92,19 +92,22 @@ begins_entry (t ∷ ts) = is_entry_mark (mark t)
 
 -- of an entry
 abbrev pub entry_mark : Entry → ℕ
-entry_mark (Call client index q args) = 108
-entry_mark (Push client index s source seq rows) = 115
-entry_mark (StepEntry q r) = 101
+entry_mark (Call client index q args) = 205
+entry_mark (Push client index s source seq rows) = 232
+entry_mark (Install client index q text) = 225
+entry_mark (StepEntry q r) = 217
 
 pub marked : (catalog : Catalog) (place : ℕ) (outcome : Outcome) (e : Entry) → mark (compact_text (entry_line catalog place outcome e)) ≡ entry_mark e
 unfolding escape_byte
 marked catalog place outcome (Call client index q args) = refl
 marked catalog place outcome (Push client index s source seq rows) = refl
+marked catalog place outcome (Install client index q text) = refl
 marked catalog place outcome (StepEntry q r) = refl
 
 known_mark : (e : Entry) → is_entry_mark (entry_mark e) ≡ true
 known_mark (Call client index q args) = refl
 known_mark (Push client index s source seq rows) = refl
+known_mark (Install client index q text) = refl
 known_mark (StepEntry q r) = refl
 
 pub entry_begins : (catalog : Catalog) (place : ℕ) (outcome : Outcome) (e : Entry) (ts : List (List ℕ)) → begins_entry (compact_text (entry_line catalog place outcome e) ∷ ts) ≡ true
@@ -137,6 +140,11 @@ push_text : (catalog : Catalog) (place : ℕ) (outcome : Outcome) (client index 
 unfolding escape_byte
 push_text catalog place outcome client index s source seq rows = refl
 
+install_text : (catalog : Catalog) (place : ℕ) (outcome : Outcome) (client index q : ℕ) (text : List ℕ)
+    → compact_text (entry_line catalog place outcome (Install client index q text)) ≡ opening (codes "install") ++ (decimal place ++ 44 ∷ (decimal client ++ 44 ∷ (decimal index ++ 44 ∷ tail_text catalog outcome)))
+unfolding escape_byte
+install_text catalog place outcome client index q text = refl
+
 -- the name of a procedure, or none
 abbrev pub name_of : Catalog → ℕ → List ℕ
 name_of catalog q = unwrap_or (option_map (λ d. d.name) (slice_get catalog.procedures q)) []
@@ -165,6 +173,11 @@ pub push_client : (catalog : Catalog) (place start : ℕ) (outcome others : Outc
     → compact_text (entry_line catalog place outcome (Push c i s source seq rows)) ≡ compact_text (entry_line catalog start others (Push d j t name n more)) → decimal c ≡ decimal d
 push_client catalog place start outcome others c i s d j t source name seq n rows more e =
     same_clients (codes "push") place start c d _ _ (sym (push_text catalog place outcome c i s source seq rows) ∙ e ∙ push_text catalog start others d j t name n more)
+
+pub install_client : (catalog : Catalog) (place start : ℕ) (outcome others : Outcome) (c i q d j p : ℕ) (text body : List ℕ)
+    → compact_text (entry_line catalog place outcome (Install c i q text)) ≡ compact_text (entry_line catalog start others (Install d j p body)) → decimal c ≡ decimal d
+install_client catalog place start outcome others c i q d j p text body e =
+    same_clients (codes "install") place start c d _ _ (sym (install_text catalog place outcome c i q text) ∙ e ∙ install_text catalog start others d j p body)
 
 -- a quoted text can be read off what begins with it
 pub same_quoted : (s t rest others : List ℕ) → quoted s ++ rest ≡ quoted t ++ others → s ≡ t

@@ -3,7 +3,7 @@ use Rattle.std.proofs.Common.{◌≡◌, ◌∙◌, ◌<◌, ◌==◌, ◌||◌,
 use Rattle.std.specs.List.{AllByRecursion, Contains, list_any, filter_map, cons_option}
 use Rattle.std.proofs.lemmas.Bool.{cases_eq, both_ways, eqb-true, eq-eqb, ne_eqb, or_cases, or_left, or_right, and_parts, and_from, false_from_ne_true}
 use Rattle.ss_model.specs.declared.entry.Entry.{Entry}
-use Rattle.ss_model.specs.declared.entry.Entry.TheVariants.{Call, Push, Step as StepEntry}
+use Rattle.ss_model.specs.declared.entry.Entry.TheVariants.{Call, Push, Step as StepEntry, Install}
 use Rattle.ss_model.specs.declared.entry.Listed.{Listed}
 use Rattle.ss_model.specs.declared.entry.Request.{Request}
 use Rattle.ss_model.specs.Report.{asked_entries, IsAsked, client_index, Rising, is_same_request}
@@ -75,22 +75,32 @@ same_index client (Call c i q args) (Call d j p more) h =
     (λ k. cond (eqb-true c d parts.0 k == client) (Some (eqb-true i j parts.1 k)) None)
 same_index client (Call c i q args) (Push d j t name n more) h = absurd (both_ways false refl h)
 same_index client (Call c i q args) (StepEntry p s) h = absurd (both_ways false refl h)
+same_index client (Call c i q args) (Install d j p body) h = absurd (both_ways false refl h)
 same_index client (Push c i s source seq rows) (Call d j p more) h = absurd (both_ways false refl h)
 same_index client (Push c i s source seq rows) (Push d j t name n more) h =
     let parts = and_parts (c == d) (i == j) h in
     (λ k. cond (eqb-true c d parts.0 k == client) (Some (eqb-true i j parts.1 k)) None)
 same_index client (Push c i s source seq rows) (StepEntry p r) h = absurd (both_ways false refl h)
+same_index client (Push c i s source seq rows) (Install d j p body) h = absurd (both_ways false refl h)
+same_index client (Install c i q text) (Call d j p more) h = absurd (both_ways false refl h)
+same_index client (Install c i q text) (Push d j t name n more) h = absurd (both_ways false refl h)
+same_index client (Install c i q text) (Install d j p body) h =
+    let parts = and_parts (c == d) (i == j) h in
+    (λ k. cond (eqb-true c d parts.0 k == client) (Some (eqb-true i j parts.1 k)) None)
+same_index client (Install c i q text) (StepEntry p r) h = absurd (both_ways false refl h)
 same_index client (StepEntry q r) f h = absurd (both_ways false refl h)
 
 -- what has an index is the same request as itself, and is asked for
 itself : (client i : ℕ) (e : Entry) → client_index client e ≡ Some i → is_same_request e e ≡ true
 itself client i (Call c j q args) h = and_from (c == c) (j == j) (eq-eqb c c refl) (eq-eqb j j refl)
 itself client i (Push c j s source seq rows) h = and_from (c == c) (j == j) (eq-eqb c c refl) (eq-eqb j j refl)
+itself client i (Install c j q text) h = and_from (c == c) (j == j) (eq-eqb c c refl) (eq-eqb j j refl)
 itself client i (StepEntry q r) h = absurd (cc)
 
 is_asked : (requests : List Request) (client i : ℕ) (e : Entry) → IsAsked requests e → client_index client e ≡ Some i → Contains (asked_entries requests) e
 is_asked requests client i (Call c j q args) h answered = h
 is_asked requests client i (Push c j s source seq rows) h answered = h
+is_asked requests client i (Install c j q text) h answered = h
 is_asked requests client i (StepEntry q r) h answered = absurd (cc)
 
 -- one more index, or none

@@ -6,7 +6,7 @@ use Rattle.ss_lemmas.proofs.Numbers.{eqb_self, eqb_is}
 use Rattle.ss_lemmas.proofs.Mapped.{all_at}
 use Rattle.ss_model.specs.declared.entry.Answer.{Answer}
 use Rattle.ss_model.specs.declared.entry.Asked.{Asked}
-use Rattle.ss_model.specs.declared.entry.Asked.TheVariants.{Call as CallAsked, Push as PushAsked}
+use Rattle.ss_model.specs.declared.entry.Asked.TheVariants.{Call as CallAsked, Push as PushAsked, Install as InstallAsked}
 use Rattle.ss_model.specs.declared.entry.Listed.{Listed}
 use Rattle.ss_model.specs.declared.entry.Request.{Request}
 use Rattle.ss_model.specs.Report.{End, Unlisted, asked_entry, entries_behind, asked_entries}
@@ -18,6 +18,7 @@ use Rattle.ss_report_laws.proofs.ByClient.{answers_to, by_client, same_before}
 pub answer_asked : (missing : Answer) (answers : List (List Answer)) (c n : ℕ) (what : Asked) → answer_to missing answers (asked_entry c n what) ≡ get_or (answers_of answers c) n missing
 answer_asked missing answers c n (CallAsked q args) = refl
 answer_asked missing answers c n (PushAsked s source seq rows) = refl
+answer_asked missing answers c n (InstallAsked q text) = refl
 
 -- one request more behind those before it, and one fewer to come
 counted : (k : ℕ) (earlier : List Request) (r : Request) (rs : List Request) → before k (earlier ++ r ∷ []) + length (requests_of k rs) ≡ before k earlier + length (requests_of k (r ∷ rs))

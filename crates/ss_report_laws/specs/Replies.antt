@@ -5,7 +5,7 @@ use Rattle.ss_model.specs.declared.catalog.Catalog.{Catalog}
 use Rattle.ss_model.specs.declared.entry.Answer.{Answer}
 use Rattle.ss_model.specs.declared.entry.Answer.TheVariants.{Listed as ListedAnswer}
 use Rattle.ss_model.specs.declared.entry.Entry.{Entry}
-use Rattle.ss_model.specs.declared.entry.Entry.TheVariants.{Call, Push, Step as StepEntry}
+use Rattle.ss_model.specs.declared.entry.Entry.TheVariants.{Call, Push, Step as StepEntry, Install}
 use Rattle.ss_model.specs.declared.entry.Listed.{Listed}
 use Rattle.ss_model.specs.declared.entry.Outcome.{Outcome}
 use Rattle.ss_model.specs.declared.entry.Request.{Request}
@@ -18,6 +18,7 @@ use Rattle.ss_model.specs.Report.{End, Unlisted, Report, asked_entry, asked_entr
 abbrev pub is_of : ℕ → Entry → Bool
 is_of client (Call c index q args) = c == client
 is_of client (Push c index s source seq rows) = c == client
+is_of client (Install c index q text) = c == client
 is_of client (StepEntry q r) = false
 
 -- the entries of a client with their places, in a list that begins at this place
@@ -62,6 +63,7 @@ pub record AreAnswered (requests : List Request) (first : ℕ) (list : List List
 abbrev pub answer_to : Answer → List (List Answer) → Entry → Answer
 answer_to missing answers (Call client index q args) = get_or (answers_of answers client) index missing
 answer_to missing answers (Push client index s source seq rows) = get_or (answers_of answers client) index missing
+answer_to missing answers (Install client index q text) = get_or (answers_of answers client) index missing
 answer_to missing answers (StepEntry q r) = missing
 
 -- the answers to all requests, in the order of the input

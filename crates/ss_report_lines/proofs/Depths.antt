@@ -4,7 +4,7 @@ use Rattle.std.specs.Str.{bytes_eq}
 use Rattle.std.proofs.lemmas.Bool.{and_parts, or_cases}
 use Rattle.serde_json.specs.Data.{Data, null, boolean, number, string, array, object, Items, no_items, item, depth, items_depth}
 use Rattle.ss_report_lines.specs.declared.kind.LineKind.{LineKind}
-use Rattle.ss_report_lines.specs.declared.kind.LineKind.TheVariants.{Reply, Call, Push, Step, Table, Done}
+use Rattle.ss_report_lines.specs.declared.kind.LineKind.TheVariants.{Reply, Call, Push, Install, Step, Table, Done}
 use Rattle.ss_report_lines.specs.Kinds.{items_all, is_count, is_integer, is_text, is_word, is_value, is_row, is_rows, reason_has, are_reason, is_one, are_outcome, is_outcome, number_at, client_at, reply_kind, asked_by, step_kind, table_kind, row_kind, done_kind, items_kind, kind_of}
 use Rattle.ss_report_lines.proofs.Floats.{chosen, mapped, client_counts, either, both_there, made}
 
@@ -205,24 +205,25 @@ done-shallow no_items k h = omega arith
 done-shallow (item a no_items) k h = let one : depth a ≤ 0 = is_count-flat a (mapped Done (number_at a) k h) in omega arith
 done-shallow (item a (item b ds)) k h = absurd (cc)
 
-words : (r c p s t w d : Bool) (ds : Items) (k : LineKind)
-    → cond r (reply_kind ds) (cond c (option_map (λ by. Call by.0 by.1) (asked_by ds)) (cond p (option_map (λ by. Push by.0 by.1) (asked_by ds)) (cond s (step_kind ds) (cond t (table_kind ds) (cond w (row_kind ds) (cond d (done_kind ds) None)))))) ≡ Some k
+words : (r c p n s t w d : Bool) (ds : Items) (k : LineKind)
+    → cond r (reply_kind ds) (cond c (option_map (λ by. Call by.0 by.1) (asked_by ds)) (cond p (option_map (λ by. Push by.0 by.1) (asked_by ds)) (cond n (option_map (λ by. Install by.0 by.1) (asked_by ds)) (cond s (step_kind ds) (cond t (table_kind ds) (cond w (row_kind ds) (cond d (done_kind ds) None))))))) ≡ Some k
     → items_depth ds ≤ 3
-words true c p s t w d ds k h = reply-shallow ds k h
-words false true p s t w d ds k h = let m = made (λ by. Call by.0 by.1) (asked_by ds) k h in asked-shallow ds m.0 m.1
-words false false true s t w d ds k h = let m = made (λ by. Push by.0 by.1) (asked_by ds) k h in asked-shallow ds m.0 m.1
-words false false false true t w d ds k h = step-shallow ds k h
-words false false false false true w d ds k h = table-shallow ds k h
-words false false false false false true d ds k h = row-shallow ds k h
-words false false false false false false true ds k h = done-shallow ds k h
-words false false false false false false false ds k h = absurd (cc)
+words true c p n s t w d ds k h = reply-shallow ds k h
+words false true p n s t w d ds k h = let m = made (λ by. Call by.0 by.1) (asked_by ds) k h in asked-shallow ds m.0 m.1
+words false false true n s t w d ds k h = let m = made (λ by. Push by.0 by.1) (asked_by ds) k h in asked-shallow ds m.0 m.1
+words false false false true s t w d ds k h = let m = made (λ by. Install by.0 by.1) (asked_by ds) k h in asked-shallow ds m.0 m.1
+words false false false false true t w d ds k h = step-shallow ds k h
+words false false false false false true w d ds k h = table-shallow ds k h
+words false false false false false false true d ds k h = row-shallow ds k h
+words false false false false false false false true ds k h = done-shallow ds k h
+words false false false false false false false false ds k h = absurd (cc)
 
 items-shallow : (ds : Items) (k : LineKind) → items_kind ds ≡ Some k → items_depth ds ≤ 3
 items-shallow no_items k h = omega arith
 items-shallow (item null ds) k h = absurd (cc)
 items-shallow (item (boolean b) ds) k h = absurd (cc)
 items-shallow (item (number n) ds) k h = absurd (cc)
-items-shallow (item (string s) ds) k h = let rest = words _ _ _ _ _ _ _ ds k h in omega arith
+items-shallow (item (string s) ds) k h = let rest = words _ _ _ _ _ _ _ _ ds k h in omega arith
 items-shallow (item (array es) ds) k h = absurd (cc)
 items-shallow (item (object ms) ds) k h = absurd (cc)
 

@@ -5,7 +5,7 @@ use Rattle.std.proofs.lemmas.Bool.{and_parts, or_cases}
 use Rattle.serde_json.specs.Data.{Data, null, boolean, number, string, array, object, unsigned, negative, float, Items, no_items, item}
 use Rattle.serde_json.specs.Written.{has_float, items_have_float}
 use Rattle.ss_report_lines.specs.declared.kind.LineKind.{LineKind}
-use Rattle.ss_report_lines.specs.declared.kind.LineKind.TheVariants.{Reply, Call, Push, Step, Table, Done}
+use Rattle.ss_report_lines.specs.declared.kind.LineKind.TheVariants.{Reply, Call, Push, Install, Step, Table, Done}
 use Rattle.ss_report_lines.specs.Kinds.{items_all, is_count, is_integer, is_text, is_word, is_value, is_row, is_rows, reason_has, are_reason, is_one, are_outcome, is_outcome, number_at, client_at, reply_kind, asked_by, step_kind, table_kind, row_kind, done_kind, items_kind, kind_of}
 
 -- a test that no value with a float passes
@@ -242,24 +242,25 @@ pub made : {A : Type 0} (f : A → LineKind) (x : Option A) (k : LineKind) → o
 made f (Some a) k h = (a, refl)
 made f None k h = absurd (cc)
 
-words : (r c p s t w d : Bool) (ds : Items) (k : LineKind)
-    → cond r (reply_kind ds) (cond c (option_map (λ by. Call by.0 by.1) (asked_by ds)) (cond p (option_map (λ by. Push by.0 by.1) (asked_by ds)) (cond s (step_kind ds) (cond t (table_kind ds) (cond w (row_kind ds) (cond d (done_kind ds) None)))))) ≡ Some k
+words : (r c p n s t w d : Bool) (ds : Items) (k : LineKind)
+    → cond r (reply_kind ds) (cond c (option_map (λ by. Call by.0 by.1) (asked_by ds)) (cond p (option_map (λ by. Push by.0 by.1) (asked_by ds)) (cond n (option_map (λ by. Install by.0 by.1) (asked_by ds)) (cond s (step_kind ds) (cond t (table_kind ds) (cond w (row_kind ds) (cond d (done_kind ds) None))))))) ≡ Some k
     → items_have_float ds ≡ false
-words true c p s t w d ds k h = reply-whole ds k h
-words false true p s t w d ds k h = let m = made (λ by. Call by.0 by.1) (asked_by ds) k h in asked-whole ds m.0 m.1
-words false false true s t w d ds k h = let m = made (λ by. Push by.0 by.1) (asked_by ds) k h in asked-whole ds m.0 m.1
-words false false false true t w d ds k h = step-whole ds k h
-words false false false false true w d ds k h = table-whole ds k h
-words false false false false false true d ds k h = row-whole ds k h
-words false false false false false false true ds k h = done-whole ds k h
-words false false false false false false false ds k h = absurd (cc)
+words true c p n s t w d ds k h = reply-whole ds k h
+words false true p n s t w d ds k h = let m = made (λ by. Call by.0 by.1) (asked_by ds) k h in asked-whole ds m.0 m.1
+words false false true n s t w d ds k h = let m = made (λ by. Push by.0 by.1) (asked_by ds) k h in asked-whole ds m.0 m.1
+words false false false true s t w d ds k h = let m = made (λ by. Install by.0 by.1) (asked_by ds) k h in asked-whole ds m.0 m.1
+words false false false false true t w d ds k h = step-whole ds k h
+words false false false false false true w d ds k h = table-whole ds k h
+words false false false false false false true d ds k h = row-whole ds k h
+words false false false false false false false true ds k h = done-whole ds k h
+words false false false false false false false false ds k h = absurd (cc)
 
 items-whole : (ds : Items) (k : LineKind) → items_kind ds ≡ Some k → items_have_float ds ≡ false
 items-whole no_items k h = refl
 items-whole (item null ds) k h = absurd (cc)
 items-whole (item (boolean b) ds) k h = absurd (cc)
 items-whole (item (number n) ds) k h = absurd (cc)
-items-whole (item (string s) ds) k h = words _ _ _ _ _ _ _ ds k h
+items-whole (item (string s) ds) k h = words _ _ _ _ _ _ _ _ ds k h
 items-whole (item (array es) ds) k h = absurd (cc)
 items-whole (item (object ms) ds) k h = absurd (cc)
 

@@ -4,7 +4,7 @@ use Rattle.std.specs.Str.{bytes_eq}
 use Rattle.serde_json.specs.Data.{Data, Items, no_items, item}
 use Rattle.serde_json.specs.Find.{as_number, as_u64, as_array, as_str, is_float}
 use Rattle.ss_report_lines.specs.declared.kind.LineKind.{LineKind}
-use Rattle.ss_report_lines.specs.declared.kind.LineKind.TheVariants.{Reply, Call, Push, Step, Table, Row, Done}
+use Rattle.ss_report_lines.specs.declared.kind.LineKind.TheVariants.{Reply, Call, Push, Install, Step, Table, Row, Done}
 
 -- ---- parts of lines
 
@@ -105,7 +105,7 @@ reply_kind (item line (item first (item second no_items))) =
     cond ((is_count first && is_outcome second) || (is_word (codes "halted") first && is_count second)) (option_map Reply (number_at line)) None
 reply_kind _ = None
 
--- of a call or a push: whose request it is, and which of them
+-- of a call, a push or an install: whose request it is, and which of them
 abbrev pub asked_by : Items → Option (ℕ × ℕ)
 asked_by (item place (item client (item index (item outcome no_items)))) =
     cond (is_count place && is_outcome outcome) (option_and_then (λ c. option_map (λ i. (c, i)) (number_at index)) (client_at client)) None
@@ -138,10 +138,11 @@ worded word ds =
     cond (bytes_eq word (codes "reply")) (reply_kind ds)
     (cond (bytes_eq word (codes "call")) (option_map (λ by. Call by.0 by.1) (asked_by ds))
     (cond (bytes_eq word (codes "push")) (option_map (λ by. Push by.0 by.1) (asked_by ds))
+    (cond (bytes_eq word (codes "install")) (option_map (λ by. Install by.0 by.1) (asked_by ds))
     (cond (bytes_eq word (codes "step")) (step_kind ds)
     (cond (bytes_eq word (codes "table")) (table_kind ds)
     (cond (bytes_eq word (codes "row")) (row_kind ds)
-    (cond (bytes_eq word (codes "done")) (done_kind ds) None))))))
+    (cond (bytes_eq word (codes "done")) (done_kind ds) None)))))))
 
 -- the kind of an array with these items
 abbrev pub items_kind : Items → Option LineKind

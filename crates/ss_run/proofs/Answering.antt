@@ -5,7 +5,7 @@ use Rattle.std.proofs.lemmas.List.Elements.{filter-append}
 use Rattle.ss_model.specs.declared.entry.Answer.{Answer}
 use Rattle.ss_model.specs.declared.entry.Answer.TheVariants.{Listed as ListedAnswer, NoMemory, ListFull, Halted}
 use Rattle.ss_model.specs.declared.entry.Entry.{Entry}
-use Rattle.ss_model.specs.declared.entry.Entry.TheVariants.{Call, Push, Step as StepEntry}
+use Rattle.ss_model.specs.declared.entry.Entry.TheVariants.{Call, Push, Step as StepEntry, Install}
 use Rattle.ss_model.specs.declared.entry.Listed.{Listed}
 use Rattle.ss_model.specs.declared.entry.Request.{Request}
 use Rattle.ss_model.specs.Report.{Whole, asked_entry, is_step}
@@ -25,6 +25,7 @@ step_first x xs none = by x.entry none
     by : (e : Entry) → cond (not (is_step e)) (e ∷ client_entries xs) (client_entries xs) ≡ [] → ((q : ℕ) × (r : ℕ) × (e ≡ StepEntry q r)) × (client_entries xs ≡ [])
     by (Call client index q args) e = cc
     by (Push client index s source seq rows) e = cc
+    by (Install client index q text) e = cc
     by (StepEntry q r) e = ((q, r, refl), e)
 
 steps_answered : (requests : List Request) (list steps : List Listed) (answers : List (List Answer)) → client_entries steps ≡ [] → AreAnswered requests 0 list Whole answers → AreAnswered requests 0 (list ++ steps) Whole answers

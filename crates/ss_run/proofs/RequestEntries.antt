@@ -9,7 +9,7 @@ use Rattle.ss_model.specs.declared.catalog.Procedure.{Procedure}
 use Rattle.ss_model.specs.declared.entry.Answer.{Answer}
 use Rattle.ss_model.specs.declared.entry.Answer.TheVariants.{Listed as ListedAnswer, NoMemory, ListFull, Halted}
 use Rattle.ss_model.specs.declared.entry.Asked.{Asked}
-use Rattle.ss_model.specs.declared.entry.Asked.TheVariants.{Call as CallAsked, Push as PushAsked}
+use Rattle.ss_model.specs.declared.entry.Asked.TheVariants.{Call as CallAsked, Push as PushAsked, Install as InstallAsked}
 use Rattle.ss_model.specs.declared.entry.Entry.{Entry}
 use Rattle.ss_model.specs.declared.entry.Listed.{Listed}
 use Rattle.ss_model.specs.declared.entry.Outcome.{Outcome}
@@ -70,6 +70,7 @@ client_below catalog client index (CallAsked q args) fits = by (slice_get catalo
     by None e = cc
     by (Some p) e = ltb-true client 8 (first_of_two _ _ (first_of_two _ _ e))
 client_below catalog client index (PushAsked s source seq rows) fits = ltb-true client 8 (first_of_two _ _ (first_of_two _ _ (first_of_two _ _ (first_of_two _ _ fits))))
+client_below catalog client index (InstallAsked q text) fits = ltb-true client 8 (first_of_two _ _ (first_of_two _ _ (first_of_two _ _ fits)))
 
 pub client_at : (catalog : Catalog) (rs : List Request) (i : ℕ) (r : Request) → all_fit catalog rs ≡ true → slice_get rs i ≡ Some r → r.client < 8
 client_at catalog rs i r fit here = client_below catalog r.client (count_of r.client (take i rs)) r.what (fits_at catalog rs i r fit here)
@@ -78,6 +79,7 @@ client_at catalog rs i r fit here = client_below catalog r.client (count_of r.cl
 pub asked_ready : (catalog : Catalog) (db : Database) (client index : ℕ) (what : Asked) → is_ready_entry catalog db (asked_entry client index what) ≡ true
 asked_ready catalog db client index (CallAsked q args) = refl
 asked_ready catalog db client index (PushAsked s source seq rows) = refl
+asked_ready catalog db client index (InstallAsked q text) = refl
 
 -- ---- lists that leave some out
 part_keep : {A : Type 0} (xs ys : List A) (y : A) → IsPartOf xs ys → IsPartOf (xs ++ y ∷ []) (ys ++ y ∷ [])
@@ -104,6 +106,7 @@ in_order_on requests list new on in_order = rw (steps_same list new on) in_order
 is_asked : (client index : ℕ) (what : Asked) (ls : List Entry) → cond (not (is_step (asked_entry client index what))) (asked_entry client index what ∷ ls) ls ≡ asked_entry client index what ∷ ls
 is_asked client index (CallAsked q args) ls = refl
 is_asked client index (PushAsked s source seq rows) ls = refl
+is_asked client index (InstallAsked q text) ls = refl
 
 answered_entries : (list new : List Listed) (client index place : ℕ) (what : Asked) (o : Outcome) → Answered list new (asked_entry client index what) place o → client_entries new ≡ client_entries list ++ asked_entry client index what ∷ []
 answered_entries list new client index place what o a =

@@ -4,7 +4,7 @@ use Rattle.std.specs.List.{AllByRecursion, Contains, cons_option, filter_map}
 use Rattle.ss_lemmas.proofs.Bools.{some_same}
 use Rattle.ss_lemmas.proofs.Numbers.{eqb_self}
 use Rattle.ss_model.specs.declared.entry.Entry.{Entry}
-use Rattle.ss_model.specs.declared.entry.Entry.TheVariants.{Call, Push, Step as StepEntry}
+use Rattle.ss_model.specs.declared.entry.Entry.TheVariants.{Call, Push, Step as StepEntry, Install}
 use Rattle.ss_model.specs.declared.entry.Listed.{Listed}
 use Rattle.ss_model.specs.declared.entry.Request.{Request}
 use Rattle.ss_model.specs.Report.{IsAsked, Rising, asked_entries, entries_behind, client_index, is_step}
@@ -23,6 +23,7 @@ pub among_asked : (requests : List Request) (e : Entry) → is_step e ≡ false 
 among_asked requests (Call c i q args) other asked = asked
 among_asked requests (Push c i s source seq rows) other asked = asked
 among_asked requests (StepEntry q r) other asked = cc
+among_asked requests (Install c i q text) other asked = asked
 
 module _ (c : ℕ) where
   -- the client's own, whose indices rise by one, from this one on

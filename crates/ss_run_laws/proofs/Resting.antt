@@ -5,7 +5,7 @@ use Rattle.std.proofs.lemmas.List.Sums.{sum_by-le-sum_by}
 use Rattle.ss_lemmas.proofs.Counts.{count_cons}
 use Rattle.ss_model.specs.declared.catalog.Catalog.{Catalog}
 use Rattle.ss_model.specs.declared.entry.Entry.{Entry}
-use Rattle.ss_model.specs.declared.entry.Entry.TheVariants.{Call, Push, Step as StepEntry}
+use Rattle.ss_model.specs.declared.entry.Entry.TheVariants.{Call, Push, Step as StepEntry, Install}
 use Rattle.ss_model.specs.declared.entry.Listed.{Listed}
 use Rattle.ss_model.specs.Accepted.{Accepted}
 use Rattle.ss_model.specs.Database.{Database, Applied, apply, batch_count, stream_batches}
@@ -24,6 +24,7 @@ not_counted : (e : Entry) (q count : ℕ) → is_step e ≡ false → counted e 
 not_counted (Call c i n args) q count other = refl
 not_counted (Push c i s source seq rows) q count other = refl
 not_counted (StepEntry n r) q count other = cc
+not_counted (Install c i n text) q count other = refl
 
 no_more : (b : Bool) (x y : ℕ) → (b ≡ true → x ≤ y) → cond b x 0 ≤ cond b y 0
 no_more true x y le = le refl
@@ -39,6 +40,7 @@ module _ (catalog : Catalog) (accepted : Accepted catalog) where
   waits : (db : Database) → IsInStep catalog db → pending_steps catalog db ≡ 0 → (e : Entry) (a : Applied) → apply catalog db e ≡ Some a → is_step e ≡ false
   waits db in_step none (Call c i q args) a is = refl
   waits db in_step none (Push c i s source seq rows) a is = refl
+  waits db in_step none (Install c i q text) a is = refl
   waits db in_step none (StepEntry q r) a is = absurd (let less = lower_pending catalog accepted db in_step q r a is in omega (arith, less, none))
 
   module _ (db : Database) (in_step : IsInStep catalog db) (l : Listed) (one : Ran catalog accepted db l) where

@@ -8,7 +8,7 @@ use Rattle.ss_lemmas.proofs.Counts.{count_cons}
 use Rattle.ss_lemmas.proofs.Numbers.{eqb_apart, eqb_is, eqb_self}
 use Rattle.ss_model.specs.declared.catalog.Catalog.{Catalog}
 use Rattle.ss_model.specs.declared.entry.Entry.{Entry}
-use Rattle.ss_model.specs.declared.entry.Entry.TheVariants.{Call, Push, Step as StepEntry}
+use Rattle.ss_model.specs.declared.entry.Entry.TheVariants.{Call, Push, Step as StepEntry, Install}
 use Rattle.ss_model.specs.declared.entry.Listed.{Listed}
 use Rattle.ss_model.specs.declared.entry.Outcome.{Outcome}
 use Rattle.ss_model.specs.Accepted.{Accepted}
@@ -53,6 +53,7 @@ counted_more : (q : ℕ) (catalog : Catalog) (db : Database) (e : Entry) (taken 
     → counted e q (batch_count db q) + length taken ≡ batch_count db q + length (cons_option (step_batch q e) taken)
 counted_more q catalog db (Call c i n args) taken ready = refl
 counted_more q catalog db (Push c i s source seq rows) taken ready = refl
+counted_more q catalog db (Install c i n text) taken ready = refl
 counted_more q catalog db (StepEntry n r) taken ready = by (q == n) refl
   where
     by : (b : Bool) → (q == n) ≡ b → cond b (suc r) (batch_count db q) + length taken ≡ batch_count db q + length (cons_option (cond b (Some r) None) taken)
@@ -64,6 +65,7 @@ module _ (catalog : Catalog) (accepted : Accepted catalog) where
   pub grows_border : (s : ℕ) → is_border_stream catalog s ≡ true → (e : Entry) (o : Outcome) → growth catalog e o s ≡ cond (is_accepted_push s e o) 1 0
   grows_border s border (Call c i n args) o = refl
   grows_border s border (Push c i t source seq rows) o = refl
+  grows_border s border (Install c i n text) o = refl
   grows_border s border (StepEntry n r) o = by (procedure_emits catalog n s) refl
     where
       by : (b : Bool) → procedure_emits catalog n s ≡ b → ◌≡◌ {A = ℕ} (cond (procedure_emits catalog n s) 1 0) 0

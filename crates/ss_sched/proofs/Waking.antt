@@ -6,7 +6,7 @@ use Rattle.std.specs.List.{list_any, range_with_len}
 use Rattle.ss_model.specs.declared.catalog.Procedure.{Procedure}
 use Rattle.ss_model.specs.declared.catalog.Catalog.{Catalog}
 use Rattle.ss_model.specs.declared.entry.Entry.{Entry}
-use Rattle.ss_model.specs.declared.entry.Entry.TheVariants.{Call, Push, Step as StepEntry}
+use Rattle.ss_model.specs.declared.entry.Entry.TheVariants.{Call, Push, Step as StepEntry, Install}
 use Rattle.ss_model.specs.Database.{takes_stream}
 use Rattle.ss_model.specs.Orders.{IsWired, procedure_emits, procedure_takes, procedure_has}
 use Rattle.ss_model.specs.Wakes.{wakes}
@@ -35,6 +35,7 @@ any_number test a (suc n) s from to is = by (eqb_tells a s) (λ h. any_number te
 wakes_by : (catalog : Catalog) (e : Entry) (q : ℕ) → wakes catalog e q ≡ true → (s : ℕ) × (may_append catalog e s ≡ true) × (procedure_takes catalog q s ≡ true)
 wakes_by catalog (Call client index p args) q h = cc
 wakes_by catalog (Push client index t source seq rows) q h = (t, (Decides-eqb t t).1 refl, h)
+wakes_by catalog (Install client index p text) q h = cc
 wakes_by catalog (StepEntry p r) q h =
     let (s, both) = some_number (λ s. procedure_emits catalog p s && procedure_takes catalog q s) 0 (length catalog.streams) h in
     (s, first_of_two _ _ both, second_of_two (procedure_emits catalog p s) _ both)
@@ -42,6 +43,7 @@ wakes_by catalog (StepEntry p r) q h =
 wakes_from : (catalog : Catalog) → IsWired catalog → (e : Entry) (q s : ℕ) → may_append catalog e s ≡ true → procedure_takes catalog q s ≡ true → wakes catalog e q ≡ true
 wakes_from catalog wired (Call client index p args) q s may takes = cc
 wakes_from catalog wired (Push client index t source seq rows) q s may takes = subst (λ n. procedure_takes catalog q n ≡ true) (sym (eqb-true t s may)) takes
+wakes_from catalog wired (Install client index p text) q s may takes = cc
 wakes_from catalog wired (StepEntry p r) q s may takes =
     let within : s < length catalog.streams = wired.emits_there p s may in
     any_number (λ s. procedure_emits catalog p s && procedure_takes catalog q s) 0 (length catalog.streams) s (omega arith) (omega arith) (and_from _ _ may takes)

@@ -42,7 +42,7 @@ fn entry_outputs(catalog: &Catalog, entry: &Entry) -> ProcSet
     ensures { (s : ℕ) → IsBitSet result s ↔ (may_append catalog.now entry.now s ≡ true) }
 {
     match entry {
-        Entry::Call { .. } => ProcSet::empty(),
+        Entry::Call { .. } | Entry::Install { .. } => ProcSet::empty(),
         Entry::Push { stream, .. } => set_of_stream(*stream),
         Entry::Step { procedure, .. } => {
             let found = catalog.procedures.at(usize::from(*procedure));

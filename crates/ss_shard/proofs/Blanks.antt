@@ -1,5 +1,5 @@
 -- Databases with blanks, and shards of blanks.
-use Rattle.std.proofs.Common.{◌≡◌, ◌≤◌, ◌<◌, ◌%◌, ◌∙◌, ℕ, zero, suc, Bool, true, false, cond, List, [], ◌∷◌, map, length, replicate, refl, sym, ap, subst, Some, None, slice_get}
+use Rattle.std.proofs.Common.{◌≡◌, ◌≤◌, ◌<◌, ◌∙◌, ℕ, zero, suc, Bool, true, false, cond, List, [], ◌∷◌, map, length, replicate, refl, sym, ap, subst, Some, None, slice_get}
 use Rattle.std.proofs.Math.Nat.{mod-lt}
 use Rattle.std.specs.declared.option.Option.{Option}
 use Rattle.std.specs.List.{AllByRecursion}
@@ -12,13 +12,14 @@ use Rattle.ss_model.specs.declared.catalog.Catalog.{Catalog}
 use Rattle.ss_model.specs.Results.{map_indexed}
 use Rattle.ss_model.specs.Contents.{Table, Window, window_owner, table_placement, key_columns, key_position}
 use Rattle.ss_model.specs.Database.{Database, empty_database}
-use Rattle.ss_model.specs.parts.HeldParts.{elsewhere_blank}
+use Rattle.ss_model.specs.parts.HeldParts.{elsewhere_blank, holds_some}
 use Rattle.ss_model.specs.Partitions.{key_partition, row_partition, window_partition, home_of, home_of_owner, home_partition, border_procedure}
 use Rattle.ss_model.proofs.CallerLemmas.{get_cut, same_table, home_below, value_part_below}
 use Rattle.ss_table.specs.TableValue.{TableValue}
 use Rattle.ss_undo.specs.ResultsFrom.{AreCommitted}
 use Rattle.ss_undo.specs.Windows.{AreCommittedWindows}
 use Rattle.ss_window.specs.WindowValue.{WindowValue}
+use Rattle.ss_shard.specs.Bodies.{HasBodies, texts_of}
 use Rattle.ss_shard.specs.Contents.{tables_of, windows_of}
 use Rattle.ss_shard.specs.Databases.{WindowIsSound, empty_tables, shell_tables, HasBlanksBeside}
 use Rattle.ss_shard.specs.Parts.{is_among, dealing_of, HoldsParts, IsShardOf, IsShell}
@@ -26,6 +27,7 @@ use Rattle.ss_shard.specs.Shards.{HasTables, HasWindows}
 use Rattle.ss_shard.specs.ShardValue.{ShardValue}
 use Rattle.ss_shard.specs.Sources.{SameNumbers}
 use Rattle.ss_shard.specs.Windows.{kept_part, kept_of, HoldsDatabase}
+use Rattle.ss_shard.proofs.Bodies.{none_comes, own_numbers, own_seen, own_texts, seen_by}
 use Rattle.ss_shard.proofs.OpeningLemmas.{all_dealt, all_empty, all_final, has_tables, has_windows, no_units, no_windows, none_staged}
 use Rattle.ss_shard.proofs.Placed.{numbers_alike}
 use Rattle.ss_shard.proofs.Staging.{length_replicate}
@@ -77,7 +79,8 @@ nothing_blank catalog n test some each db =
     let counts = same_items (λ q c. cond (test (home_of catalog n q)) c 0) db.counts (λ q c. ap (λ b. cond b c 0) (each _ (home_below n (slice_get catalog.procedures q) some))) in
     let numbers = same_items (λ s m. cond (test (home_partition n (border_procedure catalog s))) m finite.empty) db.next_numbers (λ s m.
     ap (λ b. cond b m finite.empty) (each _ (home_below n (border_procedure catalog s) some))) in
-    λ i. record db { contents = record { tables = tables i; windows = windows i }; counts = counts i; next_numbers = numbers i }
+    let bodies = seen_by catalog n test 0 some (each 0 some) db.bodies in
+    λ i. record db { contents = record { tables = tables i; windows = windows i }; counts = counts i; next_numbers = numbers i; bodies = bodies i }
 
 -- a database that has nothing has nothing but blanks
 pub all_blank : (catalog : Catalog) (n : ℕ) (test : ℕ → Bool) → elsewhere_blank catalog n test (empty_database catalog) ≡ empty_database catalog
@@ -87,7 +90,8 @@ all_blank catalog n test =
     let counts = same_copies (λ q c. cond (test (home_of catalog n q)) c 0) (length catalog.procedures) 0 (λ q. either_way (test (home_of catalog n q)) 0) in
     let numbers = same_copies (λ s m. cond (test (home_partition n (border_procedure catalog s))) m finite.empty) (length catalog.streams) finite.empty (λ s.
     either_way (test (home_partition n (border_procedure catalog s))) finite.empty) in
-    λ i. record (empty_database catalog) { contents = record { tables = tables i; windows = windows i }; counts = counts i; next_numbers = numbers i }
+    let bodies = own_seen catalog (holds_some n test) in
+    λ i. record (empty_database catalog) { contents = record { tables = tables i; windows = windows i }; counts = counts i; next_numbers = numbers i; bodies = bodies i }
 
 pub parts_of_blank : (catalog : Catalog) (n : ℕ) (held : List ℕ) (shard : ShardValue) → HoldsDatabase catalog shard (empty_database catalog) → HoldsParts catalog n held shard (empty_database catalog)
 parts_of_blank catalog n held shard holds = subst (λ (db : Database). HoldsDatabase catalog shard db) (sym (all_blank catalog n (is_among held))) holds
@@ -117,16 +121,19 @@ module _ (catalog : Catalog) (n part : ℕ) (made : List TableValue) (shard : Sh
     blank = no_unit ∙ ap (map_indexed (kept_of catalog)) (no_windows catalog.windows);
     cursors = has.cursors;
     sources = no_number;
+    bodies = ap length has.bodies ∙ length_replicate (length catalog.procedures) 0;
+    none_coming = has.none_coming;
   }
 
   module _ (is : made ≡ empty_tables n part catalog.tables) where
     tables_are : shard.tables ≡ empty_tables n part catalog.tables
     tables_are = has.tables ∙ is
 
-    pub blank_is_shard : IsShardOf catalog n part shard
-    blank_is_shard = record {
+    pub blank_is_shard : part < n → IsShardOf catalog n part shard
+    blank_is_shard runs = record {
       number = has.number;
       parts = record {
+        running = (runs, tt);
         committed = record {
           of_catalog = record {
             tables = subst (HasTables catalog) (sym tables_are) (has_tables n part catalog);
@@ -134,10 +141,13 @@ module _ (catalog : Catalog) (n part : ℕ) (made : List TableValue) (shard : Sh
             windows = are_windows;
             cursors = ap length has.cursors ∙ length_replicate (length catalog.procedures) 0;
             sources = ap length has.sources ∙ length_replicate (length catalog.streams) finite.empty;
+            bodies = subst (HasBodies catalog) (sym has.bodies) (own_numbers catalog);
+            coming = none_comes catalog shard.coming has.none_coming;
           };
           final = subst (λ (tables : List TableValue). AreCommitted tables) (sym tables_are) (all_final n part catalog.tables);
           committed = are_committed;
           empty = has.changes;
+          none_coming = has.none_coming;
         };
         dealt = ap (map dealing_of) tables_are ∙ all_dealt n part catalog.tables;
       };
@@ -148,4 +158,5 @@ module _ (catalog : Catalog) (n part : ℕ) (made : List TableValue) (shard : Sh
       contents = record { tables = ap tables_of tables_are ∙ all_empty n part catalog.tables; windows = no_unit };
       counts = has.cursors;
       numbers = no_number;
+      bodies = ap (texts_of catalog) has.bodies ∙ own_texts catalog;
     }

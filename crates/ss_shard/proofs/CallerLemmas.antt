@@ -2,6 +2,8 @@
 
 -- The partitions that run, and a list of shards with one of them changed.
 pub use Rattle.ss_shard.proofs.AllPartitions.{each_set, not_among}
+-- The body that a procedure has on a shard and in what it stands for, and the bodies once one is installed.
+pub use Rattle.ss_shard.proofs.Bodies.{own_texts, present_held, text_held, texts_with}
 -- The rows of a table by key, and the live rows with their slots.
 pub use Rattle.ss_shard.proofs.ByKey.{entries_by_key}
 -- One change of a shard, noted.

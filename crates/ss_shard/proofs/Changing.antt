@@ -24,10 +24,11 @@ use Rattle.ss_undo.specs.Windows.{WindowStep, WindowsResultFrom}
 use Rattle.ss_shard.specs.Shards.{shapes_of, frames_of, AllKeyed, AllInvariant, Changed}
 
 -- a change that is made and noted
-pub noted_both : (old new : ShardValue) (c : Change) → Step old.tables c new.tables → WindowStep old.windows c new.windows → new.changes ≡ old.changes ++ c ∷ [] → new.number ≡ old.number → new.cursors ≡ old.cursors → new.sources ≡ old.sources → new.columns ≡ old.columns
+pub noted_both : (old new : ShardValue) (c : Change) → (new.bodies ≡ old.bodies) × (new.coming ≡ old.coming) → Step old.tables c new.tables → WindowStep old.windows c new.windows → new.changes ≡ old.changes ++ c ∷ [] → new.number ≡ old.number → new.cursors ≡ old.cursors → new.sources ≡ old.sources → new.columns ≡ old.columns
     → shapes_of new.tables ≡ shapes_of old.tables → (AllKeyed old.tables → AllKeyed new.tables) → frames_of new.windows ≡ frames_of old.windows → (AllInvariant old.windows → AllInvariant new.windows) → Changed old new
-noted_both old new c step stage items number cursors sources columns shapes keyed frames held = record {
+noted_both old new c bodies step stage items number cursors sources columns shapes keyed frames held = record {
   columns = columns;
+  bodies = bodies;
   number = number;
   cursors = cursors;
   sources = sources;
@@ -40,6 +41,8 @@ noted_both old new c step stage items number cursors sources columns shapes keye
     columns = columns ∙ can.columns;
     cursors = cursors ∙ can.cursors;
     sources = subst (SameNumbers before.sources) (sym sources) can.sources;
+    bodies = bodies.0 ∙ can.bodies;
+    none_coming = can.none_coming;
     final = can.final;
     came = subst (λ cs. ResultsFrom before.tables cs new.tables) (sym items) (came_more before.tables old.tables new.tables old.changes c can.came step);
     committed = can.committed;
@@ -48,15 +51,16 @@ noted_both old new c step stage items number cursors sources columns shapes keye
 }
 
 -- a change of a row
-pub noted : (old new : ShardValue) (c : Change) → Step old.tables c new.tables → WindowStep old.windows c new.windows → new.changes ≡ old.changes ++ c ∷ [] → new.number ≡ old.number → new.cursors ≡ old.cursors → new.sources ≡ old.sources → new.columns ≡ old.columns → new.windows ≡ old.windows
+pub noted : (old new : ShardValue) (c : Change) → (new.bodies ≡ old.bodies) × (new.coming ≡ old.coming) → Step old.tables c new.tables → WindowStep old.windows c new.windows → new.changes ≡ old.changes ++ c ∷ [] → new.number ≡ old.number → new.cursors ≡ old.cursors → new.sources ≡ old.sources → new.columns ≡ old.columns → new.windows ≡ old.windows
     → shapes_of new.tables ≡ shapes_of old.tables → (AllKeyed old.tables → AllKeyed new.tables) → Changed old new
-noted old new c step stage items number cursors sources columns windows shapes keyed =
-    noted_both old new c step stage items number cursors sources columns shapes keyed (ap frames_of windows) (λ h. subst (λ (ws : List WindowValue). AllInvariant ws) (sym windows) h)
+noted old new c bodies step stage items number cursors sources columns windows shapes keyed =
+    noted_both old new c bodies step stage items number cursors sources columns shapes keyed (ap frames_of windows) (λ h. subst (λ (ws : List WindowValue). AllInvariant ws) (sym windows) h)
 
 -- room that is made, and nothing else
-pub unnoted : (old new : ShardValue) → new.cursors ≡ old.cursors → new.sources ≡ old.sources → new.windows ≡ old.windows → new.tables ≡ old.tables → new.changes ≡ old.changes → new.number ≡ old.number → new.columns ≡ old.columns → Changed old new
-unnoted old new cursors sources windows tables items number columns = record {
+pub unnoted : (old new : ShardValue) → (new.bodies ≡ old.bodies) × (new.coming ≡ old.coming) → new.cursors ≡ old.cursors → new.sources ≡ old.sources → new.windows ≡ old.windows → new.tables ≡ old.tables → new.changes ≡ old.changes → new.number ≡ old.number → new.columns ≡ old.columns → Changed old new
+unnoted old new bodies cursors sources windows tables items number columns = record {
   columns = columns;
+  bodies = bodies;
   number = number;
   cursors = cursors;
   sources = sources;
@@ -69,6 +73,8 @@ unnoted old new cursors sources windows tables items number columns = record {
     columns = columns ∙ can.columns;
     cursors = cursors ∙ can.cursors;
     sources = subst (SameNumbers before.sources) (sym sources) can.sources;
+    bodies = bodies.0 ∙ can.bodies;
+    none_coming = can.none_coming;
     final = can.final;
     came = subst (λ cs. ResultsFrom before.tables cs new.tables) (sym items) (subst (ResultsFrom before.tables old.changes) (sym tables) can.came);
     committed = can.committed;

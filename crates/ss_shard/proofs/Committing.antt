@@ -4,6 +4,7 @@ use Rattle.ss_model.specs.declared.catalog.Catalog.{Catalog}
 use Rattle.ss_table.specs.TableValue.{TableValue}
 use Rattle.ss_undo.specs.ResultsFrom.{ResultsFrom, all_committed}
 use Rattle.ss_undo.specs.declared.change.Change.{Change}
+use Rattle.ss_shard.specs.Bodies.{HasBodies, IsComing}
 use Rattle.ss_shard.specs.ShardValue.{ShardValue}
 use Rattle.ss_window.specs.Slides.{first_kept}
 use Rattle.ss_window.specs.WindowValue.{WindowValue, commit, outdated_count, WindowInvariant}
@@ -60,6 +61,8 @@ starts_here catalog shard s = record {
   columns = refl;
   cursors = refl;
   sources = record { streams = refl; numbers = λ s source. refl };
+  bodies = refl;
+  none_coming = s.none_coming;
   final = s.final;
   came = subst (λ (changes : List Change). ResultsFrom shard.tables changes shard.tables) (sym s.empty) refl;
   committed = s.committed;
@@ -74,4 +77,6 @@ of_same catalog old new same is = record {
   windows = subst (HasWindows catalog) (sym same.windows) is.windows;
   cursors = ap length same.cursors ∙ is.cursors;
   sources = same.sources.streams ∙ is.sources;
+  bodies = subst (HasBodies catalog) (sym same.bodies.0) is.bodies;
+  coming = subst (IsComing catalog) (sym same.bodies.1) is.coming;
 }

@@ -14,7 +14,7 @@ use Rattle.ss_shard.specs.Exchanges.{exchanged}
 use Rattle.ss_shard.specs.ShardValue.{ShardValue}
 use Rattle.ss_shard.specs.Sources.{number_of, numbers_at, SameNumbers}
 use Rattle.ss_shard.specs.Windows.{kept_part, kept_of}
-use Rattle.ss_shard.specs.Parts.{is_among, HoldsParts, HoldsAtHome, HoldsRows, with_homes}
+use Rattle.ss_shard.specs.Parts.{is_among, HoldsParts, HoldsAtHome, HoldsBodies, HoldsRows, with_homes}
 use Rattle.ss_shard.proofs.Exchanged.{chosen, length_exchanged, get_exchanged, map_exchanged, indexed_exchanged, indexed_twice}
 
 -- ---- which partitions are held then
@@ -148,8 +148,8 @@ module _ (catalog : Catalog) (n : ℕ) (held : List ℕ) (shard : ShardValue) (d
   pub homes_in : HoldsParts catalog n held shard db → HoldsAtHome catalog n held shard db
   homes_in holds = record { windows = holds.contents.windows; counts = holds.counts; numbers = holds.numbers }
 
-  pub parts_from : HoldsRows catalog n held shard.tables db → HoldsAtHome catalog n held shard db → HoldsParts catalog n held shard db
-  parts_from rows homes = record { contents = record { tables = rows; windows = homes.windows }; counts = homes.counts; numbers = homes.numbers }
+  pub parts_from : HoldsRows catalog n held shard.tables db → HoldsAtHome catalog n held shard db → HoldsBodies catalog n held shard.bodies db → HoldsParts catalog n held shard db
+  parts_from rows homes bodies = record { contents = record { tables = rows; windows = homes.windows }; counts = homes.counts; numbers = homes.numbers; bodies = bodies }
 
   -- another shard with the same of these
   pub homes_alike : (other : ShardValue) → other.windows ≡ shard.windows → other.cursors ≡ shard.cursors → other.sources ≡ shard.sources → HoldsAtHome catalog n held shard db → HoldsAtHome catalog n held other db

@@ -1,7 +1,6 @@
 -- A shard that takes in others one after another, and gives them back.
-use Rattle.std.proofs.Common.{◌≡◌, ◌≤◌, ℕ, false, List, [], ◌∷◌, ◌++◌, length, refl, sym, ap, subst, ◌∙◌, arith}
+use Rattle.std.proofs.Common.{◌≡◌, ◌≤◌, ℕ, List, [], ◌∷◌, ◌++◌, length, refl, sym, ap, subst, ◌∙◌, arith}
 use Rattle.ss_model.specs.declared.catalog.Catalog.{Catalog}
-use Rattle.ss_model.specs.Database.{Database}
 use Rattle.ss_shard.specs.ShardValue.{ShardValue}
 use Rattle.ss_shard.specs.Parts.{is_among, HoldsParts, HasParts, MayAbsorb, HasAbsorbed, MayRelease, HasReleased}
 use Rattle.ss_shard.specs.Unions.{numbers_of, AreApart, WereUnited, AreStillApart, MayPart, WereParted}

@@ -1,5 +1,5 @@
 -- A shard that takes in the part of another, and gives it back.
-use Rattle.std.proofs.Common.{◌≡◌, ◌≤◌, ℕ, List, [], ◌∷◌, ◌++◌, map, length, refl, sym, ap, subst, ◌∙◌, arith}
+use Rattle.std.proofs.Common.{◌≡◌, ◌≤◌, ◌<◌, ℕ, List, [], ◌∷◌, ◌++◌, map, length, refl, sym, ap, subst, ◌∙◌, arith, None}
 use Rattle.std.proofs.lemmas.List.{length-map}
 use Rattle.ss_model.specs.declared.catalog.TableDef.{TableDef}
 use Rattle.ss_model.specs.declared.catalog.Catalog.{Catalog}
@@ -7,12 +7,14 @@ use Rattle.ss_model.specs.Database.{Database}
 use Rattle.ss_table.specs.TableValue.{TableValue}
 use Rattle.ss_undo.specs.Indexed.{Group, columns_of, columns_in}
 use Rattle.ss_shard.specs.Joins.{MayTakeInAll, with_tables, shells_of, MayGiveBackAll, WereGivenBack}
+use Rattle.ss_shard.specs.Bodies.{HasBodies, texts_of}
 use Rattle.ss_shard.specs.Contents.{tables_of}
 use Rattle.ss_shard.specs.ShardValue.{ShardValue, Listed}
 use Rattle.ss_shard.specs.Shards.{shape_of, shape_for, AllKeyed, HasTables}
-use Rattle.ss_shard.specs.Parts.{HoldsParts, HoldsAtHome, HoldsRows, HasParts, with_homes, IsShell, MayAbsorb, HasAbsorbed, MayRelease, HasReleased}
+use Rattle.ss_shard.specs.Parts.{AreRunning, HoldsParts, HoldsAtHome, HoldsBodies, HoldsRows, HasParts, with_homes, IsShell, MayAbsorb, HasAbsorbed, MayRelease, HasReleased}
 use Rattle.ss_shard.proofs.BlankHomes.{HasHomes, IsBlank, homes_stay, has_homes, has_alike, shell_homes, shell_blank, shell_left, kept_beside, given_back}
 use Rattle.ss_shard.proofs.DealtTables.{AreDealt, are_dealt, shapes_are, dealing_is, all_final, may_take_in_all, taken_in, rows_taken_in, shells_left, may_give_back_all, all_given_back, all_rows_given_back}
+use Rattle.ss_shard.proofs.Bodies.{none_comes, running_less, running_more, seen_among}
 use Rattle.ss_shard.proofs.Homes.{homes_in, homes_alike, homes_joined, parts_from}
 
 -- ---- what a shard of parts has
@@ -22,8 +24,9 @@ module _ (catalog : Catalog) (n : ℕ) (held : List ℕ) where
   dealt_tables shard has = are_dealt n held catalog.tables shard.tables has.committed.of_catalog.tables.shapes has.dealt has.committed.final
 
   -- a shard of such tables, with the windows, counts and next numbers of the catalogue
-  has_parts : (shard : ShardValue) → AreDealt n held catalog.tables shard.tables → AllKeyed shard.tables → shard.changes ≡ [] → shard.columns ≡ map (λ (d : TableDef). d.indexes) catalog.tables → HasHomes catalog shard → HasParts catalog n held shard
-  has_parts shard dealt keyed empty columns homes = record {
+  has_parts : (shard : ShardValue) → AreDealt n held catalog.tables shard.tables → AllKeyed shard.tables → shard.changes ≡ [] → shard.columns ≡ map (λ (d : TableDef). d.indexes) catalog.tables → HasHomes catalog shard → AreRunning n held → HasBodies catalog shard.bodies → shard.coming ≡ None → HasParts catalog n held shard
+  has_parts shard dealt keyed empty columns homes running bodies none = record {
+    running = running;
     committed = record {
       of_catalog = record {
         tables = record { shapes = shapes_are n held catalog.tables shard.tables dealt; keyed = keyed };
@@ -31,10 +34,13 @@ module _ (catalog : Catalog) (n : ℕ) (held : List ℕ) where
         windows = homes.windows;
         cursors = homes.cursors;
         sources = homes.sources;
+        bodies = bodies;
+        coming = none_comes catalog shard.coming none;
       };
       final = all_final n held catalog.tables shard.tables dealt;
       committed = homes.committed;
       empty = empty;
+      none_coming = none;
     };
     dealt = dealing_is n held catalog.tables shard.tables dealt;
   }
@@ -50,6 +56,10 @@ groups_alike catalog tables indexes has columns =
     ∙ length-map tables shape_of
 
 -- ---- a shard takes in another
+
+one_longer : (held : List ℕ) (p : ℕ) → 1 ≤ length (held ++ p ∷ [])
+one_longer [] p = omega arith
+one_longer (q ∷ held) p = omega arith
 
 module _ (catalog : Catalog) (n : ℕ) (some : 1 ≤ n) (held : List ℕ) (old other : ShardValue) (may : MayAbsorb catalog n held old other) where
   abbrev p : ℕ
@@ -67,10 +77,10 @@ module _ (catalog : Catalog) (n : ℕ) (some : 1 ≤ n) (held : List ℕ) (old o
       may_take_in_all n some held p may.fresh catalog.tables old.tables other.tables db.contents.tables own_tables other_tables (may.holds.1).contents.tables (may.holds.2).contents.tables
 
   module _ (tables others : List TableValue) (columns other_columns : Listed) (joined : tables ≡ with_tables old.tables other.tables) (lent : others ≡ shells_of other.tables) (keyed : AllKeyed tables)
-      (same : columns ≡ old.columns) (other_same : other_columns ≡ other.columns) where
+      (same : columns ≡ old.columns) (other_same : other_columns ≡ other.columns) (bodies : List ℕ) (written : bodies ≡ other.bodies) where
     -- both before what is at home on the part changes places
     abbrev mid : ShardValue
-    mid = record old { tables = tables; columns = columns }
+    mid = record old { tables = tables; columns = columns; bodies = bodies }
 
     abbrev left : ShardValue
     left = record other { tables = others; columns = other_columns }
@@ -101,6 +111,13 @@ module _ (catalog : Catalog) (n : ℕ) (some : 1 ≤ n) (held : List ℕ) (old o
         ap tables_of joined
         ∙ rows_taken_in n some held p may.fresh catalog.tables old.tables other.tables db.contents.tables own_tables other_tables holds.contents.tables others_hold.contents.tables
 
+    now_running : AreRunning n (held ++ p ∷ [])
+    now_running = running_more n held p may.own.running may.others.running.0
+
+    -- the bodies of the other are those of the database, since its partition runs
+    now_bodies : (db : Database) → HoldsParts catalog n (p ∷ []) other db → HoldsBodies catalog n (held ++ p ∷ []) bodies db
+    now_bodies db others_hold = ap (texts_of catalog) written ∙ others_hold.bodies ∙ seen_among catalog n (p ∷ []) may.others.running (omega arith) db.bodies ∙ sym (seen_among catalog n (held ++ p ∷ []) now_running (one_longer held p) db.bodies)
+
     is_shell : IsShell catalog n shell
     is_shell =
         let db = may.holds.0 in
@@ -115,13 +132,17 @@ module _ (catalog : Catalog) (n : ℕ) (some : 1 ≤ n) (held : List ℕ) (old o
           blank = blank.windows;
           cursors = blank.cursors;
           sources = blank.sources;
+          bodies = may.others.committed.of_catalog.bodies.count;
+          none_coming = may.others.committed.none_coming;
         }
 
     both : HasAbsorbed catalog n held old other now shell
     both = record {
       number = refl;
-      parts = has_parts catalog n (held ++ p ∷ []) now now_dealt keyed may.own.committed.empty (same ∙ may.own.committed.of_catalog.indexes) (homes_stay catalog n p mid left own_homes other_homes);
-      holds = λ db holds others_hold. parts_from catalog n (held ++ p ∷ []) now db (now_rows db holds others_hold) (homes_joined catalog n p mid left db held (mid_home db holds) (left_home db others_hold));
+      parts = has_parts catalog n (held ++ p ∷ []) now now_dealt keyed may.own.committed.empty (same ∙ may.own.committed.of_catalog.indexes) (homes_stay catalog n p mid left own_homes other_homes) now_running
+          (subst (HasBodies catalog) (sym written) may.others.committed.of_catalog.bodies) may.own.committed.none_coming;
+      holds = λ db holds others_hold. parts_from catalog n (held ++ p ∷ []) now db (now_rows db holds others_hold)
+          (homes_joined catalog n p mid left db held (mid_home db holds) (left_home db others_hold)) (now_bodies db others_hold);
       shell_number = refl;
       left = is_shell;
     }
@@ -148,12 +169,12 @@ module _ (catalog : Catalog) (n : ℕ) (held : List ℕ) (old shell : ShardValue
       may_give_back_all n f.0 f.1 part catalog.tables old.tables shell.tables (subst (λ ps. AreDealt n (ps ++ part ∷ []) catalog.tables old.tables) f.2 all_tables) may.lent.tables
 
   module _ (tables backs : List TableValue) (columns back_columns : Listed) (given : WereGivenBack old.tables shell.tables tables backs) (keyed : AllKeyed tables) (back_keyed : AllKeyed backs)
-      (same : columns ≡ old.columns) (back_same : back_columns ≡ shell.columns) where
+      (same : columns ≡ old.columns) (back_same : back_columns ≡ shell.columns) (bodies : List ℕ) (written : bodies ≡ old.bodies) where
     abbrev kept : ShardValue
     kept = record old { tables = tables; columns = columns }
 
     abbrev given_to : ShardValue
-    given_to = record shell { tables = backs; columns = back_columns }
+    given_to = record shell { tables = backs; columns = back_columns; bodies = bodies }
 
     kept_homes : HasHomes catalog kept
     kept_homes = has_alike catalog old kept refl refl refl (has_homes catalog old may.parts.committed)
@@ -173,6 +194,13 @@ module _ (catalog : Catalog) (n : ℕ) (held : List ℕ) (old shell : ShardValue
     abbrev returned : ShardValue
     returned = with_homes catalog n part given_to kept
 
+    running : AreRunning n held × (part < n)
+    running = running_less n held part may.parts.running
+
+    -- those that run see the bodies of the database, some of them or all
+    abbrev seen : (db : Database) → HoldsParts catalog n (held ++ part ∷ []) old db → texts_of catalog old.bodies ≡ db.bodies
+    seen db holds = holds.bodies ∙ seen_among catalog n (held ++ part ∷ []) may.parts.running (one_longer held part) db.bodies
+
     dealt_both : AreDealt n held catalog.tables tables × AreDealt n (part ∷ []) catalog.tables backs
     dealt_both = all_given_back n held part catalog.tables old.tables shell.tables tables backs all_tables may.lent.tables given
 
@@ -182,11 +210,15 @@ module _ (catalog : Catalog) (n : ℕ) (held : List ℕ) (old shell : ShardValue
     both_now : HasReleased catalog n held old shell after returned
     both_now = record {
       number = refl;
-      parts = has_parts catalog n held after dealt_both.0 keyed may.parts.committed.empty (same ∙ may.parts.committed.of_catalog.indexes) (homes_stay catalog n part kept given_to kept_homes back_homes);
-      holds = λ db holds. parts_from catalog n held after db (rows_both db holds).0 (kept_beside catalog n part kept given_to db held may.fresh kept_homes blank (kept_home db holds));
+      parts = has_parts catalog n held after dealt_both.0 keyed may.parts.committed.empty (same ∙ may.parts.committed.of_catalog.indexes) (homes_stay catalog n part kept given_to kept_homes back_homes) running.0 may.parts.committed.of_catalog.bodies may.parts.committed.none_coming;
+      holds = λ db holds. parts_from catalog n held after db (rows_both db holds).0 (kept_beside catalog n part kept given_to db held may.fresh kept_homes blank (kept_home db holds))
+          (seen db holds ∙ sym (seen_among catalog n held running.0 may.some db.bodies));
       back_number = refl;
-      back_parts = has_parts catalog n (part ∷ []) returned dealt_both.1 back_keyed may.lent.changes (back_same ∙ may.lent.indexes) (homes_stay catalog n part given_to kept back_homes kept_homes);
-      back_holds = λ db holds. parts_from catalog n (part ∷ []) returned db (rows_both db holds).1 (given_back catalog n part given_to kept db held blank kept_homes (kept_home db holds));
+      back_parts = has_parts catalog n (part ∷ []) returned dealt_both.1 back_keyed may.lent.changes (back_same ∙ may.lent.indexes) (homes_stay catalog n part given_to kept back_homes kept_homes) (running.1, tt)
+          (subst (HasBodies catalog) (sym written) may.parts.committed.of_catalog.bodies) may.lent.none_coming;
+      back_holds = λ db holds. parts_from catalog n (part ∷ []) returned db (rows_both db holds).1
+          (given_back catalog n part given_to kept db held blank kept_homes (kept_home db holds))
+          (ap (texts_of catalog) written ∙ seen db holds ∙ sym (seen_among catalog n (part ∷ []) (running.1, tt) (omega arith) db.bodies));
     }
 
     pub released : (new back : ShardValue) → new ≡ after → back ≡ returned → HasReleased catalog n held old shell new back

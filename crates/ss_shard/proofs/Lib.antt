@@ -2,6 +2,7 @@ pub mod AllPartitions
 pub mod Apart
 pub mod BlankHomes
 pub mod Blanks
+pub mod Bodies
 pub mod ByKey
 pub mod CallerLemmas
 pub mod Changing

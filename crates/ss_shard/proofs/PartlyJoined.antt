@@ -1,11 +1,11 @@
 -- A list of shards of which the first are joined into one: how that begins, goes on and back, and ends.
-use Rattle.std.proofs.Common.{◌≡◌, ◌≢◌, ◌≤◌, ◌<◌, ◌∙◌, ℕ, suc, List, [], ◌∷◌, ◌++◌, length, slice_get, slice_set, Some, false, refl, sym, ap, subst, arith}
+use Rattle.std.proofs.Common.{◌≡◌, ◌≤◌, ◌<◌, ◌∙◌, ℕ, suc, List, [], ◌∷◌, ◌++◌, length, slice_get, slice_set, Some, false, sym, ap, subst, arith}
 use Rattle.std.proofs.Math.ListN.{length-set}
 use Rattle.std.proofs.lemmas.List.FromFn.{length-range_with_len}
 use Rattle.std.proofs.lemmas.Option.{slice_get_within}
 use Rattle.ss_model.specs.declared.catalog.Catalog.{Catalog}
 use Rattle.ss_model.specs.Database.{Database}
-use Rattle.ss_shard.specs.Parts.{is_among, all_partitions, HasParts, HoldsParts, MayAbsorb, HasAbsorbed, MayRelease, HasReleased, IsShell, IsShardOf, AreShards, HoldTheirParts, IsWholeShard}
+use Rattle.ss_shard.specs.Parts.{is_among, all_partitions, HasParts, HoldsParts, MayAbsorb, HasAbsorbed, MayRelease, HasReleased, IsShardOf, AreShards, HoldTheirParts, IsWholeShard}
 use Rattle.ss_shard.specs.ShardValue.{ShardValue}
 use Rattle.ss_shard.specs.Splits.{IsShellOf, AreNumberedShells, ArePartlyJoined, HoldPartlyJoined}
 use Rattle.ss_shard.specs.Windows.{HoldsDatabase}

@@ -1,5 +1,5 @@
 -- The next numbers of one stream among those of all.
-use Rattle.std.proofs.Common.{◌≡◌, ◌∙◌, ℕ, zero, suc, ◌<◌, ◌==◌, Bool, true, false, cond, List, [], ◌∷◌, get_or, set, length, length-set, refl, sym, ap, subst, Option, Some, None, slice_get, unwrap_or, is_some, arith}
+use Rattle.std.proofs.Common.{◌≡◌, ◌∙◌, ℕ, zero, suc, ◌<◌, true, false, List, [], ◌∷◌, length, refl, sym, ap, Some, None, slice_get, unwrap_or, is_some, arith}
 use Rattle.std.specs.FinMap as finite
 use Rattle.std.proofs.lemmas.Option.{get_or_from_slice_get, unwrap_or-slice_get}
 use Rattle.ss_model.specs.Database.{NextNumbers}

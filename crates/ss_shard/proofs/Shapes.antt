@@ -6,6 +6,7 @@ use Rattle.ss_model.specs.declared.catalog.Catalog.{Catalog}
 use Rattle.ss_table.specs.TableValue.{TableValue}
 use Rattle.ss_table.specs.Keyed.{AreKeyed}
 use Rattle.ss_undo.proofs.CallerLemmas.{set_same}
+use Rattle.ss_shard.specs.Bodies.{HasBodies, IsComing}
 use Rattle.ss_shard.specs.ShardValue.{ShardValue}
 use Rattle.ss_shard.specs.Contents.{row_limit}
 use Rattle.ss_model.specs.declared.catalog.WindowDef.{WindowDef}
@@ -116,4 +117,6 @@ still_of catalog old new c is = record {
   windows = record { frames = c.frames ∙ is.windows.frames; held = c.held is.windows.held };
   cursors = ap length c.cursors ∙ is.cursors;
   sources = ap length c.sources ∙ is.sources;
+  bodies = subst (HasBodies catalog) (sym c.bodies.0) is.bodies;
+  coming = subst (IsComing catalog) (sym c.bodies.1) is.coming;
 }

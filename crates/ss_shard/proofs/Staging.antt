@@ -1,5 +1,5 @@
 -- What a unit more of a window is to the model.
-use Rattle.std.proofs.Common.{◌≡◌, ℕ, zero, suc, ◌+◌, ◌^◌, ◌<◌, ◌≤◌, ◌==◌, nat_le, not, true, false, List, [], ◌∷◌, ◌++◌, set, length, replicate, refl, sym, ap, ◌∙◌, Some, slice_get, slice_set, Ok, Err, arith, append_assoc, length-append}
+use Rattle.std.proofs.Common.{◌≡◌, ℕ, zero, suc, ◌+◌, ◌^◌, ◌<◌, ◌≤◌, ◌==◌, nat_le, not, List, [], ◌∷◌, ◌++◌, set, length, replicate, refl, sym, ap, ◌∙◌, Some, slice_get, slice_set, Ok, Err, append_assoc, length-append}
 use Rattle.std.proofs.lemmas.Option.{get_or_from_slice_get}
 use Rattle.std.proofs.lemmas.List.{map-set}
 use Rattle.std.proofs.lemmas.Bool.{le-leb, lt-leb}

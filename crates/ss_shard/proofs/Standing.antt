@@ -78,9 +78,13 @@ module _ (catalog : Catalog) (old new : ShardValue) (is : IsOf catalog old) (now
     unfolding kept
     same_numbers b same = sym (ap (λ (k : Kept). k.next_numbers) same)
 
+    same_bodies : (b : Applied) → kept catalog a.db ≡ kept catalog b.db → (b.db).bodies ≡ (a.db).bodies
+    unfolding kept
+    same_bodies b same = sym (ap (λ (k : Kept). k.bodies) same)
+
     by : (o : Option Applied) → apply catalog db e ≡ o → SameKeptApplied catalog (Some a) o → Carried catalog db e new a
     by None is h = absurd h
-    by (Some b) is h = record { applied = b; value = is; outcome = h.outcome; emitted = h.emitted; leaves = stands b h.after; counts = same_counts b h.after; numbers = same_numbers b h.after }
+    by (Some b) is h = record { applied = b; value = is; outcome = h.outcome; emitted = h.emitted; leaves = stands b h.after; counts = same_counts b h.after; numbers = same_numbers b h.after; bodies = same_bodies b h.after }
 
     pub carried : Carried catalog db e new a
     carried = by (apply catalog db e) refl (subst (λ o. SameKeptApplied catalog o (apply catalog db e)) is_value (kept_is_enough catalog (own_database old db) db same_kept e))

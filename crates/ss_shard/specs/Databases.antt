@@ -1,5 +1,5 @@
 -- A database that one shard holds.
-use Rattle.std.specs.Prelude.{◌≡◌, ◌≤◌, ℕ, ◌%◌, List, [], ◌∷◌, map, length, replicate}
+use Rattle.std.specs.Prelude.{◌≡◌, ◌≤◌, ℕ, ◌%◌, List, [], ◌∷◌, map, length, replicate, None}
 use Rattle.std.specs.FinMap as finite
 use Rattle.ss_model.specs.declared.catalog.Placement.{Placement}
 use Rattle.ss_model.specs.declared.catalog.Placement.TheVariants.{Part, By}
@@ -64,7 +64,7 @@ abbrev pub empty_windows : List WindowDef → List WindowValue
 empty_windows defs = map (λ d. empty_window d.unit d.size d.slide) defs
 
 -- a shard has these tables, indexes on the columns that the catalogue lists, nothing to take back, and else only blanks: no unit
--- in a window, no batch taken and no next number
+-- in a window, no batch taken, no next number, and each procedure has its own body
 pub record HasBlanksBeside (catalog : Catalog) (part : ℕ) (made : List TableValue) (shard : ShardValue) : Type 0 where
   pub number : shard.number ≡ part
   pub tables : shard.tables ≡ made
@@ -73,6 +73,8 @@ pub record HasBlanksBeside (catalog : Catalog) (part : ℕ) (made : List TableVa
   pub windows : shard.windows ≡ empty_windows catalog.windows
   pub cursors : shard.cursors ≡ replicate (length catalog.procedures) 0
   pub sources : shard.sources ≡ replicate (length catalog.streams) finite.empty
+  pub bodies : shard.bodies ≡ replicate (length catalog.procedures) 0
+  pub none_coming : shard.coming ≡ None
 
 -- a window shows at least one unit, and moves on by no more than it shows
 abbrev pub WindowIsSound : WindowDef → Type 0

@@ -12,7 +12,8 @@ use Rattle.ss_shard.specs.Windows.{Holds, HoldsDatabase, own_database}
 abbrev pub HoldsItself : Type 0
 HoldsItself = (catalog : Catalog) (shard : ShardValue) → IsOf catalog shard → Holds catalog shard (contents_of shard)
 
--- an entry has a value on a database, with the outcome, batches, counts and next numbers of `a`, and a shard stands for what it leaves
+-- an entry has a value on a database, with the outcome, batches, counts, next numbers and bodies of `a`, and a shard stands for the
+-- tables and windows that it leaves
 pub record Carried (catalog : Catalog) (db : Database) (e : Entry) (shard : ShardValue) (a : Applied) : Type 0 where
   pub applied : Applied
   pub value : apply catalog db e ≡ Some applied
@@ -21,6 +22,7 @@ pub record Carried (catalog : Catalog) (db : Database) (e : Entry) (shard : Shar
   pub leaves : Holds catalog shard (applied.db).contents
   pub counts : (applied.db).counts ≡ (a.db).counts
   pub numbers : (applied.db).next_numbers ≡ (a.db).next_numbers
+  pub bodies : (applied.db).bodies ≡ (a.db).bodies
 
 -- law: what an entry comes to on the shard's own database, it comes to on each database that the shard stands for
 abbrev pub CarriedToEach : Type 0

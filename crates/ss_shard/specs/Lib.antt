@@ -1,6 +1,7 @@
 pub mod Contents
 pub mod Sources
 pub mod ShardValue
+pub mod Bodies
 pub mod Rows
 pub mod Lent
 pub mod Shards

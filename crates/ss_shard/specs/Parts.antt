@@ -1,6 +1,6 @@
 -- Shards that hold the parts of some partitions of a database, of so many that run.
-use Rattle.std.specs.Prelude.{◌≡◌, ◌≤◌, ◌==◌, ℕ, Bool, false, List, [], ◌∷◌, ◌++◌, map, length, replicate, slice_get, Some}
-use Rattle.std.specs.List.{list_any, range_with_len}
+use Rattle.std.specs.Prelude.{◌≡◌, ◌≤◌, ◌<◌, ◌==◌, ℕ, Bool, false, List, [], ◌∷◌, ◌++◌, map, length, replicate, slice_get, Some, None}
+use Rattle.std.specs.List.{AllByRecursion, list_any, range_with_len}
 use Rattle.std.specs.FinMap as finite
 use Rattle.ss_model.specs.declared.catalog.TableDef.{TableDef}
 use Rattle.ss_model.specs.declared.catalog.Catalog.{Catalog}
@@ -11,6 +11,7 @@ use Rattle.ss_model.specs.Partitions.{window_partition, home_of, home_partition,
 use Rattle.ss_table.specs.declared.route.Route.{Route}
 use Rattle.ss_table.specs.TableValue.{TableValue}
 use Rattle.ss_undo.specs.Windows.{AreCommittedWindows}
+use Rattle.ss_shard.specs.Bodies.{texts_of}
 use Rattle.ss_shard.specs.Contents.{tables_of}
 use Rattle.ss_shard.specs.Databases.{route_at, shell_tables}
 use Rattle.ss_shard.specs.Exchanges.{exchanged}
@@ -41,6 +42,14 @@ pub record HoldsAtHome (catalog : Catalog) (n : ℕ) (held : List ℕ) (shard : 
 abbrev pub HoldsRows : Catalog → ℕ → List ℕ → List TableValue → Database → Type 0
 HoldsRows catalog n held tables db = tables_of tables ≡ (elsewhere_blank catalog n (is_among held) db).contents.tables
 
+-- which bodies it has: those of the database where some partition that runs is among them
+abbrev pub HoldsBodies : Catalog → ℕ → List ℕ → List ℕ → Database → Type 0
+HoldsBodies catalog n held bodies db = texts_of catalog bodies ≡ (elsewhere_blank catalog n (is_among held) db).bodies
+
+-- each of these partitions runs
+abbrev pub AreRunning : ℕ → List ℕ → Type 0
+AreRunning n held = AllByRecursion (λ p. p < n) held
+
 -- how the rows of a table are dealt to parts, and which it has
 abbrev pub dealing_of : TableValue → Route × List ℕ
 dealing_of h = (h.route, h.parts)
@@ -53,8 +62,9 @@ dealing_for n held d = (route_at n d.key d.placement, held)
 abbrev pub IsDealt : Catalog → ℕ → List ℕ → ShardValue → Type 0
 IsDealt catalog n held shard = map dealing_of shard.tables ≡ map (dealing_for n held) catalog.tables
 
--- a shard of these partitions between executions
+-- a shard of these partitions, which run, between executions
 pub record HasParts (catalog : Catalog) (n : ℕ) (held : List ℕ) (shard : ShardValue) : Type 0 where
+  pub running : AreRunning n held
   pub committed : IsCommitted catalog shard
   pub dealt : IsDealt catalog n held shard
 
@@ -67,7 +77,7 @@ with_homes catalog n p shard other = record shard {
 }
 
 -- what is left of a shard that lent all that it had: tables without a key and without a row, windows without a unit, no batch
--- taken and no next number
+-- taken and no next number; whatever numbers of bodies it has are written over when its part comes back
 pub record IsShell (catalog : Catalog) (n : ℕ) (shell : ShardValue) : Type 0 where
   pub tables : shell.tables ≡ shell_tables n shell.number catalog.tables
   pub changes : shell.changes ≡ []
@@ -77,6 +87,8 @@ pub record IsShell (catalog : Catalog) (n : ℕ) (shell : ShardValue) : Type 0 w
   pub blank : map kept_part shell.windows ≡ map_indexed (kept_of catalog) (map (λ d. []) catalog.windows)
   pub cursors : shell.cursors ≡ replicate (length catalog.procedures) 0
   pub sources : SameNumbers (replicate (length catalog.streams) finite.empty) shell.sources
+  pub bodies : length shell.bodies ≡ length catalog.procedures
+  pub none_coming : shell.coming ≡ None
 
 -- a shard of these partitions may take in another, of its own partition alone, which is none of them; and there is a database of
 -- which each holds its parts

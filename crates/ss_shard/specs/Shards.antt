@@ -1,5 +1,5 @@
 -- What holds of the shards of a catalogue.
-use Rattle.std.specs.Prelude.{◌≡◌, ℕ, List, [], map, length, Option}
+use Rattle.std.specs.Prelude.{◌≡◌, ℕ, List, [], map, length, Option, None}
 use Rattle.std.specs.List.{AllByRecursion}
 use Rattle.ss_value.specs.declared.Unit.{Unit as UnitKind}
 use Rattle.ss_model.specs.declared.catalog.TableDef.{TableDef}
@@ -10,6 +10,7 @@ use Rattle.ss_table.specs.Keyed.{AreKeyed}
 use Rattle.ss_window.specs.WindowValue.{WindowValue, WindowInvariant}
 use Rattle.ss_undo.specs.ResultsFrom.{ResultsFrom, AreCommitted}
 use Rattle.ss_undo.specs.Windows.{WindowsResultFrom, AreCommittedWindows}
+use Rattle.ss_shard.specs.Bodies.{HasBodies, IsComing}
 use Rattle.ss_shard.specs.Contents.{row_limit}
 use Rattle.ss_shard.specs.ShardValue.{ShardValue}
 use Rattle.ss_shard.specs.Sources.{SameNumbers}
@@ -60,31 +61,36 @@ pub record HasWindows (catalog : Catalog) (windows : List WindowValue) : Type 0 
   pub frames : frames_of windows ≡ map frame_for catalog.windows
   pub held : AllInvariant windows
 
--- the tables, indexes, windows, counts and next numbers are those of the catalogue
+-- the tables, indexes, windows, counts, next numbers and bodies are those of the catalogue
 pub record IsOf (catalog : Catalog) (shard : ShardValue) : Type 0 where
   pub tables : HasTables catalog shard.tables
   pub indexes : HasIndexes catalog shard
   pub windows : HasWindows catalog shard.windows
   pub cursors : length shard.cursors ≡ length catalog.procedures
   pub sources : length shard.sources ≡ length catalog.streams
+  pub bodies : HasBodies catalog shard.bodies
+  pub coming : IsComing catalog shard.coming
 
--- a rollback of `shard` ends at `before`, in which no slot is dead and no unit is staged
+-- a rollback of `shard` ends at `before`, in which no slot is dead, no unit is staged and no body is to come
 pub record CanRollBack (before shard : ShardValue) : Type 0 where
   pub number : shard.number ≡ before.number
   pub columns : shard.columns ≡ before.columns
   pub cursors : shard.cursors ≡ before.cursors
   pub sources : SameNumbers before.sources shard.sources
+  pub bodies : shard.bodies ≡ before.bodies
+  pub none_coming : before.coming ≡ None
   pub final : AreCommitted before.tables
   pub came : ResultsFrom before.tables shard.changes shard.tables
   pub committed : AreCommittedWindows before.windows
   pub staged : WindowsResultFrom before.windows shard.changes shard.windows
 
--- what a change of rows and windows leaves as it is: the partition, the counts and next numbers, the tables' keys, limits and
--- indexes, what the windows count, their sizes and slides, and where a rollback ends
+-- what a change of rows and windows leaves as it is: the partition, the counts and next numbers, the bodies, the tables' keys,
+-- limits and indexes, what the windows count, their sizes and slides, and where a rollback ends
 pub record Changed (old new : ShardValue) : Type 0 where
   pub number : new.number ≡ old.number
   pub cursors : new.cursors ≡ old.cursors
   pub sources : new.sources ≡ old.sources
+  pub bodies : (new.bodies ≡ old.bodies) × (new.coming ≡ old.coming)
   pub shapes : shapes_of new.tables ≡ shapes_of old.tables
   pub keyed : AllKeyed old.tables → AllKeyed new.tables
   pub columns : new.columns ≡ old.columns
@@ -92,7 +98,7 @@ pub record Changed (old new : ShardValue) : Type 0 where
   pub held : AllInvariant old.windows → AllInvariant new.windows
   pub back : (before : ShardValue) → CanRollBack before old → CanRollBack before new
 
--- two shards with the same rows, units, counts and next numbers, and indexes on the same columns
+-- two shards with the same rows, units, counts, next numbers and bodies, and indexes on the same columns
 pub record Same (old new : ShardValue) : Type 0 where
   pub number : new.number ≡ old.number
   pub tables : new.tables ≡ old.tables
@@ -100,10 +106,12 @@ pub record Same (old new : ShardValue) : Type 0 where
   pub windows : new.windows ≡ old.windows
   pub cursors : new.cursors ≡ old.cursors
   pub sources : SameNumbers old.sources new.sources
+  pub bodies : (new.bodies ≡ old.bodies) × (new.coming ≡ old.coming)
 
--- a shard of a catalogue between executions: no slot is dead, no unit is staged, and there is nothing to take back
+-- a shard of a catalogue between executions: no slot is dead, no unit is staged, no body is to come, and there is nothing to take back
 pub record IsCommitted (catalog : Catalog) (shard : ShardValue) : Type 0 where
   pub of_catalog : IsOf catalog shard
   pub final : AreCommitted shard.tables
   pub committed : AreCommittedWindows shard.windows
   pub empty : shard.changes ≡ []
+  pub none_coming : shard.coming ≡ None

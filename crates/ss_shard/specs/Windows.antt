@@ -8,6 +8,7 @@ use Rattle.ss_model.specs.Contents.{Window, Contents, window_units, window_def, 
 use Rattle.ss_model.specs.Database.{Database}
 use Rattle.ss_window.specs.WindowValue.{WindowValue, unit_count, outdated_count}
 use Rattle.ss_shard.specs.ShardValue.{ShardValue}
+use Rattle.ss_shard.specs.Bodies.{texts_of}
 use Rattle.ss_shard.specs.Sources.{SameNumbers}
 use Rattle.ss_shard.specs.Contents.{tables_of, contents_of}
 
@@ -34,12 +35,13 @@ pub record Holds (catalog : Catalog) (shard : ShardValue) (s : Contents) : Type 
   pub tables : tables_of shard.tables ≡ s.tables
   pub windows : map kept_part shard.windows ≡ map_indexed (kept_of catalog) s.windows
 
--- a shard stands for a database: for its tables and windows, and it has the same count of batches for each procedure and the
--- same next number for each source
+-- a shard stands for a database: for its tables and windows, and it has the same count of batches and the same body for each
+-- procedure, and the same next number for each source
 pub record HoldsDatabase (catalog : Catalog) (shard : ShardValue) (db : Database) : Type 0 where
   pub contents : Holds catalog shard db.contents
   pub counts : shard.cursors ≡ db.counts
   pub numbers : SameNumbers db.next_numbers shard.sources
+  pub bodies : texts_of catalog shard.bodies ≡ db.bodies
 
 -- a database with its contents replaced by those of the shard
 abbrev pub own_database : ShardValue → Database → Database

@@ -165,6 +165,19 @@ fn zeros(alloc: Global, count: usize) -> Result<Seq<u64>, NoMemory>
     Ok(made)
 }
 
+/// So many numbers of bodies, each of which is the procedure's own.
+fn own_bodies(alloc: Global, count: usize) -> Result<Seq<usize>, NoMemory>
+    ensures { IfOk result (λ made. made ≡ replicate count 0) }
+{
+    let mut made = Seq::new(alloc);
+    for _ in 0..count {
+        if made.push(0).is_err() {
+            return Err(NoMemory);
+        }
+    }
+    Ok(made)
+}
+
 /// A shard that has these tables, without a row, and else only blanks.
 pub fn blanks_beside(
     alloc: Global,
@@ -180,7 +193,10 @@ pub fn blanks_beside(
     let windows = empty_windows(alloc, catalog.windows.as_slice())?;
     let cursors = zeros(alloc, catalog.procedures.len())?;
     let sources = no_sources(alloc, catalog.streams.len())?;
-    Ok(Shard::new(alloc, number, tables, indexes, windows, cursors, sources))
+    let bodies = own_bodies(alloc, catalog.procedures.len())?;
+    Ok(Shard::new(
+        alloc, number, tables, indexes, windows, cursors, sources, bodies,
+    ))
 }
 
 /// The shard of one partition before the first execution: its part of the empty database. `parts` is how many partitions run.
@@ -188,7 +204,7 @@ pub fn blanks_beside(
 /// Linear in the catalogue's tables, their keys and indexes, its windows, procedures and streams.
 pub fn blank(alloc: Global, catalog: &Catalog, parts: u8, number: u8) -> Result<Shard, NoMemory>
     requires sound { AllByRecursion WindowIsSound catalog.now.windows }
-    requires some { 1 ≤ parts }
+    requires runs { number < parts }
     requires below { number < 8 }
     ensures is_shard { IfOk result (λ shard. IsShardOf catalog.now parts number shard) }
     ensures holds { IfOk result (λ shard. HoldsDatabase catalog.now shard (empty_database catalog.now)) }

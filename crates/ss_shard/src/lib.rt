@@ -8,6 +8,7 @@
 //!
 //! - `shard`: tables, their indexes and windows, with the changes that a rollback takes back, counts and sources
 //!   - `joining`: a shard takes in the part of another, and gives it back
+//!   - `bodies`: which body each procedure has, by number, and the one that is to come
 //! - `joins`: tables with their indexes take in those of another part, and give them back
 //! - `exchanges`: what two shards have at a home changes places
 //! - `pairs`: a row of a table and its pairs, put in together, and whether they are there already
@@ -29,7 +30,9 @@
 //!   (`Changed`).
 //! - `rollback` ends where nothing was noted (`back`, `holds`). `commit` keeps the live rows, and of each window the
 //!   number of units and those that may still be seen (`tables`, `windows`). Behind both there is nothing to take back
-//!   (`committed`), and neither takes memory.
+//!   (`committed`), and neither takes memory. A body that was noted by `install` is there behind a `commit` (`bodies`),
+//!   and dropped by a `rollback`; `body` has the steps of the one that a procedure has in whatever database the shard
+//!   stands for (`held`).
 //! - In each of the `indexes` of a table every live row has its pair (`rows`). `next_number` is exactly the next
 //!   number. Each source is a name, and so is each source of a whole database that a shard stands for
 //!   (`sources_are_names`), of which the model knows nothing.
@@ -48,7 +51,7 @@
 //! - To the model a shard is what `contents_of` says: of each table its live rows by key, and of each window all its
 //!   units, with blank ones in place of those dropped. Slots, dead rows and noted changes are no part of it. So what an
 //!   insert or a unit comes to is an equation of contents.
-//! - It stands for every database with the same rows, counts and next numbers, and with windows of as many units of
+//! - It stands for every database with the same rows, counts, next numbers and bodies, and with windows of as many units of
 //!   which the same may still be seen (`HoldsDatabase`), instead of for one that it remembers: for its own contents
 //!   (`holds_itself`), and what an entry comes to there it comes to on each of the others (`carried_to_each`).
 //! - A shard of some partitions stands for a database with blanks for what is of the others (`HoldsParts`). So nothing
@@ -83,7 +86,7 @@ mod unions;
 pub use database::{Database, TABLE_ROWS, blank, opening};
 pub use laws::{carried_to_each, holds_itself};
 pub use rows::rows_in_order;
-pub use shard::{Shard, WINDOW_UNITS};
+pub use shard::{Shard, WINDOW_UNITS, body_number};
 pub use sources::{Sources, no_sources, push_outcome};
 pub use splits::{join, split};
 pub use unions::{part, unite};

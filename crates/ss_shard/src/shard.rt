@@ -1,6 +1,6 @@
 //! The tables, indexes and windows of a partition, with the changes since the last commit or rollback.
 
-ghost use Rattle.std.specs.Prelude.{◌≡◌, ◌<◌, List, [], length, map, set, get_or, Some, OnOk, IfOk, IfErr, OnErr, IfSome, slice_get, option_map};
+ghost use Rattle.std.specs.Prelude.{◌≡◌, ◌<◌, List, [], length, map, set, get_or, Some, None, OnOk, IfOk, IfErr, OnErr, IfSome, slice_get, option_map};
 ghost use Rattle.std.specs.FinMap as finmap;
 ghost use Rattle.std.specs.Option.{option_copied};
 ghost use Rattle.std.specs.List.{AllByRecursion};
@@ -11,6 +11,7 @@ ghost use Rattle.ss_table.specs.TableValue.{TableValue};
 ghost use Rattle.ss_undo.specs.Holding.{HaveRows};
 ghost use Rattle.ss_undo.specs.Indexed.{AreIndexed, columns_in, columns_of};
 ghost use Rattle.ss_undo.specs.Staying.{HasPairsOf};
+ghost use Rattle.ss_shard.specs.Bodies.{with_coming};
 ghost use Rattle.ss_shard.specs.Contents.{tables_of};
 ghost use Rattle.ss_shard.specs.ShardValue.{ShardValue};
 ghost use Rattle.ss_shard.specs.Rows.{IsKeyed, HasSlot, HasKeyOf, refusal_of};
@@ -20,10 +21,13 @@ ghost use Rattle.ss_shard.specs.Windows.{kept_part, HoldsDatabase};
 ghost use Rattle.ss_shard.specs.Parts.{dealing_of};
 ghost use Rattle.ss_shard.specs.Changes.{RowInserted, InsertStops, SlotTaken, SlotPut, UnitStaged, StagingStops};
 
+mod bodies;
 mod joining;
 
 use crate::pairs::{add_pairs, has_pairs_of, insert_indexed};
 use crate::sources::Sources;
+pub use bodies::body_number;
+use bodies::end_coming;
 use ss_index::Indexes;
 use ss_model::{Reason, RunError};
 use ss_table::{Table, TableError};
@@ -44,7 +48,7 @@ pub const WINDOW_UNITS: u64 = 4_611_686_018_427_387_904;
 /// long as the table or a note has the row.
 ///
 /// Contracts see the number, the tables, the changes since the last commit or rollback, the columns of the indexes, the
-/// windows, the counts and the next numbers. What an index holds follows from the tables and the changes, so no
+/// windows, the counts, the next numbers and the bodies. What an index holds follows from the tables and the changes, so no
 /// contract speaks of it: it is the type's invariant, instead of a clause of each call. The fields are private, since
 /// whoever writes one owes this.
 ///
@@ -65,6 +69,10 @@ pub struct Shard {
     cursors: Seq<u64>,
     /// The sources of pushes to each stream, by number.
     sources: Seq<Sources>,
+    /// Which body each procedure has: 0 its own, and i + 1 the i-th that may be installed.
+    bodies: Seq<usize>,
+    /// The procedure whose body the next commit changes, and which one it has then.
+    coming: Option<(u16, usize)>,
     /// The changes since the last commit or rollback.
     undo: Undo,
 }
@@ -87,6 +95,8 @@ impl Model for Shard {
       windows = s.windows;
       cursors = s.cursors;
       sources = s.sources;
+      bodies = s.bodies;
+      coming = s.coming;
     } };
 
     ghost invariant = { λ s. AreIndexed s.tables s.undo.items s.indexes × HaveStayed (columns_of s.indexes) s.tables s.undo.items };
@@ -117,8 +127,8 @@ fn all_are_names(sources: &[Sources])
 }
 
 impl Shard {
-    /// A shard of these tables, indexes, windows, counts and sources, with nothing to take back. A table past the end of
-    /// `indexes` has no index. Takes no memory.
+    /// A shard of these tables, indexes, windows, counts, sources and bodies, with nothing to take back. A table past the
+    /// end of `indexes` has no index. Takes no memory.
     pub fn new(
         alloc: Global,
         number: u8,
@@ -127,6 +137,7 @@ impl Shard {
         windows: Seq<Window>,
         cursors: Seq<u64>,
         sources: Seq<Sources>,
+        bodies: Seq<usize>,
     ) -> Shard
         requires { AreIndexed tables [] indexes }
         ensures number { result.number ≡ number }
@@ -136,6 +147,8 @@ impl Shard {
         ensures windows { result.windows ≡ windows }
         ensures cursors { result.cursors ≡ cursors }
         ensures sources { result.sources ≡ sources }
+        ensures bodies { result.bodies ≡ bodies }
+        ensures coming { result.coming ≡ None }
     {
         Shard {
             number,
@@ -144,6 +157,8 @@ impl Shard {
             windows,
             cursors,
             sources,
+            bodies,
+            coming: None,
             undo: Undo::new(alloc),
         }
     }
@@ -430,9 +445,10 @@ impl Shard {
         sources.set(source, next);
     }
 
-    /// Takes all changes of rows and windows back, the last one first. Linear in them: each costs a call of its window, or one
-    /// of its table and at most one of each of the table's indexes, and none of these for a row that was replaced by one of
-    /// the same indexed values. Takes no memory.
+    /// Takes all changes of rows and windows back, the last one first, and drops the body that is to come, if there is one.
+    ///
+    /// Linear in the changes: each costs a call of its window, or one of its table and at most one of each of the table's
+    /// indexes, and none of these for a row that was replaced by one of the same indexed values. Takes no memory.
     pub fn rollback(&mut self)
         requires { (before : ShardValue) × CanRollBack before self.old }
         ensures back { (before : ShardValue) → CanRollBack before self.old → Same before self.new }
@@ -442,10 +458,13 @@ impl Shard {
     {
         self.undo
             .rollback(&mut self.tables, &mut self.indexes, &mut self.windows);
+        self.coming = None;
     }
 
-    /// Makes all changes final. Linear in them: each costs at most a call of its window, or one of its table and one of each of
-    /// the table's indexes, and none of these for a row that was replaced by one of the same indexed values. Takes no memory.
+    /// Makes all changes final, and gives a procedure the body that is to come, if there is one.
+    ///
+    /// Linear in the changes: each costs at most a call of its window, or one of its table and one of each of the table's
+    /// indexes, and none of these for a row that was replaced by one of the same indexed values. Takes no memory.
     ///
     /// The live rows stay, and of each window the number of units ever and those that may still be seen. Dead rows and units
     /// that can't be seen any more are dropped.
@@ -455,6 +474,7 @@ impl Shard {
         ensures windows { AllInvariant self.old.windows → map kept_part self.new.windows ≡ map kept_part self.old.windows }
         ensures cursors { self.new.cursors ≡ self.old.cursors }
         ensures sources { self.new.sources ≡ self.old.sources }
+        ensures bodies { self.new.bodies ≡ with_coming self.old.coming self.old.bodies }
         ensures number { self.new.number ≡ self.old.number }
         ensures columns { self.new.columns ≡ self.old.columns }
         ensures dealt { map dealing_of self.new.tables ≡ map dealing_of self.old.tables }
@@ -462,5 +482,6 @@ impl Shard {
     {
         self.undo
             .commit(&mut self.tables, &mut self.indexes, &mut self.windows);
+        end_coming(&mut self.coming, &mut self.bodies);
     }
 }

@@ -131,6 +131,7 @@ held_tells_kept catalog d shard streams holds are whole =
       streams = streams_are k;
       counts = sym holds.counts k;
       next_numbers = sources k;
+      bodies = sym holds.bodies k;
     }
 
 -- ---- what stands for a database stands for each other of which the same is kept
@@ -158,6 +159,7 @@ module _ (catalog : Catalog) (x y : Database) (same : kept catalog x ≡ kept ca
       };
       counts = stands.shard.counts ∙ ap (λ (k : Kept). k.counts) same;
       numbers = subst (λ (ms : List NextNumbers). SameNumbers ms database.whole.sources) (ap (λ (k : Kept). k.next_numbers) same) stands.shard.numbers;
+      bodies = stands.shard.bodies ∙ ap (λ (k : Kept). k.bodies) same;
     };
     streams = stands.streams ∙ (λ k. map (λ s. stream_alike s k) (range_with_len 0 (length catalog.streams)));
   }

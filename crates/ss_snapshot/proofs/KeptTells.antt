@@ -66,6 +66,7 @@ kept_tells_held catalog d shard streams whole is at =
         contents = record { tables = ap (λ (k : Kept). k.tables) (sym is); windows = ap (λ (k : Kept). k.windows) (sym is) };
         counts = counts;
         numbers = sources_held shard.sources d.next_numbers (ap (λ (k : Kept). k.next_numbers) is);
+        bodies = ap (λ (k : Kept). k.bodies) (sym is);
       },
       same_pendings streams (kept_streams catalog d)
           (ap (λ (k : Kept). k.streams) (sym is) ∙ streams_tell catalog d whole.in_step.matched.shape.streams)

@@ -1,5 +1,6 @@
 pub mod Repeated
 pub mod Texts
+pub mod BothSpares
 pub mod OneAnswer
 pub mod CommonBytes
 pub mod CallerLemmas
@@ -20,4 +21,6 @@ pub mod KeptTells
 pub mod ResumedStreams
 pub mod WholeRead
 pub mod BesideRead
+pub mod BodiesRead
+pub mod RestRead
 pub mod ReadImages

@@ -10,6 +10,7 @@ use Rattle.ss_model.specs.Contents.{Contents}
 use Rattle.ss_model.specs.Results.{OrAbort, ◌>>=◌, try_fold}
 use Rattle.ss_model.specs.Statements.{insert_row}
 use Rattle.ss_table.specs.TableValue.{TableValue, HasKey}
+use Rattle.ss_shard.specs.Bodies.{HasBodies, IsComing}
 use Rattle.ss_shard.specs.Changes.{InsertStops, RowInserted}
 use Rattle.ss_shard.specs.Contents.{contents_of, tables_of}
 use Rattle.ss_shard.specs.Parts.{dealing_of}
@@ -22,13 +23,14 @@ use Rattle.ss_snapshot.specs.Tables.{MayPut, WerePut}
 -- ---- changes one behind the other
 
 nothing_changed : (shard : ShardValue) → Changed shard shard
-nothing_changed shard = record { number = refl; cursors = refl; sources = refl; shapes = refl; keyed = λ h. h; columns = refl; frames = refl; held = λ h. h; back = λ before can. can }
+nothing_changed shard = record { number = refl; cursors = refl; sources = refl; bodies = (refl, refl); shapes = refl; keyed = λ h. h; columns = refl; frames = refl; held = λ h. h; back = λ before can. can }
 
 changed_on : (a b c : ShardValue) → Changed a b → Changed b c → Changed a c
 changed_on a b c first second = record {
   number = second.number ∙ first.number;
   cursors = second.cursors ∙ first.cursors;
   sources = second.sources ∙ first.sources;
+  bodies = (second.bodies.0 ∙ first.bodies.0, second.bodies.1 ∙ first.bodies.1);
   shapes = second.shapes ∙ first.shapes;
   keyed = λ h. second.keyed (first.keyed h);
   columns = second.columns ∙ first.columns;
@@ -44,6 +46,8 @@ still_of catalog old new c is = record {
   windows = record { frames = c.frames ∙ is.windows.frames; held = c.held is.windows.held };
   cursors = ap length c.cursors ∙ is.cursors;
   sources = ap length c.sources ∙ is.sources;
+  bodies = subst (HasBodies catalog) (sym c.bodies.0) is.bodies;
+  coming = subst (IsComing catalog) (sym c.bodies.1) is.coming;
 }
 
 -- ---- keys that stay

@@ -9,7 +9,7 @@ use Rattle.ss_model.specs.Settling.{Kept}
 use Rattle.ss_shard.specs.ShardValue.{ShardValue}
 use Rattle.ss_shard.specs.Sources.{positive}
 use Rattle.ss_shard.specs.Windows.{kept_part}
-use Rattle.ss_standing.specs.ImageForm.{counts_of, sources_at, stream_of, window_of}
+use Rattle.ss_standing.specs.ImageForm.{counts_of, sources_at, stream_of, table_of, window_of}
 use Rattle.ss_standing.specs.Readers.{Reader, each, followed}
 use Rattle.ss_snapshot.specs.declared.reading.image.Beside.{Beside}
 use Rattle.ss_snapshot.specs.declared.reading.image.Progress.{Progress}
@@ -41,10 +41,14 @@ as_progress p = (map as_kept p.streams, (p.counts, map positive p.sources))
 abbrev pub as_beside : Beside → BesideTables
 as_beside b = (map kept_part b.windows, as_progress b.progress)
 
--- all of it
-abbrev pub to_kept : List Table → BesideTables → Kept
-to_kept tables b = record { tables = tables; windows = b.0; streams = b.1.0; counts = b.1.1.0; next_numbers = b.1.1.1 }
+-- the tables too, which is all but the bodies
+abbrev pub but_bodies_of : Catalog → ℕ → Reader (List Table × BesideTables)
+but_bodies_of catalog most = followed (each table_of catalog.tables) (λ tables. beside_of catalog most)
 
--- a shard with its own tables and these windows, counts and sources
-abbrev pub with_beside : ShardValue → Beside → ShardValue
-with_beside shard b = record shard { windows = b.windows; cursors = b.progress.counts; sources = b.progress.sources }
+-- all of it
+abbrev pub to_kept : List Table → BesideTables → List (List ℕ) → Kept
+to_kept tables b texts = record { tables = tables; windows = b.0; streams = b.1.0; counts = b.1.1.0; next_numbers = b.1.1.1; bodies = texts }
+
+-- a shard with its own tables and these windows, counts, sources and numbers of bodies
+abbrev pub with_beside : ShardValue → Beside → List ℕ → ShardValue
+with_beside shard b numbers = record shard { windows = b.windows; cursors = b.progress.counts; sources = b.progress.sources; bodies = numbers }

@@ -1,4 +1,5 @@
 pub mod Own
+pub mod Bodies
 pub mod Foreign
 pub mod Images
 pub mod Held

@@ -1,10 +1,14 @@
-//! What is kept of an empty database: numbers that are 0, and no rows.
+//! What is kept of an empty database: numbers that are 0, no rows, and the procedures' own bodies.
 
-ghost use Rattle.std.specs.Prelude.{◌≡◌, [], ◌++◌, length, OnOk};
+ghost use Rattle.std.specs.Prelude.{◌≡◌, [], ◌++◌, true, length, OnOk};
 ghost use Rattle.std.specs.FinMap as finmap;
+ghost use Rattle.std.specs.List.{flat_map};
+ghost use Rattle.ss_model.specs.Database.{own_bodies};
 ghost use Rattle.ss_record.specs.Numbers.{number_bytes};
-ghost use Rattle.ss_standing.specs.Image.{table_bytes, window_bytes, stream_bytes, border_streams, sources_bytes, repeated};
+ghost use Rattle.ss_standing.specs.FitsImage.{FitBodies};
+ghost use Rattle.ss_standing.specs.Image.{text_bytes, table_bytes, window_bytes, stream_bytes, border_streams, sources_bytes, repeated};
 
+use crate::text::push_text;
 use ss_model::Catalog;
 use ss_record::{push_u32, push_u64};
 use ss_value::NoMemory;
@@ -59,6 +63,17 @@ pub(crate) fn push_sources(out: &mut Vec<u8>, catalog: &Catalog) -> Result<(), N
         if catalog.is_border_stream(stream) {
             push_u64(out, 0)?;
         }
+    }
+    Ok(())
+}
+
+/// The texts of the procedures' own bodies. One of 2^32 bytes or more is reported as out of memory.
+pub(crate) fn push_bodies(out: &mut Vec<u8>, catalog: &Catalog) -> Result<(), NoMemory>
+    ensures spelled { OnOk result (out.new.items ≡ out.old.items ++ flat_map text_bytes (own_bodies catalog.now)) }
+    ensures fits { OnOk result (FitBodies true catalog.now (own_bodies catalog.now)) }
+{
+    for procedure in 0..catalog.procedures.len() {
+        push_text(out, catalog.own_text(procedure))?;
     }
     Ok(())
 }

@@ -7,10 +7,11 @@
 ghost use Rattle.ss_snapshot.specs.Held.{HeldTellsKept, KeptTellsHeld};
 ghost use Rattle.ss_snapshot.specs.Images.{HasOneKept, IsImageOrForeign, HasOneOffset};
 
-use ss_catalog::a_value_has_one_answer;
+use ss_catalog::{a_body_has_one_answer, a_value_has_one_answer};
+use ss_model_laws::spares_aside;
 use ss_standing::{an_image_tells_what_is_kept, images_are_exact};
 
-/// Bytes are the image of databases of one catalogue at most, of which the same is kept; those that are one have no first
+/// Bytes are the image of databases of one catalogue at most, bodies to be installed aside, of which the same is kept; those that are one have no first
 /// byte that can't be; and others have one such byte at most.
 pub fn bytes_have_one_answer()
     ensures kept { HasOneKept }
@@ -18,6 +19,8 @@ pub fn bytes_have_one_answer()
     ensures offset { HasOneOffset }
 {
     a_value_has_one_answer();
+    a_body_has_one_answer();
+    spares_aside();
     an_image_tells_what_is_kept();
     images_are_exact();
 }

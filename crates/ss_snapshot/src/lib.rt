@@ -11,8 +11,8 @@
 //! - `laws`: bytes have one answer, what is held tells what is kept, and the other way round
 //!
 //! The definitions are `specs/Images`, which bytes are the image of a database, and the first byte of others that can't be,
-//! for which `specs/Own` and `specs/Foreign` have the catalogue's text; and `specs/Held`, what is kept of a database told by
-//! the shard and the streams that stand for it. How an image spells what is kept of a database is `ss_standing`'s
+//! for which `specs/Own` and `specs/Foreign` have the catalogue's text and `specs/Bodies` its bodies; and `specs/Held`, what
+//! is kept of a database told by the shard and the streams that stand for it. How an image spells what is kept of a database is `ss_standing`'s
 //! `specs/Image`, and how it is read `specs/ImageForm`.
 //!
 //! Calls that take `alloc` may answer `NoMemory` in place of their answer.
@@ -27,6 +27,16 @@
 //! - `read_image` gives a catalogue, which is accepted (`accepted`), and a database, which is whole (`is_whole`) and stands
 //!   for one of which the bytes are the image (`image`); or the first byte that can't be (`refused`). Of bytes that are the
 //!   image of a database it gives its catalogue, and what stands for it (`again`).
+//!
+//! # Choices
+//!
+//! - Whether an image tells the bodies of the procedures is told by the generation around it, so `read_image` is told it. What
+//!   is written tells them.
+//! - A catalogue's text doesn't tell which bodies may be installed. So an image is one of any catalogue of its text whose
+//!   bodies to be installed are read from their texts (`IsReadFromItsText`), and two such catalogues are the same, these
+//!   aside (`SameButSpares`).
+//! - The first byte that can't be is the furthest to which the bytes are read with whatever bodies to be installed
+//!   (`NoneGetsFurther`), instead of being told by a reader that knows which texts are bodies: which they are is a relation.
 #![tactic(auto)]
 
 mod error;

@@ -3,8 +3,10 @@
 //! - `fields`: numbers and rows; `rows`: rows one behind another
 //! - `tables`: tables, put into those of a shard by chunks of rows; `windows`, `streams`: windows and streams
 //! - `counts`, `sources`: how many batches each procedure has taken, and the sources of pushes
+//! - `bodies`: which body each procedure has, and the bodies to be installed
 //! - `image`: all of them; `resumed`: streams of the program; `database`: the database that all of it makes
 
+mod bodies;
 mod counts;
 mod database;
 mod fields;

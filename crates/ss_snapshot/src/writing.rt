@@ -2,12 +2,13 @@
 //!
 //! - `numbers`: numbers and counts, where they have room; `rows`: rows, and the tables
 //! - `windows`: windows and their units; `streams`: streams and their kept batches
-//! - `counts`: the counts of the procedures, and the next numbers of sources
+//! - `counts`: the counts of the procedures, and the next numbers of sources; `bodies`: the texts of their bodies
 
 ghost use Rattle.std.specs.Prelude.{◌<◌, ◌^◌, length, OnOk, IfOk};
 ghost use Rattle.ss_shard.specs.Shards.{IsCommitted};
 ghost use Rattle.ss_snapshot.specs.Held.{StandForSome, SpellsHeld, FitsHeld};
 
+mod bodies;
 mod counts;
 mod numbers;
 mod rows;
@@ -15,6 +16,7 @@ mod streams;
 mod windows;
 
 use crate::text::push_text;
+use crate::writing::bodies::push_bodies;
 use crate::writing::counts::{push_counts, push_next_numbers};
 use crate::writing::rows::push_tables;
 use crate::writing::streams::push_streams;
@@ -27,12 +29,13 @@ use std::alloc::Global;
 
 /// The image of the whole database that a shard and streams stand for: what is kept of it, behind its catalogue's text.
 ///
-/// One walk over the tables, the windows, the batches that some procedure has still to take, the counts and the sources.
+/// One walk over the tables, the windows, the batches that some procedure has still to take, the counts, the sources and the
+/// bodies.
 /// Nothing of them is copied but into the image, of which the memory is the size, with at most as much again as spare room,
 /// and a reference for each row of one table, or for each source of one stream.
 ///
-/// What an image has no room for is reported as out of memory: a text of 2^32 bytes, which no line has room for, a row of
-/// more than 16 values, a batch of more than 65,535 rows, and a window of 2^32 kept units. No accepted catalogue has such
+/// What an image has no room for is reported as out of memory: a text of 2^32 bytes, also of a body, which no line has room
+/// for, a row of more than 16 values, a batch of more than 65,535 rows, and a window of 2^32 kept units. No accepted catalogue has such
 /// rows or windows, and no whole database such batches.
 pub fn write_image(
     alloc: Global,
@@ -53,5 +56,6 @@ pub fn write_image(
     push_streams(alloc, &mut image, streams)?;
     push_counts(&mut image, whole.cursors())?;
     push_next_numbers(alloc, &mut image, catalog, whole)?;
+    push_bodies(&mut image, catalog, whole)?;
     Ok(Seq::from_vec(image))
 }

@@ -5,9 +5,9 @@ pub use Rattle.ss_standing.proofs.EmptyKept.{empty_image, no_table, no_sources}
 -- An image begins with its catalogue's text, and bytes begin with one text.
 pub use Rattle.ss_standing.proofs.EmptyKept.{image_begins}
 pub use Rattle.ss_standing.proofs.Spelled.{one_text}
--- What stands for the empty database: the files of a new store, and an empty disk.
+-- What stands for the empty database: the files of a new store, and an empty disk; an image has room for its procedures' own bodies.
 pub use Rattle.ss_standing.proofs.Fronts.{forming_stands}
-pub use Rattle.ss_standing.proofs.worked.Premises.{image_is as new_image_is, nothing as nothing_stands}
+pub use Rattle.ss_standing.proofs.worked.Premises.{image_is as new_image_is, nothing as nothing_stands, own_fit as own_bodies_fit}
 -- A store with a batch behind the image of a new one: its files, and what they stand for.
 pub use Rattle.ss_standing.proofs.worked.Premises.{store as batch_store, files as batch_files, files_stand as batch_files_stand, prefix as batch_prefix, stands as batch_stands, at_least as batch_at_least}
 -- The empty database has had no batch, and an image has room for what is kept of it.

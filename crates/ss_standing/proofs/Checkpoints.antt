@@ -21,23 +21,23 @@ use Rattle.ss_standing.proofs.EmptyKept.{image_begins}
 use Rattle.ss_standing.proofs.ImageExact.{read_to_the_end, spelled_to_the_end}
 
 pub read_images_stand : ReadImagesStand
-read_images_stand catalog first rest k accepted are read =
-    let is = read_to_the_end catalog first accepted rest k are read in
+read_images_stand bodies catalog first rest k accepted are read =
+    let is = read_to_the_end bodies catalog first accepted rest k are read in
     let of = is.1 in (
       of.db,
       record {
         whole = of.whole;
         had = of.had;
-        fits = subst FitsImage of.is of.fits;
-        spelled = ap (λ (l : List ℕ). text_bytes catalog.text ++ l) (is.0 ∙ ap (kept_bytes catalog) of.is) ∙ sym (image_begins catalog (kept catalog of.db));
+        fits = subst (FitsImage bodies catalog) of.is of.fits;
+        spelled = ap (λ (l : List ℕ). text_bytes catalog.text ++ l) (is.0 ∙ ap (kept_bytes bodies catalog) of.is) ∙ sym (image_begins bodies catalog (kept catalog of.db));
       },
       of.is,
     )
 
 pub images_are_read : ImagesAreRead
-images_are_read catalog first bytes db accepted is = (
-  is.spelled ∙ image_begins catalog (kept catalog db),
-  spelled_to_the_end catalog first accepted (kept catalog db) (record { db = db; whole = is.whole; had = is.had; fits = is.fits; is = refl }),
+images_are_read bodies catalog first bytes db accepted is = (
+  is.spelled ∙ image_begins bodies catalog (kept catalog db),
+  spelled_to_the_end bodies catalog first accepted (kept catalog db) (record { db = db; whole = is.whole; had = is.had; fits = is.fits; is = refl }),
 )
 
 pub checkpoints_stand : CheckpointsStand

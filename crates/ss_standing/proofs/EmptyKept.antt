@@ -13,7 +13,7 @@ use Rattle.ss_value.specs.Order.{row_cmp}
 use Rattle.ss_model.specs.declared.catalog.Catalog.{Catalog}
 use Rattle.ss_model.specs.Results.{map_indexed}
 use Rattle.ss_model.specs.Contents.{Window, window_def, kept_units, first_kept}
-use Rattle.ss_model.specs.Database.{empty_database, batch_count}
+use Rattle.ss_model.specs.Database.{empty_database, batch_count, own_bodies}
 use Rattle.ss_model.specs.Orders.{procedure_takes}
 use Rattle.ss_model.specs.Settling.{Kept, kept, least_count, procedure_numbers}
 use Rattle.ss_model_kept.proofs.CallerLemmas.{get_or-alike}
@@ -81,6 +81,7 @@ module _ (catalog : Catalog) where
     streams = replicate (length catalog.streams) (0, (0, []));
     counts = replicate (length catalog.procedures) 0;
     next_numbers = replicate (length catalog.streams) finmap.empty;
+    bodies = own_bodies catalog;
   }
 
   pub kept_empty : kept catalog (empty_database catalog) ≡ empty_kept
@@ -91,6 +92,7 @@ module _ (catalog : Catalog) where
     streams = indexed_alike (λ s bs. (length bs, (least_count catalog (empty_database catalog) s, drop (least_count catalog (empty_database catalog) s) bs))) [] (0, (0, [])) no_batches (length catalog.streams) k;
     counts = replicate (length catalog.procedures) 0;
     next_numbers = replicate (length catalog.streams) finmap.empty;
+    bodies = own_bodies catalog;
   }
 
   -- all of it
@@ -99,19 +101,21 @@ module _ (catalog : Catalog) where
       ++ repeated window_bytes (length catalog.windows) (0, [])
       ++ repeated stream_bytes (length catalog.streams) (0, (0, []))
       ++ repeated (number_bytes 8) (length catalog.procedures) 0
-      ++ repeated sources_bytes (length (border_streams catalog)) finmap.empty)
+      ++ repeated sources_bytes (length (border_streams catalog)) finmap.empty
+      ++ flat_map text_bytes (own_bodies catalog))
   unfolding image_bytes
   empty_image =
-      ap (image_bytes catalog) kept_empty
+      ap (image_bytes true catalog) kept_empty
       ∙ ap (λ (l : List ℕ). text_bytes catalog.text
       ++ (repeated table_bytes (length catalog.tables) finmap.empty
       ++ repeated window_bytes (length catalog.windows) (0, [])
       ++ repeated stream_bytes (length catalog.streams) (0, (0, []))
       ++ repeated (number_bytes 8) (length catalog.procedures) 0
-      ++ l))
+      ++ l
+      ++ flat_map text_bytes (own_bodies catalog)))
       (sources_alike sources_bytes finmap.empty (λ s. get_or (replicate (length catalog.streams) finmap.empty) s finmap.empty) (λ s. get_or-alike (length catalog.streams) s finmap.empty) (border_streams catalog))
 
 -- the image begins with its text
-pub image_begins : (catalog : Catalog) (k : Kept) → image_bytes catalog k ≡ text_bytes catalog.text ++ kept_bytes catalog k
+pub image_begins : (bodies : Bool) (catalog : Catalog) (k : Kept) → image_bytes bodies catalog k ≡ text_bytes catalog.text ++ kept_bytes bodies catalog k
 unfolding image_bytes
-image_begins catalog k = refl
+image_begins bodies catalog k = refl

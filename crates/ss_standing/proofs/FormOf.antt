@@ -1,5 +1,5 @@
 -- What is kept of a whole database has the form of an image.
-use Rattle.std.proofs.Common.{◌≡◌, ◌∙◌, ℕ, ◌+◌, ◌-◌, ◌*◌, ◌/◌, ◌^◌, ◌<◌, ◌≤◌, ◌&&◌, nat_le, nat_lt, min, List, [], ◌∷◌, length, get_or, drop, slice_get, Bool, true, false, cond, refl, sym, ap, subst, arith, All, Some, length-drop}
+use Rattle.std.proofs.Common.{◌≡◌, ◌∙◌, ⊎_elim, ℕ, ◌+◌, ◌-◌, ◌*◌, ◌/◌, ◌^◌, ◌<◌, ◌≤◌, ◌&&◌, nat_le, nat_lt, min, List, [], ◌∷◌, length, get_or, drop, slice_get, Bool, true, false, cond, refl, sym, ap, subst, arith, All, Some, length-drop}
 use Rattle.std.specs.List.{fold, list_all, range_with_len}
 use Rattle.std.specs.Ordering.{nat_cmp}
 use Rattle.std.specs.Cmp.Lexicographic.{slice_cmp, nat_list_cmp_total}
@@ -8,7 +8,7 @@ use Rattle.std.specs.FinMap.{nat_cmp-IsAntisymmetric, slice_cmp-IsAntisymmetric}
 use Rattle.std.proofs.lemmas.Bool.{leb-true, and_parts, ltb-true}
 use Rattle.std.proofs.lemmas.List.Elements.{All-cons, All-nil, All-from_recursion}
 use Rattle.std.proofs.lemmas.List.FromFn.{length-range_with_len, get_or-range_with_len}
-use Rattle.std.proofs.lemmas.Option.{slice_get_within, get_or_from_slice_get}
+use Rattle.std.proofs.lemmas.Option.{slice_get_cases, slice_get_within, get_or_from_slice_get}
 use Rattle.std.proofs.Math.Nat.{div-mul-le_self}
 use Rattle.std.proofs.lemmas.Nat.{div-add-mod', mod_below}
 use Rattle.std.specs.Prelude.{option_map, unwrap_or}
@@ -32,12 +32,12 @@ use Rattle.ss_model.proofs.CallerLemmas.{limits_of}
 use Rattle.ss_model_kept.proofs.CallerLemmas.{get_or-map_index, length-map_index}
 use Rattle.ss_model_laws.proofs.CallerLemmas.{named, of_entries}
 use Rattle.ss_record.specs.Bounds.{IsShort, IsTypedRow}
-use Rattle.ss_standing.specs.FitsImage.{FitsWindow, FitsStream, FitsImage}
+use Rattle.ss_standing.specs.FitsImage.{FitsWindow, FitsStream, FitBodies, FitsImage}
 use Rattle.ss_standing.specs.ImageForm.{is_unit, least_of, no_batches}
 use Rattle.ss_standing.proofs.ImageTells.{none_there}
 use Rattle.ss_standing.proofs.Chains.{are_for}
-use Rattle.ss_standing.proofs.ImageParts.{AreRowsOf, IsTableOf, IsWindowOf, IsStreamOf, IsNext, all_values, of_look_ups}
-use Rattle.ss_standing.proofs.KeptExact.{IsSourcesAt, HasForm}
+use Rattle.ss_standing.proofs.ImageParts.{AreRowsOf, IsTableOf, IsWindowOf, IsStreamOf, IsNext, IsBodyOf, all_values, of_look_ups}
+use Rattle.ss_standing.proofs.KeptExact.{IsSourcesAt, AreBodies, HasForm}
 use Rattle.ss_standing.proofs.Counted.{AllGoTogether, counts_together}
 use Rattle.ss_standing.proofs.Formed.{unit_size}
 
@@ -111,7 +111,7 @@ module _ (catalog : Catalog) (accepted : Accepted catalog) where
       let first = and_parts (nat_le 1 d.slide) (nat_le d.slide d.size) inner.0 in
       (leb-true 1 d.slide first.0, leb-true d.slide d.size first.1, leb-true d.size 65536 inner.1)
 
-  module _ (most : ℕ) (db : Database) (whole : WholeDatabase catalog db) (had : HadAtMost most db) (fits : FitsImage (kept catalog db)) where
+  module _ (most : ℕ) (db : Database) (whole : WholeDatabase catalog db) (had : HadAtMost most db) (bodies : Bool) (fits : FitsImage bodies catalog (kept catalog db)) where
     table_is : (t : ℕ) (d : TableDef) → slice_get catalog.tables t ≡ Some d → IsTableOf d (get_or db.contents.tables t finmap.empty)
     unfolding table_at kept
     table_is t d is =
@@ -220,7 +220,19 @@ module _ (catalog : Catalog) (accepted : Accepted catalog) where
           none = λ other. none_there catalog db whole i other;
         })
 
-    pub form_of : HasForm catalog most (kept catalog db)
+    body_is : All (λ (t : List ℕ). length t < 2 ^ 32) db.bodies → (i q : ℕ) → slice_get (range_with_len 0 (length catalog.procedures)) i ≡ Some q → IsBodyOf catalog q (get_or db.bodies i [])
+    body_is fit i q is =
+        let there : i < length catalog.procedures = omega (arith, slice_get_within (range_with_len 0 (length catalog.procedures)) i q is, length-range_with_len 0 (length catalog.procedures)) in
+        let plain : 0 + i ≡ i = omega arith in
+        let same : i ≡ q = sym (sym (get_or_from_slice_get (range_with_len 0 (length catalog.procedures)) i q 0 is) ∙ get_or-range_with_len 0 (length catalog.procedures) i 0 there ∙ plain) in
+        let small = fit i [] (omega (arith, there, whole.body_count)) in
+        subst (λ q. IsBodyOf catalog q (get_or db.bodies i [])) same (record { short = omega (arith, small); may = ⊎_elim (λ found. whole.bodies i found.0 found.2) (λ gone. absurd (omega (arith, gone.0, there))) (slice_get_cases catalog.procedures i).1 })
+
+    texts_are : (b : Bool) → FitBodies b catalog db.bodies → AreBodies b catalog db.bodies
+    texts_are true fit = are_for (IsBodyOf catalog) (range_with_len 0 (length catalog.procedures)) db.bodies [] (whole.body_count ∙ sym (length-range_with_len 0 (length catalog.procedures))) (body_is fit)
+    texts_are false fit = fit
+
+    pub form_of : HasForm bodies catalog most (kept catalog db)
     unfolding kept
     form_of = record {
       tables = are_for IsTableOf catalog.tables db.contents.tables finmap.empty whole.contents.table_count table_is;
@@ -228,4 +240,5 @@ module _ (catalog : Catalog) (accepted : Accepted catalog) where
       streams = are_for (IsStreamOf most) catalog.streams (kept catalog db).streams no_batches (length-map_index kept_stream db.streams ∙ many_streams) stream_is;
       counts = counts_together catalog (kept catalog db).streams db.counts together;
       sources = are_for (IsSourcesAt catalog) (range_with_len 0 (length catalog.streams)) db.next_numbers finmap.empty (whole.next_count ∙ sym (length-range_with_len 0 (length catalog.streams))) source_is;
+      texts = texts_are bodies fits.texts;
     }

@@ -31,20 +31,20 @@ use Rattle.ss_model.specs.CatalogForm.{inputs_of_kind, is_of_kind, touch_in_rang
 use Rattle.ss_model.specs.Accepted.{Accepted}
 use Rattle.ss_model.specs.Results.{map_indexed}
 use Rattle.ss_model.specs.Contents.{Window, default_window, first_kept, kept_units, table_at, window_def, window_units}
-use Rattle.ss_model.specs.Database.{Database, NextNumbers, batch_count, is_border, is_border_stream, is_call, stream_batches, stream_schema, takes_stream}
+use Rattle.ss_model.specs.Database.{Database, NextNumbers, batch_count, has_body, is_border, is_border_stream, is_call, stream_batches, stream_schema, takes_stream}
 use Rattle.ss_model.specs.InStep.{IsInStep}
 use Rattle.ss_model.specs.Orders.{procedure_has, procedure_takes}
 use Rattle.ss_model.specs.Settling.{Kept, kept, least_count}
 use Rattle.ss_model.specs.WholeDatabase.{WholeDatabase, WholeContents, WholeTable, WholeWindow, NextNumberFits, HadAtMost, batch_fits, has_unit_size, unit_fits}
 use Rattle.ss_record.specs.Bounds.{IsTypedRow}
 use Rattle.ss_model.proofs.CallerLemmas.{emitter_there, taker_there, numbers_of}
-use Rattle.ss_model_laws.proofs.CallerLemmas.{named}
-use Rattle.ss_standing.specs.FitsImage.{FitsTable, FitsWindow, FitsStream, FitNumbers, FitsImage}
+use Rattle.ss_model_laws.proofs.CallerLemmas.{named, empty_whole}
+use Rattle.ss_standing.specs.FitsImage.{FitsTable, FitsWindow, FitsStream, FitNumbers, FitBodies, FitsImage}
 use Rattle.ss_standing.specs.ImageForm.{IsKeptOf, is_unit, may_have_taken, no_batches, takes_last}
 use Rattle.ss_standing.proofs.Chains.{as_many, for_each_one, are_all, chained_all, chained_so}
 use Rattle.ss_standing.proofs.Places.{made_again, some_last}
-use Rattle.ss_standing.proofs.ImageParts.{AreRowsOf, IsTableOf, IsUnitOf, IsWindowOf, IsBatchOf, IsStreamOf, IsNext, all_recursion, in_map}
-use Rattle.ss_standing.proofs.KeptExact.{IsSourcesAt, no_sources_are, HasForm}
+use Rattle.ss_standing.proofs.ImageParts.{AreRowsOf, IsTableOf, IsUnitOf, IsWindowOf, IsBatchOf, IsStreamOf, IsNext, IsBodyOf, all_recursion, in_map}
+use Rattle.ss_standing.proofs.KeptExact.{IsSourcesAt, no_sources_are, AreBodies, HasForm}
 use Rattle.ss_standing.proofs.Counted.{AllGoTogether, all_together}
 
 -- ---- lists with blank items before those that are kept
@@ -146,13 +146,33 @@ module _ (catalog : Catalog) (accepted : Accepted catalog) where
       let input = some_input p.kind p.inputs other (first_of_two _ _ (first_of_two _ _ kinds)) in
       (input.0, takes_by q input.0 p is input.1)
 
-  module _ (most : ℕ) (k : Kept) (form : HasForm catalog most k) where
+  -- the bodies that are read are as many as there are procedures, each a body that its procedure may have, and an image has room for them
+  texts_count : (bodies : Bool) (texts : List (List ℕ)) → AreBodies bodies catalog texts → length texts ≡ length catalog.procedures
+  texts_count true texts are = as_many (IsBodyOf catalog) (range_with_len 0 (length catalog.procedures)) texts are ∙ length-range_with_len 0 (length catalog.procedures)
+  texts_count false texts are = ap (λ (ts : List (List ℕ)). length ts) are ∙ (empty_whole catalog accepted).body_count
+
+  texts_may : (bodies : Bool) (texts : List (List ℕ)) → AreBodies bodies catalog texts → (q : ℕ) (p : Procedure) → slice_get catalog.procedures q ≡ Some p → has_body catalog q (get_or texts q []) ≡ true
+  texts_may true texts are q p is =
+      let there = slice_get_within catalog.procedures q p is in
+      let same : 0 + q ≡ q = omega arith in
+      let number : slice_get (range_with_len 0 (length catalog.procedures)) q ≡ Some q =
+      slice_get-get_or (range_with_len 0 (length catalog.procedures)) q 0 (omega (arith, there, length-range_with_len 0 (length catalog.procedures))) ∙ ap Some (get_or-range_with_len 0 (length catalog.procedures) q 0 there ∙ same) in
+      (for_each_one (IsBodyOf catalog) (range_with_len 0 (length catalog.procedures)) texts q q [] are number).may
+  texts_may false texts are q p is = subst (λ (ts : List (List ℕ)). has_body catalog q (get_or ts q []) ≡ true) (sym are) ((empty_whole catalog accepted).bodies q p is)
+
+  texts_fit : (bodies : Bool) (texts : List (List ℕ)) → AreBodies bodies catalog texts → FitBodies bodies catalog texts
+  texts_fit true texts are =
+      are_all (IsBodyOf catalog) (λ (t : List ℕ). length t < 2 ^ 32) (λ q t is. (let short = is.short in omega (arith, short))) (range_with_len 0 (length catalog.procedures)) texts are
+  texts_fit false texts are = are
+
+  module _ (bodies : Bool) (most : ℕ) (k : Kept) (form : HasForm bodies catalog most k) where
     abbrev db : Database
     db = record {
       contents = record { tables = k.tables; windows = map all_units k.windows };
       streams = map all_batches k.streams;
       counts = k.counts;
       next_numbers = k.next_numbers;
+      bodies = k.bodies;
     }
 
     go : AllGoTogether catalog k.streams k.counts
@@ -211,7 +231,7 @@ module _ (catalog : Catalog) (accepted : Accepted catalog) where
 
     kept_is : k ≡ kept catalog db
     unfolding kept
-    kept_is = λ j. record { tables = k.tables; windows = sym windows_kept j; streams = sym streams_kept j; counts = k.counts; next_numbers = k.next_numbers }
+    kept_is = λ j. record { tables = k.tables; windows = sym windows_kept j; streams = sym streams_kept j; counts = k.counts; next_numbers = k.next_numbers; bodies = k.bodies }
 
     -- ---- it is whole
 
@@ -311,6 +331,8 @@ module _ (catalog : Catalog) (accepted : Accepted catalog) where
       batches = batches_whole;
       calls = calls_none;
       next_numbers = number_fits;
+      body_count = texts_count bodies k.bodies form.texts;
+      bodies = texts_may bodies k.bodies form.texts;
     }
 
     -- ---- and there is room for it
@@ -352,7 +374,7 @@ module _ (catalog : Catalog) (accepted : Accepted catalog) where
       λ i x lt. ((is.batches i x lt).long, typed 2 (λ n. nat_le n 1024) d.schema (get_or s.1.1 i x) (is.batches i x lt)),
     )
 
-    fits : FitsImage k
+    fits : FitsImage bodies catalog k
     fits = record {
       tables = are_all IsTableOf FitsTable (λ d m is. is.fits) catalog.tables k.tables form.tables;
       windows = are_all IsWindowOf FitsWindow window_fits catalog.windows k.windows form.windows;
@@ -360,7 +382,8 @@ module _ (catalog : Catalog) (accepted : Accepted catalog) where
       counts = chained_all (λ before n. before ++ n ∷ []) (λ (n : ℕ). n < 2 ^ 64) [] k.counts
           (chained_so (λ before n. before ++ n ∷ []) (λ before n. (n < 256 ^ 8) × (may_have_taken catalog k.streams before n ≡ true)) (λ before n. n < 2 ^ 64) (λ before n has. (let small = has.0 in omega (arith, small))) [] k.counts form.counts.each);
       next_numbers = are_all (IsSourcesAt catalog) FitNumbers (λ s m is. is.sources.fits) streams k.next_numbers form.sources;
+      texts = texts_fit bodies k.bodies form.texts;
     }
 
-    pub is_kept : IsKeptOf catalog most k
+    pub is_kept : IsKeptOf bodies catalog most k
     is_kept = record { db = db; whole = whole; had = had; fits = fits; is = kept_is }

@@ -1,5 +1,5 @@
 -- Entries behind a generation, fronts of a list, and new stores.
-use Rattle.std.proofs.Common.{◌≡◌, ◌∙◌, ◌⊎◌, inl, inr, ℕ, zero, suc, ◌+◌, ◌≤◌, ◌<◌, ◌^◌, List, [], ◌∷◌, ◌++◌, length, map, take, drop, refl, sym, ap, subst, arith, append_assoc, length-append, take-append-drop, length-take-le}
+use Rattle.std.proofs.Common.{◌≡◌, ◌∙◌, ◌⊎◌, inl, inr, Bool, true, false, ℕ, zero, suc, ◌+◌, ◌≤◌, ◌<◌, ◌^◌, List, [], ◌∷◌, ◌++◌, length, map, take, drop, refl, sym, ap, subst, arith, append_assoc, length-append, take-append-drop, length-take-le}
 use Rattle.std.specs.List.{flat_map}
 use Rattle.std.specs.FinMap as finmap
 use Rattle.std.proofs.lemmas.List.{map-append}
@@ -11,7 +11,7 @@ use Rattle.ss_model.specs.declared.catalog.Catalog.{Catalog}
 use Rattle.ss_model.specs.declared.entry.Entry.{Entry}
 use Rattle.ss_model.specs.declared.entry.Listed.{Listed}
 use Rattle.ss_model.specs.declared.entry.Mode.TheVariants.{Strong}
-use Rattle.ss_model.specs.Database.{Database, empty_database}
+use Rattle.ss_model.specs.Database.{Database, empty_database, own_bodies}
 use Rattle.ss_model.specs.Replays.{Replays, after, ReplaysGoOn}
 use Rattle.ss_model.specs.Settling.{kept, KeptCarries}
 use Rattle.ss_model.specs.WholeDatabase.{WholeDatabase, HadAtMost}
@@ -22,8 +22,8 @@ use Rattle.ss_cmdlog.specs.Generation.{Stood}
 use Rattle.ss_cmdlog.specs.Formatting.{fresh}
 use Rattle.ss_cmdlog.specs.Groups.{groups_of}
 use Rattle.ss_cmdlog.specs.Store.{IsEmpty, StandsFor, StandsForPart, entries_of, with_groups}
-use Rattle.ss_standing.specs.Image.{empty_image_of}
-use Rattle.ss_standing.specs.FitsImage.{FitRows, FitsTable, FitsWindow, FitsStream, FitNumbers, FitsImage}
+use Rattle.ss_standing.specs.Image.{empty_image_of, image_bytes}
+use Rattle.ss_standing.specs.FitsImage.{FitRows, FitsTable, FitsWindow, FitsStream, FitNumbers, FitBodies, FitsImage}
 use Rattle.ss_standing.specs.Standing.{listed_entries, Replayed, Stands, Prefix}
 use Rattle.ss_standing.specs.Behind.{IsBehind, BehindGoesOn, HasFront}
 use Rattle.ss_standing.specs.Laws.{GenerationsGoOn}
@@ -34,6 +34,7 @@ use Rattle.ss_standing.proofs.ImageTells.{no_numbers_fit}
 
 pub behind_goes_on : BehindGoesOn
 behind_goes_on old mid new some more h k = record {
+  bodies = k.bodies ∙ h.bodies;
   mode = k.mode ∙ h.mode;
   first = k.first ∙ h.first;
   image = k.image ∙ h.image;
@@ -42,7 +43,7 @@ behind_goes_on old mid new some more h k = record {
 
 -- groups behind those that a generation has
 pub groups_behind : (s : Stood) (groups : List (List Entry)) (added : List Entry) → flat_map (λ es. es) groups ≡ added → IsBehind s (with_groups s groups) added
-groups_behind s groups added is = record { mode = refl; first = refl; image = refl; entries = flat_map-append (λ (es : List Entry). es) s.groups groups ∙ ap (λ es. entries_of s ++ es) is }
+groups_behind s groups added is = record { bodies = refl; mode = refl; first = refl; image = refl; entries = flat_map-append (λ (es : List Entry). es) s.groups groups ∙ ap (λ es. entries_of s ++ es) is }
 
 pub generation_goes_on : KeptCarries → ReplaysGoOn → GenerationsGoOn
 generation_goes_on carries goes_on catalog s new count db rest r replays behind =
@@ -53,8 +54,8 @@ generation_goes_on carries goes_on catalog s new count db rest r replays behind 
       image = record {
         whole = r.image.whole;
         had = subst (λ (n : ℕ). HadAtMost n r.opening) (sym behind.first) r.image.had;
-        fits = r.image.fits;
-        spelled = behind.image ∙ r.image.spelled;
+        fits = subst (λ (b : Bool). FitsImage b catalog (kept catalog r.opening)) (sym behind.bodies) r.image.fits;
+        spelled = behind.image ∙ r.image.spelled ∙ ap (λ (b : Bool). image_bytes b catalog (kept catalog r.opening)) (sym behind.bodies);
       };
       list = r.list ++ rest;
       entries = map-append (λ (l : Listed). l.entry) r.list rest ∙ ap (λ es. es ++ listed_entries rest) r.entries ∙ sym behind.entries;
@@ -111,13 +112,19 @@ no_rows_fit =
     let none : map (λ (e : Row × Row). e.1) (finmap.entries (finmap.empty {R = row_cmp})) ≡ [] = ap (map (λ (e : Row × Row). e.1)) (no_entries row_cmp) in
     subst (FitRows (2 ^ 64)) (sym none) (omega arith, All-nil IsTypedRow)
 
-pub empty_fits : (catalog : Catalog) → FitsImage (kept catalog (empty_database catalog))
-empty_fits catalog = subst FitsImage (sym (kept_empty catalog)) (record {
+-- each procedure of it has its own body
+own_fit : (bodies : Bool) (catalog : Catalog) → FitBodies true catalog (own_bodies catalog) → FitBodies bodies catalog (own_bodies catalog)
+own_fit true catalog fit = fit
+own_fit false catalog fit = refl
+
+pub empty_fits : (bodies : Bool) (catalog : Catalog) → FitBodies true catalog (own_bodies catalog) → FitsImage bodies catalog (kept catalog (empty_database catalog))
+empty_fits bodies catalog fit = subst (FitsImage bodies catalog) (sym (kept_empty catalog)) (record {
   tables = All-replicate FitsTable (length catalog.tables) finmap.empty no_rows_fit;
   windows = All-replicate FitsWindow (length catalog.windows) (0, []) (omega arith, All-nil (FitRows (2 ^ 64)));
   streams = All-replicate FitsStream (length catalog.streams) (0, (0, [])) (omega arith, omega arith, All-nil (FitRows (2 ^ 16)));
   counts = All-replicate (λ (n : ℕ). n < 2 ^ 64) (length catalog.procedures) 0 (omega arith);
   next_numbers = All-replicate FitNumbers (length catalog.streams) finmap.empty no_numbers_fit;
+  texts = own_fit bodies catalog fit;
 })
 
 -- the empty database has had no batch
@@ -127,11 +134,12 @@ empty_had_none catalog = record {
   counts = λ q. omega (arith, get_or-alike {A = ℕ} (length catalog.procedures) q 0);
 }
 
-pub fresh_replayed : (catalog : Catalog) → WholeDatabase catalog (empty_database catalog) → Replayed catalog (fresh Strong (empty_image_of catalog)) 0 (kept catalog (empty_database catalog))
-fresh_replayed catalog whole = record {
+pub fresh_replayed : (catalog : Catalog) → WholeDatabase catalog (empty_database catalog) → FitBodies true catalog (own_bodies catalog)
+    → Replayed catalog (fresh Strong (empty_image_of catalog)) 0 (kept catalog (empty_database catalog))
+fresh_replayed catalog whole fit = record {
   strong = refl;
   opening = empty_database catalog;
-  image = record { whole = whole; had = empty_had_none catalog; fits = empty_fits catalog; spelled = refl };
+  image = record { whole = whole; had = empty_had_none catalog; fits = empty_fits true catalog fit; spelled = refl };
   list = [];
   entries = refl;
   replays = tt;
@@ -139,7 +147,7 @@ fresh_replayed catalog whole = record {
   kept_is = refl;
 }
 
-pub forming_stands : (catalog : Catalog) (image : Files) → WholeDatabase catalog (empty_database catalog) → IsEmpty image ⊎ StandsFor image (fresh Strong (empty_image_of catalog))
+pub forming_stands : (catalog : Catalog) (image : Files) → WholeDatabase catalog (empty_database catalog) → FitBodies true catalog (own_bodies catalog) → IsEmpty image ⊎ StandsFor image (fresh Strong (empty_image_of catalog))
     → Stands catalog image 0 (kept catalog (empty_database catalog))
-forming_stands catalog image whole (inl empty) = inl (record { empty = empty; none = refl; nothing = refl })
-forming_stands catalog image whole (inr stands) = inr (record { stood = fresh Strong (empty_image_of catalog); stands = stands; replayed = fresh_replayed catalog whole })
+forming_stands catalog image whole fit (inl empty) = inl (record { empty = empty; none = refl; nothing = refl })
+forming_stands catalog image whole fit (inr stands) = inr (record { stood = fresh Strong (empty_image_of catalog); stands = stands; replayed = fresh_replayed catalog whole fit })

@@ -30,7 +30,7 @@ use Rattle.ss_model.specs.declared.catalog.StreamDef.{StreamDef}
 use Rattle.ss_model.specs.declared.catalog.TableDef.{TableDef}
 use Rattle.ss_model.specs.declared.catalog.WindowDef.{WindowDef}
 use Rattle.ss_model.specs.Contents.{Table, Window, first_kept}
-use Rattle.ss_model.specs.Database.{NextNumbers}
+use Rattle.ss_model.specs.Database.{NextNumbers, has_body}
 use Rattle.ss_model.specs.WholeDatabase.{WholeTable, is_within_limit}
 use Rattle.ss_model_laws.proofs.CallerLemmas.{of_entries}
 use Rattle.ss_record.specs.Numbers.{IsBytes, number_bytes}
@@ -39,12 +39,12 @@ use Rattle.ss_record.specs.Bounds.{IsShort, IsTypedRow}
 use Rattle.ss_record.specs.Reading.{number_at, row_at}
 use Rattle.ss_record.specs.Records.{name_at}
 use Rattle.ss_record.proofs.CallerLemmas.{number_again, row_again, name_again, takes_number, row_takes, name_takes, respelled_2, respelled_4, respelled_8}
-use Rattle.ss_cmdlog.specs.Reading.{whole, as_field}
-use Rattle.ss_cmdlog.proofs.CallerLemmas.{as_field_ok, read_so, valued, whole_ok}
+use Rattle.ss_cmdlog.specs.Reading.{whole, as_field, bytes_at}
+use Rattle.ss_cmdlog.proofs.CallerLemmas.{as_field_ok, bytes_again, bytes_takes, read_so, valued, whole_ok}
 use Rattle.ss_standing.specs.FitsImage.{FitsTable, FitNumbers}
-use Rattle.ss_standing.specs.Image.{counted_rows, table_bytes, window_bytes, stream_bytes, source_bytes, sources_bytes}
+use Rattle.ss_standing.specs.Image.{text_bytes, counted_rows, table_bytes, window_bytes, stream_bytes, source_bytes, sources_bytes}
 use Rattle.ss_standing.specs.Readers.{Reader, IsExact, Chained, followed, is_above, many, passing}
-use Rattle.ss_standing.specs.ImageForm.{number_where, as_row, row_of, counted, rows_of, may_have, table_with, row_above, table_of, is_unit, window_of, stream_of, counts_of, may_have_taken, source_above, sources_of}
+use Rattle.ss_standing.specs.ImageForm.{number_where, as_row, row_of, counted, rows_of, may_have, table_with, row_above, table_of, is_unit, window_of, stream_of, counts_of, may_have_taken, source_above, sources_of, body_of}
 use Rattle.ss_standing.proofs.Exact.{passing_exact, followed_exact, made_exact, exact_so, many_exact}
 use Rattle.ss_standing.proofs.Chains.{chained_so, chained_all, all_chained, chained_both, chained_map, map_chained}
 use Rattle.ss_standing.proofs.Rising.{is_true, rising_sorted, entries_rise, of_own_entries}
@@ -459,3 +459,25 @@ sources_exact =
     (λ es has. (own_entries es has, are_sources es has)) sources_again)
     (λ m are. (ap (λ n. number_bytes 8 n ++ flat_map source_bytes (finmap.entries m)) (sym (len-entries m)), are))
     (λ m are. are)
+
+-- ---- bodies
+
+-- the text of a body that a procedure may have, and that its length has room for
+pub record IsBodyOf (catalog : Catalog) (q : ℕ) (text : List ℕ) : Type 0 where
+  pub short : length text < 256 ^ 4
+  pub may : has_body catalog q text ≡ true
+
+bytes_exact : (n : ℕ) → IsExact (bytes_at n) (λ text. text) (λ text. length text ≡ n)
+bytes_exact n = record {
+  takes = λ bytes text rest are is. bytes_takes n bytes text rest are is;
+  again = λ text rest long. subst (λ (m : ℕ). bytes_at m (text ++ rest) ≡ read_so text rest) long (bytes_again text rest);
+}
+
+pub body_exact : (catalog : Catalog) (q : ℕ) → IsExact (body_of catalog q) text_bytes (IsBodyOf catalog q)
+body_exact catalog q =
+    made_exact (λ (p : ℕ × List ℕ). p.1) (λ text. (length text, text)) (followed (number_where 4 (λ n. true)) (λ n. passing (has_body catalog q) (bytes_at n)))
+    (λ (p : ℕ × List ℕ). number_bytes 4 p.0 ++ p.1) (λ (p : ℕ × List ℕ). ((p.0 < 256 ^ 4) × (true ≡ true)) × ((length p.1 ≡ p.0) × (has_body catalog q p.1 ≡ true))) (IsBodyOf catalog q)
+    (followed_exact (number_where 4 (λ n. true)) (λ n. passing (has_body catalog q) (bytes_at n)) (number_bytes 4) (λ n text. text) (λ n. (n < 256 ^ 4) × (true ≡ true)) (λ n text. (length text ≡ n) × (has_body catalog q text ≡ true))
+    (number_where_exact 4 respelled_4 (λ n. true)) (λ n has. passing_exact (has_body catalog q) (bytes_at n) (λ text. text) (λ text. length text ≡ n) (bytes_exact n)))
+    (λ p has. ((λ k. (has.1.0 k, p.1)), record { short = subst (λ (n : ℕ). n < 256 ^ 4) (sym has.1.0) has.0.0; may = has.1.1 }))
+    (λ text is. (refl, ((is.short, refl), (refl, is.may))))

@@ -1,5 +1,5 @@
 -- An image tells what is kept of a whole database.
-use Rattle.std.proofs.Common.{◌≡◌, ◌∙◌, ℕ, ◌^◌, ◌<◌, ◌≤◌, List, [], ◌∷◌, ◌++◌, length, get_or, drop, Bool, true, false, refl, sym, subst, arith, All, Option, Some, None, append_assoc, append-nil, ⊎_elim, true≢false}
+use Rattle.std.proofs.Common.{◌≡◌, ◌∙◌, ℕ, ◌^◌, ◌<◌, ◌≤◌, List, [], ◌∷◌, ◌++◌, length, get_or, drop, Bool, true, false, refl, sym, subst, arith, All, Option, Some, None, append_assoc, ⊎_elim, true≢false}
 use Rattle.std.specs.Prelude.{slice_get}
 use Rattle.std.specs.List.{flat_map, AllByRecursion}
 use Rattle.std.specs.Ordering.{nat_cmp}
@@ -21,10 +21,10 @@ use Rattle.ss_model.specs.Settling.{Kept, kept, least_count}
 use Rattle.ss_model.specs.WholeDatabase.{WholeDatabase}
 use Rattle.ss_model_kept.proofs.CallerLemmas.{get_or-map_index, length-map_index}
 use Rattle.ss_record.specs.Numbers.{number_bytes}
-use Rattle.ss_standing.specs.Image.{text_bytes, table_bytes, window_bytes, stream_bytes, all_sources, border_streams, kept_bytes, image_bytes}
+use Rattle.ss_standing.specs.Image.{bodies_bytes, text_bytes, table_bytes, window_bytes, stream_bytes, all_sources, border_streams, kept_bytes, image_bytes}
 use Rattle.ss_standing.specs.FitsImage.{FitsTable, FitsWindow, FitsStream, FitNumbers, FitsImage}
 use Rattle.ss_standing.proofs.EmptyKept.{image_begins, no_entries}
-use Rattle.ss_standing.proofs.Spelled.{number_one, many_one}
+use Rattle.ss_standing.proofs.Spelled.{number_one, many_one, bodies_one}
 use Rattle.ss_standing.proofs.Parts.{IsKeyed, numbered_one, table_one, window_one, stream_one, streams_sources, each_passing}
 
 unnumbered : {A : Type 0} (xs : List A) → map_indexed (λ i x. x) xs ≡ xs
@@ -70,9 +70,13 @@ module _ (catalog : Catalog) where
       (λ (past : length ms ≤ i). subst FitNumbers (sym (get_or_past ms i finmap.empty past)) no_numbers_fit)
       (cases_lt i (length ms))
 
-  -- what is behind the streams, the windows and the tables of an image
+module _ (bodies : Bool) (catalog : Catalog) where
+  -- what is behind the counts, the streams, the windows and the tables of an image
+  abbrev behind_counts : Kept → List ℕ
+  behind_counts k = all_sources catalog k.next_numbers ++ bodies_bytes bodies k.bodies
+
   abbrev behind_streams : Kept → List ℕ
-  behind_streams k = flat_map (number_bytes 8) k.counts ++ all_sources catalog k.next_numbers
+  behind_streams k = flat_map (number_bytes 8) k.counts ++ behind_counts k
 
   abbrev behind_windows : Kept → List ℕ
   behind_windows k = flat_map stream_bytes k.streams ++ behind_streams k
@@ -80,16 +84,16 @@ module _ (catalog : Catalog) where
   abbrev behind_tables : Kept → List ℕ
   behind_tables k = flat_map window_bytes k.windows ++ behind_windows k
 
-  regroup : (k : Kept) → kept_bytes catalog k ≡ flat_map table_bytes k.tables ++ behind_tables k
+  regroup : (k : Kept) → kept_bytes bodies catalog k ≡ flat_map table_bytes k.tables ++ behind_tables k
   regroup k = simp append_assoc
 
-  module _ (a b : Database) (whole_a : WholeDatabase catalog a) (whole_b : WholeDatabase catalog b) (fits_a : FitsImage (kept catalog a)) (fits_b : FitsImage (kept catalog b)) where
+  module _ (a b : Database) (whole_a : WholeDatabase catalog a) (whole_b : WholeDatabase catalog b) (fits_a : FitsImage bodies catalog (kept catalog a)) (fits_b : FitsImage bodies catalog (kept catalog b)) where
     tables_same : (r s : List ℕ) → flat_map table_bytes a.contents.tables ++ r ≡ flat_map table_bytes b.contents.tables ++ s → (a.contents.tables ≡ b.contents.tables) × (r ≡ s)
     unfolding kept
     tables_same r s e =
-        let same = numbered_one table_bytes finmap.empty (λ i m. IsKeyed (columns_at i) m × FitsTable m) (λ i m. IsKeyed (columns_at i) m × FitsTable m) (λ i m. m) (λ i m. m)
-        (λ i m n r s fits other e. table_one (columns_at i) m n r s fits other e) a.contents.tables b.contents.tables r s (whole_a.contents.table_count ∙ sym whole_b.contents.table_count)
-        (λ i lt. (keyed_at a whole_a i lt, fits_a.tables i finmap.empty lt)) (λ i lt. (keyed_at b whole_b i lt, fits_b.tables i finmap.empty lt))
+        let same = numbered_one table_bytes finmap.empty (λ i m. IsKeyed (columns_at catalog i) m × FitsTable m) (λ i m. IsKeyed (columns_at catalog i) m × FitsTable m) (λ i m. m) (λ i m. m)
+        (λ i m n r s fits other e. table_one (columns_at catalog i) m n r s fits other e) a.contents.tables b.contents.tables r s (whole_a.contents.table_count ∙ sym whole_b.contents.table_count)
+        (λ i lt. (keyed_at catalog a whole_a i lt, fits_a.tables i finmap.empty lt)) (λ i lt. (keyed_at catalog b whole_b i lt, fits_b.tables i finmap.empty lt))
         ((λ k. flat_map table_bytes (unnumbered a.contents.tables k) ++ r) ∙ e ∙ (λ k. flat_map table_bytes (sym (unnumbered b.contents.tables) k) ++ s)) in
         (sym (unnumbered a.contents.tables) ∙ same.0 ∙ unnumbered b.contents.tables, same.1)
 
@@ -113,25 +117,31 @@ module _ (catalog : Catalog) where
     unfolding kept
     counts_same r s e = many_one (λ (n : ℕ). n < 2 ^ 64) (number_bytes 8) (number_one 8) a.counts b.counts r s (whole_a.in_step.matched.shape.counts ∙ sym whole_b.in_step.matched.shape.counts) fits_a.counts fits_b.counts e
 
-    numbers_same : all_sources catalog a.next_numbers ≡ all_sources catalog b.next_numbers → a.next_numbers ≡ b.next_numbers
+    numbers_same : (r s : List ℕ) → all_sources catalog a.next_numbers ++ r ≡ all_sources catalog b.next_numbers ++ s → (a.next_numbers ≡ b.next_numbers) × (r ≡ s)
     unfolding kept
-    numbers_same e =
-        let of_border = (streams_sources (λ i. get_or a.next_numbers i finmap.empty) (λ i. get_or b.next_numbers i finmap.empty) (numbers_fit a.next_numbers fits_a.next_numbers) (numbers_fit b.next_numbers fits_b.next_numbers)
-        (border_streams catalog) [] [] (append-nil (all_sources catalog a.next_numbers) ∙ e ∙ sym (append-nil (all_sources catalog b.next_numbers)))).0 in
-        ext_get_or finmap.empty a.next_numbers b.next_numbers (whole_a.next_count ∙ sym whole_b.next_count) (λ i lt. by i (omega (arith, lt, whole_a.next_count)) of_border (is_border_stream catalog i) refl)
+    numbers_same r s e =
+        let of_border = streams_sources (λ i. get_or a.next_numbers i finmap.empty) (λ i. get_or b.next_numbers i finmap.empty) (numbers_fit catalog a.next_numbers fits_a.next_numbers) (numbers_fit catalog b.next_numbers fits_b.next_numbers)
+        (border_streams catalog) r s e in
+        (ext_get_or finmap.empty a.next_numbers b.next_numbers (whole_a.next_count ∙ sym whole_b.next_count) (λ i lt. by i (omega (arith, lt, whole_a.next_count)) of_border.0 (is_border_stream catalog i) refl), of_border.1)
       where
         by : (i : ℕ) → i < length catalog.streams → AllByRecursion (λ i. get_or a.next_numbers i finmap.empty ≡ get_or b.next_numbers i finmap.empty) (border_streams catalog) → (border : Bool)
             → is_border_stream catalog i ≡ border → get_or a.next_numbers i finmap.empty ≡ get_or b.next_numbers i finmap.empty
         by i lt all true is = each_passing (is_border_stream catalog) (λ i. get_or a.next_numbers i finmap.empty ≡ get_or b.next_numbers i finmap.empty) (length catalog.streams) 0 all i (omega arith) (omega (arith, lt)) is
-        by i lt all false is = none_there a whole_a i is ∙ sym (none_there b whole_b i is)
+        by i lt all false is = none_there catalog a whole_a i is ∙ sym (none_there catalog b whole_b i is)
 
-    pub image_tells : image_bytes catalog (kept catalog a) ≡ image_bytes catalog (kept catalog b) → kept catalog a ≡ kept catalog b
+    bodies_same : bodies_bytes bodies a.bodies ≡ bodies_bytes bodies b.bodies → a.bodies ≡ b.bodies
+    unfolding kept
+    bodies_same e = bodies_one bodies catalog a.bodies b.bodies (whole_a.body_count ∙ sym whole_b.body_count) fits_a.texts fits_b.texts e
+
+    pub image_tells : image_bytes bodies catalog (kept catalog a) ≡ image_bytes bodies catalog (kept catalog b) → kept catalog a ≡ kept catalog b
     unfolding kept
     image_tells e =
-        let bytes = append_cancel_left (text_bytes catalog.text) (kept_bytes catalog (kept catalog a)) (kept_bytes catalog (kept catalog b)) (sym (image_begins catalog (kept catalog a)) ∙ e ∙ image_begins catalog (kept catalog b)) in
+        let bytes = append_cancel_left (text_bytes catalog.text) (kept_bytes bodies catalog (kept catalog a)) (kept_bytes bodies catalog (kept catalog b))
+        (sym (image_begins bodies catalog (kept catalog a)) ∙ e ∙ image_begins bodies catalog (kept catalog b)) in
         let tables = tables_same (behind_tables (kept catalog a)) (behind_tables (kept catalog b)) (sym (regroup (kept catalog a)) ∙ bytes ∙ regroup (kept catalog b)) in
         let windows = windows_same (behind_windows (kept catalog a)) (behind_windows (kept catalog b)) tables.1 in
         let streams = streams_same (behind_streams (kept catalog a)) (behind_streams (kept catalog b)) windows.1 in
-        let counts = counts_same (all_sources catalog a.next_numbers) (all_sources catalog b.next_numbers) streams.1 in
-        let numbers = numbers_same counts.1 in
-        λ k. record { tables = tables.0 k; windows = windows.0 k; streams = streams.0 k; counts = counts.0 k; next_numbers = numbers k }
+        let counts = counts_same (behind_counts (kept catalog a)) (behind_counts (kept catalog b)) streams.1 in
+        let numbers = numbers_same (bodies_bytes bodies a.bodies) (bodies_bytes bodies b.bodies) counts.1 in
+        let texts = bodies_same numbers.1 in
+        λ k. record { tables = tables.0 k; windows = windows.0 k; streams = streams.0 k; counts = counts.0 k; next_numbers = numbers.0 k; bodies = texts k }

@@ -9,17 +9,17 @@ use Rattle.std.specs.Cmp.Lexicographic.{slice_cmp}
 use Rattle.ss_value.specs.Rows.{Rows}
 use Rattle.ss_model.specs.declared.catalog.Catalog.{Catalog}
 use Rattle.ss_model.specs.Contents.{Table, Window}
-use Rattle.ss_model.specs.Database.{NextNumbers, is_border_stream}
+use Rattle.ss_model.specs.Database.{NextNumbers, is_border_stream, own_bodies}
 use Rattle.ss_model.specs.Settling.{Kept}
 use Rattle.ss_record.specs.Numbers.{number_bytes}
-use Rattle.ss_standing.specs.Image.{table_bytes, window_bytes, stream_bytes, sources_bytes, all_sources, kept_bytes}
+use Rattle.ss_standing.specs.Image.{text_bytes, table_bytes, window_bytes, stream_bytes, sources_bytes, all_sources, bodies_bytes, kept_bytes}
 use Rattle.ss_standing.specs.Readers.{Reader, IsExact, AreFor, spelled_for, each, followed, made, nothing}
-use Rattle.ss_standing.specs.ImageForm.{table_of, window_of, stream_of, counts_of, sources_of, sources_at, kept_in}
+use Rattle.ss_standing.specs.ImageForm.{table_of, window_of, stream_of, counts_of, sources_of, sources_at, body_of, bodies_of, kept_in}
 use Rattle.ss_standing.proofs.EmptyKept.{no_entries}
 use Rattle.ss_standing.proofs.ImageTells.{no_numbers_fit}
 use Rattle.ss_standing.proofs.Exact.{nothing_exact, followed_exact, made_exact, exact_so, each_exact, spelled_alike}
 use Rattle.ss_standing.proofs.Chains.{as_many}
-use Rattle.ss_standing.proofs.ImageParts.{IsTableOf, table_exact, IsWindowOf, window_exact, IsStreamOf, stream_exact, AreCountsOf, counts_exact, IsNext, AreSources, sources_exact}
+use Rattle.ss_standing.proofs.ImageParts.{IsTableOf, table_exact, IsWindowOf, window_exact, IsStreamOf, stream_exact, AreCountsOf, counts_exact, IsNext, AreSources, sources_exact, IsBodyOf, body_exact}
 
 -- ---- sources by stream
 
@@ -80,21 +80,33 @@ alike_exact read spell P exact ds =
     exact_so (each read ds) (spelled_for (λ d x. spell x) ds) (flat_map spell) (AreFor P ds) (AreFor P ds) (each_exact read (λ d x. spell x) P exact ds)
     (λ xs are. (spelled_alike spell P ds xs are, are)) (λ xs are. are)
 
+-- ---- bodies
+
+-- the texts of the bodies that the procedures have
+abbrev pub AreBodies : Bool → Catalog → List (List ℕ) → Type 0
+AreBodies true catalog texts = AreFor (IsBodyOf catalog) (range_with_len 0 (length catalog.procedures)) texts
+AreBodies false catalog texts = texts ≡ own_bodies catalog
+
+bodies_exact : (bodies : Bool) (catalog : Catalog) → IsExact (bodies_of bodies catalog) (bodies_bytes bodies) (AreBodies bodies catalog)
+bodies_exact true catalog = alike_exact (body_of catalog) text_bytes (IsBodyOf catalog) (body_exact catalog) (range_with_len 0 (length catalog.procedures))
+bodies_exact false catalog = nothing_exact (own_bodies catalog)
+
 -- ---- all parts
 
-pub record HasForm (catalog : Catalog) (most : ℕ) (k : Kept) : Type 0 where
+pub record HasForm (bodies : Bool) (catalog : Catalog) (most : ℕ) (k : Kept) : Type 0 where
   pub tables : AreFor IsTableOf catalog.tables k.tables
   pub windows : AreFor IsWindowOf catalog.windows k.windows
   pub streams : AreFor (IsStreamOf most) catalog.streams k.streams
   pub counts : AreCountsOf catalog k.streams k.counts
   pub sources : AreFor (IsSourcesAt catalog) (range_with_len 0 (length catalog.streams)) k.next_numbers
+  pub texts : AreBodies bodies catalog k.bodies
 
-module _ (catalog : Catalog) (most : ℕ) where
+module _ (bodies : Bool) (catalog : Catalog) (most : ℕ) where
   abbrev Streams : Type 0
   Streams = List (ℕ × (ℕ × List Rows))
 
   abbrev Tail : Type 0
-  Tail = List ℕ × List NextNumbers
+  Tail = List ℕ × (List NextNumbers × List (List ℕ))
 
   abbrev streams : List ℕ
   streams = range_with_len 0 (length catalog.streams)
@@ -102,30 +114,46 @@ module _ (catalog : Catalog) (most : ℕ) where
   abbrev read_sources : Reader (List NextNumbers)
   read_sources = each (sources_at catalog) streams
 
-  abbrev counts_exact_then : (ss : Streams) → IsExact (followed (counts_of catalog ss) (λ counts. read_sources)) (λ (p : Tail). flat_map (number_bytes 8) p.0 ++ all_sources catalog p.1) (λ (p : Tail). AreCountsOf catalog ss p.0 × AreFor (IsSourcesAt catalog) streams p.1)
-  counts_exact_then ss =
-      followed_exact (counts_of catalog ss) (λ counts. read_sources) (flat_map (number_bytes 8)) (λ counts. all_sources catalog) (AreCountsOf catalog ss) (λ counts. AreFor (IsSourcesAt catalog) streams)
-      (counts_exact catalog ss) (λ counts has. all_sources_exact catalog)
+  abbrev read_last : Reader (List NextNumbers × List (List ℕ))
+  read_last = followed read_sources (λ numbers. bodies_of bodies catalog)
 
-  streams_exact_then : IsExact (followed (each (stream_of most) catalog.streams) (λ ss. followed (counts_of catalog ss) (λ counts. read_sources)))
-      (λ (p : Streams × Tail). flat_map stream_bytes p.0 ++ (flat_map (number_bytes 8) p.1.0 ++ all_sources catalog p.1.1))
-      (λ (p : Streams × Tail). AreFor (IsStreamOf most) catalog.streams p.0 × (AreCountsOf catalog p.0 p.1.0 × AreFor (IsSourcesAt catalog) streams p.1.1))
+  abbrev spell_tail : Tail → List ℕ
+  spell_tail p = flat_map (number_bytes 8) p.0 ++ (all_sources catalog p.1.0 ++ bodies_bytes bodies p.1.1)
+
+  abbrev IsTail : Streams → Tail → Type 0
+  IsTail ss p = AreCountsOf catalog ss p.0 × (AreFor (IsSourcesAt catalog) streams p.1.0 × AreBodies bodies catalog p.1.1)
+
+  last_exact : IsExact read_last (λ (p : List NextNumbers × List (List ℕ)). all_sources catalog p.0 ++ bodies_bytes bodies p.1)
+      (λ (p : List NextNumbers × List (List ℕ)). AreFor (IsSourcesAt catalog) streams p.0 × AreBodies bodies catalog p.1)
+  last_exact =
+      followed_exact read_sources (λ numbers. bodies_of bodies catalog) (all_sources catalog) (λ numbers. bodies_bytes bodies) (AreFor (IsSourcesAt catalog) streams) (λ numbers. AreBodies bodies catalog)
+      (all_sources_exact catalog) (λ numbers has. bodies_exact bodies catalog)
+
+  abbrev counts_exact_then : (ss : Streams) → IsExact (followed (counts_of catalog ss) (λ counts. read_last)) spell_tail (IsTail ss)
+  counts_exact_then ss =
+      followed_exact (counts_of catalog ss) (λ counts. read_last) (flat_map (number_bytes 8)) (λ counts (p : List NextNumbers × List (List ℕ)). all_sources catalog p.0 ++ bodies_bytes bodies p.1)
+      (AreCountsOf catalog ss) (λ counts (p : List NextNumbers × List (List ℕ)). AreFor (IsSourcesAt catalog) streams p.0 × AreBodies bodies catalog p.1)
+      (counts_exact catalog ss) (λ counts has. last_exact)
+
+  streams_exact_then : IsExact (followed (each (stream_of most) catalog.streams) (λ ss. followed (counts_of catalog ss) (λ counts. read_last)))
+      (λ (p : Streams × Tail). flat_map stream_bytes p.0 ++ spell_tail p.1)
+      (λ (p : Streams × Tail). AreFor (IsStreamOf most) catalog.streams p.0 × IsTail p.0 p.1)
   streams_exact_then =
-      followed_exact (each (stream_of most) catalog.streams) (λ ss. followed (counts_of catalog ss) (λ counts. read_sources)) (flat_map stream_bytes) (λ ss (p : Tail). flat_map (number_bytes 8) p.0 ++ all_sources catalog p.1)
-      (AreFor (IsStreamOf most) catalog.streams) (λ ss (p : Tail). AreCountsOf catalog ss p.0 × AreFor (IsSourcesAt catalog) streams p.1)
+      followed_exact (each (stream_of most) catalog.streams) (λ ss. followed (counts_of catalog ss) (λ counts. read_last)) (flat_map stream_bytes) (λ ss. spell_tail)
+      (AreFor (IsStreamOf most) catalog.streams) IsTail
       (alike_exact (stream_of most) stream_bytes (IsStreamOf most) (stream_exact most) catalog.streams) (λ ss has. counts_exact_then ss)
 
   abbrev Rest : Type 0
   Rest = Streams × Tail
 
   abbrev read_rest : Reader Rest
-  read_rest = followed (each (stream_of most) catalog.streams) (λ ss. followed (counts_of catalog ss) (λ counts. read_sources))
+  read_rest = followed (each (stream_of most) catalog.streams) (λ ss. followed (counts_of catalog ss) (λ counts. read_last))
 
   abbrev spell_rest : Rest → List ℕ
-  spell_rest p = flat_map stream_bytes p.0 ++ (flat_map (number_bytes 8) p.1.0 ++ all_sources catalog p.1.1)
+  spell_rest p = flat_map stream_bytes p.0 ++ spell_tail p.1
 
   abbrev IsRest : Rest → Type 0
-  IsRest p = AreFor (IsStreamOf most) catalog.streams p.0 × (AreCountsOf catalog p.0 p.1.0 × AreFor (IsSourcesAt catalog) streams p.1.1)
+  IsRest p = AreFor (IsStreamOf most) catalog.streams p.0 × IsTail p.0 p.1
 
   windows_exact_then : IsExact (followed (each window_of catalog.windows) (λ ws. read_rest)) (λ (p : List (ℕ × Window) × Rest). flat_map window_bytes p.0 ++ spell_rest p.1)
       (λ (p : List (ℕ × Window) × Rest). AreFor IsWindowOf catalog.windows p.0 × IsRest p.1)
@@ -142,29 +170,30 @@ module _ (catalog : Catalog) (most : ℕ) where
       (alike_exact table_of table_bytes IsTableOf table_exact catalog.tables) (λ ts has. windows_exact_then)
 
   abbrev all_kept : List Table × (List (ℕ × Window) × Rest) → Kept
-  all_kept k = record { tables = k.0; windows = k.1.0; streams = k.1.1.0; counts = k.1.1.1.0; next_numbers = k.1.1.1.1 }
+  all_kept k = record { tables = k.0; windows = k.1.0; streams = k.1.1.0; counts = k.1.1.1.0; next_numbers = k.1.1.1.1.0; bodies = k.1.1.1.1.1 }
 
   abbrev parts_kept : Kept → List Table × (List (ℕ × Window) × Rest)
-  parts_kept k = (k.tables, (k.windows, (k.streams, (k.counts, k.next_numbers))))
+  parts_kept k = (k.tables, (k.windows, (k.streams, (k.counts, (k.next_numbers, k.bodies)))))
 
   abbrev spell_all : List Table × (List (ℕ × Window) × Rest) → List ℕ
   spell_all p = flat_map table_bytes p.0 ++ (flat_map window_bytes p.1.0 ++ spell_rest p.1.1)
 
-  regroup : (k : Kept) → spell_all (parts_kept k) ≡ kept_bytes catalog k
-  regroup k = sym (grouped (flat_map table_bytes k.tables) (flat_map window_bytes k.windows) (flat_map stream_bytes k.streams) (flat_map (number_bytes 8) k.counts) (all_sources catalog k.next_numbers))
+  regroup : (k : Kept) → spell_all (parts_kept k) ≡ kept_bytes bodies catalog k
+  regroup k =
+      sym (grouped (flat_map table_bytes k.tables) (flat_map window_bytes k.windows) (flat_map stream_bytes k.streams) (flat_map (number_bytes 8) k.counts) (all_sources catalog k.next_numbers) (bodies_bytes bodies k.bodies))
     where
-      grouped : (a b c d e : List ℕ) → a ++ b ++ c ++ d ++ e ≡ a ++ (b ++ (c ++ (d ++ e)))
-      grouped a b c d e = simp append_assoc
+      grouped : (a b c d e f : List ℕ) → a ++ b ++ c ++ d ++ e ++ f ≡ a ++ (b ++ (c ++ (d ++ (e ++ f))))
+      grouped a b c d e f = simp append_assoc
 
   abbrev reader : Reader Kept
   reader = made all_kept (followed (each table_of catalog.tables) (λ ts. followed (each window_of catalog.windows) (λ ws. read_rest)))
 
-  pub form_exact : IsExact (kept_in catalog most) (kept_bytes catalog) (HasForm catalog most)
+  pub form_exact : IsExact (kept_in bodies catalog most) (kept_bytes bodies catalog) (HasForm bodies catalog most)
   unfolding kept_in
   form_exact =
-      exact_so reader (λ k. spell_all (parts_kept k)) (kept_bytes catalog) (HasForm catalog most) (HasForm catalog most)
+      exact_so reader (λ k. spell_all (parts_kept k)) (kept_bytes bodies catalog) (HasForm bodies catalog most) (HasForm bodies catalog most)
       (made_exact all_kept parts_kept (followed (each table_of catalog.tables) (λ ts. followed (each window_of catalog.windows) (λ ws. read_rest))) spell_all
-      (λ (p : List Table × (List (ℕ × Window) × Rest)). AreFor IsTableOf catalog.tables p.0 × (AreFor IsWindowOf catalog.windows p.1.0 × IsRest p.1.1)) (HasForm catalog most) tables_exact_then
-      (λ p has. (refl, record { tables = has.0; windows = has.1.0; streams = has.1.1.0; counts = has.1.1.1.0; sources = has.1.1.1.1 }))
-      (λ k has. (refl, (has.tables, (has.windows, (has.streams, (has.counts, has.sources)))))))
+      (λ (p : List Table × (List (ℕ × Window) × Rest)). AreFor IsTableOf catalog.tables p.0 × (AreFor IsWindowOf catalog.windows p.1.0 × IsRest p.1.1)) (HasForm bodies catalog most) tables_exact_then
+      (λ p has. (refl, record { tables = has.0; windows = has.1.0; streams = has.1.1.0; counts = has.1.1.1.0; sources = has.1.1.1.1.0; texts = has.1.1.1.1.1 }))
+      (λ k has. (refl, (has.tables, (has.windows, (has.streams, (has.counts, (has.sources, has.texts))))))))
       (λ k has. (regroup k, has)) (λ k has. has)

@@ -43,7 +43,7 @@ module _ (carries : KeptCarries) (catalog : Catalog) where
   -- of one generation
   replayed_one : (s : Stood) (m n : ℕ) (j k : Kept) → Replayed catalog s m j → Replayed catalog s n k → (m ≡ n) × (j ≡ k)
   replayed_one s m n j k one other =
-      let opened = image_tells catalog one.opening other.opening one.image.whole other.image.whole one.image.fits other.image.fits (sym one.image.spelled ∙ other.image.spelled) in
+      let opened = image_tells s.bodies catalog one.opening other.opening one.image.whole other.image.whole one.image.fits other.image.fits (sym one.image.spelled ∙ other.image.spelled) in
       let carried = carries catalog one.opening other.opening opened one.list in
       let lists = entries_tell catalog other.opening one.list other.list (carried.replays one.replays) other.replays (one.entries ∙ sym other.entries) in (
         one.count_is ∙ ap (λ (l : List Listed). s.first + length l) lists ∙ sym other.count_is,
@@ -63,8 +63,8 @@ module _ (carries : KeptCarries) (catalog : Catalog) where
 begins : (catalog : Catalog) (image : Files) (count : ℕ) (k : Kept) → length catalog.text < 2 ^ 32 → (r : StandsForReplayed catalog image count k) → BeginsWithText r.stood.image catalog.text
 begins catalog image count k short r = record {
   short = short;
-  behind = kept_bytes catalog (kept catalog r.replayed.opening);
-  spelled = r.replayed.image.spelled ∙ image_begins catalog (kept catalog r.replayed.opening);
+  behind = kept_bytes r.stood.bodies catalog (kept catalog r.replayed.opening);
+  spelled = r.replayed.image.spelled ∙ image_begins r.stood.bodies catalog (kept catalog r.replayed.opening);
 }
 
 pub stands_for_one_text : ((disk : Files) (s t : Stood) → StandsFor disk s → StandsFor disk t → s ≡ t) → StandsForOneText

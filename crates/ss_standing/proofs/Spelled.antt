@@ -1,5 +1,5 @@
 -- What is spelled in front of bytes tells what it spells, and what is behind it.
-use Rattle.std.proofs.Common.{◌≡◌, ◌∙◌, ℕ, ◌^◌, ◌<◌, List, [], ◌∷◌, ◌++◌, length, take, drop, Ok, Result, refl, sym, ap, arith, All, append_assoc, take_at, drop_at}
+use Rattle.std.proofs.Common.{◌≡◌, ◌∙◌, ℕ, ◌^◌, ◌<◌, List, [], ◌∷◌, ◌++◌, length, take, drop, Ok, Result, refl, sym, ap, arith, All, append_assoc, append-nil, take_at, drop_at, Bool, true, false}
 use Rattle.std.specs.List.{flat_map}
 use Rattle.std.specs.Int.{cast_signed, cast_unsigned, w64}
 use Rattle.std.proofs.Math.Facts.{Fits-of_z}
@@ -7,13 +7,14 @@ use Rattle.std.proofs.lemmas.Int.{to_z-of_z}
 use Rattle.std.proofs.lemmas.List.Elements.{All-head, All-tail}
 use Rattle.ss_value.specs.declared.text.ValueError.{ValueError}
 use Rattle.ss_value.specs.declared.value.Value.TheVariants.{Int, Text}
+use Rattle.ss_model.specs.declared.catalog.Catalog.{Catalog}
 use Rattle.ss_record.specs.Numbers.{number_bytes}
 use Rattle.ss_record.specs.Spelling.{value_bytes, row_bytes, name_bytes}
 use Rattle.ss_record.specs.Bounds.{IsTypedValue, IsTypedRow}
 use Rattle.ss_record.specs.Reading.{number_at}
 use Rattle.ss_record.proofs.CallerLemmas.{number_again}
-use Rattle.ss_standing.specs.Image.{counted_rows, source_bytes, BeginsWithText}
-use Rattle.ss_standing.specs.FitsImage.{FitRows}
+use Rattle.ss_standing.specs.Image.{counted_rows, source_bytes, BeginsWithText, text_bytes, bodies_bytes}
+use Rattle.ss_standing.specs.FitsImage.{FitRows, FitBodies}
 
 -- two that begin with the spelling of an item have the same item there, and the same behind it
 abbrev pub OneSpelling : {A : Type 0} → (A → Type 0) → (A → List ℕ) → Type 0
@@ -89,3 +90,19 @@ source_one x y r s fits other e =
     let name = name_one x.0 y.0 (number_bytes 8 x.1 ++ r) (number_bytes 8 y.1 ++ s) (sym (append_assoc (name_bytes x.0) (number_bytes 8 x.1) r) ∙ e ∙ append_assoc (name_bytes y.0) (number_bytes 8 y.1) s) in
     let number = number_one 8 x.1 y.1 r s fits other name.1 in
     ((λ k. (name.0 k, number.0 k)), number.1)
+
+-- ---- bodies
+
+-- a text behind its length
+pub text_one : OneSpelling (λ (t : List ℕ). length t < 2 ^ 32) text_bytes
+text_one x y r s fits other e =
+    let long = number_one 4 (length x) (length y) (x ++ r) (y ++ s) (omega (arith, fits)) (omega (arith, other))
+    (sym (append_assoc (number_bytes 4 (length x)) x r) ∙ e ∙ append_assoc (number_bytes 4 (length y)) y s) in
+    same_fronts x y r s long.0 long.1
+
+-- the bodies of as many procedures
+pub bodies_one : (bodies : Bool) (catalog : Catalog) (xs ys : List (List ℕ)) → length xs ≡ length ys → FitBodies bodies catalog xs → FitBodies bodies catalog ys → bodies_bytes bodies xs ≡ bodies_bytes bodies ys → xs ≡ ys
+bodies_one true catalog xs ys long fit others e =
+    (many_one (λ (t : List ℕ). length t < 2 ^ 32) text_bytes text_one xs ys [] [] long fit others
+    (append-nil (flat_map text_bytes xs) ∙ e ∙ sym (append-nil (flat_map text_bytes ys)))).0
+bodies_one false catalog xs ys long fit others e = fit ∙ sym others

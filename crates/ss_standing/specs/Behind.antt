@@ -7,8 +7,9 @@ use Rattle.ss_cmdlog.specs.Generation.{Stood}
 use Rattle.ss_cmdlog.specs.Store.{StandsFor, entries_of}
 use Rattle.ss_standing.specs.Standing.{listed_entries}
 
--- the same mode, first place and image, and these entries behind the old ones
+-- the same form, mode, first place and image, and these entries behind the old ones
 pub record IsBehind (old new : Stood) (added : List Entry) : Type 0 where
+  pub bodies : new.bodies ≡ old.bodies
   pub mode : new.mode ≡ old.mode
   pub first : new.first ≡ old.first
   pub image : new.image ≡ old.image

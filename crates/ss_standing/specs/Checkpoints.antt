@@ -1,5 +1,5 @@
 -- A generation in place of another that stands for the same: a checkpoint.
-use Rattle.std.specs.Prelude.{◌≡◌, ◌⊎◌, ◌+◌, ◌++◌, ◌≤◌, ℕ, List, [], ◌∷◌, take, length, Ok}
+use Rattle.std.specs.Prelude.{◌≡◌, ◌⊎◌, Bool, true, ◌+◌, ◌++◌, ◌≤◌, ℕ, List, [], ◌∷◌, take, length, Ok}
 use Rattle.ss_model.specs.declared.catalog.Catalog.{Catalog}
 use Rattle.ss_model.specs.declared.entry.Listed.{Listed}
 use Rattle.ss_model.specs.declared.entry.Mode.{Mode}
@@ -21,45 +21,48 @@ use Rattle.ss_standing.specs.Readers.{IsExact}
 use Rattle.ss_standing.specs.Standing.{IsImageAt, Replayed, StandsForReplayed}
 use Rattle.ss_standing.specs.Keeping.{Keeps}
 
--- the generation of a database at a place, in this mode: its image, and no entry behind it
+-- the generation of a database at a place, in this mode and the new form: its image, and no entry behind it
 abbrev pub checkpoint_of : Mode → Catalog → ℕ → Database → Stood
-checkpoint_of mode catalog place db = record { mode = mode; first = place; image = image_bytes catalog (kept catalog db); groups = [] }
+checkpoint_of mode catalog place db = record { bodies = true; mode = mode; first = place; image = image_bytes true catalog (kept catalog db); groups = [] }
 
 -- the database behind the first entries of a list, so many
 abbrev pub after_first : Catalog → Database → List Listed → ℕ → Database
 after_first catalog db list held = after catalog db (take held list)
 
 -- to their end the bytes are read as this
-abbrev pub IsReadAs : Catalog → ℕ → List ℕ → Kept → Type 0
-IsReadAs catalog first rest k = to_the_end (kept_in catalog first) rest ≡ Ok k
+abbrev pub IsReadAs : Bool → Catalog → ℕ → List ℕ → Kept → Type 0
+IsReadAs bodies catalog first rest k = to_the_end (kept_in bodies catalog first) rest ≡ Ok k
 
 -- law: behind its text an image is read as what is kept of a whole database, and nothing else is
 abbrev pub ImagesAreExact : Type 0
-ImagesAreExact = (catalog : Catalog) (most : ℕ) → Accepted catalog → IsExact (kept_in catalog most) (kept_bytes catalog) (IsKeptOf catalog most)
+ImagesAreExact =
+    (bodies : Bool) (catalog : Catalog) (most : ℕ) → Accepted catalog →
+    IsExact (kept_in bodies catalog most) (kept_bytes bodies catalog) (IsKeptOf bodies catalog most)
 
 -- law: what is read behind a catalogue's text, to the end of the bytes, is kept of a database of which they are the image
 abbrev pub ReadImagesStand : Type 0
 ReadImagesStand =
-    (catalog : Catalog) (first : ℕ) (rest : List ℕ) (k : Kept) → Accepted catalog → IsBytes rest → IsReadAs catalog first rest k →
-    (db : Database) × IsImageAt catalog first (text_bytes catalog.text ++ rest) db × (k ≡ kept catalog db)
+    (bodies : Bool) (catalog : Catalog) (first : ℕ) (rest : List ℕ) (k : Kept) → Accepted catalog → IsBytes rest → IsReadAs bodies catalog first rest k →
+    (db : Database) × IsImageAt catalog bodies first (text_bytes catalog.text ++ rest) db × (k ≡ kept catalog db)
 
 -- law: and the image of a database is read as what is kept of it
 abbrev pub ImagesAreRead : Type 0
 ImagesAreRead =
-    (catalog : Catalog) (first : ℕ) (bytes : List ℕ) (db : Database) → Accepted catalog → IsImageAt catalog first bytes db →
-    (bytes ≡ text_bytes catalog.text ++ kept_bytes catalog (kept catalog db)) × IsReadAs catalog first (kept_bytes catalog (kept catalog db)) (kept catalog db)
+    (bodies : Bool) (catalog : Catalog) (first : ℕ) (bytes : List ℕ) (db : Database) → Accepted catalog → IsImageAt catalog bodies first bytes db →
+    (bytes ≡ text_bytes catalog.text ++ kept_bytes bodies catalog (kept catalog db))
+    × IsReadAs bodies catalog first (kept_bytes bodies catalog (kept catalog db)) (kept catalog db)
 
 -- law: a checkpoint of a whole database stands for its place, and for what is kept of the database
 abbrev pub CheckpointsStand : Type 0
 CheckpointsStand =
-    (catalog : Catalog) (place : ℕ) (db : Database) → WholeDatabase catalog db → HadAtMost place db → FitsImage (kept catalog db) →
+    (catalog : Catalog) (place : ℕ) (db : Database) → WholeDatabase catalog db → HadAtMost place db → FitsImage true catalog (kept catalog db) →
     Replayed catalog (checkpoint_of Strong catalog place db) place (kept catalog db)
 
 -- law: so does one of the database behind a front of a list, at the place behind it
 abbrev pub FrontCheckpointsStand : Type 0
 FrontCheckpointsStand =
     (catalog : Catalog) (db : Database) (first : ℕ) (list : List Listed) (held : ℕ) → Accepted catalog → WholeDatabase catalog db → HadAtMost first db →
-    held ≤ length list → FitsImage (kept catalog (after_first catalog db list held)) →
+    held ≤ length list → FitsImage true catalog (kept catalog (after_first catalog db list held)) →
     Replayed catalog (checkpoint_of Strong catalog (first + held) (after_first catalog db list held)) (first + held) (kept catalog (after_first catalog db list held))
 
 -- law: while the one takes the place of the other, what a crash leaves stands for the same

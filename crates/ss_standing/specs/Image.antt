@@ -1,5 +1,5 @@
 -- How an image spells what is kept of a database.
-use Rattle.std.specs.Prelude.{◌≡◌, ℕ, ◌^◌, ◌<◌, List, ◌++◌, length, get_or, replicate}
+use Rattle.std.specs.Prelude.{◌≡◌, Bool, true, false, ℕ, ◌^◌, ◌<◌, List, [], ◌++◌, length, get_or, replicate}
 use Rattle.std.specs.List.{flat_map, filter, range_with_len}
 use Rattle.std.specs.FinMap as finmap
 use Rattle.ss_value.specs.Rows.{Rows}
@@ -46,19 +46,25 @@ border_streams catalog = filter (is_border_stream catalog) (range_with_len 0 (le
 abbrev pub all_sources : Catalog → List NextNumbers → List ℕ
 all_sources catalog numbers = flat_map (λ s. sources_bytes (get_or numbers s finmap.empty)) (border_streams catalog)
 
--- what is behind the catalogue's text: each table, window and stream, how many batches each procedure has taken, and the sources
-abbrev pub kept_bytes : Catalog → Kept → List ℕ
-kept_bytes catalog k =
+-- the text of the body that each procedure has; an image of the older form has no bodies
+abbrev pub bodies_bytes : Bool → List (List ℕ) → List ℕ
+bodies_bytes true texts = flat_map text_bytes texts
+bodies_bytes false texts = []
+
+-- what is behind the catalogue's text: each table, window and stream, how many batches each procedure has taken, the sources, and in the
+-- new form the bodies
+abbrev pub kept_bytes : Bool → Catalog → Kept → List ℕ
+kept_bytes bodies catalog k =
     flat_map table_bytes k.tables ++ flat_map window_bytes k.windows ++ flat_map stream_bytes k.streams ++ flat_map (number_bytes 8) k.counts
-    ++ all_sources catalog k.next_numbers
+    ++ all_sources catalog k.next_numbers ++ bodies_bytes bodies k.bodies
 
--- the image of a database of which this is kept
-unfoldable pub image_bytes : Catalog → Kept → List ℕ
-image_bytes catalog k = text_bytes catalog.text ++ kept_bytes catalog k
+-- the image of a database of which this is kept, with bodies or without
+unfoldable pub image_bytes : Bool → Catalog → Kept → List ℕ
+image_bytes bodies catalog k = text_bytes catalog.text ++ kept_bytes bodies catalog k
 
--- what is kept of the database before any entry, as bytes
+-- what is kept of the database before any entry, as bytes of the new form
 abbrev pub empty_image_of : Catalog → List ℕ
-empty_image_of catalog = image_bytes catalog (kept catalog (empty_database catalog))
+empty_image_of catalog = image_bytes true catalog (kept catalog (empty_database catalog))
 
 -- so many items that are alike
 abbrev pub repeated : {A : Type 0} → (A → List ℕ) → ℕ → A → List ℕ

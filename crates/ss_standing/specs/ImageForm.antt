@@ -1,5 +1,5 @@
 -- The form of an image behind its catalogue's text, field by field from the left: what is kept of a database, or the first byte that can't be.
-use Rattle.std.specs.Prelude.{◌≡◌, ◌^◌, ◌+◌, ◌-◌, ◌==◌, ◌&&◌, ◌||◌, ℕ, min, nat_le, not, cond, Bool, true, List, [], ◌∷◌, ◌++◌, map, length, get_or, slice_get, Result, Ok, Err, Option, Some, None}
+use Rattle.std.specs.Prelude.{◌≡◌, ◌^◌, ◌+◌, ◌-◌, ◌==◌, ◌&&◌, ◌||◌, ℕ, min, nat_le, not, cond, Bool, true, false, List, [], ◌∷◌, ◌++◌, map, length, get_or, slice_get, Result, Ok, Err, Option, Some, None}
 use Rattle.std.specs.List.{fold, list_all, list_any, range_with_len}
 use Rattle.std.specs.Ordering.{nat_cmp}
 use Rattle.std.specs.Cmp.Lexicographic.{slice_cmp}
@@ -19,13 +19,13 @@ use Rattle.ss_model.specs.declared.catalog.StreamDef.{StreamDef}
 use Rattle.ss_model.specs.declared.catalog.TableDef.{TableDef}
 use Rattle.ss_model.specs.declared.catalog.WindowDef.{WindowDef}
 use Rattle.ss_model.specs.Contents.{Table, Window, first_kept}
-use Rattle.ss_model.specs.Database.{Database, NextNumbers, is_border_stream, is_call}
+use Rattle.ss_model.specs.Database.{Database, NextNumbers, has_body, is_border_stream, is_call, own_bodies}
 use Rattle.ss_model.specs.Orders.{procedure_emits, procedure_has, procedure_takes}
 use Rattle.ss_model.specs.Settling.{Kept, kept}
 use Rattle.ss_model.specs.WholeDatabase.{WholeDatabase, HadAtMost}
 use Rattle.ss_record.specs.Reading.{number_at, row_at}
 use Rattle.ss_record.specs.Records.{name_at}
-use Rattle.ss_cmdlog.specs.Reading.{◌>>>◌, as_field, whole}
+use Rattle.ss_cmdlog.specs.Reading.{◌>>>◌, as_field, bytes_at, whole}
 use Rattle.ss_standing.specs.FitsImage.{FitsImage}
 use Rattle.ss_standing.specs.Readers.{Reader, each, followed, is_above, made, many, nothing, passing}
 
@@ -159,15 +159,26 @@ sources_of = made finmap.from_sorted (counted 8 (λ n. true) (λ last source. So
 abbrev pub sources_at : Catalog → ℕ → Reader NextNumbers
 sources_at catalog s = cond (is_border_stream catalog s) sources_of (nothing finmap.empty)
 
+-- ---- bodies
+
+-- the text, behind its length, of a body that a procedure may have
+abbrev pub body_of : Catalog → ℕ → Reader (List ℕ)
+body_of catalog q = made (λ p. p.1) (followed (number_where 4 (λ n. true)) (λ n. passing (has_body catalog q) (bytes_at n)))
+
+-- the text of each procedure's body; in the older form each has its own
+abbrev pub bodies_of : Bool → Catalog → Reader (List (List ℕ))
+bodies_of true catalog = each (body_of catalog) (range_with_len 0 (length catalog.procedures))
+bodies_of false catalog = nothing (own_bodies catalog)
+
 -- ---- all of it
 
 -- what is kept of a database of which no stream has had more batches than so many
-unfoldable pub kept_in : Catalog → ℕ → Reader Kept
-kept_in catalog most =
-    made (λ k. record { tables = k.0; windows = k.1.0; streams = k.1.1.0; counts = k.1.1.1.0; next_numbers = k.1.1.1.1 })
+unfoldable pub kept_in : Bool → Catalog → ℕ → Reader Kept
+kept_in bodies catalog most =
+    made (λ k. record { tables = k.0; windows = k.1.0; streams = k.1.1.0; counts = k.1.1.1.0; next_numbers = k.1.1.1.1.0; bodies = k.1.1.1.1.1 })
     (followed (each table_of catalog.tables) (λ tables. followed (each window_of catalog.windows) (λ windows.
     followed (each (stream_of most) catalog.streams) (λ streams. followed (counts_of catalog streams) (λ counts.
-    each (sources_at catalog) (range_with_len 0 (length catalog.streams)))))))
+    followed (each (sources_at catalog) (range_with_len 0 (length catalog.streams))) (λ numbers. bodies_of bodies catalog))))))
 
 -- the bytes to their end; those behind the last part are told at the first of them
 abbrev pub to_the_end : {A : Type 0} → Reader A → List ℕ → Result A ℕ
@@ -176,9 +187,9 @@ to_the_end read bytes = read bytes >>> λ x. cond (length x.1 == 0) (Ok x.0) (Er
 -- ---- what has this form
 
 -- it is kept of a whole database that an image has room for, of which no stream has had more batches than so many
-pub record IsKeptOf (catalog : Catalog) (most : ℕ) (k : Kept) : Type 0 where
+pub record IsKeptOf (bodies : Bool) (catalog : Catalog) (most : ℕ) (k : Kept) : Type 0 where
   pub db : Database
   pub whole : WholeDatabase catalog db
   pub had : HadAtMost most db
-  pub fits : FitsImage k
+  pub fits : FitsImage bodies catalog k
   pub is : k ≡ kept catalog db

@@ -1,9 +1,9 @@
 -- An image stands for one thing, and goes on standing for what is behind it.
-use Rattle.std.specs.Prelude.{◌≡◌, ◌⊎◌, ℕ, ◌+◌, ◌^◌, ◌<◌, List, length}
+use Rattle.std.specs.Prelude.{◌≡◌, ◌⊎◌, Bool, true, ℕ, ◌+◌, ◌^◌, ◌<◌, List, length}
 use Rattle.ss_model.specs.declared.catalog.Catalog.{Catalog}
 use Rattle.ss_model.specs.declared.entry.Listed.{Listed}
 use Rattle.ss_model.specs.declared.entry.Mode.TheVariants.{Strong}
-use Rattle.ss_model.specs.Database.{Database, empty_database}
+use Rattle.ss_model.specs.Database.{Database, empty_database, own_bodies}
 use Rattle.ss_model.specs.Replays.{Replays, after}
 use Rattle.ss_model.specs.Settling.{Kept, kept}
 use Rattle.ss_model.specs.WholeDatabase.{WholeDatabase}
@@ -14,20 +14,20 @@ use Rattle.ss_cmdlog.specs.Formatting.{fresh}
 use Rattle.ss_cmdlog.specs.Groups.{groups_of}
 use Rattle.ss_cmdlog.specs.Store.{IsEmpty, StandsFor, StandsForPart}
 use Rattle.ss_standing.specs.Image.{image_bytes, empty_image_of}
-use Rattle.ss_standing.specs.FitsImage.{FitsImage}
+use Rattle.ss_standing.specs.FitsImage.{FitBodies, FitsImage}
 use Rattle.ss_standing.specs.Standing.{listed_entries, Replayed, StandsForReplayed, Stands, Prefix, StandsForFront, StandsForAtLeast}
 use Rattle.ss_standing.specs.Behind.{IsBehind, HasFront}
 
 -- the image tells what is kept: where the two have the same image, the same is kept of them
-abbrev pub TellsKept : Catalog → Database → Database → Type 0
-TellsKept catalog a b = image_bytes catalog (kept catalog a) ≡ image_bytes catalog (kept catalog b) → kept catalog a ≡ kept catalog b
+abbrev pub TellsKept : Bool → Catalog → Database → Database → Type 0
+TellsKept bodies catalog a b = image_bytes bodies catalog (kept catalog a) ≡ image_bytes bodies catalog (kept catalog b) → kept catalog a ≡ kept catalog b
 
--- law: an image tells what is kept of a whole database that it has room for
+-- law: an image tells what is kept of a whole database that it has room for, in each form
 abbrev pub ImageTellsKept : Type 0
 ImageTellsKept =
-    (catalog : Catalog) (a b : Database) → WholeDatabase catalog a → WholeDatabase catalog b →
-    FitsImage (kept catalog a) → FitsImage (kept catalog b) →
-    TellsKept catalog a b
+    (bodies : Bool) (catalog : Catalog) (a b : Database) → WholeDatabase catalog a → WholeDatabase catalog b →
+    FitsImage bodies catalog (kept catalog a) → FitsImage bodies catalog (kept catalog b) →
+    TellsKept bodies catalog a b
 
 -- law: on one database a list that replays is told by its entries
 abbrev pub EntriesTellList : Type 0
@@ -63,10 +63,11 @@ FrontsStand =
 abbrev pub FlushesLeaveFronts : Type 0
 FlushesLeaveFronts = (s : Stood) (list : List Listed) (image : Files) → StandsForPart s (groups_of (listed_entries list)) image → HasFront s list image
 
--- law: in mid-format of a strong store a crash leaves what stands for the empty database
+-- law: in mid-format of a strong store a crash leaves what stands for the empty database, where an image has room for the procedures' own bodies
 abbrev pub FormingStands : Type 0
 FormingStands =
-    (catalog : Catalog) (image : Files) → Accepted catalog → IsEmpty image ⊎ StandsFor image (fresh Strong (empty_image_of catalog)) →
+    (catalog : Catalog) (image : Files) → Accepted catalog → FitBodies true catalog (own_bodies catalog) →
+    IsEmpty image ⊎ StandsFor image (fresh Strong (empty_image_of catalog)) →
     Stands catalog image 0 (kept catalog (empty_database catalog))
 
 -- law: a prefix of a list that stands for so many executions at least is a front that ends there at least

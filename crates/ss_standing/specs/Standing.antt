@@ -1,5 +1,5 @@
 -- What the files of a disk stand for: so many executions, and what is kept of the database after them.
-use Rattle.std.specs.Prelude.{◌≡◌, ◌⊎◌, ℕ, ◌+◌, ◌≤◌, List, length, take}
+use Rattle.std.specs.Prelude.{◌≡◌, ◌⊎◌, Bool, ℕ, ◌+◌, ◌≤◌, List, length, take}
 use Rattle.ss_model.specs.declared.catalog.Catalog.{Catalog}
 use Rattle.ss_model.specs.declared.entry.Listed.{Listed}
 use Rattle.ss_model.specs.declared.entry.Mode.TheVariants.{Strong}
@@ -15,19 +15,20 @@ use Rattle.ss_cmdlog.specs.Store.{IsEmpty, StandsFor, entries_of}
 use Rattle.ss_standing.specs.Image.{image_bytes}
 use Rattle.ss_standing.specs.FitsImage.{FitsImage}
 
--- a whole database of which the bytes are the image at this place: no stream has had more batches than there were executions
-pub record IsImageAt (catalog : Catalog) (first : ℕ) (bytes : List ℕ) (db : Database) : Type 0 where
+-- a whole database of which the bytes are the image at this place, with bodies or without: no stream has had more batches than there
+-- were executions
+pub record IsImageAt (catalog : Catalog) (bodies : Bool) (first : ℕ) (bytes : List ℕ) (db : Database) : Type 0 where
   pub whole : WholeDatabase catalog db
   pub had : HadAtMost first db
-  pub fits : FitsImage (kept catalog db)
-  pub spelled : bytes ≡ image_bytes catalog (kept catalog db)
+  pub fits : FitsImage bodies catalog (kept catalog db)
+  pub spelled : bytes ≡ image_bytes bodies catalog (kept catalog db)
 
 -- a strong generation's image is that of a database, and its entries replay on this; after them there are so many executions, and so much
 -- is kept
 pub record Replayed (catalog : Catalog) (s : Stood) (count : ℕ) (k : Kept) : Type 0 where
   pub strong : s.mode ≡ Strong
   pub opening : Database
-  pub image : IsImageAt catalog s.first s.image opening
+  pub image : IsImageAt catalog s.bodies s.first s.image opening
   pub list : List Listed
   pub entries : listed_entries list ≡ entries_of s
   pub replays : Replays catalog opening list

@@ -14,7 +14,7 @@ use ss_cmdlog::{
 use ss_disk::Disk;
 use ss_model_laws::{batches_are_bounded, kept_carries, replays_go_on, whole_databases_stay};
 
-/// Two whole databases that an image has room for, with the same image, have the same kept.
+/// Two whole databases that an image has room for, with the same image of one form, have the same kept.
 pub fn an_image_tells_what_is_kept()
     ensures { ImageTellsKept }
 {}
@@ -65,7 +65,7 @@ pub fn flushes_leave_fronts()
 }
 
 /// In mid-format of a strong store a crash leaves an image of the empty database, or an empty disk, which stands for the
-/// same.
+/// same. An image has to have room for the procedures' own bodies, which it tells.
 pub fn forming_stands()
     ensures { FormingStands }
 {

@@ -47,6 +47,9 @@
 //! - What fits an image is said of what is kept (`FitsImage`), instead of the database, because batches and units that
 //!   were dropped are in no image, and a recovered database needn't have them. How many units of a window are kept
 //!   isn't bounded, though an image gives their number in four bytes, because it follows from how many there have been.
+//! - Whether an image has bodies is told by the generation around it, which is of the new form or of the older one, and not by
+//!   its own bytes: so each definition takes the form. An image of the older form is one of procedures with their own bodies
+//!   (`FitBodies`), instead of one that tells nothing of bodies, since what files stand for is then one thing in both forms.
 //! - How an image is read is data (`Reader`), a few small readers put together (`kept_in`), instead of a relation between
 //!   bytes and what is kept. So each rule stands at the field that tells it, whoever reads the image by a program has a
 //!   definition for each part, and that reading is exact (`IsExact`) is one lemma for each way to put readers together.

@@ -7,7 +7,6 @@ use Rattle.ss_model.specs.declared.entry.Answer.{Answer}
 use Rattle.ss_model.specs.declared.entry.Listed.{Listed}
 use Rattle.ss_model.specs.declared.entry.Mode.TheVariants as modes
 use Rattle.ss_model.specs.declared.entry.Request.{Request}
-use Rattle.ss_model.specs.Accepted.{Accepted}
 use Rattle.ss_model.specs.Database.{Database as Model}
 use Rattle.ss_model.specs.Recovery.{Strong}
 use Rattle.ss_report_laws.specs.Replies.{answers_of, requests_of}
@@ -23,7 +22,9 @@ use Rattle.ss_engine.specs.declared.session.run.Finished.{Finished}
 use Rattle.ss_engine.specs.Clients.{StartWithin}
 use Rattle.ss_engine.specs.Sessions.{EndsOnDisk}
 use Rattle.ss_recover.specs.declared.recovered.Recovered.{Recovered}
-use Rattle.ss_recover.specs.Recovering.{recovered_database}
+use Rattle.ss_snapshot.specs.Bodies.{GrowsTo}
+use Rattle.ss_snapshot.proofs.BodiesRead.{still}
+use Rattle.ss_recover.specs.Recovering.{IsOwnCatalog, recovered_database}
 use Rattle.ss_resume.specs.declared.past.Past.{Past}
 use Rattle.ss_resume.specs.Pasts.{JoinsAt, joined_lists}
 use Rattle.ss_resume.proofs.CallerLemmas.{each_joined, resume_within, starts_are}
@@ -39,9 +40,10 @@ use Rattle.ss_top.specs.Over.{CameOver, RanAsOver, RanOver, RoseBy}
 use Rattle.ss_top.specs.Runs.{IsReportedAs, IsWrittenReport, ReportsAs, TellsReport, end_for, session_status}
 use Rattle.ss_top.specs.Stores.{WasOf}
 use Rattle.ss_top.specs.Turns.{ClosesAgain, Comes, IsPast, MayGoOn, RanFrom, ReopensFor, ServesAgain, ToldFrom}
+use Rattle.ss_top.proofs.Growing.{GrowthLaws}
 use Rattle.ss_top.proofs.Lasting.{rose_at}
 use Rattle.ss_top.proofs.OverReports.{ran_over, unreported_over}
-use Rattle.ss_top.proofs.Overs.{ClosedAgain, answered_failed, at_receipts, joined_stops, joined_within, lived}
+use Rattle.ss_top.proofs.Overs.{ClosedAgain, answered_failed, joined_stops, joined_within, lived_more}
 use Rattle.ss_top.proofs.Turning.{later_over, later_short, rose_keeps, rose_more, said_failed, said_may, short_of, small_halt}
 
 -- ---- from which request each client goes on
@@ -120,10 +122,13 @@ module _ {D : Type 0} (kind : DiskKind D) (every : Option ℕ) (limit again : �
 -- ---- no engine was opened on it
 
 module _ {D : Type 0} (kind : DiskKind D) (every : Option ℕ) (limit : ℕ) (printing : Printing) (requests : List Request) (last : Bool) (past : Past) (r : Recovered D) where
-  pub short_again : NoEngineIsOpened kind → RunsOverRestarts kind → (mid : D) → ServesAgain kind modes.Strong every limit printing r.catalog requests last past mid r (Short r.log.disk)
-  short_again alone_law over_law mid again old before rose past_is later opened w ended tells =
-      later_short kind modes.Strong every limit printing r.catalog requests last again old r.log.disk (omega (arith, before, later)) so_far w ended tells (λ true'. inr (subst (λ (s : Status). CameOver kind every limit (suc again) printing r.catalog requests s w old r.log.disk) tells.is (came (past_is true') (opened true'))))
+  pub short_again : IsOwnCatalog r.catalog → NoEngineIsOpened kind → RunsOverRestarts kind → (mid : D) → ServesAgain kind modes.Strong every limit printing r.catalog requests last past mid r (Short r.log.disk)
+  short_again own alone_law over_law mid again old before rose past_is later opened w ended tells =
+      later_short kind modes.Strong every limit printing r.catalog requests last again old r.log.disk (omega (arith, before, later)) so_far w ended tells (λ true'. inr (inr (subst (λ (s : Status). CameOver kind every limit (suc again) printing r.catalog requests s w old r.log.disk) tells.is (came (past_is true' r.catalog itself) (opened true' r.catalog itself)))))
     where
+      itself : GrowsTo r.catalog r.catalog
+      itself = still r.catalog own.1 own.0
+
       so_far : RoseBy (suc again) (kind.faults old) (kind.faults r.log.disk)
       so_far = rose_keeps (suc again) (kind.faults old) (kind.faults mid) (kind.faults r.log.disk) rose later
 
@@ -133,11 +138,11 @@ module _ {D : Type 0} (kind : DiskKind D) (every : Option ℕ) (limit : ℕ) (pr
           (alone_law r.catalog is.db past.first is.last is.earlier (recovered_database r) r.first old mid r.log.disk is.lived opened') so_far is.was w ended tells
 
   -- one that was, and closed
-  pub served_again : (accepted : Accepted r.catalog) (room : ℕ) → room ≡ limit - (r.first - past.first) → (starts : List ℕ) → starts ≡ map (resume_at r.first) past.answers → (finished : Finished D) (turn : Turn D)
+  pub served_again : (own : IsOwnCatalog r.catalog) (room : ℕ) → room ≡ limit - (r.first - past.first) → (starts : List ℕ) → starts ≡ map (resume_at r.first) past.answers → (finished : Finished D) (turn : Turn D)
       → RanFrom kind Strong every room r.catalog (recovered_database r) r.first requests starts r.log finished → ClosesAgain kind modes.Strong every limit printing r.catalog requests last past r.first finished turn
       → (mid : D) → ServesAgain kind modes.Strong every limit printing r.catalog requests last past mid r turn
-  served_again accepted room room_is starts starts_are' finished turn ran closes mid again old before rose past_is later opened = closes again old mid (recovered_database r) r.log (record {
-    accepted = accepted;
+  served_again own room room_is starts starts_are' finished turn ran closes mid again old before rose past_is later opened = closes again old mid (recovered_database r) r.log (record {
+    own = own;
     before = before;
     rose = rose;
     past_is = past_is;
@@ -157,14 +162,17 @@ module _ {D : Type 0} (kind : DiskKind D) (every : Option ℕ) (limit : ℕ) (pr
   new = finished.log.disk
 
   module _ (again : ℕ) (old mid : D) (from : Model) (log : CmdLog D) (o : ReopensFor kind every limit catalog requests past again old mid from place log finished) where
+    abbrev itself : GrowsTo catalog catalog
+    itself = still catalog o.own.1 o.own.0
+
     abbrev closed_of : kind.honest → ClosedAgain kind every limit catalog requests past (suc again) old mid from place o.clients log finished
     closed_of true' = record {
-      accepted = o.accepted;
-      past_is = o.past_is true';
+      accepted = o.own.0;
+      past_is = o.past_is true' catalog itself;
       before = o.before;
       from_first = from_first;
       to_end = to_end;
-      opened = o.opened true';
+      opened = o.opened true' catalog itself;
       closed = o.closed;
     }
 
@@ -187,7 +195,7 @@ module _ {D : Type 0} (kind : DiskKind D) (every : Option ℕ) (limit : ℕ) (pr
     silent : (answers : List (List Answer)) → ((client : ℕ) → answers_of answers client ≡ take (resume_at place (answers_of past.answers client)) (answers_of past.answers client) ++ answers_of finished.closed.answers client)
         → kind.honest → (w : SinkChange) (ended : Status) → TellsReport NoMemory None ended w → CameOver kind every limit (suc again) printing catalog requests NoMemory w old new
     silent answers are true' w ended tells = record {
-      was = (o.past_is true').was;
+      was = (o.past_is true' catalog itself).was;
       text = _;
       ran = unreported_over kind every limit catalog requests past (suc again) old mid from place o.clients log finished (closed_of true') resume_law stay_law true' more_law over_law answers are;
       wrote = inr tells.reported;
@@ -197,7 +205,7 @@ module _ {D : Type 0} (kind : DiskKind D) (every : Option ℕ) (limit : ℕ) (pr
   pub short_closed : ClosesAgain kind modes.Strong every limit printing catalog requests last past place finished (Short new)
   short_closed again old mid from log o w ended tells =
       later_short kind modes.Strong every limit printing catalog requests last again old new (least again old mid from log o) (so_far again old mid from log o) w ended tells
-      (λ true'. inr (silent again old mid from log o (joined_lists place past.answers finished.closed.answers) (each_joined place past.answers finished.closed.answers) true' w ended tells))
+      (λ true'. inr (inr (silent again old mid from log o (joined_lists place past.answers finished.closed.answers) (each_joined place past.answers finished.closed.answers) true' w ended tells)))
 
   module _ (joined : Past) (joins : JoinsAt place past finished.closed.list finished.closed.answers finished.receipted joined) where
     joined_is : joined ≡ record { list = take (place - past.first) past.list ++ finished.closed.list; first = past.first; answers = joined.answers; receipted = finished.receipted }
@@ -207,25 +215,24 @@ module _ {D : Type 0} (kind : DiskKind D) (every : Option ℕ) (limit : ℕ) (pr
         ∙ ap (λ (n : ℕ). record { list = take (place - past.first) past.list ++ finished.closed.list; first = past.first; answers = joined.answers; receipted = n }) joins.receipted_is)
 
     -- the disk has failed, and another opening may follow
-    pub failed_closed : is_some finished.log.halted ≡ true → ((f : ℕ) → finished.log.halted ≡ Some f → f < 2 ^ 64) → ClosesAgain kind modes.Strong every limit printing catalog requests last past place finished (Failed (Some joined) new)
-    failed_closed some small again old mid from log o = (
+    pub failed_closed : GrowthLaws → is_some finished.log.halted ≡ true → ((f : ℕ) → finished.log.halted ≡ Some f → f < 2 ^ 64) → ClosesAgain kind modes.Strong every limit printing catalog requests last past place finished (Failed (Some (record { past = joined; catalog = finished.closed.catalog })) new)
+    failed_closed laws some small again old mid from log o = (
       least again old mid from log o,
       one_more again old mid from log o some,
-      λ true'. subst (IsPast kind limit catalog requests (suc (suc again)) old new) (sym joined_is) (is true'),
+      λ true' more grows. subst (IsPast kind limit more requests (suc (suc again)) old new) (sym joined_is) (is true' more (subst (λ (c : Catalog). GrowsTo c more) o.closed.ends.run.catalog_is grows)),
     )
       where
-        is : kind.honest
-            → IsPast kind limit catalog requests (suc (suc again)) old new (record { list = take (place - past.first) past.list ++ finished.closed.list; first = past.first; answers = joined.answers; receipted = finished.receipted })
-        is true' = let c = closed_of again old mid from log o true' in record {
-          db = c.past_is.db;
-          was = c.past_is.was;
+        is : kind.honest → (more : Catalog) → GrowsTo catalog more
+            → IsPast kind limit more requests (suc (suc again)) old new (record { list = take (place - past.first) past.list ++ finished.closed.list; first = past.first; answers = joined.answers; receipted = finished.receipted })
+        is true' more grows = let c = closed_of again old mid from log o true' in let p = o.past_is true' more grows in record {
+          db = p.db;
+          was = p.was;
           last = record { moment = kind.moment log.disk; list = take (place - past.first) past.list ++ finished.closed.list; receipted = finished.receipted };
-          earlier = c.past_is.last ∷ c.past_is.earlier;
-          lived = lived kind every limit catalog requests past (suc again) old mid from place o.clients log finished c resume_law stay_law true' more_law finished.receipted
-              (at_receipts kind every limit catalog requests past (suc again) old mid from place o.clients log finished c resume_law stay_law true' more_law);
+          earlier = p.last ∷ p.earlier;
+          lived = lived_more kind every limit catalog requests past (suc again) old mid from place o.clients log finished c resume_law stay_law laws o.own more grows p (o.opened true' more grows) true' more_law;
           list_is = refl;
           receipted_is = refl;
-          few = let few = c.past_is.few in omega (arith, few);
+          few = let few = p.few in omega (arith, few);
           within = joined_within kind every limit catalog requests past (suc again) old mid from place o.clients log finished c resume_law stay_law;
           answered = answered_failed kind every limit catalog requests past (suc again) old mid from place o.clients log finished c resume_law stay_law joined.answers joins.answers_are finished.receipted
               (small_halt (kind.faults log.disk) (kind.faults new) finished.log.halted o.closed.ends.fault o.closed.ends.holds.halt small);
@@ -291,4 +298,4 @@ module _ {D : Type 0} (kind : DiskKind D) (every : Option ℕ) (limit : ℕ) (pr
           subst (λ (d : D). Comes kind modes.Strong every limit printing catalog requests (suc again) last ended w old d) (sym is_new)
           (later_over kind modes.Strong every limit printing catalog requests last reported.status reported.text (said_may printing requests joined.first all reported.status reported.text said) at_last old new
           (least again old mid from log o) again (so_far again old mid from log o) (λ is. one_more again old mid from log o (said_failed printing requests joined.first all reported.status reported.text said is)) w ended tells
-          (λ true'. inr (came again old mid from log o true' w ended reported.status reported.text said tells)))
+          (λ true'. inr (inr (came again old mid from log o true' w ended reported.status reported.text said tells))))

@@ -7,7 +7,7 @@ use Rattle.ss_lemmas.proofs.Bools.{first_of_two, second_of_two}
 use Rattle.ss_model.specs.declared.catalog.Catalog.{Catalog}
 use Rattle.ss_model.specs.declared.catalog.Procedure.{Procedure}
 use Rattle.ss_model.specs.declared.entry.Asked.{Asked}
-use Rattle.ss_model.specs.declared.entry.Asked.TheVariants.{Call, Push}
+use Rattle.ss_model.specs.declared.entry.Asked.TheVariants.{Call, Push, Install}
 use Rattle.ss_model.specs.declared.entry.Request.{Request}
 use Rattle.ss_model.specs.Database.{fits_entry, has_call}
 use Rattle.ss_model.specs.Report.{asked_entry, entries_behind}
@@ -20,6 +20,7 @@ client_below catalog client index (Call q args) fits = by (slice_get catalog.pro
     by None e = cc
     by (Some p) e = ltb-true client 8 (first_of_two _ _ (first_of_two _ _ e))
 client_below catalog client index (Push s source seq rows) fits = ltb-true client 8 (first_of_two _ _ (first_of_two _ _ (first_of_two _ _ (first_of_two _ _ fits))))
+client_below catalog client index (Install q text) fits = ltb-true client 8 (first_of_two _ _ (first_of_two _ _ (first_of_two _ _ fits)))
 
 below_behind : (catalog : Catalog) (earlier rs : List Request) → list_all (fits_entry catalog) (entries_behind earlier rs) ≡ true → AllByRecursion (λ (r : Request). r.client < 8) rs
 below_behind catalog earlier [] fit = tt

@@ -11,6 +11,7 @@ use Rattle.ss_model.specs.declared.catalog.Catalog.{Catalog}
 use Rattle.ss_model.specs.declared.entry.Mode.{Mode}
 use Rattle.ss_model.specs.declared.entry.Request.{Request}
 use Rattle.ss_model.specs.Accepted.{Accepted}
+use Rattle.ss_model.specs.SparesAside.{with_spares}
 use Rattle.ss_catalog.specs.Answers.{HasOneCatalog}
 use Rattle.ss_audit_input.specs.Told.{AuditComes, AuditEnds, HasAuditCause, TellsAuditFaults}
 use Rattle.ss_words.specs.declared.names.Command.{Command}
@@ -28,19 +29,23 @@ use Rattle.ss_refusals.specs.declared.status.Status.{Status}
 use Rattle.ss_refusals.specs.declared.status.Status.TheVariants.{Done, Usage, Input, ReadFault, WriteFault, Disk, NoMemory, Foreign, OtherMode, OtherCatalog, Limit, Differs}
 use Rattle.ss_refusals.specs.Inputs.{LeavesOfSource, HasOneStart, StartsOrRefused, HasOneRefusal, ExitsAsRefused, ExitsAsStarted, DidNotRise, OfStarted}
 use Rattle.ss_refusals.specs.Refused.{IsRefusedBy}
-use Rattle.ss_refusals.proofs.CallerLemmas.{OfRefusal, refusals_have, never, memory_text_is, read_fault_text_is, fault_rose, leaves_so, refused_ends_refused, refused_ends_started}
+use Rattle.ss_refusals.proofs.CallerLemmas.{OfRefusal, none_read, refusals_have, never, memory_text_is, read_fault_text_is, fault_rose, leaves_so, refused_ends_refused, refused_ends_started}
 use Rattle.ss_refusals.specs.Sinks.{SourceChange, SinkChange, TellsSourceFault, Writes, ExitsRefused, LeavesOfRefusedSource, SinkHeld}
-use Rattle.ss_refusals.specs.Starts.{Starts}
+use Rattle.ss_refusals.specs.Starts.{HasBodiesFor, Starts}
 use Rattle.ss_refusals.specs.Statuses.{refusal_status, refusal_text, usage_text, no_memory_text}
 use Rattle.ss_top.specs.declared.session.Printing.{Printing}
 use Rattle.ss_top.specs.declared.session.Printing.TheVariants.{InFull, Summary}
 use Rattle.ss_top.specs.Complete.{HasRoom, IsDoneOrShort}
 use Rattle.ss_top.specs.Over.{ComesOver, MayEnd}
 use Rattle.ss_top.specs.Stores.{CameTo, RecoveredTo}
-use Rattle.ss_top.specs.Serving.{ComesToShow, RecoversTo, HasServedCause, HasStoreCause, TellsStoreFaults}
+use Rattle.ss_top.specs.Serving.{ComesToShow, RecoversTo, HasServedCause, HasStoreCause, ServesTo, TellsStoreFaults}
 use Rattle.ss_top.specs.Runs.{TellsDiskFault}
-use Rattle.ss_top.specs.Shows.{ShowEnds, show_requests}
+use Rattle.ss_top.specs.Shows.{RanShow, ShowEnds, show_requests}
 use Rattle.ss_top.specs.Top.{Ends, EndsRecover, EndsRun, EndsVoter, RunEndsSo, RunEnds, RanInput, HasCause, IsComplete, TellsFaults, WritesOnly, DiskHeld}
+use Rattle.ss_engine.specs.Clients.{AllFit}
+use Rattle.ss_recover.specs.Recovering.{IsOwnCatalog}
+use Rattle.ss_voter.specs.VoterCatalog.{IsVoter}
+use Rattle.ss_top.proofs.Given.{given_bodies, given_came}
 use Rattle.ss_top.proofs.Completing.{over_complete, recovered_complete, show_complete}
 
 -- what holds of each holds of one that may be there
@@ -191,18 +196,22 @@ module _ {D : Type 0} (kind : DiskKind D) (old new : D) (mode : Mode) (every : O
   -- ---- what the input asks for ran
 
   module _ (one : HasOneStart) (either : StartsOrRefused) (no_fault : EmptyHasNoFault) (store_has_none : StoreHasNoFault) (one_store : StoreIsOne) (catalog : Catalog) (requests : List Request) (starts : IfSome s.before (λ input. Starts input catalog requests)) (accepted : Accepted catalog)
-      (left : IsAtEnd s.now) where
-    over_may : (status : Status) → ComesOver kind mode every limit restarts InFull catalog requests status w old new → MayEnd status
-    over_may status came = comes_may kind mode every limit restarts InFull catalog requests w old new status came
+      (bodies : HasBodiesFor catalog requests) (left : IsAtEnd s.now) where
+    -- the catalogue with the bodies, which ran
+    abbrev whole : Catalog
+    whole = with_spares catalog bodies.spares
+
+    over_may : (status : Status) → ComesOver kind mode every limit restarts InFull whole requests status w old new → MayEnd status
+    over_may status came = comes_may kind mode every limit restarts InFull whole requests w old new status came
 
     -- an input that starts has no refusal
     not_refused : (ended : Status) → IfSome s.before (λ input. ExitsAsRefused input ended)
     not_refused ended = IfSome_then s.before starts (λ input start e has. absurd (false≢true (sym has.says ∙ either input catalog requests e start has.first)))
 
-    ran : (status : Status) → ComesOver kind mode every limit restarts InFull catalog requests status w old new → RanInput kind old new mode every limit restarts s.before status w
-    ran status came = record { catalog = catalog; requests = requests; starts = starts; accepted = accepted; came = came }
+    ran : (status : Status) → ComesOver kind mode every limit restarts InFull whole requests status w old new → RanInput kind old new mode every limit restarts s.before status w
+    ran status came = record { catalog = catalog; requests = requests; starts = starts; accepted = accepted; bodies = bodies; came = came }
 
-    came_so : (ended : Status) → ComesOver kind mode every limit restarts InFull catalog requests ended w old new → RunEnds kind old new mode every limit restarts s.before ended w
+    came_so : (ended : Status) → ComesOver kind mode every limit restarts InFull whole requests ended w old new → RunEnds kind old new mode every limit restarts s.before ended w
     came_so Done came = ran Done came
     came_so WriteFault came = ran WriteFault came
     came_so Disk came = ran Disk came
@@ -216,7 +225,7 @@ module _ {D : Type 0} (kind : DiskKind D) (old new : D) (mode : Mode) (every : O
     came_so Input came = absurd (over_may Input came)
     came_so ReadFault came = absurd (over_may ReadFault came)
 
-    left_so : (ended : Status) → ComesOver kind mode every limit restarts InFull catalog requests ended w old new → LeavesOfSource ended s.before s.now
+    left_so : (ended : Status) → ComesOver kind mode every limit restarts InFull whole requests ended w old new → LeavesOfSource ended s.before s.now
     left_so Usage came = absurd (over_may Usage came)
     left_so Differs came = absurd (over_may Differs came)
     left_so Input came = absurd (over_may Input came)
@@ -230,7 +239,7 @@ module _ {D : Type 0} (kind : DiskKind D) (old new : D) (mode : Mode) (every : O
     left_so OtherCatalog came = left
     left_so Limit came = left
 
-    started_so : (ended : Status) → ComesOver kind mode every limit restarts InFull catalog requests ended w old new → HasCause ended s w disk → SinkHeld w → DiskHeld disk → OfStarted ended
+    started_so : (ended : Status) → ComesOver kind mode every limit restarts InFull whole requests ended w old new → HasCause ended s w disk → SinkHeld w → DiskHeld disk → OfStarted ended
     started_so Usage came cause calm still = absurd (over_may Usage came)
     started_so Differs came cause calm still = absurd (over_may Differs came)
     started_so Input came cause calm still = absurd (over_may Input came)
@@ -244,7 +253,7 @@ module _ {D : Type 0} (kind : DiskKind D) (old new : D) (mode : Mode) (every : O
     started_so OtherCatalog came cause calm still = tt
     started_so Limit came cause calm still = tt
 
-    cause_ran : (ended : Status) → ComesOver kind mode every limit restarts InFull catalog requests ended w old new → HasServedCause restarts ended w disk → HasCause ended s w disk
+    cause_ran : (ended : Status) → ComesOver kind mode every limit restarts InFull whole requests ended w old new → HasServedCause restarts ended w disk → HasCause ended s w disk
     cause_ran Usage came cause = absurd (over_may Usage came)
     cause_ran Differs came cause = absurd (over_may Differs came)
     cause_ran Input came cause = absurd (over_may Input came)
@@ -258,7 +267,7 @@ module _ {D : Type 0} (kind : DiskKind D) (old new : D) (mode : Mode) (every : O
     cause_ran OtherCatalog came cause = tt
     cause_ran Limit came cause = tt
 
-    only_ran : (ended : Status) → ComesOver kind mode every limit restarts InFull catalog requests ended w old new → WritesOnly ended w
+    only_ran : (ended : Status) → ComesOver kind mode every limit restarts InFull whole requests ended w old new → WritesOnly ended w
     only_ran Usage came = absurd (over_may Usage came)
     only_ran Differs came = absurd (over_may Differs came)
     only_ran ReadFault came = absurd (over_may ReadFault came)
@@ -272,13 +281,13 @@ module _ {D : Type 0} (kind : DiskKind D) (old new : D) (mode : Mode) (every : O
     only_ran OtherCatalog came = tt
     only_ran Limit came = tt
 
-    complete_so : (ended : Status) → ComesOver kind mode every limit restarts InFull catalog requests ended w old new → HasServedCause restarts ended w disk → SinkHeld w → DiskHeld disk → IfSome s.before (λ input. IsComplete kind old new mode limit input ended)
+    complete_so : (ended : Status) → ComesOver kind mode every limit restarts InFull whole requests ended w old new → HasServedCause restarts ended w disk → SinkHeld w → DiskHeld disk → IfSome s.before (λ input. IsComplete kind old new mode limit input ended)
     complete_so ended came cause calm still = IfSome_then s.before starts (λ input start c rs other room.
         let same = one input catalog c requests rs start other in
-        over_complete kind old new mode limit restarts w no_fault store_has_none one_store calm still every InFull catalog requests ended came cause
+        over_complete kind old new mode limit restarts w no_fault store_has_none one_store calm still every InFull catalog bodies.spares bodies.own requests ended came cause
         (subst (λ c'. HasRoom mode limit c' requests disk) (sym same.0) (subst (λ rs'. HasRoom mode limit c rs' disk) (sym same.1) room)))
 
-    pub run_came : (ended : Status) → ComesOver kind mode every limit restarts InFull catalog requests ended w old new → HasServedCause restarts ended w disk → EndsSo ended
+    pub run_came : (ended : Status) → ComesOver kind mode every limit restarts InFull whole requests ended w old new → HasServedCause restarts ended w disk → EndsSo ended
     run_came ended came store_cause = let cause = cause_ran ended came store_cause in record {
       ends = record {
         came = came_so ended came;
@@ -290,8 +299,46 @@ module _ {D : Type 0} (kind : DiskKind D) (old new : D) (mode : Mode) (every : O
       };
       only = only_ran ended came;
       cause = cause;
-      no_usage = λ is. over_may Usage (subst (λ status. ComesOver kind mode every limit restarts InFull catalog requests status w old new) is came);
+      no_usage = λ is. over_may Usage (subst (λ status. ComesOver kind mode every limit restarts InFull whole requests status w old new) is came);
     }
+
+-- ---- a show ran
+
+pub show_came : {D : Type 0} (kind : DiskKind D) (mode : Mode) (every : Option ℕ) (limit restarts : ℕ) (show : Show) (catalog : Catalog) (requests : List Request) (w : SinkChange) (old new : D)
+    → IsVoter catalog → IsOwnCatalog catalog → requests ≡ show_requests show → AllFit catalog requests → (ended : Status)
+    → ServesTo kind mode every limit restarts (Summary show.votes) catalog requests ended w old new → ComesToShow kind mode every limit restarts show ended w old new
+show_came kind mode every limit restarts show catalog requests w old new voter own are fit ended serves =
+    record { came = by ended serves.came; cause = serves.cause; told = serves.told; sink = serves.sink }
+  where
+    bare : with_spares catalog [] ≡ catalog
+    bare = none_read voter.value catalog voter.reads
+
+    shown : AllFit catalog (show_requests show)
+    shown = subst (λ (rs : List Request). AllFit catalog rs) are fit
+
+    ran : (status : Status) → ComesOver kind mode every limit restarts (Summary show.votes) serves.stored requests status w old new → RanShow kind mode every limit restarts show status w old new
+    ran status came = record {
+      catalog = with_spares catalog [];
+      voter = subst IsVoter (sym bare) voter;
+      accepted = subst Accepted (sym bare) own.0;
+      bodies = given_bodies catalog serves.stored (show_requests show) serves.grows shown;
+      came = given_came kind mode every limit restarts (Summary show.votes) catalog serves.stored (show_requests show) status w old new serves.grows
+          (subst (λ rs. ComesOver kind mode every limit restarts (Summary show.votes) serves.stored rs status w old new) are came);
+    }
+
+    by : (status : Status) → ComesOver kind mode every limit restarts (Summary show.votes) serves.stored requests status w old new → ShowEnds kind mode every limit restarts show status w old new
+    by Done came = ran Done came
+    by WriteFault came = ran WriteFault came
+    by Disk came = ran Disk came
+    by Foreign came = ran Foreign came
+    by OtherMode came = ran OtherMode came
+    by OtherCatalog came = ran OtherCatalog came
+    by Limit came = ran Limit came
+    by Usage came = ran Usage came
+    by Differs came = ran Differs came
+    by Input came = ran Input came
+    by ReadFault came = ran ReadFault came
+    by NoMemory came = inr (ran NoMemory came)
 
 -- ---- the whole call
 
@@ -418,10 +465,10 @@ module _ {D : Type 0} (kind : DiskKind D) (old new : D) (limit : ℕ) (words : L
     show_so restarts show OtherMode ends = tt
     show_so restarts show OtherCatalog ends = tt
     show_so restarts show Limit ends = tt
-    show_so restarts show Usage ends = comes_may kind what.mode what.every limit restarts (Summary show.votes) ends.catalog (show_requests show) w old new Usage ends.came
-    show_so restarts show Differs ends = comes_may kind what.mode what.every limit restarts (Summary show.votes) ends.catalog (show_requests show) w old new Differs ends.came
-    show_so restarts show Input ends = comes_may kind what.mode what.every limit restarts (Summary show.votes) ends.catalog (show_requests show) w old new Input ends.came
-    show_so restarts show ReadFault ends = comes_may kind what.mode what.every limit restarts (Summary show.votes) ends.catalog (show_requests show) w old new ReadFault ends.came
+    show_so restarts show Usage ends = comes_may kind what.mode what.every limit restarts (Summary show.votes) (with_spares ends.catalog ends.bodies.spares) (show_requests show) w old new Usage ends.came
+    show_so restarts show Differs ends = comes_may kind what.mode what.every limit restarts (Summary show.votes) (with_spares ends.catalog ends.bodies.spares) (show_requests show) w old new Differs ends.came
+    show_so restarts show Input ends = comes_may kind what.mode what.every limit restarts (Summary show.votes) (with_spares ends.catalog ends.bodies.spares) (show_requests show) w old new Input ends.came
+    show_so restarts show ReadFault ends = comes_may kind what.mode what.every limit restarts (Summary show.votes) (with_spares ends.catalog ends.bodies.spares) (show_requests show) w old new ReadFault ends.came
 
     may_only : (ended : Status) → MayEnd ended → WritesOnly ended w
     may_only Done may = tt

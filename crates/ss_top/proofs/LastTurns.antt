@@ -8,16 +8,16 @@ use Rattle.ss_model.specs.declared.entry.Request.{Request}
 use Rattle.ss_disk.specs.Kinds.{DiskKind}
 use Rattle.ss_headline.specs.Disks.{DiskChange, disk_of}
 use Rattle.ss_recover.specs.declared.recovered.Recovered.{Recovered}
-use Rattle.ss_resume.specs.declared.past.Past.{Past}
 use Rattle.ss_refusals.specs.declared.status.Status.{Status}
 use Rattle.ss_refusals.specs.declared.status.Status.TheVariants.{Done, Usage, Input, ReadFault, WriteFault, Disk, NoMemory, Foreign, OtherMode, OtherCatalog, Limit, Differs}
 use Rattle.ss_refusals.specs.Sinks.{SinkChange}
+use Rattle.ss_top.specs.declared.over.Begun.{Begun}
 use Rattle.ss_top.specs.declared.over.Turn.{Turn}
 use Rattle.ss_top.specs.declared.over.Turn.TheVariants.{Over, Short, Refused, Failed}
 use Rattle.ss_top.specs.declared.session.Printing.{Printing}
 use Rattle.ss_top.specs.Over.{ComesOver, MayRestart}
 use Rattle.ss_top.specs.Serving.{ComesTo, HasServedCause, HasStoreCause, IsOpenedFor, ServesTo, TellsStoreFaults}
-use Rattle.ss_top.specs.Turns.{CameAt, Comes, ComesAtLast, HasCome, HasServed, HasTurnTexts, IsOver, ServesNew, TellsTurn, TurnComes, disk_left}
+use Rattle.ss_top.specs.Turns.{CameAt, Comes, ComesAtLast, ComesWith, HasCome, HasServed, HasTurnTexts, IsOver, ServesNew, TellsTurn, TurnComes, TurnComesWith, disk_left}
 use Rattle.ss_top.proofs.Storing.{told_own}
 use Rattle.ss_top.proofs.Turning.{rose_once}
 
@@ -32,9 +32,9 @@ may_at mode restarts again within (inl none) = inl (omega (arith, within, none))
 may_at mode restarts again within (inr strong) = inr strong
 
 -- at the first opening there is no past
-pub none_at_first : {D : Type 0} (kind : DiskKind D) (limit : ℕ) (catalog : Catalog) (requests : List Request) (again : ℕ) (old now : D) (past : Option Past) → again ≡ 0 → HasCome kind limit catalog requests again old now past → past ≡ None
-none_at_first kind limit catalog requests zero old now past first has = has.1
-none_at_first kind limit catalog requests (suc again) old now past first has = absurd (cc)
+pub none_at_first : {D : Type 0} (kind : DiskKind D) (limit : ℕ) (catalog : Catalog) (requests : List Request) (again : ℕ) (old now : D) (begun : Option Begun) → again ≡ 0 → HasCome kind limit catalog requests again old now begun → begun ≡ None
+none_at_first kind limit catalog requests zero old now begun first has = has.1
+none_at_first kind limit catalog requests (suc again) old now begun first has = absurd (cc)
 
 -- the cause of an opening is that of the run: a fault of the disk ends it at the last one alone
 served_at : (again restarts : ℕ) (ended : Status) (w : SinkChange) (disk : DiskChange) → (ended ≡ Disk → again ≡ restarts) → HasServedCause again ended w disk → HasServedCause restarts ended w disk
@@ -74,30 +74,43 @@ module _ {D : Type 0} (kind : DiskKind D) (mode : Mode) (every : Option ℕ) (li
     over_comes (Over reported) comes over w ended tells = comes w ended tells
     over_comes (Short disk) comes over w ended tells = comes w ended tells
     over_comes (Refused error disk) comes over w ended tells = comes w ended tells
-    over_comes (Failed past disk) comes over w ended tells = absurd over
+    over_comes (Failed begun disk) comes over w ended tells = absurd over
+
+    -- with the bodies that were found
+    pub over_comes_with : (turn : Turn D) → TurnComesWith kind mode every limit printing catalog requests again last old turn → IsOver turn → (w : SinkChange) (ended : Status) → TellsTurn turn ended w
+        → ComesWith kind mode every limit printing catalog requests again last ended w old (disk_left turn)
+    over_comes_with (Over reported) comes over w ended tells = comes w ended tells
+    over_comes_with (Short disk) comes over w ended tells = comes w ended tells
+    over_comes_with (Refused error disk) comes over w ended tells = comes w ended tells
+    over_comes_with (Failed begun disk) comes over w ended tells = absurd over
 
   module _ (catalog : Catalog) (requests : List Request) (restarts : ℕ) (old : D) (turn : Turn D) (c : ComesAtLast kind mode every limit restarts printing catalog requests old turn) (w : SinkChange) (ended : Status)
       (tells : TellsTurn turn ended w) where
-    at : Comes kind mode every limit printing catalog requests c.again c.last ended w old (disk_left turn)
-    at = over_comes catalog requests c.last c.again old turn c.comes c.over w ended tells
+    at : ComesWith kind mode every limit printing catalog requests c.again c.last ended w old (disk_left turn)
+    at = over_comes_with catalog requests c.last c.again old turn c.comes c.over w ended tells
 
-    came_by : (again : ℕ) → again ≤ restarts → MayRestart mode again → CameAt kind mode every limit printing catalog requests again ended w old (disk_left turn) → ComesOver kind mode every limit restarts printing catalog requests ended w old (disk_left turn)
-    came_by zero within may came = inl came
-    came_by (suc again) within (inl none) came = absurd (cc)
-    came_by (suc again) within (inr strong) came = inr (suc again, within, strong, came)
+    came_by : (stored : Catalog) (again : ℕ) → again ≤ restarts → MayRestart mode again → CameAt kind mode every limit printing stored requests again ended w old (disk_left turn)
+        → ComesOver kind mode every limit restarts printing stored requests ended w old (disk_left turn)
+    came_by stored zero within may came = inl came
+    came_by stored (suc again) within (inl none) came = absurd (cc)
+    came_by stored (suc again) within (inr strong) came = inr (suc again, within, strong, came)
 
     pub serves_at_last : ServesTo kind mode every limit restarts printing catalog requests ended w old (disk_left turn)
-    serves_at_last = record {
-      came = came_by c.again c.within c.may at.came;
-      cause = served_at c.again restarts ended w (disk_of kind old (disk_left turn)) (λ is. c.at_last (at.at_last is)) at.cause;
-      told = λ none. let within = c.within in
-          let first : c.again ≡ 0 = omega (arith, within, none) in
-          record { store = at.told first (c.not_before (first ∙ sym none)); sink = at.sink };
-      sink = at.sink;
-    }
+    serves_at_last =
+        let comes = at.comes in
+        record {
+          stored = at.stored;
+          grows = at.grows;
+          came = came_by at.stored c.again c.within c.may comes.came;
+          cause = served_at c.again restarts ended w (disk_of kind old (disk_left turn)) (λ is. c.at_last (comes.at_last is)) comes.cause;
+          told = λ none. let within = c.within in
+              let first : c.again ≡ 0 = omega (arith, within, none) in
+              record { store = comes.told first (c.not_before (first ∙ sym none)); sink = comes.sink };
+          sink = comes.sink;
+        }
 
     pub later_at_last : kind.faults old ≤ kind.faults (disk_left turn)
-    later_at_last = at.later
+    later_at_last = at.comes.later
 
   -- ---- what was opened once, and for the last time
 
@@ -120,18 +133,18 @@ pub served_own : {D : Type 0} (turn : Turn D) → HasServed turn → IsOver turn
 served_own (Over reported) served over w ended tells is = told_own w reported.status reported.text ended served tells is
 served_own (Short disk) served over w ended tells is = let no : NoMemory ≡ OtherCatalog = sym tells.is ∙ is in cc
 served_own (Refused error disk) served over w ended tells is = served
-served_own (Failed past disk) served over w ended tells is = over
+served_own (Failed begun disk) served over w ended tells is = over
 
 -- and tells no text of a refusal
 pub served_texts : {D : Type 0} (turn : Turn D) → HasServed turn → HasTurnTexts turn
 served_texts (Over reported) served = tt
 served_texts (Short disk) served = tt
 served_texts (Refused error disk) served = absurd served
-served_texts (Failed past disk) served = tt
+served_texts (Failed begun disk) served = tt
 
 -- a turn that is none to go on from is over
-pub over_of : {D : Type 0} (turn : Turn D) → ((past : Option Past) (disk : D) → turn ≡ Failed past disk → ⊥) → IsOver turn
+pub over_of : {D : Type 0} (turn : Turn D) → ((begun : Option Begun) (disk : D) → turn ≡ Failed begun disk → ⊥) → IsOver turn
 over_of (Over reported) none = tt
 over_of (Short disk) none = tt
 over_of (Refused error disk) none = tt
-over_of (Failed past disk) none = none past disk refl
+over_of (Failed begun disk) none = none begun disk refl

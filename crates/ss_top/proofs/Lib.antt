@@ -2,6 +2,8 @@ pub mod Outside
 pub mod Unreported
 pub mod Lasting
 pub mod Running
+pub mod Growing
+pub mod Renewing
 pub mod Overs
 pub mod OverReports
 pub mod Storing
@@ -11,5 +13,6 @@ pub mod AgainTurns
 pub mod OpenTurns
 pub mod LastTurns
 pub mod ClientsBelow
+pub mod Given
 pub mod Completing
 pub mod Ending

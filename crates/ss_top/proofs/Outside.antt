@@ -9,9 +9,9 @@ use Rattle.ss_lemmas.proofs.Numbers.{eqb_is}
 use Rattle.ss_model.specs.declared.entry.Answer.{Answer}
 use Rattle.ss_model.specs.declared.entry.Answer.TheVariants.{Listed as ListedAnswer, NoMemory, ListFull, Halted}
 use Rattle.ss_model.specs.declared.entry.Asked.{Asked}
-use Rattle.ss_model.specs.declared.entry.Asked.TheVariants.{Call as CallAsked, Push as PushAsked}
+use Rattle.ss_model.specs.declared.entry.Asked.TheVariants.{Call as CallAsked, Push as PushAsked, Install as InstallAsked}
 use Rattle.ss_model.specs.declared.entry.Entry.{Entry}
-use Rattle.ss_model.specs.declared.entry.Entry.TheVariants.{Call, Push, Step as StepEntry}
+use Rattle.ss_model.specs.declared.entry.Entry.TheVariants.{Call, Push, Step as StepEntry, Install}
 use Rattle.ss_model.specs.declared.entry.Listed.{Listed}
 use Rattle.ss_model.specs.declared.entry.Request.{Request}
 use Rattle.ss_model.specs.Report.{asked_entry, entries_behind, is_same_request, find_listed}
@@ -41,6 +41,11 @@ other_number c m n (CallAsked q args) (CallAsked p more) differ = and_no (c == c
 other_number c m n (CallAsked q args) (PushAsked s source seq rows) differ = refl
 other_number c m n (PushAsked s source seq rows) (CallAsked p more) differ = refl
 other_number c m n (PushAsked s source seq rows) (PushAsked t name number others) differ = and_no (c == c) (m == n) differ
+other_number c m n (CallAsked q args) (InstallAsked p text) differ = refl
+other_number c m n (PushAsked s source seq rows) (InstallAsked p text) differ = refl
+other_number c m n (InstallAsked q text) (CallAsked p more) differ = refl
+other_number c m n (InstallAsked q text) (PushAsked t name number others) differ = refl
+other_number c m n (InstallAsked q text) (InstallAsked p other) differ = and_no (c == c) (m == n) differ
 
 -- an entry of another client, or a step
 not_of : (c n : ℕ) (what : Asked) (e : Entry) → is_of c e ≡ false → is_same_request (asked_entry c n what) e ≡ false
@@ -50,6 +55,12 @@ not_of c n (CallAsked q args) (StepEntry p r) differ = refl
 not_of c n (PushAsked s source seq rows) (Call d j p more) differ = refl
 not_of c n (PushAsked s source seq rows) (Push d j t name number others) differ = ap (λ b. b && (n == j)) (other_way c d differ)
 not_of c n (PushAsked s source seq rows) (StepEntry p r) differ = refl
+not_of c n (CallAsked q args) (Install d j p text) differ = refl
+not_of c n (PushAsked s source seq rows) (Install d j p text) differ = refl
+not_of c n (InstallAsked q text) (Call d j p more) differ = refl
+not_of c n (InstallAsked q text) (Push d j t name number others) differ = refl
+not_of c n (InstallAsked q text) (StepEntry p r) differ = refl
+not_of c n (InstallAsked q text) (Install d j p other) differ = ap (λ b. b && (n == j)) (other_way c d differ)
 
 -- ---- a request that isn't found
 

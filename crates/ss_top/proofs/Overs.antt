@@ -21,7 +21,7 @@ use Rattle.ss_report_laws.specs.Resuming.{AnswersResume, AreToldTo, FirstAnswers
 use Rattle.ss_disk.specs.Kinds.{DiskKind}
 use Rattle.ss_cmdlog.specs.declared.log.CmdLog.{CmdLog}
 use Rattle.ss_headline.specs.Disks.{disk_of}
-use Rattle.ss_headline.specs.Layers.{Opened, Receipted}
+use Rattle.ss_headline.specs.Layers.{Closed, Opened, Receipted}
 use Rattle.ss_headline.specs.Runs.{LogEndsAsStopped, Logged}
 use Rattle.ss_headline.specs.Sentences.{room_from, stop_at}
 use Rattle.ss_headline.proofs.CallerLemmas.{failed_since}
@@ -30,10 +30,13 @@ use Rattle.ss_incarnations.specs.Runs.{EndsWithOwn}
 use Rattle.ss_engine.specs.declared.session.run.Finished.{Finished}
 use Rattle.ss_engine.specs.Clients.{IsUnlisted}
 use Rattle.ss_engine.specs.Sessions.{EndsOnDisk}
+use Rattle.ss_snapshot.specs.Bodies.{GrowsTo}
+use Rattle.ss_recover.specs.Recovering.{IsOwnCatalog}
 use Rattle.ss_resume.specs.declared.past.Past.{Past}
 use Rattle.ss_resume.proofs.CallerLemmas.{starts_are}
 use Rattle.ss_top.specs.Told.{say_full, some_say_full}
 use Rattle.ss_top.specs.Turns.{IsPast}
+use Rattle.ss_top.proofs.Growing.{GrowthLaws, closed_more, receipted_more}
 use Rattle.ss_top.proofs.Lasting.{was_closed, was_logged, was_receipted, going_ends, failed_ends}
 use Rattle.ss_report_laws.proofs.CallerLemmas.{mine_below}
 use Rattle.ss_top.proofs.Unreported.{all_without_memory, answered_without_memory}
@@ -279,3 +282,21 @@ module _ {D : Type 0} (kind : DiskKind D) (every : Option ℕ) (limit : ℕ) (ca
       receipt = c.closed.ends.all_stands ok;
       few = λ client. record { receipted = mine client place own; others = []; parts = sym (append-nil (mine client place own)); below = mine_below client place (place + length own) own (omega arith); few = omega arith };
     }
+
+  -- one more incarnation as a run of a catalogue with more bodies
+  module _ (laws : GrowthLaws) (its_own : IsOwnCatalog catalog) (more : Catalog) (grows : GrowsTo catalog more) (p : IsPast kind limit more requests again old mid past)
+      (opened : Opened Strong more from place (disk_of kind mid log.disk)) (honest : kind.honest) (more_law : OneMoreIncarnation kind) where
+    closed_here : Closed Strong catalog from place own (disk_of kind log.disk new)
+    closed_here = was_closed kind Strong every catalog from place room clients requests (map (resume_at place) past.answers) log ended c.closed
+
+    on_more : LivesOn kind more p.db first p.last p.earlier from place own ended.receipted (kind.moment log.disk) old new
+    on_more = more_law more grows.accepted p.db first p.last p.earlier from place own ended.receipted old mid log.disk new honest p.lived opened
+        (closed_more laws catalog more its_own grows from place own c.opened.whole closed_here.replays kind log.disk new closed_here)
+        (receipted_more laws catalog more its_own grows from place own c.opened.whole closed_here.replays kind log.disk new ended.receipted
+        (was_receipted kind Strong every catalog from place room clients requests (map (resume_at place) past.answers) log ended c.closed))
+
+    same_more : take on_more.stayed p.last.list ++ own ≡ joined
+    same_more = ap (λ (l : List Listed). l ++ own) (ap (take on_more.stayed) (sym p.list_is) ∙ ap (λ (n : ℕ). take n past.list) (let is = on_more.place_is in omega (arith, is, place_is)))
+
+    pub lived_more : Lived kind more p.db first (record { moment = kind.moment log.disk; list = joined; receipted = ended.receipted }) (p.last ∷ p.earlier) old new
+    lived_more = subst (λ (l : List Listed). Lived kind more p.db first (record { moment = kind.moment log.disk; list = l; receipted = ended.receipted }) (p.last ∷ p.earlier) old new) same_more on_more.lived

@@ -9,34 +9,33 @@ use Rattle.ss_model.specs.declared.entry.Mode.{Mode}
 use Rattle.ss_model.specs.declared.entry.Mode.TheVariants as modes
 use Rattle.ss_model.specs.declared.entry.Request.{Request}
 use Rattle.ss_model.specs.Accepted.{Accepted}
-use Rattle.ss_disk.specs.Files.{Files}
 use Rattle.ss_disk.proofs.CallerLemmas.{leaves_less}
 use Rattle.ss_cmdlog.specs.Store.{IsEmpty}
 use Rattle.ss_cmdlog.specs.Opening.{OnlyReads}
 use Rattle.ss_fronts.specs.Fronts.{mode_of}
-use Rattle.ss_headline.specs.Disks.{DiskChange, disk_of, AsBefore, NothingRan, OnlyRead}
+use Rattle.ss_headline.specs.Disks.{DiskChange, disk_of, AsBefore, OnlyRead}
+use Rattle.ss_headline.specs.Layers.{Opened}
+use Rattle.ss_headline.specs.Sentences.{ReceiptsStay}
+use Rattle.ss_snapshot.proofs.BodiesRead.{still}
 use Rattle.ss_recover.specs.declared.error.RecoverError.{RecoverError}
 use Rattle.ss_recover.specs.declared.error.RecoverError.TheVariants as recovery
 use Rattle.ss_recover.specs.declared.recovered.Recovered.{Recovered}
 use Rattle.ss_recover.specs.Faults.{IsStore}
-use Rattle.ss_recover.specs.Recovering.{IsOwnCatalog, IsRecovered, LeavesOldOr, MayForm, RefusesAsSaid, recovered_database, recovery_of}
+use Rattle.ss_recover.specs.Recovering.{IsOwnCatalog, IsRecovered, RefusesAsSaid, recovered_database, recovery_of}
 use Rattle.ss_refusals.specs.declared.status.Status.{Status}
 use Rattle.ss_refusals.specs.declared.status.Status.TheVariants.{Done, Usage, Input, ReadFault, WriteFault, Disk, NoMemory, Foreign, OtherMode, OtherCatalog, Limit, Differs}
 use Rattle.ss_refusals.specs.Sinks.{SinkChange, Writes}
 use Rattle.ss_refusals.specs.Statuses.{no_memory_text, nothing_text, other_catalog_text}
 use Rattle.ss_refusals.specs.StoreRefusals.{TellsRefusal, WritesWhole, HasTexts}
 use Rattle.ss_top.specs.declared.session.Printing.{Printing}
-use Rattle.ss_top.specs.declared.session.Printing.TheVariants.{InFull, Summary}
+use Rattle.ss_top.specs.declared.session.Printing.TheVariants.{InFull}
 use Rattle.ss_commitlog.specs.declared.placed.Unlisted as placed
 use Rattle.ss_commitlog.specs.declared.placed.Unlisted.TheVariants as unlisted
 use Rattle.ss_top.specs.Runs.{settled_status, session_status, Reports, TellsDiskFault, TellsReport}
 use Rattle.ss_top.specs.Told.{some_say_full}
-use Rattle.ss_voter.specs.VoterCatalog.{IsVoter}
-use Rattle.ss_words.specs.declared.names.Show.{Show}
-use Rattle.ss_top.specs.Shows.{RanShow, ShowEnds, show_requests}
-use Rattle.ss_top.specs.Over.{ComesOver}
-use Rattle.ss_top.specs.Serving.{ComesTo, ComesToShow, RecoversTo, ServesTo, IsOpenedFor, TellsStoreFaults}
-use Rattle.ss_top.specs.Stores.{CameTo, RecoveredTo, Ran, RanAs, WasOf}
+use Rattle.ss_top.specs.Serving.{ComesTo, RecoversTo, IsOpenedFor, TellsStoreFaults}
+use Rattle.ss_top.specs.Stores.{CameTo, NothingStarted, RecoveredTo, Ran, RanAs, WasOf}
+use Rattle.ss_top.proofs.Growing.{GrowthLaws, holds_more, opened_more}
 
 -- ---- a session was reported
 
@@ -201,15 +200,16 @@ module _ {D : Type 0} (kind : DiskKind D) (mode : Mode) (every : Option ℕ) (li
   was_read : OnlyReads kind old new → OnlyRead change
   was_read reads = record { as_before = reads.moments; reads = reads.same }
 
-  as_before_ran_nothing : (catalog : Catalog) → AsBefore change → NothingRan mode catalog change
-  as_before_ran_nothing catalog before true' = leaves_less kind.moment kind.images old new (present kind old) _ (before true') (λ image left. inl left)
+  -- so nothing ran
+  as_before_ran_nothing : (given : Option Catalog) → AsBefore change → NothingStarted mode given change
+  as_before_ran_nothing given before true' = leaves_less kind.moment kind.images old new (present kind old) _ (before true') (λ image left. inl left)
 
   module _ (catalog : Catalog) (requests : List Request) where
     abbrev CameSo : Status → Type 0
     CameSo ended = ComesTo mode every limit printing catalog requests ended w change
 
     short_of_memory : AsBefore change → Writes no_memory_text w → CameSo NoMemory
-    short_of_memory before reported = record { came = inl (record { nothing_ran = as_before_ran_nothing catalog before; written = reported }); cause = tt }
+    short_of_memory before reported = record { came = inl (record { nothing_ran = as_before_ran_nothing (Some catalog) before; written = reported }); cause = tt }
 
     -- a refusal of a run on this catalogue
     pub run_refused : (error : RecoverError) → RefusesAsSaid kind mode (Some catalog) old new error → (ended : Status) → TellsRefusal error ended w → CameSo ended
@@ -255,14 +255,6 @@ module _ {D : Type 0} (kind : DiskKind D) (mode : Mode) (every : Option ℕ) (li
   abbrev RecoveredSo : Status → Type 0
   RecoveredSo ended = RecoversTo mode limit ended w change
 
-  -- where no catalogue is given no store is made
-  as_before_read : (kind.honest → LeavesOldOr kind old new (MayForm mode None (kind.seen old))) → AsBefore change
-  as_before_read left true' = leaves_less kind.moment kind.images old new _ (present kind old) (left true') (λ image either. by image either)
-    where
-      by : (image : Files) → present kind old image ⊎ MayForm mode None (kind.seen old) image → present kind old image
-      by image (inl stays) = stays
-      by image (inr made) = absurd made
-
   nothing_told : (ended : Status) → (kind.tells → IsEmpty (kind.seen old)) → OnlyRead change → WritesWhole ended nothing_text w → RecoveredSo ended
   nothing_told Done empty before wrote = record { came = inl (record { empty = empty; only_read = before; written = wrote.0 }); cause = tt }
   nothing_told WriteFault empty before wrote = record { came = inl (record { empty = empty; only_read = before; written = wrote.0 }); cause = wrote.1 }
@@ -278,11 +270,11 @@ module _ {D : Type 0} (kind : DiskKind D) (mode : Mode) (every : Option ℕ) (li
   nothing_told Limit empty before wrote = absurd wrote
 
   pub recovery_refused : (error : RecoverError) → RefusesAsSaid kind mode None old new error → (ended : Status) → TellsRefusal error ended w → RecoveredSo ended
-  recovery_refused recovery.NoMemory refuses ended t = subst RecoveredSo (sym t.is) (record { came = inl (record { as_before = as_before_read (λ true'. (refuses true').moments); written = t.reported }); cause = tt })
-  recovery_refused recovery.DiskFault refuses ended t = subst RecoveredSo (sym t.is) (record { came = inl (record { as_before = as_before_read (λ true'. (refuses.0 true').moments); written = t.reported }); cause = refuses.1 })
+  recovery_refused recovery.NoMemory refuses ended t = subst RecoveredSo (sym t.is) (record { came = inl (record { nothing_ran = λ true'. (refuses true').moments; written = t.reported }); cause = tt })
+  recovery_refused recovery.DiskFault refuses ended t = subst RecoveredSo (sym t.is) (record { came = inl (record { nothing_ran = λ true'. (refuses.0 true').moments; written = t.reported }); cause = refuses.1 })
   recovery_refused (recovery.Foreign file at) refuses ended (inl t) =
       subst RecoveredSo (sym t.is) (record { came = record { file = file; place = at; fault = refuses.1; ends = record { only_read = was_read refuses.0; written = t.reported } }; cause = tt })
-  recovery_refused (recovery.Foreign file at) refuses ended (inr t) = subst RecoveredSo (sym t.is) (record { came = inl (record { as_before = refuses.0.moments; written = t.reported }); cause = tt })
+  recovery_refused (recovery.Foreign file at) refuses ended (inr t) = subst RecoveredSo (sym t.is) (record { came = inl (record { nothing_ran = as_before_ran_nothing None refuses.0.moments; written = t.reported }); cause = tt })
   recovery_refused (recovery.OtherMode stored) refuses ended t =
       let other = refuses.1 in
       subst RecoveredSo (sym t.is) (record {
@@ -324,21 +316,30 @@ unstarted kind mode every limit printing requests w old new r same opened report
     subst (λ disk. ComesTo mode every limit printing r.catalog requests NoMemory w (disk_of kind old disk)) (sym same)
     (record { came = inr (inl (record { recovery = recovery_of kind mode r; of_mode = recovered_mode kind mode r; db = recovered_database r; first = r.first; opened = opened.opened; written = reported })); cause = tt })
 
--- what was recovered is opened
-pub recovered_opened : {D : Type 0} (kind : DiskKind D) (mode : Mode) (given : Option Catalog) (parts : ℕ) (old : D) (r : Recovered D)
-    → IsRecovered kind mode given parts old r (recovered_database r) → kind.faults old ≤ kind.faults r.log.disk → IsOpenedFor kind mode old r
-recovered_opened kind mode given parts old r is later = record {
+-- what was recovered is opened, and a strong store as one of each catalogue with more bodies too
+module _ {D : Type 0} (kind : DiskKind D) (mode : Mode) (given : Option Catalog) (parts : ℕ) (old : D) (r : Recovered D) (laws : GrowthLaws) (is : IsRecovered kind mode given parts old r (recovered_database r))
+    (later : kind.faults old ≤ kind.faults r.log.disk) where
+  opened : Opened (recovery_of kind mode r) r.catalog (recovered_database r) r.first (disk_of kind old r.log.disk)
   opened = record {
     whole = is.goes_on.ready.whole;
     began = is.goes_on.began;
     stood = is.stood;
     crashes = is.moments;
-    receipts_stay = λ list honestly. is.stands_on honestly list;
+    receipts_stay = λ list honestly. is.stands_on honestly r.catalog (still r.catalog is.own.1 is.own.0) list;
     settled = is.goes_on.log.only;
     faults = later;
-  };
-  was = is.was;
-}
+  }
+
+  pub recovered_opened : IsOpenedFor kind mode old r
+  recovered_opened = record {
+    opened = opened;
+    was = is.was;
+    each = λ strong more grows.
+        let as_strong = subst (λ (m : Mode). Opened (recovery_of kind m r) r.catalog (recovered_database r) r.first (disk_of kind old r.log.disk)) strong opened in
+        opened_more laws r.catalog more is.own grows kind (recovered_database r) r.first old r.log.disk as_strong
+        (λ list. subst (λ (m : Mode). ReceiptsStay (recovery_of kind m r) more list (disk_of kind old r.log.disk)) strong (λ honestly. is.stands_on honestly more grows list));
+    each_was = λ strong more grows told. holds_more laws r.catalog more is.own grows (kind.seen old) (subst (λ (m : Mode). IsEmpty (kind.seen old) ⊎ IsStore m (kind.seen old) r.catalog) strong (is.was told));
+  }
 
 -- a store that was recovered without a catalogue was there before
 pub was_stored : {D : Type 0} (kind : DiskKind D) (mode : Mode) (parts : ℕ) (old : D) (r : Recovered D) (e : IsRecovered kind mode None parts old r (recovered_database r))
@@ -367,30 +368,3 @@ store_recovered mode limit catalog disk w accepted stored ended own requests non
     by Differs own came = absurd came
     by Input own came = absurd came
     by ReadFault own came = absurd came
-
--- what was recovered is of the given catalogue
-pub of_given : {mode : Mode} {every : Option ℕ} {limit : ℕ} {printing : Printing} {stored given : Catalog} {requests : List Request} {ended : Status} {w : SinkChange} {disk : DiskChange} → stored ≡ given → ComesTo mode every limit printing stored requests ended w disk → ComesTo mode every limit printing given requests ended w disk
-of_given {mode} {every} {limit} {printing} {stored} {given} {requests} {ended} {w} {disk} same came = subst (λ catalog. ComesTo mode every limit printing catalog requests ended w disk) same came
-
--- ---- a show ran
-
-pub show_came : {D : Type 0} (kind : DiskKind D) (mode : Mode) (every : Option ℕ) (limit restarts : ℕ) (show : Show) (catalog : Catalog) (requests : List Request) (w : SinkChange) (old new : D) → IsVoter catalog → Accepted catalog
-    → requests ≡ show_requests show → (ended : Status) → ServesTo kind mode every limit restarts (Summary show.votes) catalog requests ended w old new → ComesToShow kind mode every limit restarts show ended w old new
-show_came kind mode every limit restarts show catalog requests w old new voter accepted are ended serves = record { came = by ended serves.came; cause = serves.cause; told = serves.told; sink = serves.sink }
-  where
-    ran : (status : Status) → ComesOver kind mode every limit restarts (Summary show.votes) catalog requests status w old new → RanShow kind mode every limit restarts show status w old new
-    ran status came = record { catalog = catalog; voter = voter; accepted = accepted; came = subst (λ rs. ComesOver kind mode every limit restarts (Summary show.votes) catalog rs status w old new) are came }
-
-    by : (status : Status) → ComesOver kind mode every limit restarts (Summary show.votes) catalog requests status w old new → ShowEnds kind mode every limit restarts show status w old new
-    by Done came = ran Done came
-    by WriteFault came = ran WriteFault came
-    by Disk came = ran Disk came
-    by Foreign came = ran Foreign came
-    by OtherMode came = ran OtherMode came
-    by OtherCatalog came = ran OtherCatalog came
-    by Limit came = ran Limit came
-    by Usage came = ran Usage came
-    by Differs came = ran Differs came
-    by Input came = ran Input came
-    by ReadFault came = ran ReadFault came
-    by NoMemory came = inr (ran NoMemory came)

@@ -13,12 +13,13 @@ use Rattle.ss_model.specs.declared.entry.Request.{Request}
 use Rattle.ss_model.specs.Database.{Database as Model}
 use Rattle.ss_model.specs.Recovery.{Strong}
 use Rattle.ss_model.specs.Report.{Unlisted, report_text}
+use Rattle.ss_report_laws.specs.Resuming.{NoneBehindStop}
 use Rattle.ss_report_laws.specs.Replies.{AreAnswered, IsListedOr, answers_of, expected_entries, mine, requests_of, weave}
 use Rattle.ss_disk.specs.Kinds.{DiskKind}
 use Rattle.ss_cmdlog.specs.declared.log.CmdLog.{CmdLog}
 use Rattle.ss_receipts.specs.Holding.{HaltedAt}
 use Rattle.ss_headline.specs.Disks.{DiskChange, disk_of}
-use Rattle.ss_headline.specs.Layers.{Opened}
+use Rattle.ss_headline.specs.Layers.{Closed, Opened, Receipted}
 use Rattle.ss_headline.specs.Runs.{LogEndsAsStopped}
 use Rattle.ss_headline.specs.Sentences.{room_from, stop_at}
 use Rattle.ss_headline.proofs.CallerLemmas.{answered_since}
@@ -26,7 +27,6 @@ use Rattle.ss_incarnations.specs.Incarnations.{Incarnation}
 use Rattle.ss_incarnations.specs.Reopening.{FirstIncarnation, Lived}
 use Rattle.ss_incarnations.specs.Runs.{EndsWithOwn, IsStoppedRunOver, RunsOverRestarts, list_before, stop_over}
 use Rattle.ss_engine.specs.declared.session.run.Finished.{Finished}
-use Rattle.ss_engine.specs.Sessions.{EndsOnDisk}
 use Rattle.ss_resume.specs.declared.past.Past.{Past}
 use Rattle.ss_refusals.specs.declared.status.Status.{Status}
 use Rattle.ss_refusals.specs.declared.status.Status.TheVariants.{Done, Usage, Input, ReadFault, WriteFault, Disk, NoMemory, Foreign, OtherMode, OtherCatalog, Limit, Differs}
@@ -36,14 +36,13 @@ use Rattle.ss_refusals.specs.Statuses.{status_number}
 use Rattle.ss_commitlog.specs.declared.placed.Unlisted as placed
 use Rattle.ss_commitlog.specs.declared.placed.Unlisted.TheVariants as unlisted
 use Rattle.ss_top.specs.declared.session.Printing.{Printing}
-use Rattle.ss_top.specs.Over.{CameOver, MayEnd, RoseBy, StoppedRunOver}
+use Rattle.ss_top.specs.Over.{FoundLater, CameOver, MayEnd, RoseBy, StoppedRunOver}
 use Rattle.ss_top.specs.Runs.{Reports, ReportsAs, TellsDiskFault, TellsReport, session_status, settled_status}
 use Rattle.ss_top.specs.Serving.{HasServedCause}
 use Rattle.ss_top.specs.Stores.{CameTo, WasOf}
 use Rattle.ss_top.specs.Told.{some_say_full}
 use Rattle.ss_top.specs.Turns.{Comes, IsPast}
 use Rattle.ss_top.proofs.Storing.{report_sink, session_told, store_by_report}
-use Rattle.ss_top.proofs.Lasting.{was_closed, was_receipted}
 use Rattle.ss_top.proofs.Unreported.{all_without_memory, answered_without_memory}
 
 -- ---- counts of faults
@@ -225,10 +224,10 @@ module _ {D : Type 0} (kind : DiskKind D) (mode : Mode) (every : Option ℕ) (li
   -- on one that was tried before, or on which an engine had run
   pub later_short : (last : Bool) (again : ℕ) (old new : D) → kind.faults old ≤ kind.faults new → RoseBy (suc again) (kind.faults old) (kind.faults new) → (w : SinkChange) (ended : Status)
       → TellsReport NoMemory None ended w
-      → (kind.honest → CameTo modes.Strong every limit printing catalog requests NoMemory w (change old new) ⊎ CameOver kind every limit (suc again) printing catalog requests NoMemory w old new)
+      → (kind.honest → CameTo modes.Strong every limit printing catalog requests NoMemory w (change old new) ⊎ FoundLater kind catalog NoMemory w old new ⊎ CameOver kind every limit (suc again) printing catalog requests NoMemory w old new)
       → Comes kind mode every limit printing catalog requests (suc again) last ended w old new
   later_short last again old new later rose w ended tells came = subst (Stops (suc again) last w old new) (sym tells.is) (record {
-    came = record { some = omega arith; rose = rose; may = tt; came = λ true'. elim (came true') [ inl once ↦ inl once | inr over ↦ inr (inr over) ] };
+    came = record { some = omega arith; rose = rose; may = tt; came = came };
     cause = tt;
     at_last = λ is. let no : NoMemory ≡ Disk = is in absurd (cc);
     told = λ none all. absurd (cc);
@@ -238,8 +237,9 @@ module _ {D : Type 0} (kind : DiskKind D) (mode : Mode) (every : Option ℕ) (li
 
   -- ---- a past of one engine
 
-  module _ (again : ℕ) (old : D) (db : Model) (first clients : ℕ) (log : CmdLog D) (ended : Finished D) (was : WasOf modes.Strong catalog (change old log.disk)) (opened : Opened Strong catalog db first (change old log.disk))
-      (e : EndsOnDisk kind Strong every catalog db first (room_from limit first) clients requests [] log ended) (first_law : FirstIncarnation kind) where
+  module _ (again : ℕ) (old : D) (db : Model) (first : ℕ) (log : CmdLog D) (ended : Finished D) (was : WasOf modes.Strong catalog (change old log.disk)) (opened : Opened Strong catalog db first (change old log.disk))
+      (closed : Closed Strong catalog db first ended.closed.list (change log.disk ended.log.disk)) (receipted : Receipted Strong catalog db first ended.closed.list ended.receipted (change log.disk ended.log.disk))
+      (within' : length ended.closed.list ≤ room_from limit first) (stops : (client : ℕ) → NoneBehindStop (answers_of ended.closed.answers client)) (first_law : FirstIncarnation kind) where
     abbrev new : D
     new = ended.log.disk
 
@@ -253,14 +253,13 @@ module _ {D : Type 0} (kind : DiskKind D) (mode : Mode) (every : Option ℕ) (li
       was = was;
       last = last;
       earlier = [];
-      lived = first_law catalog db first ended.closed.list ended.receipted old log.disk new opened
-          (was_closed kind Strong every catalog db first (room_from limit first) clients requests [] log ended e) (was_receipted kind Strong every catalog db first (room_from limit first) clients requests [] log ended e);
+      lived = first_law catalog db first ended.closed.list ended.receipted old log.disk new opened closed receipted;
       list_is = refl;
       receipted_is = refl;
       few = omega arith;
-      within = e.ends.run.within;
+      within = within';
       answered = answered_since _ (kind.faults old) opened.faults requests first ended.closed.list ended.closed.answers answered;
-      stops = e.ends.run.stops;
+      stops = stops;
     }
 
   -- ---- a past behind which no engine was opened
@@ -326,10 +325,10 @@ module _ {D : Type 0} (kind : DiskKind D) (mode : Mode) (every : Option ℕ) (li
     -- on one that was tried before, or on which an engine had run
     pub later_over : (again : ℕ) → RoseBy (suc again) (kind.faults old) (kind.faults new) → (status ≡ Disk → RoseBy (suc (suc again)) (kind.faults old) (kind.faults new))
         → (w : SinkChange) (ended : Status) → TellsReport status text ended w
-        → (kind.honest → CameTo modes.Strong every limit printing catalog requests ended w (change old new) ⊎ CameOver kind every limit (suc again) printing catalog requests ended w old new)
+        → (kind.honest → CameTo modes.Strong every limit printing catalog requests ended w (change old new) ⊎ FoundLater kind catalog ended w old new ⊎ CameOver kind every limit (suc again) printing catalog requests ended w old new)
         → Comes kind mode every limit printing catalog requests (suc again) last ended w old new
     later_over again rose more w ended tells came = record {
-      came = record { some = omega arith; rose = rose; may = told_may w status text ended may tells; came = λ true'. elim (came true') [ inl once ↦ inl once | inr over ↦ inr (inr over) ] };
+      came = record { some = omega arith; rose = rose; may = told_may w status text ended may tells; came = came };
       cause = served_of (suc again) ended w (change old new) (λ is. more (told_disk w status text ended tells is)) (sink_cause w status text ended may tells);
       at_last = λ is. at_last (told_disk w status text ended tells is);
       told = λ none all. absurd (cc);

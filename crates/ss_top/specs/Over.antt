@@ -17,8 +17,8 @@ use Rattle.ss_incarnations.specs.Runs.{IsStoppedRunOver, IsWholeRunOver, stop_ov
 use Rattle.ss_engine.specs.Closings.{SomeReady}
 use Rattle.ss_refusals.specs.declared.status.Status.{Status}
 use Rattle.ss_refusals.specs.declared.status.Status.TheVariants.{Done, WriteFault, Disk, NoMemory, Foreign, OtherMode, OtherCatalog, Limit}
-use Rattle.ss_refusals.specs.Sinks.{SinkChange, WritesAll, WritesPrefix}
-use Rattle.ss_refusals.specs.Statuses.{status_number}
+use Rattle.ss_refusals.specs.Sinks.{SinkChange, Writes, WritesAll, WritesPrefix}
+use Rattle.ss_refusals.specs.Statuses.{disk_fault_text, no_memory_text, status_number}
 use Rattle.ss_top.specs.declared.session.Printing.{Printing}
 use Rattle.ss_top.specs.Stores.{CameTo, IsForeign, IsOfOtherMode, IsOther, IsPrinted, IsReadAgain, WasOf, WritesStop}
 use Rattle.ss_top.specs.Told.{WereTold, some_say_full}
@@ -103,8 +103,11 @@ module _ {D : Type 0} (kind : DiskKind D) where
     CameOver printing catalog requests Limit w old new = RanOver printing catalog requests Limit (WritesStop Limit w) old new
     CameOver printing catalog requests _ w old new = ⊥
 
-  -- nothing had run, and the disk was then found to hold something else
+  -- no engine had run at any opening: there was no memory for more, or the disk failed once too often, or it was then found to hold something
+  -- else
   abbrev pub FoundLater : Catalog → Status → SinkChange → D → D → Type 0
+  FoundLater catalog Disk w old new = NotOpened catalog (change old new) × Writes disk_fault_text w
+  FoundLater catalog NoMemory w old new = NotOpened catalog (change old new) × Writes no_memory_text w
   FoundLater catalog Foreign w old new = (mid : D) × NotOpened catalog (change old mid) × IsForeign w (change mid new)
   FoundLater catalog OtherMode w old new = (mid : D) × NotOpened catalog (change old mid) × IsOfOtherMode Strong w (change mid new)
   FoundLater catalog OtherCatalog w old new = (mid : D) × NotOpened catalog (change old mid) × IsOther Strong catalog.text w (change mid new)

@@ -4,9 +4,12 @@ use Rattle.ss_disk.specs.Kinds.{DiskKind}
 use Rattle.ss_value.specs.FaultCounts.{Rose}
 use Rattle.ss_model.specs.declared.catalog.Catalog.{Catalog}
 use Rattle.ss_model.specs.declared.entry.Mode.{Mode}
+use Rattle.ss_model.specs.declared.entry.Mode.TheVariants as modes
 use Rattle.ss_model.specs.declared.entry.Request.{Request}
+use Rattle.ss_model.specs.Recovery.{Strong}
 use Rattle.ss_headline.specs.Disks.{DiskChange, disk_of}
 use Rattle.ss_headline.specs.Layers.{Opened}
+use Rattle.ss_snapshot.specs.Bodies.{GrowsTo}
 use Rattle.ss_recover.specs.declared.recovered.Recovered.{Recovered}
 use Rattle.ss_recover.specs.Recovering.{recovered_database, recovery_of}
 use Rattle.ss_words.specs.declared.names.Show.{Show}
@@ -36,10 +39,13 @@ HasServedCause restarts WriteFault w disk = Rose w.faults_before w.faults_now
 HasServedCause restarts Disk w disk = RoseBy (suc restarts) disk.faults_before disk.faults_now
 HasServedCause restarts _ w disk = Unit {0}
 
--- running these requests of this catalogue, over so many restarts at most
+-- running these requests of this catalogue, over so many restarts at most: with the bodies that it has to be installed, and with those that
+-- the store names
 pub record ServesTo {D : Type 0} (kind : DiskKind D) (mode : Mode) (every : Option ℕ) (limit restarts : ℕ) (printing : Printing) (catalog : Catalog)
     (requests : List Request) (status : Status) (w : SinkChange) (old new : D) : Type 0 where
-  pub came : ComesOver kind mode every limit restarts printing catalog requests status w old new
+  pub stored : Catalog
+  pub grows : GrowsTo catalog stored
+  pub came : ComesOver kind mode every limit restarts printing stored requests status w old new
   pub cause : HasServedCause restarts status w (disk_of kind old new)
   -- a fault that isn't told is one behind which the disk was opened again
   pub told : restarts ≡ 0 → TellsStoreFaults status w (disk_of kind old new)
@@ -64,7 +70,9 @@ pub record ComesToShow {D : Type 0} (kind : DiskKind D) (mode : Mode) (every : O
   pub told : restarts ≡ 0 → TellsStoreFaults status w (disk_of kind old new)
   pub sink : status ≡ Done → w.faults_now ≡ w.faults_before
 
--- the store was opened on this disk, or made on it, in this mode
+-- the store was opened on this disk, or made on it, in this mode; a strong one was opened too as one of each catalogue with more bodies
 pub record IsOpenedFor {D : Type 0} (kind : DiskKind D) (mode : Mode) (old : D) (r : Recovered D) : Type 0 where
   pub opened : Opened (recovery_of kind mode r) r.catalog (recovered_database r) r.first (disk_of kind old r.log.disk)
   pub was : WasOf mode r.catalog (disk_of kind old r.log.disk)
+  pub each : mode ≡ modes.Strong → (more : Catalog) → GrowsTo r.catalog more → Opened Strong more (recovered_database r) r.first (disk_of kind old r.log.disk)
+  pub each_was : mode ≡ modes.Strong → (more : Catalog) → GrowsTo r.catalog more → WasOf modes.Strong more (disk_of kind old r.log.disk)

@@ -4,6 +4,7 @@ use Rattle.ss_model.specs.declared.catalog.Catalog.{Catalog}
 use Rattle.ss_model.specs.declared.entry.Mode.{Mode}
 use Rattle.ss_model.specs.declared.entry.Request.{Request}
 use Rattle.ss_model.specs.Accepted.{Accepted}
+use Rattle.ss_model.specs.SparesAside.{with_spares}
 use Rattle.ss_voter.specs.Script.{vote_requests}
 use Rattle.ss_voter.specs.VoterCatalog.{IsVoter}
 use Rattle.ss_words.specs.declared.names.Show.{Show}
@@ -12,6 +13,7 @@ use Rattle.ss_headline.specs.Disks.{DiskChange, disk_of}
 use Rattle.ss_refusals.specs.declared.status.Status.{Status}
 use Rattle.ss_refusals.specs.declared.status.Status.TheVariants.{NoMemory}
 use Rattle.ss_refusals.specs.Sinks.{SinkChange}
+use Rattle.ss_refusals.specs.Starts.{HasBodiesFor}
 use Rattle.ss_refusals.specs.Statuses.{no_memory_text}
 use Rattle.ss_top.specs.declared.session.Printing.TheVariants.{Summary}
 use Rattle.ss_top.specs.Complete.{HasRoom, IsDoneOrShort}
@@ -23,12 +25,13 @@ abbrev pub show_requests : Show → List Request
 show_requests show = vote_requests show.seed show.votes show.clients
 
 module _ {D : Type 0} (kind : DiskKind D) (mode : Mode) (every : Option ℕ) (limit restarts : ℕ) (show : Show) where
-  -- running a show on the benchmark's catalogue has come to this
+  -- running a show on the benchmark's catalogue, with whatever bodies the store names, has come to this
   pub record RanShow (status : Status) (w : SinkChange) (old new : D) : Type 0 where
     pub catalog : Catalog
     pub voter : IsVoter catalog
     pub accepted : Accepted catalog
-    pub came : ComesOver kind mode every limit restarts (Summary show.votes) catalog (show_requests show) status w old new
+    pub bodies : HasBodiesFor catalog (show_requests show)
+    pub came : ComesOver kind mode every limit restarts (Summary show.votes) (with_spares catalog bodies.spares) (show_requests show) status w old new
 
   -- what the command voter has come to
   abbrev pub ShowEnds : Status → SinkChange → D → D → Type 0

@@ -1,5 +1,5 @@
 -- What running requests on a store comes to, by the status with which the program ends.
-use Rattle.std.specs.Prelude.{◌≡◌, ◌≢◌, ◌⊎◌, ◌<◌, ℕ, true, List, [], length, Option, None}
+use Rattle.std.specs.Prelude.{◌≡◌, ◌≢◌, ◌⊎◌, ◌<◌, ℕ, true, List, [], length, Option, Some, None}
 use Rattle.ss_model.specs.declared.catalog.Catalog.{Catalog}
 use Rattle.ss_model.specs.declared.entry.Answer.{Answer}
 use Rattle.ss_model.specs.declared.entry.Listed.{Listed}
@@ -13,12 +13,13 @@ use Rattle.ss_model.specs.Report.{voter_text}
 use Rattle.ss_audit_laws.specs.Printed.{IsReadableReport}
 use Rattle.ss_cmdlog.specs.Store.{IsEmpty}
 use Rattle.ss_fronts.specs.Fronts.{mode_of}
-use Rattle.ss_headline.specs.Disks.{DiskChange, AsBefore, NothingRan, OnlyRead}
+use Rattle.ss_headline.specs.Disks.{DiskChange, AtEachMoment, OnlyRead}
 use Rattle.ss_headline.specs.Layers.{Opened}
 use Rattle.ss_headline.specs.Owed.{owed}
 use Rattle.ss_headline.specs.Sentences.{room_from, stop_at}
 use Rattle.ss_headline.specs.Runs.{IsWholeRun, IsStoppedRun}
 use Rattle.ss_recover.specs.Faults.{HasFaultAt, IsStore}
+use Rattle.ss_recover.specs.Recovering.{MayMake}
 use Rattle.ss_engine.specs.Closings.{SomeReady}
 use Rattle.ss_refusals.specs.declared.status.Status.{Status}
 use Rattle.ss_refusals.specs.declared.status.Status.TheVariants.{Done, WriteFault, Disk, NoMemory, Foreign, OtherMode, OtherCatalog, Limit}
@@ -30,18 +31,17 @@ use Rattle.ss_top.specs.Told.{WereTold, some_say_full}
 
 -- ---- before the clients start
 
--- nothing ran, and this was written: a crash leaves what it might have left before, or, of an empty disk, what a store of this mode leaves
--- that was being made on it
-pub record EndsBefore (mode : Mode) (catalog : Catalog) (text : List ℕ) (w : SinkChange) (disk : DiskChange) : Type 0 where
-  pub nothing_ran : NothingRan mode catalog disk
+-- nothing ran: wherever a crash fell, it left what it might have left before, or, of an empty disk, what a store of this mode is that was
+-- being made for the given catalogue, or, of a store of an older form, a checkpoint in the new one, which stands for the same
+abbrev pub NothingStarted : Mode → Option Catalog → DiskChange → Type 0
+NothingStarted mode given disk = AtEachMoment disk (MayMake mode given disk.seen_before)
+
+-- nothing ran, and this was written
+pub record EndsBefore (mode : Mode) (given : Option Catalog) (text : List ℕ) (w : SinkChange) (disk : DiskChange) : Type 0 where
+  pub nothing_ran : NothingStarted mode given disk
   pub written : Writes text w
 
--- nothing ran, this was written, and a crash leaves what it might have left before
-pub record EndsUntouched (text : List ℕ) (w : SinkChange) (disk : DiskChange) : Type 0 where
-  pub as_before : AsBefore disk
-  pub written : Writes text w
-
--- the same, and reads give what they gave
+-- nothing ran, this was written, and reads give what they gave
 pub record EndsRead (text : List ℕ) (w : SinkChange) (disk : DiskChange) : Type 0 where
   pub only_read : OnlyRead disk
   pub written : Writes text w
@@ -163,9 +163,9 @@ abbrev pub CameTo : Mode → Option ℕ → ℕ → Printing → Catalog → Lis
 CameTo mode every limit printing catalog requests Done w disk = Ran mode every limit printing catalog requests Done (WritesAll w) disk
 CameTo mode every limit printing catalog requests WriteFault w disk = Ran mode every limit printing catalog requests Done (λ text. WritesPrefix text w) disk
 CameTo mode every limit printing catalog requests Disk w disk =
-    EndsBefore mode catalog disk_fault_text w disk ⊎ Ran mode every limit printing catalog requests Disk (WritesStop Disk w) disk
+    EndsBefore mode (Some catalog) disk_fault_text w disk ⊎ Ran mode every limit printing catalog requests Disk (WritesStop Disk w) disk
 CameTo mode every limit printing catalog requests NoMemory w disk =
-    EndsBefore mode catalog no_memory_text w disk ⊎ EndsOpened mode catalog no_memory_text w disk
+    EndsBefore mode (Some catalog) no_memory_text w disk ⊎ EndsOpened mode catalog no_memory_text w disk
     ⊎ Ran mode every limit printing catalog requests NoMemory (WritesStop NoMemory w) disk
 CameTo mode every limit printing catalog requests Limit w disk = Ran mode every limit printing catalog requests Limit (WritesStop Limit w) disk
 CameTo mode every limit printing catalog requests Foreign w disk = IsForeign w disk
@@ -179,7 +179,8 @@ pub record RecoversNothing (told : List ℕ → Type 0) (disk : DiskChange) : Ty
   pub only_read : OnlyRead disk
   pub written : told nothing_text
 
--- a store of this mode was recovered, whose catalogue is accepted: what was pending ran, without checkpoints
+-- a store of this mode was recovered, whose catalogue, with the bodies that the store names, is accepted: what was pending ran, without
+-- checkpoints
 pub record RecoversStore (mode : Mode) (limit : ℕ) (status : Status) (w : SinkChange) (disk : DiskChange) : Type 0 where
   pub catalog : Catalog
   pub accepted : Accepted catalog
@@ -190,8 +191,8 @@ pub record RecoversStore (mode : Mode) (limit : ℕ) (status : Status) (w : Sink
 abbrev pub RecoveredTo : Mode → ℕ → Status → SinkChange → DiskChange → Type 0
 RecoveredTo mode limit Done w disk = RecoversNothing (WritesAll w) disk ⊎ RecoversStore mode limit Done w disk
 RecoveredTo mode limit WriteFault w disk = RecoversNothing (λ text. WritesPrefix text w) disk ⊎ RecoversStore mode limit WriteFault w disk
-RecoveredTo mode limit Disk w disk = EndsUntouched disk_fault_text w disk ⊎ RecoversStore mode limit Disk w disk
-RecoveredTo mode limit NoMemory w disk = EndsUntouched no_memory_text w disk ⊎ RecoversStore mode limit NoMemory w disk
+RecoveredTo mode limit Disk w disk = EndsBefore mode None disk_fault_text w disk ⊎ RecoversStore mode limit Disk w disk
+RecoveredTo mode limit NoMemory w disk = EndsBefore mode None no_memory_text w disk ⊎ RecoversStore mode limit NoMemory w disk
 RecoveredTo mode limit Limit w disk = RecoversStore mode limit Limit w disk
 RecoveredTo mode limit Foreign w disk = IsForeign w disk
 RecoveredTo mode limit OtherMode w disk = IsOfOtherMode mode w disk

@@ -8,13 +8,14 @@ use Rattle.ss_model.specs.declared.catalog.Catalog.{Catalog}
 use Rattle.ss_model.specs.declared.entry.Mode.{Mode}
 use Rattle.ss_model.specs.declared.entry.Request.{Request}
 use Rattle.ss_model.specs.Accepted.{Accepted}
+use Rattle.ss_model.specs.SparesAside.{with_spares}
 use Rattle.ss_disk.specs.Kinds.{DiskKind}
 use Rattle.ss_headline.specs.Disks.{DiskChange, disk_of}
 use Rattle.ss_refusals.specs.declared.status.Status.{Status}
 use Rattle.ss_refusals.specs.declared.status.Status.TheVariants.{Done, Usage, Input, ReadFault, WriteFault, Disk, NoMemory, Differs}
 use Rattle.ss_refusals.specs.Inputs.{LeavesOfSource, ExitsAsRefused, ExitsAsStarted, DidNotRise}
 use Rattle.ss_refusals.specs.Sinks.{SinkChange, SinkHeld, SourceChange, SourceHeld, TellsSourceFault, Writes, IsRefused}
-use Rattle.ss_refusals.specs.Starts.{Starts}
+use Rattle.ss_refusals.specs.Starts.{HasBodiesFor, Starts}
 use Rattle.ss_refusals.specs.Statuses.{usage_text, read_fault_text, no_memory_text}
 use Rattle.ss_top.specs.declared.session.Printing.TheVariants.{InFull}
 use Rattle.ss_top.specs.Complete.{HasRoom, IsDoneOrShort}
@@ -66,14 +67,16 @@ module _ {D : Type 0} (kind : DiskKind D) (old new : D) where
   abbrev changed : DiskChange
   changed = disk_of kind old new
 
-  -- there is a catalogue that is accepted, and requests, which are what the input says where its bytes are known, and running them on the
-  -- disk has come to this
+  -- There is a catalogue that is accepted, and requests, which are what the input says where its bytes are known; with bodies to be installed,
+  -- each the one of its text, each request fits it; and running the requests on the disk has come to this. Among those bodies are all that the
+  -- requests install, and all that a store has whose entries were replayed.
   pub record RanInput (mode : Mode) (every : Option ℕ) (limit restarts : ℕ) (input : Option (List ℕ)) (status : Status) (w : SinkChange) : Type 0 where
     pub catalog : Catalog
     pub requests : List Request
     pub starts : IfSome input (λ bytes. Starts bytes catalog requests)
     pub accepted : Accepted catalog
-    pub came : ComesOver kind mode every limit restarts InFull catalog requests status w old new
+    pub bodies : HasBodiesFor catalog requests
+    pub came : ComesOver kind mode every limit restarts InFull (with_spares catalog bodies.spares) requests status w old new
 
   -- the input's first refusal was written, and no call has reached the disk
   pub record RefusedInput (input : Option (List ℕ)) (w : SinkChange) : Type 0 where

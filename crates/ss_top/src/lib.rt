@@ -33,7 +33,11 @@
 //!
 //! - `recover`, `IsRecovered`: in the words of `ss_headline` this is `Opened` of how the store is had again
 //!   (`recovery_of`), and that the disk was empty or a store of this mode and catalogue (`WasOf`), together `IsOpenedFor`.
-//!   Where it refuses, `RefusesAsSaid`, it is `OnlyRead`, `AsBefore` or `NothingRan`.
+//!   Where it refuses, `RefusesAsSaid`, it is `OnlyRead` or `NothingStarted`: on an empty disk a store may have been made, and in place of
+//!   one of an older form one of the new form, which stands for the same.
+//! - Each opening finds bodies on the disk that the given catalogue may not have. What is run on it is said of the catalogue that has them
+//!   too, to which the given one grows (`GrowsTo`; `stored` of `ServesTo`), and behind a fault the next opening is given that one
+//!   (`catalog_for`). So what is known of the openings before is known of each catalogue with more bodies (`CameSoFar`).
 //! - `run_session`, `EndsOnDisk`: this is `Closed`, and with a last flush that went well behind a settling that ended
 //!   well `Settled`, else `Receipted` and `LogEndsAsStopped`. With checkpoints the generation begins near the list's end
 //!   (`near`), which `Settled` has in `logged`.

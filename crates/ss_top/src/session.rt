@@ -327,10 +327,13 @@ pub(crate) fn run_recovered<D: Disk + Drop + Send, G: Gate + Drop + Sync, R: Thr
         catalog,
         first,
         known,
+        image,
         log,
+        ..
     } = recovered;
-    // Nobody asks for what was replayed any more: it would live as long as the session.
+    // Nobody asks any more for what was replayed, nor for the image behind which it was: they would live as long as the session.
     drop(known);
+    drop(image);
     let Database { whole, streams } = database;
     let opening = Opening {
         first,

@@ -12,13 +12,16 @@ ghost use Rattle.ss_top.specs.Turns.{HasTurnTexts, IsOver, TellsTurn, disk_left}
 
 use crate::over::{Turn, run_over, serve_new};
 use crate::session::{Printing, Reported};
+use ss_catalog::a_body_has_one_answer;
 use ss_disk::Disk;
 use ss_engine::Gate;
 use ss_lines::{Sink, write_all};
 use ss_model::{Catalog, Mode, Request};
+use ss_model_laws::spares_aside;
 use ss_proc::PlainRunner;
 use ss_recover::recover;
 use ss_refusals::{NO_MEMORY, Status, refuse_store, write_line, write_whole};
+use ss_standing::stands_for_one;
 use ss_value::Seq;
 use std::alloc::Global;
 use std::sync::Wait;
@@ -120,6 +123,10 @@ pub(crate) fn recover_store<
     ensures told { TellsStoreFaults result.0 (sink_of K.kind sink.old sink.new) (disk_of D.kind disk result.1) }
     ensures counts { (K.kind.faults sink.old ≤ K.kind.faults sink.new) × (D.kind.faults disk ≤ D.kind.faults result.1) }
 {
+    // Do nothing: they state the laws by which a store of a catalogue is one with more bodies to be installed.
+    spares_aside();
+    a_body_has_one_answer();
+    stands_for_one();
     let requests = Seq::new(alloc);
     match recover(alloc, &PlainRunner, disk, None, mode, partitions) {
         Ok(recovered) => {

@@ -9,6 +9,7 @@
 //! - `full`: lists that have as many entries as they may
 //! - `restarts`: disks that fail, again and again, and are opened again
 //! - `stores`: runs that go on from a store, what a crash leaves in each call of a run, stores that are damaged
+//! - `older`: stores of the older forms, each moment of their renewal, and installs on them
 //! - `gates`: an execution that is held until another one is over, which only threads can do
 #![tactic(auto)]
 

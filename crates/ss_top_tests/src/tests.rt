@@ -4,6 +4,7 @@ mod edges;
 mod faults;
 mod full;
 mod gates;
+mod older;
 mod restarts;
 mod scripts;
 mod stores;

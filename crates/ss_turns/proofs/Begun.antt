@@ -41,6 +41,6 @@ module _ (catalog own : Catalog) (same : own ≡ catalog) (old new : ShardValue)
       by (Ok x) holds alike committed = tt
       by (Err none) holds alike committed = λ n. record {
         number = alike.number;
-        parts = λ held has. record { committed = subst (λ (c : Catalog). IsCommitted c new) same committed; dealt = dealt_same catalog n held old new alike has.dealt };
+        parts = λ held has. record { running = has.running; committed = subst (λ (c : Catalog). IsCommitted c new) same committed; dealt = dealt_same catalog n held old new alike has.dealt };
         holds = λ held db here. subst (λ (c : Catalog). (d : Database) → HoldsDatabase c old d → HoldsDatabase c new d) same holds (elsewhere_blank catalog n (is_among held) db) here;
       }

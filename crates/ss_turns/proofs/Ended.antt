@@ -21,7 +21,7 @@ module _ (catalog : Catalog) (n : ℕ) (old now new : ShardValue) (l : Listed) (
   committed_so : Commits catalog l.entry l.outcome now new → new.number ≡ now.number → map dealing_of new.tables ≡ map dealing_of now.tables → IsCommitted catalog new → HasCommitted catalog n old new l.entry batches
   committed_so keeps number dealt committed = record {
     number = number ∙ run.back.number;
-    parts = λ held has. record { committed = committed; dealt = dealt ∙ still_dealt catalog n held old now run.back has.dealt };
+    parts = λ held has. record { running = has.running; committed = committed; dealt = dealt ∙ still_dealt catalog n held old now run.back has.dealt };
     holds = λ held touched db stands hand.
         let beside = run.ran held touched db stands hand in
         record {

@@ -6,7 +6,7 @@ use Rattle.ss_value.specs.Rows.{Rows}
 use Rattle.ss_model.specs.declared.catalog.Catalog.{Catalog}
 use Rattle.ss_model.specs.declared.entry.Emitted.{Emitted}
 use Rattle.ss_model.specs.declared.entry.Entry.{Entry}
-use Rattle.ss_model.specs.declared.entry.Entry.TheVariants.{Call, Push, Step as StepEntry}
+use Rattle.ss_model.specs.declared.entry.Entry.TheVariants.{Call, Push, Step as StepEntry, Install}
 use Rattle.ss_model.specs.declared.entry.Listed.{Listed}
 use Rattle.ss_model.specs.Accepted.{Accepted}
 use Rattle.ss_model.specs.Batches.{emitted_batches}
@@ -40,6 +40,7 @@ use Rattle.ss_turns.proofs.Marks.{agree_behind, agree_fewer, same_held, same_rol
 same_emitted : (catalog : Catalog) (n : ℕ) (held : ℕ → _) (e : Entry) (a : Applied) → emitted_batches catalog e (blank_after catalog n held a) ≡ emitted_batches catalog e a
 same_emitted catalog n held (Call client index q args) a = refl
 same_emitted catalog n held (Push client index s source seq rows) a = refl
+same_emitted catalog n held (Install client index q text) a = refl
 same_emitted catalog n held (StepEntry q r) a = refl
 
 beside_gives : (catalog : Catalog) (n : ℕ) (held : List ℕ) (d : Database) (l : Listed) (emitted : List Emitted) (now : ShardValue) → RanBeside catalog n held d l.entry (record { outcome = l.outcome; emitted = emitted }) now → Gives catalog d l emitted
@@ -62,11 +63,13 @@ with_streams d source = record d { streams = source.streams }
 same_inputs : (catalog : Catalog) (e : Entry) (d source : Database) → SameInputs catalog e (with_streams d source) source
 same_inputs catalog (Call client index q args) d source = tt
 same_inputs catalog (Push client index s name seq rows) d source = tt
+same_inputs catalog (Install client index q text) d source = tt
 same_inputs catalog (StepEntry q r) d source = λ p is. same_batches (with_streams d source) source r p.inputs (λ s. refl)
 
 more_know : (catalog : Catalog) (db d : Database) (ks ms : List Known) → ((k : Known) → In k ks → In k ms) → (e : Entry) → IsKnownTo catalog db ks e d → IsKnownTo catalog db ms e d
 more_know catalog db d ks ms more (Call client index q args) known = tt
 more_know catalog db d ks ms more (Push client index s source seq rows) known = tt
+more_know catalog db d ks ms more (Install client index q text) known = tt
 more_know catalog db d ks ms more (StepEntry q r) known = (known.0, more known.0 known.1, known.2)
 
 -- ---- the marks of the partitions, as they come back with what is said of an entry
@@ -80,7 +83,7 @@ module _ {I : Type 0} (catalog : Catalog) (accepted : Accepted catalog) (n : ℕ
   -- the shard holds its parts of each database that the marks agree with
   holds_where : (d : Database) → AgreesWith catalog n db hand.marks d → HoldsParts catalog n held hand.shard d
   holds_where d agrees =
-      holds_same_parts catalog n in_hand.of_one.database d held (subst (λ (ps : List ℕ). 1 ≤ length ps) in_hand.numbers (omega arith))
+      holds_same_parts catalog n some in_hand.of_one.database d held (subst (λ (ps : List ℕ). 1 ≤ length ps) in_hand.numbers (omega arith))
       (same_held catalog n db held hand.marks in_hand.roles in_hand.of_one.database d in_hand.of_one.agrees agrees) hand.shard in_hand.of_one.holds
 
   behind : (list : List Item) → AllContinue catalog n list hand.marks → AgreesWith catalog n db hand.marks (after catalog db (listed_of list))
@@ -123,7 +126,7 @@ module _ {I : Type 0} (catalog : Catalog) (accepted : Accepted catalog) (n : ℕ
       gives_on d holds same = beside_gives catalog n held d l emitted now (run.ran held touched d holds (given.at_hand d same))
 
       holds_there : HoldsParts catalog n held hand.shard (with_streams in_hand.of_one.database given.source)
-      holds_there = let holds = in_hand.of_one.holds in record { contents = holds.contents; counts = holds.counts; numbers = holds.numbers }
+      holds_there = let holds = in_hand.of_one.holds in record { contents = holds.contents; counts = holds.counts; numbers = holds.numbers; bodies = holds.bodies }
 
       pub right_in_hand : (ms : List Known) → ((k : Known) → In k hand.marks → In k ms) → IsRight catalog n db ms l emitted
       right_in_hand ms more = record {

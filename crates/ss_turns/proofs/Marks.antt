@@ -5,7 +5,7 @@ use Rattle.ss_lemmas.proofs.Bools.{either_so}
 use Rattle.ss_lemmas.proofs.Numbers.{eqb_is}
 use Rattle.ss_model.specs.declared.catalog.Catalog.{Catalog}
 use Rattle.ss_model.specs.declared.entry.Entry.{Entry}
-use Rattle.ss_model.specs.declared.entry.Entry.TheVariants.{Call, Push, Step as StepEntry}
+use Rattle.ss_model.specs.declared.entry.Entry.TheVariants.{Call, Push, Step as StepEntry, Install}
 use Rattle.ss_model.specs.Database.{Database}
 use Rattle.ss_model.specs.Partitions.{part, touches}
 use Rattle.ss_model.specs.parts.HeldParts.{HoldsTouched}
@@ -52,6 +52,7 @@ module _ (catalog : Catalog) (n : ℕ) (held : List ℕ) (ks : List Known) (role
   of_asked : (k : Known) (x : Entry) → IsOfRole k.role x → (c : ℕ) → is_of_client c x ≡ true → Client c ≡ k.role
   of_asked k (Call client index q args) role c is = ap Client (sym (eqb_is client c is)) ∙ sym role
   of_asked k (Push client index s source seq rows) role c is = ap Client (sym (eqb_is client c is)) ∙ sym role
+  of_asked k (Install client index q text) role c is = ap Client (sym (eqb_is client c is)) ∙ sym role
   of_asked k (StepEntry q r) role c is = absurd role
 
   pub covers_asked : (k : Known) → IsOfRole k.role e → Covers catalog n (roles_of (with_client ks k)) e

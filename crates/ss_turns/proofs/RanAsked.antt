@@ -4,7 +4,7 @@ use Rattle.std.specs.declared.result.Result.{Result}
 use Rattle.ss_value.specs.Rows.{Rows}
 use Rattle.ss_model.specs.declared.catalog.Catalog.{Catalog}
 use Rattle.ss_model.specs.declared.entry.Entry.{Entry}
-use Rattle.ss_model.specs.declared.entry.Entry.TheVariants.{Call, Push, Step as StepEntry}
+use Rattle.ss_model.specs.declared.entry.Entry.TheVariants.{Call, Push, Step as StepEntry, Install}
 use Rattle.ss_model.specs.declared.entry.Listed.{Listed}
 use Rattle.ss_model.specs.Database.{Database}
 use Rattle.ss_commitlog.specs.declared.placed.Placed.{Placed}
@@ -22,6 +22,7 @@ use Rattle.ss_turns.proofs.InHand.{Came}
 no_batches : (catalog : Catalog) (db : Database) (ks : List Known) (role : Role) (e : Entry) → IsOfRole role e → AreGiven catalog db ks e []
 no_batches catalog db ks role (Call client index q args) is = record { source = db; known = tt; inputs = tt; at_hand = λ d same. refl }
 no_batches catalog db ks role (Push client index s source seq rows) is = record { source = db; known = tt; inputs = tt; at_hand = λ d same. refl }
+no_batches catalog db ks role (Install client index q text) is = record { source = db; known = tt; inputs = tt; at_hand = λ d same. refl }
 no_batches catalog db ks role (StepEntry q r) is = absurd is
 
 pub given_asked : (catalog : Catalog) (db : Database) (ks : List Known) (role : Role) (e : Entry) → IsOfRole role e → (batches : List Rows) → batches ≡ [] → AreGiven catalog db ks e batches

@@ -4,7 +4,7 @@ use Rattle.std.specs.declared.option.Option.{Option}
 use Rattle.std.specs.declared.result.Result.{Result}
 use Rattle.ss_model.specs.declared.catalog.Catalog.{Catalog}
 use Rattle.ss_model.specs.declared.entry.Entry.{Entry}
-use Rattle.ss_model.specs.declared.entry.Entry.TheVariants.{Call, Push, Step as StepEntry}
+use Rattle.ss_model.specs.declared.entry.Entry.TheVariants.{Call, Push, Step as StepEntry, Install}
 use Rattle.ss_model.specs.declared.entry.Listed.{Listed}
 use Rattle.ss_model.specs.Database.{Database}
 use Rattle.ss_model.specs.parts.HeldParts.{HoldsTouched}
@@ -25,6 +25,7 @@ use Rattle.ss_turns.specs.Stepping.{EachGoesOn}
 abbrev pub IsOfRole : Role → Entry → Type 0
 IsOfRole role (Call client index q args) = role ≡ Client client
 IsOfRole role (Push client index s source seq rows) = role ≡ Client client
+IsOfRole role (Install client index q text) = role ≡ Client client
 IsOfRole role (StepEntry q r) = ⊥
 
 -- some partitions are in hand, among them all that the entry touches

@@ -18,6 +18,8 @@ bodiless o = record {
   windows = (sections_of o).windows;
   triggers = [];
   procedures = map (λ (p : ProcedureOutline). procedure_with o p []) o.procedures;
+  own_texts = [];
+  spares = [];
   text = [];
 }
 

@@ -15,7 +15,7 @@ use Rattle.ss_model.specs.declared.catalog.Catalog.{Catalog}
 use Rattle.ss_model.specs.declared.catalog.Procedure.{Procedure}
 use Rattle.ss_model.specs.declared.catalog.StreamDef.{StreamDef}
 use Rattle.ss_model.specs.declared.entry.Asked.{Asked}
-use Rattle.ss_model.specs.declared.entry.Asked.TheVariants.{Call, Push}
+use Rattle.ss_model.specs.declared.entry.Asked.TheVariants.{Call, Push, Install}
 use Rattle.ss_model.specs.declared.entry.Request.{Request}
 use Rattle.ss_model.specs.Database.{fits_entry, has_call, is_call, is_border_stream}
 use Rattle.ss_model.specs.Report.{asked_entry, asked_entries, entries_behind}
@@ -94,6 +94,7 @@ vote_fits catalog has seed count clients i few small =
 fits_at : (catalog : Catalog) (client index : ℕ) (what : Asked) → fits_entry catalog (asked_entry client 0 what) ≡ true → fits_entry catalog (asked_entry client index what) ≡ true
 fits_at catalog client index (Call n args) fits = fits
 fits_at catalog client index (Push s source seq rows) fits = fits
+fits_at catalog client index (Install n text) fits = fits
 
 fit_behind : (catalog : Catalog) (earlier rs : List Request) → AllByRecursion (FitsFirst catalog) rs → list_all (fits_entry catalog) (entries_behind earlier rs) ≡ true
 fit_behind catalog earlier [] all = refl

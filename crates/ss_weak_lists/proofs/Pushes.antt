@@ -7,11 +7,11 @@ use Rattle.ss_value.specs.Rows.{Row, Rows}
 use Rattle.ss_model.specs.declared.catalog.Catalog.{Catalog}
 use Rattle.ss_model.specs.declared.catalog.Procedure.{Procedure}
 use Rattle.ss_model.specs.declared.entry.Entry.{Entry}
-use Rattle.ss_model.specs.declared.entry.Entry.TheVariants.{Call, Push, Step as StepEntry}
+use Rattle.ss_model.specs.declared.entry.Entry.TheVariants.{Call, Push, Step as StepEntry, Install}
 use Rattle.ss_model.specs.declared.entry.Listed.{Listed}
 use Rattle.ss_model.specs.declared.entry.Outcome.{Outcome}
 use Rattle.ss_model.specs.declared.entry.Outcome.TheVariants.{Done, Duplicate, Gap}
-use Rattle.ss_model.specs.Database.{Database, NextNumbers, Applied, apply, apply_call, apply_step, call_fits, push_fits, is_ready, only_when, next_number, numbered_push, accept_batch, run_procedure, stepped_on, input_batches}
+use Rattle.ss_model.specs.Database.{Database, NextNumbers, Applied, apply, apply_call, apply_step, apply_install, present, call_fits, push_fits, install_fits, is_ready, only_when, next_number, numbered_push, accept_batch, run_procedure, stepped_on, input_batches}
 use Rattle.ss_model.specs.Replays.{Replays, database_after, entry_outcome, after}
 use Rattle.ss_model.specs.Asked.{listed_entries, pushes_among, pushes_of}
 use Rattle.ss_weak_lists.specs.Pushes.{SamePushes}
@@ -35,6 +35,7 @@ abbrev told : List NextNumbers → List Entry → List Listed
 told numbers [] = []
 told numbers (Call client index q args ∷ es) = told numbers es
 told numbers (Push client index s source seq rows ∷ es) = record { entry = Push client index s source seq rows; outcome = said numbers s source seq } ∷ told (behind numbers s source seq) es
+told numbers (Install client index q text ∷ es) = told numbers es
 told numbers (StepEntry q r ∷ es) = told numbers es
 
 -- the next numbers behind all of them
@@ -42,18 +43,21 @@ abbrev left : List NextNumbers → List Entry → List NextNumbers
 left numbers [] = numbers
 left numbers (Call client index q args ∷ es) = left numbers es
 left numbers (Push client index s source seq rows ∷ es) = left (behind numbers s source seq) es
+left numbers (Install client index q text ∷ es) = left numbers es
 left numbers (StepEntry q r ∷ es) = left numbers es
 
 told_pushes : (numbers : List NextNumbers) (es : List Entry) → told numbers (pushes_among es) ≡ told numbers es
 told_pushes numbers [] = refl
 told_pushes numbers (Call client index q args ∷ es) = told_pushes numbers es
 told_pushes numbers (Push client index s source seq rows ∷ es) = ap (λ z. record { entry = Push client index s source seq rows; outcome = said numbers s source seq } ∷ z) (told_pushes (behind numbers s source seq) es)
+told_pushes numbers (Install client index q text ∷ es) = told_pushes numbers es
 told_pushes numbers (StepEntry q r ∷ es) = told_pushes numbers es
 
 left_pushes : (numbers : List NextNumbers) (es : List Entry) → left numbers (pushes_among es) ≡ left numbers es
 left_pushes numbers [] = refl
 left_pushes numbers (Call client index q args ∷ es) = left_pushes numbers es
 left_pushes numbers (Push client index s source seq rows ∷ es) = left_pushes (behind numbers s source seq) es
+left_pushes numbers (Install client index q text ∷ es) = left_pushes numbers es
 left_pushes numbers (StepEntry q r ∷ es) = left_pushes numbers es
 
 -- ---- one entry
@@ -70,12 +74,16 @@ same_numbers db false a h = refl
 call_numbers : (catalog : Catalog) (db : Database) (client n : ℕ) (args : Row) (o : Option Procedure) → (next_db db (apply_call catalog db client n args o)).next_numbers ≡ db.next_numbers
 call_numbers catalog db client n args None = refl
 call_numbers catalog db client n args (Some p) =
-    let r = run_procedure catalog n p args [] db.contents in
+    let r = run_procedure catalog n (present catalog db n p) args [] db.contents in
     same_numbers db (call_fits client p args) (record { db = record db { contents = r.contents }; outcome = r.outcome; emitted = [] }) refl
 
 step_numbers : (catalog : Catalog) (db : Database) (n r : ℕ) (o : Option Procedure) → (next_db db (apply_step catalog db n r o)).next_numbers ≡ db.next_numbers
 step_numbers catalog db n r None = refl
 step_numbers catalog db n r (Some p) = same_numbers db (is_ready db n r p) (stepped_on catalog db n r p (input_batches db r p)) refl
+
+install_numbers : (catalog : Catalog) (db : Database) (client n : ℕ) (text : List ℕ) → (next_db db (apply_install catalog db client n text)).next_numbers ≡ db.next_numbers
+install_numbers catalog db client n text =
+    same_numbers db (install_fits catalog client n text) (record { db = record db { bodies = set db.bodies n text }; outcome = Done []; emitted = [] }) refl
 
 -- a push that has a value comes to this, and leaves these next numbers
 record PushSays (catalog : Catalog) (db : Database) (s seq : ℕ) (source : List ℕ) (o : Option Applied) (outcome : Outcome) : Type 0 where
@@ -120,6 +128,9 @@ module _ (catalog : Catalog) where
       record { pushes = both.0; numbers = both.1 }
   tells_entry db (StepEntry q r) outcome ls is t =
       let both = passed db (database_after catalog db (StepEntry q r)) ls (step_numbers catalog db q r (slice_get catalog.procedures q)) t in
+      record { pushes = both.0; numbers = both.1 }
+  tells_entry db (Install client index q text) outcome ls is t =
+      let both = passed db (database_after catalog db (Install client index q text)) ls (install_numbers catalog db client q text) t in
       record { pushes = both.0; numbers = both.1 }
   tells_entry db (Push client index s source seq rows) outcome ls is t =
       let p = push_says catalog db s seq source rows (push_fits catalog client s seq rows) outcome is in

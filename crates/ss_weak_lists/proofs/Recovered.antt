@@ -1,4 +1,4 @@
--- What recovering a list by its calls and pushes comes to.
+-- What recovering a list by its calls, pushes and installs comes to.
 use Rattle.std.proofs.Common.{◌≡◌, ◌∙◌, List, refl, sym, ap, subst}
 use Rattle.ss_model.specs.declared.catalog.Catalog.{Catalog}
 use Rattle.ss_model.specs.declared.entry.Listed.{Listed}

@@ -7,7 +7,7 @@ use Rattle.ss_model.specs.declared.entry.Entry.{Entry}
 use Rattle.ss_model.specs.declared.entry.Entry.TheVariants.{Step as StepEntry}
 use Rattle.ss_model.specs.declared.entry.Listed.{Listed}
 use Rattle.ss_model.specs.declared.entry.Outcome.TheVariants.{Done}
-use Rattle.ss_model.specs.Aborts.{IsCallOrPush}
+use Rattle.ss_model.specs.Aborts.{IsFromClient}
 use Rattle.ss_model.specs.Database.{Database, is_streaming}
 use Rattle.ss_model.specs.Orders.{procedure_has}
 use Rattle.ss_model.specs.Replays.{database_after, after}
@@ -34,7 +34,7 @@ module _ (catalog : Catalog) where
   steps_alone [] db h = refl
   steps_alone (e ∷ es) db h = ap (λ z. asked_of (z ∷ es)) h.2 ∙ steps_alone es (database_after catalog db e) h.3
 
-  pub weak_holds : (entries : List Entry) (db : Database) (list : List Entry) → AllByRecursion IsCallOrPush entries → IsWeakList catalog db entries list → asked_of list ≡ entries
+  pub weak_holds : (entries : List Entry) (db : Database) (list : List Entry) → AllByRecursion IsFromClient entries → IsWeakList catalog db entries list → asked_of list ≡ entries
   weak_holds [] db list all h = steps_alone list db h
   weak_holds (e ∷ es) db list all h =
       let later = weak_holds es (database_after catalog (after_entries catalog db h.0) e) h.1 all.1 h.4 in

@@ -1,11 +1,11 @@
--- Weak lists: what they hold, that they grow entry by entry, and what recovering a run by its calls and pushes comes to.
+-- Weak lists: what they hold, that they grow entry by entry, and what recovering a run by its calls, pushes and installs comes to.
 use Rattle.std.specs.Prelude.{◌≡◌, List, [], ◌∷◌, ◌++◌}
 use Rattle.std.specs.List.{AllByRecursion}
 use Rattle.ss_model.specs.declared.catalog.Catalog.{Catalog}
 use Rattle.ss_model.specs.declared.entry.Entry.{Entry}
 use Rattle.ss_model.specs.declared.entry.Listed.{Listed}
 use Rattle.ss_model.specs.Accepted.{Accepted}
-use Rattle.ss_model.specs.Aborts.{IsCallOrPush}
+use Rattle.ss_model.specs.Aborts.{IsFromClient}
 use Rattle.ss_model.specs.Database.{Database}
 use Rattle.ss_model.specs.InStep.{IsInStep}
 use Rattle.ss_model.specs.Orders.{Orders}
@@ -13,10 +13,10 @@ use Rattle.ss_model.specs.Replays.{Replays, database_after, after}
 use Rattle.ss_model.specs.Settling.{Drained, Settles, after_entries, IsWeakList, kept}
 use Rattle.ss_model.specs.Asked.{listed_entries, asked_of, pushes_of}
 
--- law: of calls and pushes a weak list holds just these, in their order
+-- law: of calls, pushes and installs a weak list holds just these, in their order
 abbrev pub WeakListsHoldAsked : Type 0
 WeakListsHoldAsked =
-    (catalog : Catalog) (db : Database) (entries list : List Entry) → AllByRecursion IsCallOrPush entries → IsWeakList catalog db entries list →
+    (catalog : Catalog) (db : Database) (entries list : List Entry) → AllByRecursion IsFromClient entries → IsWeakList catalog db entries list →
     asked_of list ≡ entries
 
 -- law: one more entry, with the settling behind it, makes a weak list one of one entry more
@@ -34,7 +34,7 @@ pub record WeakCarried (catalog : Catalog) (x y : Database) : Type 0 where
 abbrev pub KeptCarriesWeak : Type 0
 KeptCarriesWeak = (catalog : Catalog) (x y : Database) → kept catalog x ≡ kept catalog y → WeakCarried catalog x y
 
--- what a list is recovered to by its calls and pushes, run anew with the steps that they set off
+-- what a list is recovered to by its calls, pushes and installs, run anew with the steps that they set off
 pub record RecoversWeakly (catalog : Catalog) (db : Database) (list : List Listed) : Type 0 where
   -- another list, which is the weak list of them, and the only one
   pub again : List Listed
@@ -44,7 +44,7 @@ pub record RecoversWeakly (catalog : Catalog) (db : Database) (list : List Liste
   pub replays : Replays catalog db again
   pub orders : Orders catalog db again
   pub drained : Drained catalog (after catalog db again)
-  -- it has these calls and pushes, in their order
+  -- it has these calls, pushes and installs, in their order
   pub asked : asked_of (listed_entries again) ≡ asked_of (listed_entries list)
   -- its pushes come to what they came to in the list, and each source goes on from the same number
   pub pushes : pushes_of again ≡ pushes_of list

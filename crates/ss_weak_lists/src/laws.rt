@@ -10,30 +10,30 @@ use ss_model_laws::{
 
 /// What pushes come to, whether accepted, duplicates or gaps, depends on the next numbers and on the pushes before them
 /// alone: in two lists that replay, from the same next numbers and with the same pushes in the same order, the pushes have
-/// the same outcomes, whatever calls and steps stand between them.
+/// the same outcomes, whatever calls, steps and installs stand between them.
 pub fn pushes_need_numbers()
     ensures { PushesNeedNumbers }
 {}
 
-/// Of calls and pushes a weak list holds just these, in their order: all else in it is steps.
+/// Of calls, pushes and installs a weak list holds just these, in their order: all else in it is steps.
 pub fn weak_lists_hold_asked()
     ensures { WeakListsHoldAsked }
 {}
 
-/// One more call or push, with the settling behind it, makes a weak list one of one entry more. So it may be made entry by
+/// One more call, push or install, with the settling behind it, makes a weak list one of one entry more. So it may be made entry by
 /// entry, from the first.
 pub fn weak_lists_grow()
     ensures { WeakListsGrow }
 {}
 
-/// Where the same is kept of two databases, settling runs the same on both, and calls and pushes have the same weak list.
+/// Where the same is kept of two databases, settling runs the same on both, and calls, pushes and installs have the same weak list.
 pub fn kept_carries_weak()
     ensures { KeptCarriesWeak }
 {
     kept_carries();
 }
 
-/// The calls and pushes of a list that replays have exactly one weak list, which replays, has the orders and leaves no batch
+/// The calls, pushes and installs of a list that replays have exactly one weak list, which replays, has the orders and leaves no batch
 /// pending; and its pushes come to what they came to in the list. Calls may come to something else than they did there.
 pub fn runs_recover_weakly()
     ensures { RunsRecoverWeakly }

@@ -17,7 +17,7 @@ use Rattle.ss_replay.specs.Replaying.{IsReplayed}
 use Rattle.ss_weak_replay.specs.declared.error.WeakError.{WeakError}
 use Rattle.ss_weak_replay.specs.declared.error.WeakError.TheVariants.{NoMemory, Unsettled, Foreign}
 
--- the calls and pushes of a list, with their outcomes
+-- the calls, pushes and installs of a list, with their outcomes
 abbrev pub asked_listed : List Listed → List Listed
 asked_listed list = filter (λ (l : Listed). not (is_step l.entry)) list
 

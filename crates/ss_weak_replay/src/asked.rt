@@ -1,4 +1,4 @@
-//! The calls and pushes among those that ran.
+//! The calls, pushes and installs among those that ran.
 
 ghost use Rattle.std.specs.Prelude.{◌≡◌, not, take, IfOk};
 ghost use Rattle.ss_model.specs.Report.{is_step};
@@ -8,14 +8,14 @@ use ss_model::{Entry, Listed};
 use ss_value::{NoMemory, Reserved, Seq};
 use std::alloc::Global;
 
-/// Whether an entry is a call or a push, and no step.
+/// Whether an entry is a call, a push or an install, and no step.
 fn is_asked(entry: &Entry) -> bool
     ensures { result ≡ not (is_step entry.now) }
 {
     !matches!(entry, Entry::Step { .. })
 }
 
-/// The first so many calls and pushes of a list, or all of them where there are fewer. They are moved, and the others let go.
+/// The first so many entries of clients in a list, or all of them where there are fewer. They are moved, and the others let go.
 ///
 /// Linear in the list. Room for them is made once.
 pub(crate) fn first_asked(

@@ -1,9 +1,9 @@
-//! Why calls and pushes don't replay.
+//! Why calls, pushes and installs don't replay.
 
 use ss_model::Listed;
 use ss_value::{NoMemory, Seq};
 
-/// Why calls and pushes don't replay.
+/// Why calls, pushes and installs don't replay.
 ///
 /// Nothing leaves a database, because half a log is no store. An entry that doesn't replay hands back those before it, by which
 /// its record is found.

@@ -1,4 +1,4 @@
-//! Calls and pushes, one after another, with what each sets off.
+//! Calls, pushes and installs, one after another, with what each sets off.
 
 ghost use Rattle.std.specs.Prelude.{◌≡◌, ◌≤◌, ◌+◌, ◌^◌, [], length, map, IfOk, IfErr, OnOk};
 ghost use Rattle.ss_model.specs.Accepted.{Accepted};
@@ -58,7 +58,7 @@ fn run_entry<N: Runner>(
     settle_behind(alloc, catalog, runner, ranks, first, so_far)
 }
 
-/// Runs these calls and pushes behind an empty list, from a place on.
+/// Runs these calls, pushes and installs behind an empty list, from a place on.
 ///
 /// The database is lent, and not taken as by `replay_weakly`, so that a refusal lets it go in one place and not in each.
 fn replay_on<N: Runner>(
@@ -102,7 +102,7 @@ fn replay_on<N: Runner>(
     Ok(())
 }
 
-/// Runs clients' calls and pushes in their order on a database, from a place on, with the triggers between executions on: what
+/// Runs entries of clients in their order on a database, from a place on, with the triggers between executions on: what
 /// was pending runs before the first of them, and behind each of them what it sets off, in the order of settling. Gives the
 /// list of all of it, and the database behind it.
 ///

@@ -1,6 +1,6 @@
 //! The catalogue of the tests, and what its clients ask for.
 
-ghost use Rattle.std.specs.Prelude.{◌≡◌, IfSome};
+ghost use Rattle.std.specs.Prelude.{◌≡◌, [], ◌∷◌, IfSome};
 ghost use Rattle.ss_commitlog_tests.specs.Workflow.{stream, taker, note, workflow, push, pushed, step, call};
 
 use ss_model::{
@@ -52,20 +52,34 @@ fn noting(alloc: Global) -> Option<Procedure>
     })
 }
 
-pub fn catalog(alloc: Global) -> Option<Catalog>
-    ensures { IfSome result (λ c. c ≡ workflow) }
+fn streams(alloc: Global) -> Option<Seq<StreamDef>>
+    ensures { IfSome result (λ ss. ss ≡ stream ∷ []) }
 {
     let mut streams = Seq::new(alloc);
     streams.push(stream_def(alloc)?).ok()?;
+    Some(streams)
+}
+
+fn procedures(alloc: Global) -> Option<Seq<Procedure>>
+    ensures { IfSome result (λ ps. ps ≡ taker ∷ note ∷ []) }
+{
     let mut procedures = Seq::new(alloc);
     procedures.push(taking(alloc)?).ok()?;
     procedures.push(noting(alloc)?).ok()?;
+    Some(procedures)
+}
+
+pub fn catalog(alloc: Global) -> Option<Catalog>
+    ensures { IfSome result (λ c. c ≡ workflow) }
+{
     Some(Catalog {
         tables: Seq::new(alloc),
-        streams,
+        streams: streams(alloc)?,
         windows: Seq::new(alloc),
         triggers: Seq::new(alloc),
-        procedures,
+        procedures: procedures(alloc)?,
+        own_texts: Seq::new(alloc),
+        spares: Seq::new(alloc),
         text: Seq::new(alloc),
     })
 }

@@ -1,5 +1,6 @@
 -- Each law at stores that meet its premises: a batch is pushed to a new store, and goes through the workflow that splits and joins.
-use Rattle.std.proofs.Common.{◌≡◌, ◌⊎◌, ◌≤◌, ◌^◌, inl, inr, ℕ, pos, List, [], ◌∷◌, ◌++◌, take, drop, true, refl, sym, subst, arith}
+use Rattle.std.proofs.Common.{◌≡◌, ◌⊎◌, ◌≤◌, ◌^◌, inl, inr, Bool, ℕ, pos, List, [], ◌∷◌, ◌++◌, length, take, drop, true, false, refl, sym, subst, arith, length-append}
+use Rattle.std.specs.List.{flat_map}
 use Rattle.std.proofs.lemmas.List.Elements.{All-from_recursion, All-nil}
 use Rattle.ss_value.specs.declared.value.Value.TheVariants.{Int}
 use Rattle.ss_value.specs.Rows.{Rows}
@@ -23,13 +24,13 @@ use Rattle.ss_cmdlog.specs.Formatting.{fresh}
 use Rattle.ss_cmdlog.specs.Generation.{front_bytes, IsGroup, Stood}
 use Rattle.ss_cmdlog.specs.Groups.{groups_of}
 use Rattle.ss_cmdlog.specs.Log.{KeepsCounts}
-use Rattle.ss_cmdlog.specs.Logged.{is_logged}
+use Rattle.ss_cmdlog.specs.Logged.{is_install, is_logged}
 use Rattle.ss_cmdlog.specs.Store.{StandsFor, StandsForPart}
 use Rattle.ss_standing.specs.Checkpoints.{checkpoint_of}
 use Rattle.ss_standing.specs.FitsImage.{FitNumbers, FitRows, FitsImage, FitsStream}
-use Rattle.ss_standing.specs.Image.{empty_image_of}
+use Rattle.ss_standing.specs.Image.{all_sources, bodies_bytes, empty_image_of, image_bytes, stream_bytes, table_bytes, text_bytes, window_bytes}
 use Rattle.ss_standing.specs.Standing.{IsImageAt}
-use Rattle.ss_standing.proofs.CallerLemmas.{batch_files, batch_files_stand, batch_prefix, empty_fits, empty_had_none, new_image_is}
+use Rattle.ss_standing.proofs.CallerLemmas.{batch_files, batch_files_stand, batch_prefix, empty_fits, empty_had_none, new_image_is, own_bodies_fit}
 use Rattle.ss_standing.proofs.ImageTells.{no_numbers_fit}
 use Rattle.ss_standing.proofs.worked.Needed.{one_number_fits}
 use Rattle.ss_standing.proofs.worked.Premises.{seven_typed}
@@ -48,8 +49,8 @@ start = empty_database workflow
 start_whole : WholeDatabase workflow start
 start_whole = empty_whole workflow accepted
 
-new_image : IsImageAt workflow 0 (empty_image_of workflow) start
-new_image = record { whole = start_whole; had = empty_had_none workflow; fits = empty_fits workflow; spelled = refl }
+new_image : IsImageAt workflow true 0 (empty_image_of workflow) start
+new_image = record { whole = start_whole; had = empty_had_none workflow; fits = empty_fits true workflow own_bodies_fit; spelled = refl }
 
 -- ---- a weak run on a new store: its list is the push and the four steps behind it, or the push alone
 
@@ -87,16 +88,17 @@ abbrev new_store : Stood
 new_store = fresh modes.Weak (empty_image_of workflow)
 
 abbrev store : Stood
-store = record { mode = modes.Weak; first = 0; image = empty_image_of workflow; groups = asked ∷ [] }
+store = record { bodies = true; mode = modes.Weak; first = 0; image = empty_image_of workflow; groups = asked ∷ [] }
 
-is_group : IsGroup modes.Weak asked
+is_group : (bodies : Bool) → IsGroup bodies modes.Weak asked
 unfolding number_bytes
-is_group = record {
+is_group bodies = record {
   some = omega arith;
   short = omega arith;
   recordable = All-from_recursion IsRecordable asked ((omega arith, omega arith, omega arith, All-from_recursion IsShort (rows 7) (omega arith, tt)), tt);
   typed = All-from_recursion IsTyped asked ((omega arith, omega arith, refl, All-from_recursion IsTypedRow (rows 7) (seven_typed, tt)), tt);
   of_mode = All-from_recursion (λ (e : Entry). is_logged modes.Weak e ≡ true) asked (refl, tt);
+  of_form = λ old. All-from_recursion (λ (e : Entry). is_install e ≡ false) asked (refl, tt);
 }
 
 files : Files
@@ -108,7 +110,7 @@ files_stand = record {
   byte = 0;
   selector = refl;
   current = record {
-    stood = record { first = omega arith; image = omega (arith, new_image_is); groups = All-from_recursion (IsGroup modes.Weak) (asked ∷ []) (is_group, tt) };
+    stood = record { first = omega arith; image = omega (arith, new_image_is); groups = All-from_recursion (IsGroup true modes.Weak) (asked ∷ []) (is_group true, tt) };
     gate = 0;
     rest = [];
     closed = λ e. absurd (omega (arith, e));
@@ -125,7 +127,61 @@ none_held = record { before = 0; ordered = omega arith; within = omega arith; re
 one_held : HoldsFront weak workflow start 0 one 1 store
 one_held = record { before = 0; ordered = omega arith; within = omega arith; read = read }
 
--- it is a front of the list of one entry, and of all five, which has the one push
+-- ---- a store of the older form, whose image has no bodies, is read alike, and what it has leaves the same
+
+abbrev old_image : List ℕ
+old_image = image_bytes false workflow (kept workflow start)
+
+without : (a b c d e f g : List ℕ) → length (a ++ (b ++ c ++ d ++ e ++ f ++ [])) ≤ length (a ++ (b ++ c ++ d ++ e ++ f ++ g))
+without a b c d e f g = grind (arith, length-append)
+
+old_short : length old_image ≤ 148
+unfolding image_bytes
+old_short =
+    let k = kept workflow start in
+    let le : length old_image ≤ length (empty_image_of workflow) =
+    without (text_bytes workflow.text) (flat_map table_bytes k.tables) (flat_map window_bytes k.windows) (flat_map stream_bytes k.streams) (flat_map (number_bytes 8) k.counts)
+    (all_sources workflow k.next_numbers) (bodies_bytes true k.bodies) in
+    omega (arith, le, new_image_is)
+
+abbrev old_store : Stood
+old_store = record { bodies = false; mode = modes.Weak; first = 0; image = old_image; groups = asked ∷ [] }
+
+old_files : Files
+old_files = record { selector = 0 ∷ []; first = front_bytes old_store ++ 0 ∷ []; second = [] }
+
+old_files_stand : StandsFor old_files old_store
+unfolding old_files
+old_files_stand = record {
+  byte = 0;
+  selector = refl;
+  current = record {
+    stood = record { first = omega arith; image = omega (arith, old_short); groups = All-from_recursion (IsGroup false modes.Weak) (asked ∷ []) (is_group false, tt) };
+    gate = 0;
+    rest = [];
+    closed = λ e. absurd (omega (arith, e));
+    spelled = refl;
+  };
+}
+
+old_held : HoldsFront weak workflow start 0 one 1 old_store
+old_held = record {
+  before = 0;
+  ordered = omega arith;
+  within = omega arith;
+  read = record {
+    weak = refl;
+    first = refl;
+    image = record { whole = start_whole; had = empty_had_none workflow; fits = empty_fits false workflow own_bodies_fit; spelled = refl };
+    entries_are = refl;
+  };
+}
+
+old_leaves : HeldFrontsStand → HeldStands weak workflow start 0 one 1 old_store
+old_leaves law = law weak workflow start 0 one 1 old_store began one_replays old_held
+
+-- ---- the new one is a front of the list of one entry, and of all five, which has the one push
+
 short_front : (least : ℕ) → least ≤ 1 → FrontStands weak workflow start 0 one least files
 short_front least le = record { before = 0; some = 1; ordered = omega arith; within = omega arith; enough = le; reads = inr (record { stood = store; stands = files_stand; read = read }) }
 
@@ -177,10 +233,10 @@ weak_flush law = law weak workflow start 0 whole_batch 0 new_store tt tt began w
 no_stream_fits : FitsStream (0, (0, []))
 no_stream_fits = (omega arith, omega arith, All-nil (FitRows (2 ^ 16)))
 
-pushed_fits : FitsImage (kept workflow run.pushed)
+pushed_fits : FitsImage true workflow (kept workflow run.pushed)
 unfolding kept
 pushed_fits =
-    let fits = empty_fits workflow in
+    let fits = empty_fits true workflow own_bodies_fit in
     let batch : FitsStream (1, (0, rows 7 ∷ [])) =
     (omega arith, omega arith, All-from_recursion (FitRows (2 ^ 16)) (rows 7 ∷ []) ((omega arith, All-from_recursion IsTypedRow (rows 7) (seven_typed, tt)), tt)) in
     record {
@@ -189,9 +245,10 @@ pushed_fits =
       streams = All-from_recursion FitsStream (kept workflow run.pushed).streams (batch, (no_stream_fits, (no_stream_fits, (no_stream_fits, (no_stream_fits, tt)))));
       counts = fits.counts;
       next_numbers = All-from_recursion FitNumbers (kept workflow run.pushed).next_numbers (one_number_fits, (no_numbers_fit, (no_numbers_fit, (no_numbers_fit, (no_numbers_fit, tt)))));
+      texts = fits.texts;
     }
 
-fits : FitsImage (kept workflow (after workflow start one))
+fits : FitsImage true workflow (kept workflow (after workflow start one))
 fits = rw run.pushes pushed_fits
 
 abbrev next : Stood
@@ -203,6 +260,11 @@ all_held law = law weak workflow start 0 one accepted start_whole (empty_had_non
 weak_checkpoint : CheckpointsHold → CheckpointsKeepFronts (Unit {0}) (λ disk. 0) (images files) → StaysFrom (λ disk. 0) (images files) 0 tt (AtLeast weak workflow one 1)
 weak_checkpoint hold law = law weak workflow start 0 one store next tt tt began one_replays one_held (all_held hold)
     (stays files (λ image. StandsFor image store ⊎ StandsFor image next) (inl files_stand)) (λ t from to. (files, refl)) 1
+
+-- and one in place of the store of the older form
+checkpoint_of_old : CheckpointsHold → CheckpointsKeepFronts (Unit {0}) (λ disk. 0) (images old_files) → StaysFrom (λ disk. 0) (images old_files) 0 tt (AtLeast weak workflow one 1)
+checkpoint_of_old hold law = law weak workflow start 0 one old_store next tt tt began one_replays old_held (all_held hold)
+    (stays old_files (λ image. StandsFor image old_store ⊎ StandsFor image next) (inl old_files_stand)) (λ t from to. (old_files, refl)) 1
 
 -- ---- what is recovered of the store
 

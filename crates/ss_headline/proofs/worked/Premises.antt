@@ -7,18 +7,18 @@ use Rattle.std.proofs.lemmas.List.Elements.{All-nil}
 use Rattle.ss_value.specs.declared.value.Value.TheVariants.{Int}
 use Rattle.ss_model.specs.declared.entry.Answer.{Answer}
 use Rattle.ss_model.specs.declared.entry.Answer.TheVariants.{Listed as ListedAnswer, NoMemory}
-use Rattle.ss_model.specs.declared.entry.Asked.TheVariants.{Push as PushAsked}
+use Rattle.ss_model.specs.declared.entry.Asked.TheVariants.{Push as PushAsked, Install as InstallAsked}
 use Rattle.ss_model.specs.declared.entry.Entry.{Entry}
-use Rattle.ss_model.specs.declared.entry.Entry.TheVariants.{Push, Step as StepEntry}
+use Rattle.ss_model.specs.declared.entry.Entry.TheVariants.{Push, Step as StepEntry, Install}
 use Rattle.ss_model.specs.declared.entry.Listed.{Listed}
 use Rattle.ss_model.specs.declared.entry.Mode.TheVariants as modes
 use Rattle.ss_model.specs.declared.entry.Outcome.TheVariants.{Done, Aborted}
 use Rattle.ss_model.specs.declared.entry.Reason.TheVariants.{Raised}
 use Rattle.ss_model.specs.declared.entry.Request.{Request}
-use Rattle.ss_model.specs.Database.{Database, empty_database}
+use Rattle.ss_model.specs.Database.{Database, apply, empty_database}
 use Rattle.ss_model.specs.Orders.{MatchesCounts}
 use Rattle.ss_model.specs.Recovery.{Strong}
-use Rattle.ss_model.specs.Replays.{after}
+use Rattle.ss_model.specs.Replays.{Replays, after}
 use Rattle.ss_model.specs.Report.{End, Whole, Report, Rising, client_index, report_text}
 use Rattle.ss_model.specs.Settled.{NoneReady}
 use Rattle.ss_model.specs.Settling.{kept, pending_steps}
@@ -36,7 +36,7 @@ use Rattle.ss_cmdlog.specs.Store.{IsEmpty, StandsFor, entries_of}
 use Rattle.ss_cmdlog.proofs.CallerLemmas.{files_stand_for_one}
 use Rattle.ss_standing.specs.Image.{empty_image_of}
 use Rattle.ss_standing.specs.Standing.{Stands, Prefix, StandsForAtLeast, StandsForFront, listed_entries}
-use Rattle.ss_standing.proofs.CallerLemmas.{counts_executions, forming_stands, new_image_is, nothing_stands, batch_store, batch_files, batch_files_stand, batch_prefix, batch_stands, batch_at_least, end_behind}
+use Rattle.ss_standing.proofs.CallerLemmas.{counts_executions, forming_stands, new_image_is, nothing_stands, own_bodies_fit, batch_store, batch_files, batch_files_stand, batch_prefix, batch_stands, batch_at_least, end_behind}
 use Rattle.ss_fronts.proofs.CallerLemmas.{all_logged}
 use Rattle.ss_headline.specs.Between.{CallsGoOn, GoesOnBehindAll, GoesOnBehindFront, HadList, QuietLeaves, QuietStays}
 use Rattle.ss_headline.specs.Disks.{DiskChange, disk_of, AtEachMoment, NothingRan, OnlyRead}
@@ -72,7 +72,7 @@ new_files_stand = record {
   byte = 0;
   selector = refl;
   current = record {
-    stood = record { first = omega arith; image = omega (arith, new_image_is); groups = All-nil (IsGroup modes.Strong) };
+    stood = record { first = omega arith; image = omega (arith, new_image_is); groups = All-nil (IsGroup true modes.Strong) };
     gate = 0;
     rest = [];
     closed = λ e. absurd (omega (arith, e));
@@ -139,7 +139,7 @@ empty_has_none n has = of has.count has.enough has.k has.stands
 -- ---- the store is made
 
 pub new_stands : Stands workflow new_files 0 (kept workflow start)
-new_stands = forming_stands workflow new_files (empty_whole workflow accepted) (inr new_files_stand)
+new_stands = forming_stands workflow new_files (empty_whole workflow accepted) own_bodies_fit (inr new_files_stand)
 
 pub opened : Opened Strong workflow start 0 (change 0 1)
 opened = record {
@@ -172,7 +172,7 @@ logged_to (Some n) first before list is few =
     let near : first + length list < 0 + n = omega (arith, few) in (log_ends (Some n) before list is, record { stood = batch_store; stands = batch_files_stand; near = near })
 
 behind_new : (every : Option ℕ) → LogsEndWithLists → LogEndsAs Strong every whole_batch batch_files
-behind_new every law = law Strong every new_store batch_store whole_batch batch_files (record { mode = refl; first = refl; image = refl; entries = refl }) batch_files_stand
+behind_new every law = law Strong every new_store batch_store whole_batch batch_files (record { bodies = refl; mode = refl; first = refl; image = refl; entries = refl }) batch_files_stand
 
 begins_near : LogsEndWithLists → NearGenerationsBegin → Logged Strong (Some 6) 0 whole_batch batch_files
 begins_near ends law = law Strong 6 0 whole_batch batch_store batch_files (behind_new (Some 6) ends) batch_files_stand (omega arith)
@@ -370,3 +370,25 @@ enough = owed_is_enough workflow accepted start (empty_whole workflow accepted).
 
 none_left : FullListsHaveAll → (outside (request ∷ []) whole_batch ≡ 0) × NoneReady workflow (after workflow start whole_batch)
 none_left law = law workflow accepted start (empty_whole workflow accepted).in_step (request ∷ []) whole_batch lists (omega (arith, owes_five))
+
+-- ---- a body that is installed owes one execution, and wakes no step
+
+abbrev install : Request
+install = record { line = 2; client = 0; what = InstallAsked 0 [] }
+
+abbrev installs : List Listed
+installs = record { entry = Install 0 0 0 []; outcome = Done [] } ∷ []
+
+install_rises : (client : ℕ) → Rising (filter_map (λ (l : Listed). client_index client l.entry) installs)
+install_rises client = elim (0 == client) as (λ b. Rising (cons_option (cond b (Some 0) None) [])) [ true ↦ tt | false ↦ tt ]
+
+install_runs : Replays workflow start installs
+unfolding apply
+install_runs = (refl, tt)
+
+owes_one : owed workflow start (install ∷ []) ≡ 1
+owes_one = refl
+
+install_enough : 1 + pending_steps workflow (after workflow start installs) + outside (install ∷ []) installs ≤ 1
+install_enough = owed_is_enough workflow accepted start (empty_whole workflow accepted).in_step (install ∷ []) installs
+    (record { replays = install_runs; asked = ((0, omega arith, refl), tt); in_turn = install_rises })

@@ -26,7 +26,7 @@ use Rattle.ss_cmdlog.specs.Logged.{is_logged}
 use Rattle.ss_cmdlog.specs.Store.{StandsFor, entries_of}
 use Rattle.ss_standing.specs.Image.{empty_image_of}
 use Rattle.ss_standing.specs.Standing.{IsImageAt}
-use Rattle.ss_standing.proofs.CallerLemmas.{empty_fits, empty_had_none, end_behind, new_image_is}
+use Rattle.ss_standing.proofs.CallerLemmas.{empty_fits, empty_had_none, end_behind, new_image_is, own_bodies_fit}
 use Rattle.ss_standing.proofs.worked.Premises.{seven_typed}
 use Rattle.ss_fronts.specs.Fronts.{AtLeast, FrontStands, LedTo}
 use Rattle.ss_fronts.specs.WeakFronts.{asked_between}
@@ -40,8 +40,8 @@ use Rattle.ss_headline.specs.Sentences.{stop_at}
 use Rattle.ss_headline.proofs.worked.Premises as strong
 use Rattle.ss_headline.proofs.worked.Premises.{start}
 
-abbrev new_image : IsImageAt workflow 0 (empty_image_of workflow) start
-new_image = record { whole = empty_whole workflow accepted; had = empty_had_none workflow; fits = empty_fits workflow; spelled = refl }
+abbrev new_image : IsImageAt workflow true 0 (empty_image_of workflow) start
+new_image = record { whole = empty_whole workflow accepted; had = empty_had_none workflow; fits = empty_fits true workflow own_bodies_fit; spelled = refl }
 
 -- ---- a new store
 
@@ -57,7 +57,7 @@ new_files_stand = record {
   byte = 0;
   selector = refl;
   current = record {
-    stood = record { first = omega arith; image = omega (arith, new_image_is); groups = All-nil (IsGroup modes.Weak) };
+    stood = record { first = omega arith; image = omega (arith, new_image_is); groups = All-nil (IsGroup true modes.Weak) };
     gate = 0;
     rest = [];
     closed = λ e. absurd (omega (arith, e));
@@ -71,9 +71,9 @@ abbrev asked : List Entry
 asked = run.push ∷ []
 
 abbrev store : Stood
-store = record { mode = modes.Weak; first = 0; image = empty_image_of workflow; groups = asked ∷ [] }
+store = record { bodies = true; mode = modes.Weak; first = 0; image = empty_image_of workflow; groups = asked ∷ [] }
 
-is_group : IsGroup modes.Weak asked
+is_group : IsGroup true modes.Weak asked
 unfolding number_bytes
 is_group = record {
   some = omega arith;
@@ -81,6 +81,7 @@ is_group = record {
   recordable = All-from_recursion IsRecordable asked ((omega arith, omega arith, omega arith, All-from_recursion IsShort ((Int (pos 7) ∷ []) ∷ []) (omega arith, tt)), tt);
   typed = All-from_recursion IsTyped asked ((omega arith, omega arith, refl, All-from_recursion IsTypedRow ((Int (pos 7) ∷ []) ∷ []) (seven_typed, tt)), tt);
   of_mode = All-from_recursion (λ (e : Entry). is_logged modes.Weak e ≡ true) asked (refl, tt);
+  of_form = λ old. absurd (cc);
 }
 
 files : Files
@@ -92,7 +93,7 @@ files_stand = record {
   byte = 0;
   selector = refl;
   current = record {
-    stood = record { first = omega arith; image = omega (arith, new_image_is); groups = All-from_recursion (IsGroup modes.Weak) (asked ∷ []) (is_group, tt) };
+    stood = record { first = omega arith; image = omega (arith, new_image_is); groups = All-from_recursion (IsGroup true modes.Weak) (asked ∷ []) (is_group, tt) };
     gate = 0;
     rest = [];
     closed = λ e. absurd (omega (arith, e));
@@ -167,7 +168,7 @@ front = record {
 prefix : FrontStands weak workflow start 0 whole_batch 0 files
 prefix = front_less weak workflow start 0 whole_batch 0 5 files (omega arith) front
 
--- what is a front of no list has no call and no push of whichever
+-- what is a front of no list has no request of whichever
 none_asked : (list : List Listed) (n : ℕ) (image : Files) → FrontStands weak workflow start 0 [] 0 image → AtLeast weak workflow list n image → n ≤ 0
 none_asked list n image none has =
     let fewer : AtLeast weak workflow [] n image = (grows weak workflow start 0 [] list).no_more n image none has in

@@ -1,21 +1,24 @@
 -- The laws at a store that is made on an empty disk and opened at a second try, on which a batch is run, and which is then opened again.
-use Rattle.std.proofs.Common.{◌≡◌, ◌<◌, inl, inr, ℕ, List, [], ◌∷◌, ◌++◌, take, Option, IfSome, refl, sym, ap, subst, arith, append-nil}
+use Rattle.std.proofs.Common.{◌≡◌, ◌<◌, ◌⊎◌, inl, inr, ℕ, List, [], ◌∷◌, ◌++◌, take, Option, IfSome, refl, sym, ap, subst, arith, append-nil}
 use Rattle.ss_model.specs.declared.entry.Answer.TheVariants.{NoMemory}
 use Rattle.ss_model.specs.declared.entry.Listed.{Listed}
 use Rattle.ss_model.specs.Recovery.{Strong}
 use Rattle.ss_model.specs.Report.{Whole, report_text}
+use Rattle.ss_model.specs.Settling.{kept}
 use Rattle.ss_model_laws.proofs.CallerLemmas.{accepted, empty_whole, whole_batch, whole_batch_drains, workflow}
 use Rattle.ss_report_laws.specs.Replies.{weave}
-use Rattle.ss_disk.proofs.CallerLemmas.{no_call, stays_none}
+use Rattle.ss_disk.specs.Files.{Files}
+use Rattle.ss_disk.specs.Kinds.{present}
+use Rattle.ss_disk.proofs.CallerLemmas.{leaves_less, no_call, stays_none}
 use Rattle.ss_cmdlog.specs.Store.{entries_of}
-use Rattle.ss_standing.specs.Standing.{StandsForAtLeast}
+use Rattle.ss_standing.specs.Standing.{Prefix, StandsForAtLeast}
 use Rattle.ss_standing.proofs.CallerLemmas.{batch_files, batch_files_stand, batch_store, end_behind}
 use Rattle.ss_headline.specs.Disks.{DiskChange, disk_of}
 use Rattle.ss_headline.specs.Layers.{Opened, Receipted}
 use Rattle.ss_headline.specs.Runs.{LogEndsAsStopped, Logged}
-use Rattle.ss_headline.proofs.CallerLemmas.{batch_answered, batch_closed, batch_disk, batch_logged, batch_not_run, batch_opened, batch_receipted, batch_request, batch_start, batch_told, behind_batch, closed_again, found_again, new_store_stands, opened_again}
+use Rattle.ss_headline.proofs.CallerLemmas.{batch_answered, batch_closed, batch_disk, batch_logged, batch_opened, batch_receipted, batch_request, batch_start, batch_told, behind_batch, closed_again, found_again, new_store_stands, no_list_stands, opened_again}
 use Rattle.ss_incarnations.specs.Incarnations.{Incarnation}
-use Rattle.ss_incarnations.specs.Openings.{NoneIsTried, NoneIsOpened, NotOpened, OpenedAtLast}
+use Rattle.ss_incarnations.specs.Openings.{NoneIsTried, NoneIsOpened, NotOpened, OpenedAtLast, StandForSame}
 use Rattle.ss_incarnations.specs.Reopening.{Lived, LivesOn, FirstIncarnation, NoneIsReopened, NoEngineIsOpened, OneMoreIncarnation}
 use Rattle.ss_incarnations.specs.Runs.{EndsWithOwn, IsStoppedRunOver, IsWholeRunOver, RunsOverRestarts, stop_over}
 
@@ -24,8 +27,17 @@ change = disk_of batch_disk
 
 -- ---- the first try makes a store, the second opens it
 
+-- the new store stands for what the empty disk does
 not_opened : NotOpened workflow (change 0 1)
-not_opened = record { nothing_ran = batch_not_run; receipts_stay = batch_opened.receipts_stay; reads = λ true'. inr (refl, new_store_stands) }
+not_opened = record {
+  nothing_ran = λ true'. leaves_less (λ disk. disk) batch_disk.images 0 1 _ _ (batch_opened.crashes true') (λ image either. by image either);
+  receipts_stay = batch_opened.receipts_stay;
+  reads = λ true'. inr (0, kept workflow batch_start, batch_opened.stood tt, new_store_stands);
+}
+  where
+    by : (image : Files) → present batch_disk 0 image ⊎ Prefix workflow batch_start 0 [] image → present batch_disk 0 image ⊎ StandForSame workflow (batch_disk.seen 0) image
+    by image (inl left) = inl left
+    by image (inr front) = inr (0, kept workflow batch_start, batch_opened.stood tt, no_list_stands workflow batch_start 0 image front)
 
 opened_then : Opened Strong workflow batch_start 0 (change 1 1)
 opened_then = record {

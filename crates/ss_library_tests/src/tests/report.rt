@@ -32,6 +32,8 @@ fn catalog(alloc: Global) -> Result<Catalog, Fail> {
         windows: Seq::new(alloc),
         triggers: Seq::new(alloc),
         procedures: Seq::new(alloc),
+        own_texts: Seq::new(alloc),
+        spares: Seq::new(alloc),
         text: Seq::new(alloc),
     })
 }

@@ -1,5 +1,6 @@
 -- Databases of which only some partitions are held: what stands for the others, and what an entry does there.
 use Rattle.std.specs.Prelude.{◌≡◌, ◌≤◌, ℕ, Bool, true, false, cond, [], Some}
+use Rattle.std.specs.List.{list_any, range_with_len}
 use Rattle.std.specs.Option.{option_map}
 use Rattle.std.specs.FinMap as finmap
 use Rattle.ss_model.specs.declared.catalog.Catalog.{Catalog}
@@ -7,10 +8,15 @@ use Rattle.ss_model.specs.declared.entry.Entry.{Entry}
 use Rattle.ss_model.specs.Results.{map_indexed}
 use Rattle.ss_model.specs.Accepted.{Accepted}
 use Rattle.ss_model.specs.Database.{Database, Applied, apply}
-use Rattle.ss_model.specs.Partitions.{row_partition, window_partition, home_of, home_partition, border_procedure, touches, part}
+use Rattle.ss_model.specs.Partitions.{row_partition, window_partition, home_of, home_partition, border_procedure, touches, part, seen_bodies}
 use Rattle.ss_model.specs.parts.Locality.{SameApplied}
 
--- a database with blanks for what is of partitions that are not held; all streams stay
+-- whether some partition that runs is held
+abbrev pub holds_some : ℕ → (ℕ → Bool) → Bool
+holds_some n held = list_any held (range_with_len 0 n)
+
+-- a database with blanks for what is of partitions that are not held; all streams stay, and which bodies the procedures have is seen
+-- from each partition
 abbrev pub elsewhere_blank : Catalog → ℕ → (ℕ → Bool) → Database → Database
 elsewhere_blank catalog n held db = record db {
   contents = record {
@@ -19,6 +25,7 @@ elsewhere_blank catalog n held db = record db {
   };
   counts = map_indexed (λ q c. cond (held (home_of catalog n q)) c 0) db.counts;
   next_numbers = map_indexed (λ s m. cond (held (home_partition n (border_procedure catalog s))) m finmap.empty) db.next_numbers;
+  bodies = seen_bodies catalog (holds_some n held) db.bodies;
 }
 
 -- what an entry comes to, with such blanks in the database that it leaves
@@ -52,10 +59,11 @@ pub record SameButStreams (x y : Database) : Type 0 where
   pub contents : x.contents ≡ y.contents
   pub counts : x.counts ≡ y.counts
   pub next_numbers : x.next_numbers ≡ y.next_numbers
+  pub bodies : x.bodies ≡ y.bodies
 
 -- law: the parts of a database are all that there is of it but for its streams
 abbrev pub PartsAreAll : Type 0
-PartsAreAll = (catalog : Catalog) (n : ℕ) (x y : Database) → ((p : ℕ) → part catalog n p x ≡ part catalog n p y) → SameButStreams x y
+PartsAreAll = (catalog : Catalog) (n : ℕ) → 1 ≤ n → (x y : Database) → ((p : ℕ) → part catalog n p x ≡ part catalog n p y) → SameButStreams x y
 
 -- law: so what such an entry comes to beside blanks is what it comes to on the whole database, with the same blanks
 abbrev pub RunsBesideBlanks : Type 0

@@ -1,5 +1,5 @@
 -- A database split into the parts of the partitions that run.
-use Rattle.std.specs.Prelude.{◌≡◌, ◌≤◌, ◌<◌, ℕ, ◌==◌, cond, List, [], map, get_or, Option, None}
+use Rattle.std.specs.Prelude.{◌≡◌, ◌≤◌, ◌<◌, ℕ, ◌==◌, cond, List, [], map, get_or, None}
 use Rattle.std.specs.List.{range_with_len}
 use Rattle.std.specs.FinMap as finmap
 use Rattle.ss_value.specs.Rows.{Row}
@@ -22,11 +22,12 @@ pub record StandsOnce {A : Type 0} (n home : ℕ) (thing blank : A) (in_part : �
   pub runs : home < n
   pub stands : (p : ℕ) → in_part p ≡ cond (home == p) thing blank
 
--- law: each row, window, count and next number of a database stands in just one part
+-- law: each row, window, count and next number of a database stands in just one part, and which bodies there are in each
 pub record EachStandsOnce (catalog : Catalog) (n : ℕ) (db : Database) : Type 0 where
   pub rows : (t : ℕ) (key : Row) → StandsOnce n (row_partition catalog n t key) (finmap.get (table_at db.contents t) key) None (λ p. finmap.get (get_or (part catalog n p db).tables t finmap.empty) key)
   pub windows : (w : ℕ) → StandsOnce n (window_partition catalog n w) (window_units db.contents w) [] (λ p. get_or (part catalog n p db).windows w [])
   pub counts : (q : ℕ) → StandsOnce n (home_of catalog n q) (batch_count db q) 0 (λ p. get_or (part catalog n p db).counts q 0)
+  pub bodies : (p : ℕ) → p < n → (part catalog n p db).bodies ≡ db.bodies
   pub next_numbers : (s : ℕ) → StandsOnce n (home_partition n (border_procedure catalog s)) (get_or db.next_numbers s finmap.empty) finmap.empty (λ p. get_or (part catalog n p db).next_numbers s finmap.empty)
 
 -- law: this holds of each database

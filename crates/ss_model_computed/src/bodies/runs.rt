@@ -3,7 +3,7 @@
 ghost use Rattle.std.specs.Prelude.{◌≡◌, IfOk, IfErr, Ok, Err};
 ghost use Rattle.std.specs.Option.{option_copied};
 ghost use Rattle.ss_model.specs.Bodies.{run_body, execution_start};
-ghost use Rattle.ss_model.specs.Database.{body_result, run_procedure, split_value_for};
+ghost use Rattle.ss_model.specs.Database.{body_result, run_procedure, split_value_for, with_body};
 ghost use Rattle.ss_model.specs.Stops.{StopsAs};
 ghost use Rattle.ss_model_computed.specs.State.{contents_of, context_of, execution_of};
 ghost use Rattle.ss_model_computed.specs.Runs.{body_result_of};
@@ -102,13 +102,13 @@ fn run_limited<'a>(
     alloc: Global,
     catalog: &'a Catalog,
     number: u16,
-    procedure: &'a Procedure,
+    body: &'a Seq<Step>,
     args: &'a Row,
     batches: &'a Seq<Rows>,
     split_value: Option<&'a Value>,
     contents: &'a Contents,
 ) -> Result<BodyResult, NoMemory>
-    ensures { IfOk result (BodyLeaves catalog.now number procedure.now.body args.now batches.now (option_copied split_value.entry) contents.now) }
+    ensures { IfOk result (BodyLeaves catalog.now number body.now args.now batches.now (option_copied split_value.entry) contents.now) }
 {
     let context = Context {
         catalog,
@@ -117,14 +117,14 @@ fn run_limited<'a>(
         batches,
         split_value,
     };
-    match run_body(alloc, &context, &procedure.body, contents.copy(alloc)?) {
+    match run_body(alloc, &context, body, contents.copy(alloc)?) {
         Ok(execution) => Ok(execution.into_result()),
         Err(RunError::Abort(reason)) => aborted_result(alloc, catalog, contents, reason),
         Err(RunError::NoMemory) => Err(NoMemory),
     }
 }
 
-/// Runs the body of a procedure with these arguments and batches, on a copy of the tables and windows.
+/// Runs a procedure with this body, arguments and batches, on a copy of the tables and windows.
 ///
 /// After an abort, tables and windows are as they were, and each batch is empty. Linear in all that tables and windows
 /// hold, beside what the body costs.
@@ -133,18 +133,20 @@ pub fn run_procedure(
     catalog: &Catalog,
     number: u16,
     procedure: &Procedure,
+    body: &Seq<Step>,
     args: &Row,
     batches: &Seq<Rows>,
     contents: &Contents,
 ) -> Result<BodyResult, NoMemory>
-    ensures { IfOk result (λ r. run_procedure catalog.now number procedure.now args.now batches.now (contents_of contents.now) ≡ body_result_of r) }
+    ensures { IfOk result (λ r.
+        run_procedure catalog.now number (with_body body.now procedure.now) args.now batches.now (contents_of contents.now) ≡ body_result_of r) }
 {
     let split_value = split_value_for(alloc, &procedure.touch, args)?;
     run_limited(
         alloc,
         catalog,
         number,
-        procedure,
+        body,
         args,
         batches,
         split_value.as_ref(),

@@ -7,6 +7,7 @@ ghost use Rattle.ss_model_computed.specs.Databases.{StepAnswers, appended_batch,
 
 use crate::bodies::runs::run_procedure;
 use crate::entries::database::{Applied, Database};
+use crate::entries::installs::present_steps;
 use crate::lists::{copy_at, set_at};
 use ss_model::{Catalog, Procedure, ProcedureKind};
 use ss_value::{Copies, NoMemory, Rows, Seq};
@@ -136,6 +137,7 @@ pub fn apply_step(
         catalog,
         number,
         procedure,
+        present_steps(catalog, database, number, procedure),
         &args,
         &batches,
         &database.contents,

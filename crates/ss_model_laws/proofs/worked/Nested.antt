@@ -57,6 +57,8 @@ nested = record {
   windows = window_of (codes "w") ∷ window_of (codes "v") ∷ [];
   triggers = of_two ∷ of_four ∷ [];
   procedures = fills ∷ [];
+  own_texts = [];
+  spares = [];
   text = [];
 }
 

@@ -31,7 +31,8 @@ use Rattle.ss_model.specs.KeptRuns.{SameKept}
 use Rattle.ss_model.specs.InStep.{IsInStep}
 use Rattle.ss_model.specs.Wakes.{wakes, IsStepOf}
 use Rattle.ss_model.specs.Settled.{AtRest, NextIsReady, SettlesOnce, SettlesOn, WeakListOnce, ReplaysWithOutcomes}
-use Rattle.ss_model.specs.AcceptedBodies.{with_bodies, AcceptedBody, AcceptedBodies, AcceptedFrame, OwnBodies, BodiesMayChange}
+use Rattle.ss_model.specs.AcceptedBodies.{with_bodies, AcceptedBodies, AcceptedFrame, OwnBodies, OtherBodies, BodiesMayChange}
+use Rattle.ss_model.specs.Spares.{AcceptedBody}
 use Rattle.ss_model.specs.BodiesAside.{SameBodiesAside}
 use Rattle.ss_sql_trees.specs.WellTyped.{IntType, expr_type}
 use Rattle.ss_model.specs.parts.Locality.{BodyResultRelated, EntryIsLocal, RunIsLocal, UsesTouched, touched_keys, touched_windows}
@@ -272,7 +273,7 @@ weak = weak_once flow.workflow flow.accepted (flow_run.push ∷ []) (empty_datab
 weak_replays : ReplaysWithOutcomes flow.workflow (empty_database flow.workflow) weak.list
 weak_replays = weak.replays ((tt, refl), tt)
 
-parts_of_accepted : AcceptedFrame flow.workflow × OwnBodies flow.workflow
+parts_of_accepted : AcceptedFrame flow.workflow × (OwnBodies flow.workflow × OtherBodies flow.workflow)
 parts_of_accepted = (in_parts flow.workflow).0 flow.accepted
 
 -- in place of its own body each procedure of the accounts may have an empty one
@@ -314,7 +315,7 @@ other_bodies (suc (suc (suc q))) = flow.joins.body
 
 -- a procedure may have its own body
 own_body : (q : ℕ) (p d : Procedure) → slice_get flow.workflow.procedures q ≡ Some p → d ≡ p → AcceptedBody flow.workflow q p d.body
-own_body q p d is same = subst (λ z. AcceptedBody flow.workflow q p z.body) (sym same) (parts_of_accepted.1 q p is)
+own_body q p d is same = subst (λ z. AcceptedBody flow.workflow q p z.body) (sym same) ((parts_of_accepted.1).0 q p is)
 
 untested_accepted : AcceptedBody flow.workflow 1 flow.adds_ten untested
 untested_accepted = record {
@@ -377,6 +378,8 @@ whole_units =
       batches = e.batches;
       calls = e.calls;
       next_numbers = e.next_numbers;
+      body_count = refl;
+      bodies = e.bodies;
     }
 
 blank_kept : kept sliding.sliding_seen (of_units five_units) ≡ kept sliding.sliding_seen (of_units ([] ∷ [] ∷ unit 3 ∷ unit 4 ∷ unit 5 ∷ []))

@@ -58,7 +58,7 @@ totals = record {
 }
 
 abbrev pub trials : Catalog
-trials = record { tables = held ∷ []; streams = []; windows = []; triggers = []; procedures = puts ∷ tries ∷ totals ∷ []; text = [] }
+trials = record { tables = held ∷ []; streams = []; windows = []; triggers = []; procedures = puts ∷ tries ∷ totals ∷ []; own_texts = []; spares = []; text = [] }
 
 tested : Tested trials (λ p. 0)
 tested = tested_of trials (λ p. 0) refl

@@ -200,6 +200,8 @@ voter = record {
   windows = trend ∷ [];
   triggers = trending ∷ [];
   procedures = begins_show ∷ adds ∷ validates ∷ leads ∷ removes ∷ [];
+  own_texts = [];
+  spares = [];
   text = [];
 }
 

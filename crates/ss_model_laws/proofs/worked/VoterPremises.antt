@@ -29,7 +29,7 @@ use Rattle.ss_model.specs.Wakes.{wakes, IsStepOf}
 use Rattle.ss_model.specs.WholeDatabase.{WholeDatabase, HadAtMost}
 use Rattle.ss_model.specs.SoundRuns.{FitAll, WholeResult}
 use Rattle.ss_model.specs.Settled.{AtRest, SettlesOnce, WeakListOnce, ReplaysWithOutcomes}
-use Rattle.ss_model.specs.AcceptedBodies.{AcceptedFrame, OwnBodies}
+use Rattle.ss_model.specs.AcceptedBodies.{AcceptedFrame, OwnBodies, OtherBodies}
 use Rattle.ss_model.proofs.CallerLemmas.{at_lit, at_col, literal_value, column_meaning, param_value, retain_all}
 use Rattle.ss_model_laws.proofs.Aborted.{abort_leaves}
 use Rattle.ss_model_laws.proofs.Advanced.{steps_move}
@@ -182,5 +182,5 @@ joins_empty = batches_join voter early (record { counts = refl; streams = refl }
 
 -- ---- bodies
 
-parts_of_accepted : AcceptedFrame voter × OwnBodies voter
+parts_of_accepted : AcceptedFrame voter × (OwnBodies voter × OtherBodies voter)
 parts_of_accepted = (in_parts voter).0 accepted

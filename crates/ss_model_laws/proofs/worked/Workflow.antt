@@ -85,6 +85,8 @@ workflow = record {
   windows = [];
   triggers = [];
   procedures = splits ∷ adds_ten ∷ adds_twenty ∷ joins ∷ [];
+  own_texts = [];
+  spares = [];
   text = [];
 }
 

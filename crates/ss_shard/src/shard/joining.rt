@@ -1,6 +1,6 @@
 //! Shards that take in the parts of others, and give them back.
 //!
-//! What lends its part leaves a *shell*: its lists of tables, indexes, windows, counts and sources, with blanks in
+//! What lends its part leaves a *shell*: its lists of tables, indexes, windows, counts, sources and bodies, with blanks in
 //! them, into which all of it is put back. So giving back takes no memory and can't fail, as it must not once an
 //! execution is listed.
 
@@ -12,6 +12,7 @@ ghost use Rattle.ss_shard.specs.Parts.{with_homes, MayAbsorb, Absorbs, MayReleas
 use crate::exchanges::{exchange_cursors, exchange_sources, exchange_windows};
 use crate::joins::{absorb_lists, release_lists};
 use crate::shard::Shard;
+use crate::shard::bodies::write_over;
 use ss_model::Catalog;
 use ss_table::Table;
 use ss_value::NoMemory;
@@ -95,6 +96,8 @@ impl Shard {
         )?;
         // A law, which does nothing: the proof needs it of the tables, here and below.
         all_are_keyed(self.tables.as_slice());
+        // The other's partition runs, so its bodies are those of all; this shard has them too where it has some partition.
+        write_over(other.bodies.as_slice(), &mut self.bodies);
         exchange_homes(catalog, parts, self, other);
         Ok(())
     }
@@ -117,6 +120,7 @@ impl Shard {
         );
         all_are_keyed(self.tables.as_slice());
         all_are_keyed(back.tables.as_slice());
+        write_over(self.bodies.as_slice(), &mut back.bodies);
         exchange_homes(catalog, parts, self, back);
     }
 }

@@ -1,15 +1,14 @@
-//! What an image has behind its catalogue's text, from bytes: the tables into a shard, and the rest beside it.
+//! What an image has behind its catalogue's text but for the bodies, from bytes: the tables into a shard, and the rest beside it.
 
 ghost use Rattle.std.specs.Prelude.{◌≡◌, map, IfOk, OnOk};
 ghost use Rattle.std.specs.FinMap as finmap;
 ghost use Rattle.std.specs.List.{AllByRecursion};
 ghost use Rattle.ss_model.specs.Accepted.{Accepted};
-ghost use Rattle.ss_standing.specs.ImageForm.{kept_in};
 ghost use Rattle.ss_shard.specs.Contents.{tables_of};
 ghost use Rattle.ss_shard.specs.Databases.{WindowIsSound};
 ghost use Rattle.ss_shard.specs.Shards.{IsCommitted};
 ghost use Rattle.ss_shard.specs.Sources.{positive};
-ghost use Rattle.ss_snapshot.specs.Beside.{as_beside, as_progress, beside_of, counts_and_sources_of, progress_of, to_kept};
+ghost use Rattle.ss_snapshot.specs.Beside.{as_beside, as_progress, beside_of, but_bodies_of, counts_and_sources_of, progress_of};
 ghost use Rattle.ss_snapshot.specs.Parts.{Reads};
 ghost use Rattle.ss_snapshot.specs.Streams.{as_kept};
 ghost use Rattle.ss_snapshot.specs.Tables.{Settles};
@@ -97,12 +96,12 @@ fn beside_in<'a>(
     Ok((Beside { windows, progress }, rest))
 }
 
-/// What an image has behind its catalogue's text: the tables are put into those of a shard without a row, and the rest is told
+/// What an image has behind its catalogue's text but for the bodies: the tables are put into those of a shard without a row, and the rest is told
 /// beside it. No stream has had more than `most` batches.
 ///
 /// Linear in the bytes, an insert for each row, and what `counts_in` and `sources_in` cost. What is refused may leave some rows
 /// in the shard.
-pub(crate) fn kept_in<'a>(
+pub(crate) fn but_bodies_in<'a>(
     alloc: Global,
     bytes: &'a [u8],
     catalog: &Catalog,
@@ -112,7 +111,7 @@ pub(crate) fn kept_in<'a>(
     requires accepted { Accepted catalog.now }
     requires committed { IsCommitted catalog.now whole.old }
     requires empty { tables_of whole.old.tables ≡ map (λ d. finmap.empty) catalog.now.tables }
-    ensures read { Reads (λ x. (to_kept (tables_of whole.new.tables) (as_beside x.0), x.1.now)) result (kept_in catalog.now most bytes.now) }
+    ensures read { Reads (λ x. ((tables_of whole.new.tables, as_beside x.0), x.1.now)) result (but_bodies_of catalog.now most bytes.now) }
     ensures settled { OnOk result (Settles catalog.now whole.old whole.new) }
     ensures restored { IfOk result (λ x. AreRestored catalog.now.windows x.0.windows) }
 {

@@ -1,12 +1,12 @@
 -- Each law of images and checkpoints at stores that meet its premises: a new store, and one with a batch that is still to be taken, beside its checkpoint.
-use Rattle.std.proofs.Common.{◌≡◌, ◌∙◌, ◌⊎◌, ◌^◌, inl, inr, ℕ, pos, List, [], ◌∷◌, ◌++◌, length, get_or, drop, replicate, Ok, true, refl, sym, ap, subst, arith, unwrap_or}
+use Rattle.std.proofs.Common.{◌≡◌, ◌∙◌, ◌⊎◌, ◌^◌, inl, inr, ℕ, pos, List, [], ◌∷◌, ◌++◌, length, get_or, drop, replicate, Ok, true, false, refl, sym, ap, subst, arith, unwrap_or}
 use Rattle.std.specs.List.{flat_map}
 use Rattle.std.specs.Option.{option_map}
 use Rattle.std.specs.FinMap as finmap
 use Rattle.std.proofs.lemmas.List.Elements.{All-from_recursion, All-nil}
 use Rattle.ss_model.specs.declared.entry.Entry.{Entry}
 use Rattle.ss_model.specs.declared.entry.Mode.TheVariants.{Strong}
-use Rattle.ss_model.specs.Database.{Database}
+use Rattle.ss_model.specs.Database.{Database, own_bodies}
 use Rattle.ss_model.specs.Replays.{Replays, after}
 use Rattle.ss_model.specs.Settling.{kept}
 use Rattle.ss_model.specs.WholeDatabase.{HadAtMost}
@@ -33,37 +33,37 @@ use Rattle.ss_standing.proofs.ImageTells.{no_numbers_fit}
 use Rattle.ss_standing.proofs.ImageExact.{kept_exact, spelled_to_the_end}
 use Rattle.ss_standing.proofs.Fronts.{empty_fits, empty_had_none, generation_goes_on}
 use Rattle.ss_standing.proofs.Checkpoints.{read_images_stand, images_are_read, checkpoints_stand, front_checkpoints_stand, checkpoints_change_nothing, keeps_over_checkpoint, either_generation_stands}
-use Rattle.ss_standing.proofs.worked.Premises.{start_whole, zeros, image_is, seven_typed, new_store}
+use Rattle.ss_standing.proofs.worked.Premises.{start_whole, own_fit, zeros, image_is, seven_typed, new_store}
 use Rattle.ss_standing.proofs.worked.Needed.{start, rows, push, pushed, pushes, listed, pushed_whole, one_number, one_entry, one_number_fits}
 
 -- ---- the image of a new store is read as what is kept of it
 
-exact : IsExact (kept_in workflow 0) (kept_bytes workflow) (IsKeptOf workflow 0)
-exact = kept_exact workflow 0 accepted
+exact : IsExact (kept_in true workflow 0) (kept_bytes true workflow) (IsKeptOf true workflow 0)
+exact = kept_exact true workflow 0 accepted
 
-new_kept : IsKeptOf workflow 0 (kept workflow start)
-new_kept = record { db = start; whole = start_whole; had = empty_had_none workflow; fits = empty_fits workflow; is = refl }
+new_kept : IsKeptOf true workflow 0 (kept workflow start)
+new_kept = record { db = start; whole = start_whole; had = empty_had_none workflow; fits = empty_fits true workflow own_fit; is = refl }
 
-new_read : to_the_end (kept_in workflow 0) (kept_bytes workflow (kept workflow start)) ≡ Ok (kept workflow start)
-new_read = spelled_to_the_end workflow 0 accepted (kept workflow start) new_kept
+new_read : to_the_end (kept_in true workflow 0) (kept_bytes true workflow (kept workflow start)) ≡ Ok (kept workflow start)
+new_read = spelled_to_the_end true workflow 0 accepted (kept workflow start) new_kept
 
 -- behind its text it is bytes, all of them 0
-new_is : kept_bytes workflow (kept workflow start) ≡ replicate 128 0
+new_is : kept_bytes true workflow (kept workflow start) ≡ replicate 144 0
 unfolding number_bytes
-new_is = ap (drop 4) (sym (image_begins workflow (kept workflow start)) ∙ zeros)
+new_is = ap (drop 4) (sym (image_begins true workflow (kept workflow start)) ∙ zeros)
 
-new_bytes : IsBytes (kept_bytes workflow (kept workflow start))
-new_bytes i = let none : get_or (kept_bytes workflow (kept workflow start)) i 0 ≡ 0 = ap (λ (l : List ℕ). get_or l i 0) new_is ∙ get_or-alike 128 i 0 in omega (arith, none)
+new_bytes : IsBytes (kept_bytes true workflow (kept workflow start))
+new_bytes i = let none : get_or (kept_bytes true workflow (kept workflow start)) i 0 ≡ 0 = ap (λ (l : List ℕ). get_or l i 0) new_is ∙ get_or-alike 144 i 0 in omega (arith, none)
 
 -- so it is the image of some database
-some_database : (db : Database) × IsImageAt workflow 0 (text_bytes workflow.text ++ kept_bytes workflow (kept workflow start)) db × (kept workflow start ≡ kept workflow db)
-some_database = read_images_stand workflow 0 (kept_bytes workflow (kept workflow start)) (kept workflow start) accepted new_bytes new_read
+some_database : (db : Database) × IsImageAt workflow true 0 (text_bytes workflow.text ++ kept_bytes true workflow (kept workflow start)) db × (kept workflow start ≡ kept workflow db)
+some_database = read_images_stand true workflow 0 (kept_bytes true workflow (kept workflow start)) (kept workflow start) accepted new_bytes new_read
 
-new_image : IsImageAt workflow 0 (empty_image_of workflow) start
-new_image = record { whole = start_whole; had = empty_had_none workflow; fits = empty_fits workflow; spelled = refl }
+new_image : IsImageAt workflow true 0 (empty_image_of workflow) start
+new_image = record { whole = start_whole; had = empty_had_none workflow; fits = empty_fits true workflow own_fit; spelled = refl }
 
-read_again : (empty_image_of workflow ≡ text_bytes workflow.text ++ kept_bytes workflow (kept workflow start)) × (to_the_end (kept_in workflow 0) (kept_bytes workflow (kept workflow start)) ≡ Ok (kept workflow start))
-read_again = images_are_read workflow 0 (empty_image_of workflow) start accepted new_image
+read_again : (empty_image_of workflow ≡ text_bytes workflow.text ++ kept_bytes true workflow (kept workflow start)) × (to_the_end (kept_in true workflow 0) (kept_bytes true workflow (kept workflow start)) ≡ Ok (kept workflow start))
+read_again = images_are_read true workflow 0 (empty_image_of workflow) start accepted new_image
 
 -- ---- a store with a batch that is still to be taken, and a checkpoint of it
 
@@ -79,10 +79,10 @@ held_is = ap (λ o. unwrap_or (option_map (λ a. a.db) o) start) (pushes (pos 7)
 no_stream_fits : FitsStream (0, (0, []))
 no_stream_fits = (omega arith, omega arith, All-nil (FitRows (2 ^ 16)))
 
-held_fits : FitsImage (kept workflow held)
+held_fits : FitsImage true workflow (kept workflow held)
 unfolding kept
 held_fits =
-    let fits = empty_fits workflow in
+    let fits = empty_fits true workflow own_fit in
     let batch : FitsStream (1, (0, rows (pos 7) ∷ [])) =
     (omega arith, omega arith, All-from_recursion (FitRows (2 ^ 16)) (rows (pos 7) ∷ []) ((omega arith, All-from_recursion IsTypedRow (rows (pos 7)) (seven_typed, tt)), tt)) in
     record {
@@ -91,6 +91,7 @@ held_fits =
       streams = All-from_recursion FitsStream (kept workflow held).streams (batch, (no_stream_fits, (no_stream_fits, (no_stream_fits, (no_stream_fits, tt)))));
       counts = fits.counts;
       next_numbers = All-from_recursion FitNumbers (kept workflow held).next_numbers (one_number_fits, (no_numbers_fit, (no_numbers_fit, (no_numbers_fit, (no_numbers_fit, tt)))));
+      texts = fits.texts;
     }
 
 held_had : HadAtMost 1 held
@@ -104,7 +105,7 @@ alone = checkpoints_stand workflow 1 held (pushed_whole (pos 7)) held_had held_f
 
 -- behind the one entry of the list
 front : Replayed workflow (checkpoint_of Strong workflow 1 (after workflow start (listed (pos 7)))) 1 (kept workflow (after workflow start (listed (pos 7))))
-front = front_checkpoints_stand whole_after had_at_most workflow start 0 (listed (pos 7)) 1 accepted start_whole (empty_had_none workflow) (omega arith) (subst (λ (db : Database). FitsImage (kept workflow db)) (sym held_is) held_fits)
+front = front_checkpoints_stand whole_after had_at_most workflow start 0 (listed (pos 7)) 1 accepted start_whole (empty_had_none workflow) (omega arith) (subst (λ (db : Database). FitsImage true workflow (kept workflow db)) (sym held_is) held_fits)
 
 -- ---- beside the generation that it takes the place of
 
@@ -112,15 +113,15 @@ abbrev entries : List Entry
 entries = push (pos 7) ∷ []
 
 abbrev logged : Stood
-logged = record { mode = Strong; first = 0; image = empty_image_of workflow; groups = entries ∷ [] }
+logged = record { bodies = true; mode = Strong; first = 0; image = empty_image_of workflow; groups = entries ∷ [] }
 
 behind : Replayed workflow logged 1 (kept workflow (after workflow start (listed (pos 7))))
-behind = generation_goes_on kept_carries goes_on workflow (fresh Strong (empty_image_of workflow)) logged 0 start (listed (pos 7)) new_store replays (record { mode = refl; first = refl; image = refl; entries = refl })
+behind = generation_goes_on kept_carries goes_on workflow (fresh Strong (empty_image_of workflow)) logged 0 start (listed (pos 7)) new_store replays (record { bodies = refl; mode = refl; first = refl; image = refl; entries = refl })
 
 stood : Replayed workflow logged 1 (kept workflow held)
 stood = subst (λ (db : Database). Replayed workflow logged 1 (kept workflow db)) held_is behind
 
-is_group : IsGroup Strong entries
+is_group : IsGroup true Strong entries
 unfolding number_bytes
 is_group = record {
   some = omega arith;
@@ -128,10 +129,11 @@ is_group = record {
   recordable = All-from_recursion IsRecordable entries ((omega arith, omega arith, omega arith, All-from_recursion IsShort (rows (pos 7)) (omega arith, tt)), tt);
   typed = All-from_recursion IsTyped entries ((omega arith, omega arith, refl, All-from_recursion IsTypedRow (rows (pos 7)) (seven_typed, tt)), tt);
   of_mode = All-from_recursion (λ (e : Entry). is_logged Strong e ≡ true) entries (refl, tt);
+  of_form = λ older. cc;
 }
 
--- no text, no row, five streams with a batch of one row, four counts and one source
-image_long : length (image_bytes workflow (kept workflow held)) ≡ 154
+-- no text, no row, five streams with a batch of one row, four counts, one source, and four bodies without a text
+image_long : length (image_bytes true workflow (kept workflow held)) ≡ 170
 unfolding image_bytes kept number_bytes
 image_long = λ k. length (
     text_bytes []
@@ -139,7 +141,8 @@ image_long = λ k. length (
     ++ []
     ++ flat_map stream_bytes ((1, (0, rows (pos 7) ∷ [])) ∷ replicate 4 (0, (0, [])))
     ++ flat_map (number_bytes 8) (replicate 4 0)
-    ++ ((number_bytes 8 (finmap.len one_number) ++ flat_map source_bytes (one_entry k)) ++ []))
+    ++ ((number_bytes 8 (finmap.len one_number) ++ flat_map source_bytes (one_entry k)) ++ [])
+    ++ flat_map text_bytes (own_bodies workflow))
     )
 
 abbrev both : ℕ → Files
@@ -147,7 +150,7 @@ both byte = record { selector = byte ∷ []; first = front_bytes logged ++ 0 ∷
 
 spells_logged : (byte : ℕ) → Spells (both byte).first logged
 spells_logged byte = record {
-  stood = record { first = omega arith; image = omega (arith, image_is); groups = All-from_recursion (IsGroup Strong) (entries ∷ []) (is_group, tt) };
+  stood = record { first = omega arith; image = omega (arith, image_is); groups = All-from_recursion (IsGroup true Strong) (entries ∷ []) (is_group, tt) };
   gate = 0;
   rest = [];
   closed = λ e. absurd (omega (arith, e));
@@ -156,7 +159,7 @@ spells_logged byte = record {
 
 spells_next : (byte : ℕ) → Spells (both byte).second next
 spells_next byte = record {
-  stood = record { first = omega arith; image = omega (arith, image_long); groups = All-nil (IsGroup Strong) };
+  stood = record { first = omega arith; image = omega (arith, image_long); groups = All-nil (IsGroup true Strong) };
   gate = 0;
   rest = [];
   closed = λ e. absurd (omega (arith, e));
@@ -173,6 +176,31 @@ logged_stands = record { byte = 0; selector = refl; current = spells_logged 0 }
 
 meanwhile : StandsForReplayed workflow (both 0) 1 (kept workflow held)
 meanwhile = checkpoints_change_nothing workflow logged next 1 (kept workflow held) (both 0) stood alone (inl logged_stands)
+
+-- ---- a new store in the older form, which a checkpoint puts into the new one
+
+abbrev older : Stood
+older = record { bodies = false; mode = Strong; first = 0; image = image_bytes false workflow (kept workflow start); groups = [] }
+
+older_stands : Replayed workflow older 0 (kept workflow start)
+older_stands = record {
+  strong = refl;
+  opening = start;
+  image = record { whole = start_whole; had = empty_had_none workflow; fits = empty_fits false workflow own_fit; spelled = refl };
+  list = [];
+  entries = refl;
+  replays = tt;
+  count_is = refl;
+  kept_is = refl;
+}
+
+older_read : to_the_end (kept_in false workflow 0) (kept_bytes false workflow (kept workflow start)) ≡ Ok (kept workflow start)
+older_read = spelled_to_the_end false workflow 0 accepted (kept workflow start) (record { db = start; whole = start_whole; had = empty_had_none workflow; fits = empty_fits false workflow own_fit; is = refl })
+
+made_new : (image : Files) → StandsFor image older ⊎ StandsFor image (checkpoint_of Strong workflow 0 start) → StandsForReplayed workflow image 0 (kept workflow start)
+made_new image =
+    checkpoints_change_nothing workflow older (checkpoint_of Strong workflow 0 start) 0 (kept workflow start) image older_stands
+    (checkpoints_stand workflow 0 start start_whole (empty_had_none workflow) (empty_fits true workflow own_fit))
 
 -- ---- on a disk of which a crash leaves this at each moment
 

@@ -27,6 +27,7 @@ use Rattle.ss_standing.specs.Laws.{TellsKept}
 use Rattle.ss_standing.proofs.EmptyKept.{no_entries}
 use Rattle.ss_standing.proofs.ImageTells.{no_numbers_fit}
 use Rattle.ss_standing.proofs.Fronts.{empty_fits}
+use Rattle.ss_standing.proofs.worked.Premises.{own_fit}
 
 abbrev pub start : Database
 start = empty_database workflow
@@ -54,7 +55,7 @@ pub pushed_whole : (n : ℤ) → WholeDatabase workflow (pushed n)
 pushed_whole n =
     subst (WholeDatabase workflow) (ap (λ o. unwrap_or (option_map (λ a. a.db) o) start) (pushes n)) (whole_after workflow accepted start (listed n) (empty_whole workflow accepted))
 
-same_bytes : image_bytes workflow (kept workflow (pushed (pos 0))) ≡ image_bytes workflow (kept workflow (pushed (pos (2 ^ 64))))
+same_bytes : image_bytes true workflow (kept workflow (pushed (pos 0))) ≡ image_bytes true workflow (kept workflow (pushed (pos (2 ^ 64))))
 unfolding image_bytes kept number_bytes
 same_bytes = refl
 
@@ -70,7 +71,7 @@ other_kept : kept workflow (pushed (pos 0)) ≡ kept workflow (pushed (pos (2 ^ 
 unfolding kept first_number number_of
 other_kept e = let same : 0 ≡ 2 ^ 64 = ap first_number e in omega (arith, same)
 
-fits_needed : ((catalog : Catalog) (a b : Database) → WholeDatabase catalog a → WholeDatabase catalog b → TellsKept catalog a b) → ⊥
+fits_needed : ((catalog : Catalog) (a b : Database) → WholeDatabase catalog a → WholeDatabase catalog b → TellsKept true catalog a b) → ⊥
 fits_needed law = other_kept (law workflow (pushed (pos 0)) (pushed (pos (2 ^ 64))) (pushed_whole (pos 0)) (pushed_whole (pos (2 ^ 64))) same_bytes)
 
 -- ---- that a database is whole: of a stream that is no border stream, no next number is spelled
@@ -91,18 +92,19 @@ one_number_fits = (
   subst (All (λ (next : List ℕ × ℕ). is_name next.0 ≡ true)) (sym one_entry) (All-from_recursion (λ (next : List ℕ × ℕ). is_name next.0 ≡ true) ((codes "a", 1) ∷ []) (refl, tt)),
 )
 
-odd_fits : FitsImage (kept workflow odd)
+odd_fits : FitsImage true workflow (kept workflow odd)
 unfolding kept
 odd_fits =
-    let fits = empty_fits workflow in record {
+    let fits = empty_fits true workflow own_fit in record {
       tables = fits.tables;
       windows = fits.windows;
       streams = fits.streams;
       counts = fits.counts;
       next_numbers = All-from_recursion FitNumbers (kept workflow odd).next_numbers (no_numbers_fit, (one_number_fits, (no_numbers_fit, (no_numbers_fit, (no_numbers_fit, tt)))));
+      texts = fits.texts;
     }
 
-odd_bytes : image_bytes workflow (kept workflow start) ≡ image_bytes workflow (kept workflow odd)
+odd_bytes : image_bytes true workflow (kept workflow start) ≡ image_bytes true workflow (kept workflow odd)
 unfolding image_bytes kept
 odd_bytes = refl
 
@@ -124,5 +126,5 @@ its_number = get-insert nat_list_cmp_total finmap.empty (codes "a") 1 (codes "a"
 odd_kept : kept workflow start ≡ kept workflow odd → ⊥
 odd_kept e = none_is_not_one (sym no_number ∙ ap second_number e ∙ its_number)
 
-wholeness_needed : ((catalog : Catalog) (a b : Database) → FitsImage (kept catalog a) → FitsImage (kept catalog b) → TellsKept catalog a b) → ⊥
-wholeness_needed law = odd_kept (law workflow start odd (empty_fits workflow) odd_fits odd_bytes)
+wholeness_needed : ((catalog : Catalog) (a b : Database) → FitsImage true catalog (kept catalog a) → FitsImage true catalog (kept catalog b) → TellsKept true catalog a b) → ⊥
+wholeness_needed law = odd_kept (law workflow start odd (empty_fits true workflow own_fit) odd_fits odd_bytes)

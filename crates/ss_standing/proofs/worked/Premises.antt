@@ -7,7 +7,7 @@ use Rattle.ss_value.specs.declared.value.Value.TheVariants.{Int}
 use Rattle.ss_value.specs.Rows.{Row}
 use Rattle.ss_model.specs.declared.entry.Entry.{Entry}
 use Rattle.ss_model.specs.declared.entry.Mode.TheVariants.{Strong}
-use Rattle.ss_model.specs.Database.{Database, empty_database}
+use Rattle.ss_model.specs.Database.{Database, empty_database, own_bodies}
 use Rattle.ss_model.specs.Replays.{after}
 use Rattle.ss_model.specs.Settling.{kept}
 use Rattle.ss_model.specs.WholeDatabase.{WholeDatabase}
@@ -25,6 +25,7 @@ use Rattle.ss_cmdlog.specs.Log.{IsReceipted, HasAtLeast, KeepsCounts}
 use Rattle.ss_cmdlog.specs.Groups.{groups_of}
 use Rattle.ss_cmdlog.specs.Logged.{is_logged}
 use Rattle.ss_cmdlog.specs.Store.{StandsFor, StandsForPart}
+use Rattle.ss_standing.specs.FitsImage.{FitBodies}
 use Rattle.ss_standing.specs.Image.{text_bytes, empty_image_of}
 use Rattle.ss_standing.specs.Standing.{listed_entries, Replayed, Stands, Prefix, StandsForAtLeast}
 use Rattle.ss_standing.specs.Behind.{HasFront}
@@ -42,11 +43,15 @@ start_whole = empty_whole workflow accepted
 
 -- ---- the image of a new store
 
-told : kept workflow start ≡ kept workflow start
-told = image_tells workflow start start start_whole start_whole (empty_fits workflow) (empty_fits workflow) refl
+-- there are no texts of its procedures' own bodies
+pub own_fit : FitBodies true workflow (own_bodies workflow)
+own_fit = All-from_recursion (λ (t : List ℕ). length t < 2 ^ 32) (own_bodies workflow) (omega arith, (omega arith, (omega arith, (omega arith, tt))))
 
--- no bytes of text, one table, five streams, four counts, and no sources of one border stream
-pub zeros : empty_image_of workflow ≡ replicate 132 0
+told : kept workflow start ≡ kept workflow start
+told = image_tells true workflow start start start_whole start_whole (empty_fits true workflow own_fit) (empty_fits true workflow own_fit) refl
+
+-- no bytes of text, one table, five streams, four counts, no sources of one border stream, and four bodies without a text
+pub zeros : empty_image_of workflow ≡ replicate 148 0
 unfolding number_bytes
 zeros =
     empty_image workflow
@@ -55,9 +60,10 @@ zeros =
     ++ []
     ++ flat_map (λ b. b) (replicate 5 (no_stream k))
     ++ flat_map (number_bytes 8) (replicate 4 0)
-    ++ flat_map (λ b. b) (replicate 1 (no_sources k))))
+    ++ flat_map (λ b. b) (replicate 1 (no_sources k))
+    ++ flat_map text_bytes (own_bodies workflow)))
 
-pub image_is : length (empty_image_of workflow) ≡ 132
+pub image_is : length (empty_image_of workflow) ≡ 148
 image_is = ap length zeros
 
 -- ---- a store with the batch behind it
@@ -66,7 +72,7 @@ abbrev entries : List Entry
 entries = listed_entries whole_batch
 
 abbrev pub store : Stood
-store = record { mode = Strong; first = 0; image = empty_image_of workflow; groups = entries ∷ [] }
+store = record { bodies = true; mode = Strong; first = 0; image = empty_image_of workflow; groups = entries ∷ [] }
 
 abbrev seven : Row
 seven = Int (pos 7) ∷ []
@@ -74,7 +80,7 @@ seven = Int (pos 7) ∷ []
 pub seven_typed : IsTypedRow seven
 seven_typed = All-from_recursion IsTypedValue seven (omega arith, tt)
 
-is_group : IsGroup Strong entries
+is_group : IsGroup true Strong entries
 unfolding number_bytes
 is_group = record {
   some = omega arith;
@@ -85,6 +91,7 @@ is_group = record {
     ((omega arith, omega arith), ((omega arith, omega arith), ((omega arith, omega arith), ((omega arith, omega arith), tt)))),
   );
   of_mode = All-from_recursion (λ (e : Entry). is_logged Strong e ≡ true) entries (refl, (refl, (refl, (refl, (refl, tt)))));
+  of_form = λ older. cc;
 }
 
 pub files : Files
@@ -96,7 +103,7 @@ files_stand = record {
   byte = 0;
   selector = refl;
   current = record {
-    stood = record { first = omega arith; image = omega (arith, image_is); groups = All-from_recursion (IsGroup Strong) (entries ∷ []) (is_group, tt) };
+    stood = record { first = omega arith; image = omega (arith, image_is); groups = All-from_recursion (IsGroup true Strong) (entries ∷ []) (is_group, tt) };
     gate = 0;
     rest = [];
     closed = λ e. absurd (omega (arith, e));
@@ -109,14 +116,14 @@ has_front = record {
   some = 5;
   within = omega arith;
   now = store;
-  behind = record { mode = refl; first = refl; image = refl; entries = refl };
+  behind = record { bodies = refl; mode = refl; first = refl; image = refl; entries = refl };
   stands = files_stand;
 }
 
 -- ---- the premises of the laws, and the laws there
 
 pub new_store : Replayed workflow (fresh Strong (empty_image_of workflow)) 0 (kept workflow start)
-new_store = fresh_replayed workflow start_whole
+new_store = fresh_replayed workflow start_whole own_fit
 
 -- a list that replays is told by its entries
 same_list : whole_batch ≡ whole_batch
@@ -131,7 +138,7 @@ pub stands : Stands workflow files 5 (kept workflow (after workflow start whole_
 stands = inr (record {
   stood = store;
   stands = files_stand;
-  replayed = generation_goes_on kept_carries goes_on workflow (fresh Strong (empty_image_of workflow)) store 0 start whole_batch new_store whole_batch_replays (record { mode = refl; first = refl; image = refl; entries = refl });
+  replayed = generation_goes_on kept_carries goes_on workflow (fresh Strong (empty_image_of workflow)) store 0 start whole_batch new_store whole_batch_replays (record { bodies = refl; mode = refl; first = refl; image = refl; entries = refl });
 })
 
 -- and the text fits its length
@@ -193,4 +200,4 @@ each_is t image from to is = subst (λ (f : Files). Stands workflow f 5 (kept wo
 
 -- an empty disk stands for the empty database
 pub nothing : Stands workflow (record { selector = []; first = []; second = [] }) 0 (kept workflow start)
-nothing = forming_stands workflow (record { selector = []; first = []; second = [] }) start_whole (inl refl)
+nothing = forming_stands workflow (record { selector = []; first = []; second = [] }) start_whole own_fit (inl refl)

@@ -8,7 +8,7 @@
 //! replays with these answers.
 
 use super::faults::{opening_calls, replays};
-use super::scripts::{PUSHES, SCRIPTS, Script, is_prefix, line_count, recover, run_script};
+use super::scripts::{CALLS, PUSHES, SCRIPTS, Script, is_prefix, line_count, recover, run_script};
 use super::{DIAMOND, Ended, Left, Streams, with_requests};
 use ss_disk::{Disk, MemoryDisk};
 use ss_top::Status;
@@ -18,8 +18,8 @@ use std::sync::Wait;
 use std::test::Fail;
 use std::thread::Threads;
 
-/// How the report of a run ends that did all: the two batches are in the list once, and the push that came twice and the one that
-/// came too early.
+/// How the report of a run ends that did all: of pushes the two batches are in the list once, and the push that came twice and the one
+/// that came too early; of calls the batch and its four steps, two pushes that came again, three bodies and two calls.
 const ALL_RAN: &str =
     "[\"table\",\"joined\",4]\n[\"row\",\"joined\",[11,1]]\n[\"row\",\"joined\",[12,1]]\n[\"row\",\"joined\",[21,2]]\n[\"row\",\"joined\",[22,2]]\n[\"done\",12]\n";
 
@@ -40,6 +40,7 @@ const STEPS: [u64; 8] = [1, 2, 3, 5, 8, 13, 21, 34];
 #[derive(Clone, Copy)]
 struct Plan {
     words: [&'static str; 3],
+    requests: &'static str,
     /// How often the disk is opened again.
     restarts: u64,
     /// How many calls fail.
@@ -58,7 +59,7 @@ impl Plan {
         Script {
             words: self.words,
             catalog: DIAMOND,
-            requests: PUSHES,
+            requests: self.requests,
             last: ALL_RAN,
             empty: SCRIPTS[0].empty,
         }
@@ -66,9 +67,10 @@ impl Plan {
 }
 
 /// One call fails.
-const SINGLE: [Plan; 2] = [
+const SINGLE: [Plan; 4] = [
     Plan {
         words: ["run", "--restarts=1", "--partitions=1"],
+        requests: PUSHES,
         restarts: 1,
         count: 1,
         least: LEAST,
@@ -76,6 +78,23 @@ const SINGLE: [Plan; 2] = [
     },
     Plan {
         words: ["run", "--restarts=1", "--checkpoint=1"],
+        requests: PUSHES,
+        restarts: 1,
+        count: 1,
+        least: LEAST_OF_FOUR,
+        apart: 8,
+    },
+    Plan {
+        words: ["run", "--restarts=1", "--partitions=1"],
+        requests: CALLS,
+        restarts: 1,
+        count: 1,
+        least: LEAST,
+        apart: 8,
+    },
+    Plan {
+        words: ["run", "--restarts=1", "--checkpoint=1"],
+        requests: CALLS,
         restarts: 1,
         count: 1,
         least: LEAST_OF_FOUR,
@@ -87,6 +106,7 @@ const SINGLE: [Plan; 2] = [
 const PAIRS: [Plan; 4] = [
     Plan {
         words: ["run", "--restarts=1", "--partitions=1"],
+        requests: PUSHES,
         restarts: 1,
         count: 2,
         least: LEAST,
@@ -94,6 +114,7 @@ const PAIRS: [Plan; 4] = [
     },
     Plan {
         words: ["run", "--restarts=2", "--partitions=1"],
+        requests: PUSHES,
         restarts: 2,
         count: 2,
         least: LEAST,
@@ -101,6 +122,7 @@ const PAIRS: [Plan; 4] = [
     },
     Plan {
         words: ["run", "--restarts=1", "--checkpoint=1"],
+        requests: PUSHES,
         restarts: 1,
         count: 2,
         least: LEAST_OF_FOUR,
@@ -108,6 +130,7 @@ const PAIRS: [Plan; 4] = [
     },
     Plan {
         words: ["run", "--restarts=2", "--checkpoint=1"],
+        requests: PUSHES,
         restarts: 2,
         count: 2,
         least: LEAST_OF_FOUR,
@@ -116,9 +139,10 @@ const PAIRS: [Plan; 4] = [
 ];
 
 /// As many calls fail as the disk is opened again, and one more.
-const SERIES: [Plan; 4] = [
+const SERIES: [Plan; 5] = [
     Plan {
         words: ["run", "--restarts=4", "--checkpoint=1"],
+        requests: PUSHES,
         restarts: 4,
         count: 4,
         least: LEAST_OF_FOUR,
@@ -126,6 +150,7 @@ const SERIES: [Plan; 4] = [
     },
     Plan {
         words: ["run", "--restarts=3", "--checkpoint=1"],
+        requests: PUSHES,
         restarts: 3,
         count: 4,
         least: LEAST_OF_FOUR,
@@ -133,6 +158,7 @@ const SERIES: [Plan; 4] = [
     },
     Plan {
         words: ["run", "--restarts=16", "--partitions=1"],
+        requests: PUSHES,
         restarts: 16,
         count: 16,
         least: LEAST,
@@ -140,10 +166,19 @@ const SERIES: [Plan; 4] = [
     },
     Plan {
         words: ["run", "--restarts=16", "--partitions=1"],
+        requests: PUSHES,
         restarts: 16,
         count: 17,
         least: LEAST,
         apart: 16,
+    },
+    Plan {
+        words: ["run", "--restarts=3", "--checkpoint=1"],
+        requests: CALLS,
+        restarts: 3,
+        count: 3,
+        least: LEAST_OF_FOUR,
+        apart: 24,
     },
 ];
 

@@ -49,6 +49,15 @@ impl Script {
 pub(super) const PUSHES: &str =
     "{\"push\":\"s\",\"source\":\"a\",\"seq\":0,\"rows\":[[1]]}\n{\"push\":\"s\",\"source\":\"a\",\"seq\":0,\"rows\":[[1]]}\n{\"push\":\"s\",\"source\":\"a\",\"seq\":2,\"rows\":[[2]]}\n{\"push\":\"s\",\"source\":\"a\",\"seq\":1,\"rows\":[[2]]}\n";
 
+/// The same, but that `j` has another body for the second batch, with which it makes the rows that it would make of the first one's
+/// numbers.
+const INSTALLS: &str =
+    "{\"push\":\"s\",\"source\":\"a\",\"seq\":0,\"rows\":[[1]]}\n{\"push\":\"s\",\"source\":\"a\",\"seq\":0,\"rows\":[[1]]}\n{\"install\":\"j\",\"body\":[{\"sql\":\"INSERT INTO joined SELECT x - 100, 1 FROM pl\"},{\"sql\":\"INSERT INTO joined SELECT x - 100, 2 FROM qr\"}]}\n{\"push\":\"s\",\"source\":\"a\",\"seq\":1,\"rows\":[[102]]}\n";
+
+/// A batch, and calls of `peek` by the body that makes the rows of another one, and by one that aborts.
+pub(super) const CALLS: &str =
+    "{\"push\":\"s\",\"source\":\"a\",\"seq\":0,\"rows\":[[1]]}\n{\"push\":\"s\",\"source\":\"a\",\"seq\":0,\"rows\":[[1]]}\n{\"install\":\"peek\",\"body\":[{\"insert\":\"joined\",\"values\":[12,1]},{\"insert\":\"joined\",\"values\":[22,2]}]}\n{\"call\":\"peek\",\"args\":[]}\n{\"install\":\"peek\",\"body\":[{\"abort_if\":\"(SELECT COUNT(*) FROM joined) > 1\",\"code\":4}]}\n{\"call\":\"peek\",\"args\":[]}\n{\"install\":\"peek\",\"body\":[{\"return_all\":\"joined\"}]}\n{\"push\":\"s\",\"source\":\"a\",\"seq\":0,\"rows\":[[1]]}\n";
+
 /// A workflow whose steps have four partitions, and a call of its argument's.
 const SPREAD: &str =
     r#"{"tables":[{"name":"acct","columns":[["id","int"],["side","int"]],"key":["id","side"],"by":"id"},{"name":"joined","columns":[["x","int"],["side","int"]],"key":["x"],"part":7}],"streams":[{"name":"s","columns":[["x","int"]]},{"name":"l","columns":[["x","int"]]},{"name":"r","columns":[["x","int"]]},{"name":"pl","columns":[["x","int"]]},{"name":"qr","columns":[["x","int"]]}],"procedures":[{"name":"put","kind":"call","args":[["id","int"]],"touch":{"arg":"id"},"body":[{"insert":"acct","values":[{"arg":"id"},1]},{"insert":"acct","values":[{"arg":"id"},2]}]},{"name":"a","kind":"border","inputs":["s"],"touch":{"part":0},"body":[{"emit":"l","sql":"SELECT x FROM s"},{"emit":"r","sql":"SELECT x FROM s"}]},{"name":"p","kind":"interior","inputs":["l"],"touch":{"part":3},"body":[{"emit":"pl","sql":"SELECT x + 10 FROM l"}]},{"name":"q","kind":"interior","inputs":["r"],"touch":{"part":5},"body":[{"emit":"qr","sql":"SELECT x + 20 FROM r"}]},{"name":"j","kind":"interior","inputs":["pl","qr"],"touch":{"part":7},"body":[{"sql":"INSERT INTO joined SELECT x, 1 FROM pl"},{"sql":"INSERT INTO joined SELECT x, 2 FROM qr"}]}]}"#;
@@ -58,8 +67,9 @@ const OF_EIGHT: &str =
     "{\"push\":\"s\",\"source\":\"a\",\"seq\":0,\"rows\":[[1]]}\n{\"client\":1,\"push\":\"s\",\"source\":\"b\",\"seq\":0,\"rows\":[[3]]}\n{\"client\":2,\"push\":\"s\",\"source\":\"c\",\"seq\":0,\"rows\":[[4]]}\n{\"client\":3,\"push\":\"s\",\"source\":\"d\",\"seq\":0,\"rows\":[[5]]}\n{\"client\":4,\"push\":\"s\",\"source\":\"e\",\"seq\":0,\"rows\":[[6]]}\n{\"client\":5,\"push\":\"s\",\"source\":\"f\",\"seq\":0,\"rows\":[[7]]}\n{\"client\":6,\"push\":\"s\",\"source\":\"g\",\"seq\":0,\"rows\":[[8]]}\n{\"client\":7,\"push\":\"s\",\"source\":\"h\",\"seq\":0,\"rows\":[[9]]}\n{\"call\":\"put\",\"args\":[0]}\n{\"client\":1,\"call\":\"put\",\"args\":[1]}\n{\"client\":2,\"call\":\"put\",\"args\":[2]}\n{\"client\":3,\"call\":\"put\",\"args\":[3]}\n{\"client\":4,\"call\":\"put\",\"args\":[4]}\n{\"client\":5,\"call\":\"put\",\"args\":[5]}\n{\"client\":6,\"call\":\"put\",\"args\":[6]}\n{\"client\":7,\"call\":\"put\",\"args\":[7]}\n";
 
 /// One client, the same with a checkpoint due behind each entry, and eight clients on as many partitions; then the three again with a
-/// store of which calls and pushes alone are logged.
-pub(super) const SCRIPTS: [Script; 6] = [
+/// store of which what clients ask for alone is logged. Then a body is installed on stores of each mode, without checkpoints and with
+/// them.
+pub(super) const SCRIPTS: [Script; 10] = [
     Script {
         words: ["run", "--partitions=1", "--restarts=0"],
         catalog: DIAMOND,
@@ -101,6 +111,34 @@ pub(super) const SCRIPTS: [Script; 6] = [
         requests: OF_EIGHT,
         last: "[\"done\",48]\n",
         empty: "[\"table\",\"acct\",0]\n[\"table\",\"joined\",0]\n[\"done\",0]\n",
+    },
+    Script {
+        words: ["run", "--partitions=1", "--recovery=strong"],
+        catalog: DIAMOND,
+        requests: INSTALLS,
+        last: "[\"done\",12]\n",
+        empty: "[\"table\",\"joined\",0]\n[\"done\",0]\n",
+    },
+    Script {
+        words: ["run", "--checkpoint=1", "--recovery=strong"],
+        catalog: DIAMOND,
+        requests: INSTALLS,
+        last: "[\"done\",12]\n",
+        empty: "[\"table\",\"joined\",0]\n[\"done\",0]\n",
+    },
+    Script {
+        words: ["run", "--partitions=1", "--recovery=weak"],
+        catalog: DIAMOND,
+        requests: INSTALLS,
+        last: "[\"done\",12]\n",
+        empty: "[\"table\",\"joined\",0]\n[\"done\",0]\n",
+    },
+    Script {
+        words: ["run", "--checkpoint=1", "--recovery=weak"],
+        catalog: DIAMOND,
+        requests: INSTALLS,
+        last: "[\"done\",12]\n",
+        empty: "[\"table\",\"joined\",0]\n[\"done\",0]\n",
     },
 ];
 

@@ -28,7 +28,7 @@ fn run_on<R: Threads + Wait + Sync>(
 }
 
 /// A byte of a file, which is there.
-fn byte_at(disk: &mut MemoryDisk, which: FileNo, at: u64) -> Result<u8, Failed> {
+pub(super) fn byte_at(disk: &mut MemoryDisk, which: FileNo, at: u64) -> Result<u8, Failed> {
     if disk.len(which)? <= at {
         return Err(Failed);
     }
@@ -119,15 +119,15 @@ fn stored_calls<R: Threads + Wait + Sync>(rt: &R, alloc: Global) -> Result<Memor
     Ok(left.into_disk())
 }
 
-/// Where the first record of a generation with an image of less than 65,536 bytes begins: behind 24 bytes, the image, and the nine
+/// Where the first record of a generation with an image of less than 65,536 bytes begins: behind 25 bytes, the image, and the nine
 /// bytes of a group before its records.
 fn first_record(disk: &mut MemoryDisk) -> Result<u64, Failed> {
-    let high = byte_at(disk, FileNo::First, 22)?;
-    let low = byte_at(disk, FileNo::First, 23)?;
-    Ok(33 + 256 * u64::from(high) + u64::from(low))
+    let high = byte_at(disk, FileNo::First, 23)?;
+    let low = byte_at(disk, FileNo::First, 24)?;
+    Ok(34 + 256 * u64::from(high) + u64::from(low))
 }
 
-// The first byte of the generation, the selector's second, and the kind of the first record.
+// The first byte of the generation, its mode, the selector's second, and the kind of the first record.
 #[test]
 fn stores_with_another_byte(rt: HostRuntime) -> Result<(), Fail> {
     let Ok(record) = first_record(&mut stored_calls(&rt, rt.alloc())?) else {
@@ -135,6 +135,7 @@ fn stores_with_another_byte(rt: HostRuntime) -> Result<(), Fail> {
     };
     let damages = [
         (FileNo::First, 0, b'X', 1),
+        (FileNo::First, 8, 2, 1),
         (FileNo::Selector, 1, 0, 0),
         (FileNo::First, record, 9, 1),
     ];
@@ -190,17 +191,19 @@ fn recovers<R: Threads + Wait + Sync>(
     Ok(true)
 }
 
-/// The first call of the disk in a run of a script of which that is not so.
-fn first_lost<R: Threads + Wait + Sync>(
+/// The first call of a disk without rows in a run of a script of which that is not so.
+pub(super) fn first_lost<R: Threads + Wait + Sync>(
     rt: &R,
     alloc: Global,
     script: &Script,
+    disk: MemoryDisk,
 ) -> Result<Option<u64>, NoMemory> {
-    let left = run_script(rt, alloc, script, empty_disk(alloc))?;
+    let made = disk.calls();
+    let left = run_script(rt, alloc, script, disk)?;
     if !left.ended.ends(Status::Done, script.last) {
         return Ok(Some(0));
     }
-    for call in 0..left.disk.calls() {
+    for call in made..left.disk.calls() {
         if !recovers(rt, alloc, script, left.ended.text(), &left.disk, call)? {
             return Ok(Some(call));
         }
@@ -211,7 +214,7 @@ fn first_lost<R: Threads + Wait + Sync>(
 #[test]
 fn a_crash_in_each_call(rt: HostRuntime) -> Result<(), Fail> {
     for (number, script) in SCRIPTS.iter().enumerate() {
-        let lost = first_lost(&rt, rt.alloc(), script)?;
+        let lost = first_lost(&rt, rt.alloc(), script, empty_disk(rt.alloc()))?;
         assert!(rt; lost.is_none(), "script {number}: {lost:?}");
     }
     Ok(())
@@ -225,7 +228,7 @@ fn first_place(disk: &mut MemoryDisk) -> Result<u8, Failed> {
     } else {
         FileNo::Second
     };
-    byte_at(disk, which, 15)
+    byte_at(disk, which, 16)
 }
 
 // The last checkpoint of a run is less than so many entries before its end: with one behind each entry it is there.

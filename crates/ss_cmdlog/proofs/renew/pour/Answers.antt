@@ -1,4 +1,4 @@
-use Rattle.std.proofs.Common.{◌≡◌, [], ◌∷◌, ◌++◌, length, ap, arith, rules, length-append}
+use Rattle.std.proofs.Common.{◌≡◌, [], ◌∷◌, ◌++◌, arith, rules, length-append}
 use Rattle.ss_lemmas.proofs.Results.{on_so}
 use Rattle.ss_disk.specs.Files.{file, with_file}
 use Rattle.ss_cmdlog.proofs.Renewed.{filled_more, length_filled, otherwise_filled, otherwise_same, rest_on}

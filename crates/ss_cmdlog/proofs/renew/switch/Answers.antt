@@ -1,7 +1,7 @@
-use Rattle.std.proofs.Common.{◌≡◌, ◌∙◌, ◌+◌, ◌^◌, ◌<◌, ℕ, [], ◌∷◌, ◌++◌, List, length, sym, ap, subst, arith, rules, length-append, append-nil}
+use Rattle.std.proofs.Common.{◌≡◌, ◌∙◌, ◌+◌, ◌^◌, ◌<◌, true, ℕ, [], ◌∷◌, ◌++◌, List, length, sym, ap, subst, arith, rules, length-append, append-nil}
 use Rattle.ss_lemmas.proofs.Results.{on_so}
 use Rattle.ss_model.specs.declared.entry.Mode.{Mode}
-use Rattle.ss_disk.specs.Files.{Files, file, with_write}
+use Rattle.ss_disk.specs.Files.{Files, with_write}
 use Rattle.ss_disk.specs.declared.disk.FileNo.TheVariants.{Selector}
 use Rattle.ss_cmdlog.specs.Generation.{front_bytes, head_bytes}
 use Rattle.ss_cmdlog.specs.Log.{IsOpenAt}
@@ -15,8 +15,8 @@ short : (front image : List ℕ) → length front + length image < 2 ^ 64 → le
 short front image fits = omega (arith, fits)
 
 -- the closed gate stands behind the front and the image
-gate_place : (mode : Mode) (place : ℕ) (front image : List ℕ) → front ++ image ≡ head_bytes mode place image → length front + length image ≡ length (front_bytes (renewed mode place image))
-gate_place mode place front image is = sym (length-append front image) ∙ ap (λ (l : List ℕ). length l) (is ∙ sym (append-nil (head_bytes mode place image)))
+gate_place : (mode : Mode) (place : ℕ) (front image : List ℕ) → front ++ image ≡ head_bytes true mode place image → length front + length image ≡ length (front_bytes (renewed mode place image))
+gate_place mode place front image is = sym (length-append front image) ∙ ap (λ (l : List ℕ). length l) (is ∙ sym (append-nil (head_bytes true mode place image)))
 
 pub returns-in_err-pour_synced-clause-moments : goal.returns-in_err-pour_synced-clause-moments
 returns-in_err-pour_synced-clause-moments g c = λ honest s gate place at small head settled.

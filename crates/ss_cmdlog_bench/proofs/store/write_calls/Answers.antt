@@ -1,5 +1,10 @@
-use Rattle.std.proofs.Common.{◌≤◌, refl, rules}
+use Rattle.std.proofs.Common.{◌≡◌, ◌≤◌, ◌∙◌, true, false, refl, sym, rules}
 use Rattle.ss_cmdlog_bench.proofs.store.write_calls.Goals as goal
+
+pub flush-requires-clause-formed : goal.flush-requires-clause-formed
+flush-requires-clause-formed g c = λ older.
+    let new : true ≡ false = sym c.loop-written.invariant.form ∙ older in
+    absurd (cc)
 
 pub loop-written-preserved : goal.loop-written-preserved
 loop-written-preserved g c =
@@ -7,6 +12,7 @@ loop-written-preserved g c =
     let within : c.in-Ok-flush.receipt.count ≤ c.args.records = search rules in
     record {
       opened = (_, (c.in-Ok-flush.ensures.adds opened.0 opened.1).done refl);
+      form = c.in-Ok-flush.ensures.form ∙ c.loop-written.invariant.form;
       count = c.in-Ok-flush.ensures.count.1;
       within = within;
     }

@@ -1,4 +1,4 @@
-use Rattle.std.proofs.Common.{ℕ, List, ◌≡◌, [], ◌∷◌, Some, slice_get, slice_set, sym, ap, subst, ◌∙◌}
+use Rattle.std.proofs.Common.{List, ◌≡◌, [], ◌∷◌, Some, slice_get, slice_set, sym, ap, subst, ◌∙◌}
 use Rattle.ss_value.specs.Rows.{Rows}
 use Rattle.ss_shard.specs.Parts.{IsShardOf}
 use Rattle.ss_proc.specs.Entries.{RanOnEach}
@@ -22,7 +22,7 @@ returns-in-Err c =
     let same = c.in-Err.ensures.err in
     let is_shard : IsShardOf catalog n q new = record {
       number = same.number ∙ was.number;
-      parts = record { committed = c.in-Err.ensures.committed; dealt = dealt_same catalog n (q ∷ []) old new same was.parts.dealt };
+      parts = record { running = was.parts.running; committed = c.in-Err.ensures.committed; dealt = dealt_same catalog n (q ∷ []) old new same was.parts.dealt };
     } in
     all_same catalog n q c.args.shards.now old new there is_shard c.in-Err.ensures.holds c.requires.of_one
 
@@ -41,7 +41,7 @@ returns c =
     let of_catalog = c.in-Ok.ensures.of_catalog in
     let is_shard : IsShardOf catalog n p new = record {
       number = c.commit.ensures.unchanged ∙ back.number ∙ was.number;
-      parts = record { committed = c.commit.ensures.committed catalog of_catalog; dealt = c.commit.ensures.dealt ∙ still_dealt catalog n (p ∷ []) old mid back was.parts.dealt };
+      parts = record { running = was.parts.running; committed = c.commit.ensures.committed catalog of_catalog; dealt = c.commit.ensures.dealt ∙ still_dealt catalog n (p ∷ []) old mid back was.parts.dealt };
     } in
     subst (λ q. AreOfOne catalog n (slice_set c.args.shards.now q new)) (sym at)
     (all_after catalog c.requires.accepted n c.requires.some c.args.entry.now p c.requires.only c.untouched_stay.ensures c.runs_on_parts.ensures c.args.shards.now old mid new c.in-Ok.executed there

@@ -1,7 +1,7 @@
-use Rattle.std.proofs.Common.{ℕ, List, ◌≡◌, ◌≤◌, [], ◌∷◌, ◌++◌, refl, subst, ◌∙◌, arith}
+use Rattle.std.proofs.Common.{List, [], ◌∷◌, ◌++◌, refl, subst, ◌∙◌, arith}
 use Rattle.ss_value.specs.Rows.{Rows}
 use Rattle.ss_shard.specs.Parts.{HasParts}
-use Rattle.ss_shard.specs.Unions.{numbers_of, WereUnited}
+use Rattle.ss_shard.specs.Unions.{numbers_of}
 use Rattle.ss_shard.proofs.CallerLemmas.{still_dealt}
 use Rattle.ss_proc.specs.Entries.{RanOnEach}
 use Rattle.ss_execution_cases.proofs.InOrder.{apart}
@@ -23,6 +23,7 @@ part-requires-clause-may c =
     let others = c.args.others.now in
     let w = c.in-Ok.ensures.ok (0 ∷ []) (apart catalog n first others c.requires.of_one) in
     let has : HasParts catalog n ((0 ∷ []) ++ numbers_of others) c.commit.new.shard = record {
+      running = w.parts.running;
       committed = c.commit.ensures.committed catalog c.in-Ok-execute.ensures.of_catalog;
       dealt = c.commit.ensures.dealt ∙ still_dealt catalog n ((0 ∷ []) ++ numbers_of others) c.unite.new.shard c.execute.new.shard c.in-Ok-execute.ensures.back w.parts.dealt;
     } in
@@ -38,6 +39,7 @@ returns c =
     let of_catalog = c.in-Ok-execute.ensures.of_catalog in
     let back = c.in-Ok-execute.ensures.back in
     let has : HasParts catalog n ((0 ∷ []) ++ numbers_of others) c.commit.new.shard = record {
+      running = w.parts.running;
       committed = c.commit.ensures.committed catalog of_catalog;
       dealt = c.commit.ensures.dealt ∙ still_dealt catalog n ((0 ∷ []) ++ numbers_of others) c.unite.new.shard c.execute.new.shard back w.parts.dealt;
     } in

@@ -48,3 +48,12 @@ returns-in-Err-Abort-clause-ok c =
     let none = c.new.ensures ∙ ap (λ n. replicate n []) c.len.ensures in
     ap (body_result catalog s) stops
     ∙ (λ i. record { contents = contents_with (sym is.same.tables i) (sym is.same.windows i); outcome = Aborted (sym c.in-Err-Abort.reason-is i); emitted = sym none i })
+
+pub returns-in-Ok-clause-none : goal.returns-in-Ok-clause-none
+returns-in-Ok-clause-none c = c.run_and_close.ensures.changed.bodies.1 ∙ c.requires.committed.none_coming
+
+pub returns-in-Err-Abort-clause-none : goal.returns-in-Err-Abort-clause-none
+returns-in-Err-Abort-clause-none c =
+    let catalog = c.args.given.now.catalog.now in
+    let is = is_back catalog c.args.shard.now c.run_and_close.new.shard c.rollback.new.self c.requires.committed c.run_and_close.ensures.changed c.rollback.ensures.back c.rollback.ensures.committed in
+    is.committed.none_coming

@@ -1,4 +1,4 @@
-use Rattle.std.proofs.Common.{◌≡◌, ◌∙◌, ◌-◌, ℕ, List, Some, Err, take, drop, All, sym, ap, subst, refl, arith}
+use Rattle.std.proofs.Common.{◌≡◌, ◌∙◌, ◌-◌, true, false, ℕ, List, Some, Err, take, drop, All, sym, ap, subst, refl, arith}
 use Rattle.ss_lemmas.proofs.Bools.{some_same}
 use Rattle.ss_cmdlog.specs.declared.log.LogError.TheVariants.{DiskFault}
 use Rattle.ss_model.specs.declared.entry.Entry.{Entry}
@@ -18,6 +18,13 @@ flush-requires-clause-recordable g c =
     let held = c.args.count - g.I.Life.first in
     subst (λ (es : List Entry). All IsRecordable es) (sym rest.entries_are)
     (recordable g.I.Life.catalog (after g.I.Life.catalog g.I.Life.opening (take held list)) (drop held list) c.requires.accepted (rest_replays goes_on g.I.Life.catalog g.I.Life.opening list held rest.replays))
+
+pub flush-requires-clause-formed : goal.flush-requires-clause-formed
+flush-requires-clause-formed g c = λ older.
+    let goes = (c.requires.rest.3).going c.requires.going in
+    let open' = goes.opened_at in
+    let new : true ≡ false = sym goes.formed ∙ sym open'.of_form ∙ older in
+    absurd (cc)
 
 pub returns-in-Ok-clause-holds : goal.returns-in-Ok-clause-holds
 returns-in-Ok-clause-holds g c = λ list fault rest h.

@@ -15,14 +15,17 @@ use Rattle.ss_recover.proofs.stored.replay_asked.Goals as goal
 pub replay_weakly-requires-clause-on : goal.replay_weakly-requires-clause-on
 replay_weakly-requires-clause-on g c =
     let (db, image, stands) = c.requires.image in
-    (db, image_takes c.args.catalog.now c.args.loaded.image c.args.loaded.first c.args.database db image stands)
+    (db, image_takes c.args.loaded.bodies c.args.catalog.now c.args.loaded.image c.args.loaded.first c.args.database db image stands)
 
 pub returns-in-Ok-clause-ok : goal.returns-in-Ok-clause-ok
-returns-in-Ok-clause-ok g c = λ parts is_whole.
+returns-in-Ok-clause-ok g c = λ parts given is_whole theirs.
     let (db, image, stands) = c.requires.image in
-    let weakly = c.in-Ok.ensures.replayed db (image_takes c.args.catalog.now c.args.loaded.image c.args.loaded.first c.args.database db image stands) in
+    let weakly = c.in-Ok.ensures.replayed db (image_takes c.args.loaded.bodies c.args.catalog.now c.args.loaded.image c.args.loaded.first c.args.database db image stands) in
     let whole = c.in-Ok.ensures.whole in
     record {
+      form = refl;
+      bytes = refl;
+      given_bodies = theirs;
       accepted = c.requires.accepted;
       db = db;
       image = image;
@@ -30,31 +33,32 @@ returns-in-Ok-clause-ok g c = λ parts is_whole.
       replays = weakly.replayed.replays;
       placed = refl;
       few = weakly.few;
-      dealt = record { number = whole.number; parts = record { committed = whole.committed; dealt = c.in-Ok.ensures.dealt ∙ is_whole.parts.dealt } };
+      dealt = record { number = whole.number; parts = record { committed = whole.committed; dealt = c.in-Ok.ensures.dealt ∙ is_whole.parts.dealt; running = is_whole.parts.running } };
       holds = weakly.replayed.stands;
     }
 
 pub returns-in-Ok-clause-placed : goal.returns-in-Ok-clause-placed
 returns-in-Ok-clause-placed g c =
     let (db, image, stands) = c.requires.image in
-    (c.in-Ok.ensures.replayed db (image_takes c.args.catalog.now c.args.loaded.image c.args.loaded.first c.args.database db image stands)).few
+    (c.in-Ok.ensures.replayed db (image_takes c.args.loaded.bodies c.args.catalog.now c.args.loaded.image c.args.loaded.first c.args.database db image stands)).few
 
 pub returns-in-Err-Unsettled-clause-refused : goal.returns-in-Err-Unsettled-clause-refused
 returns-in-Err-Unsettled-clause-refused g c =
     let catalog = c.args.catalog.now in
     let loaded = c.args.loaded in
     let (db, image, stands) = c.requires.image in
-    let on = image_takes catalog loaded.image loaded.first c.args.database db image stands in
+    let on = image_takes loaded.bodies catalog loaded.image loaded.first c.args.database db image stands in
     let past = subst (StopsWeaklyAsSaid catalog db loaded.first loaded.entries) c.in-Err-Unsettled.field-0-is (c.in-Err-Unsettled.ensures.refused db on) in
-    inr (inr (record { of_mode = c.requires.mode; catalog = catalog; accepted = c.requires.accepted; db = db; image = image; past = past; place = refl }))
+    inr (inr (record { of_mode = c.requires.mode; catalog = catalog; accepted = c.requires.accepted; db = db; image = image; past = past; others = c.none_gets_further.ensures.settling loaded.bodies loaded.image loaded.first catalog db c.requires.accepted image past; place = c.first_place.ensures }))
 
 pub place_behind-requires : goal.place_behind-requires
 place_behind-requires g c =
     let catalog = c.args.catalog.now in
     let (db, image, stands) = c.requires.image in
-    let on = image_takes catalog c.args.loaded.image c.args.loaded.first c.args.database db image stands in
+    let on = image_takes c.args.loaded.bodies catalog c.args.loaded.image c.args.loaded.first c.args.database db image stands in
     let these = subst (StopsWeaklyAsSaid catalog db c.args.loaded.first c.args.loaded.entries) c.in-Err-Foreign.field-0-is (c.in-Err-Foreign.ensures.refused db on) in
-    let front = ap (λ (l : List Listed). listed_entries l) c.as_slice-list.ensures ∙ these.are in
+    let told : listed_entries c.as_slice-list.result.now ≡ listed_entries c.in-Err-Foreign.before = ap (λ (l : List Listed). listed_entries l) c.as_slice-list.ensures ∙ rw c.in-Err-Foreign.field-0-is refl in
+    let front = told ∙ these.are in
     subst (λ (es : List Entry). All IsRecordable es) (sym front) (All-take IsRecordable (length c.in-Err-Foreign.before) c.args.loaded.entries c.requires.recordable)
 
 pub returns-clause-refused : goal.returns-clause-refused
@@ -63,11 +67,13 @@ returns-clause-refused g c =
     let loaded = c.args.loaded in
     let before = c.in-Err-Foreign.before in
     let (db, image, stands) = c.requires.image in
-    let on = image_takes catalog loaded.image loaded.first c.args.database db image stands in
+    let on = image_takes loaded.bodies catalog loaded.image loaded.first c.args.database db image stands in
     let these = subst (StopsWeaklyAsSaid catalog db loaded.first loaded.entries) c.in-Err-Foreign.field-0-is (c.in-Err-Foreign.ensures.refused db on) in
     let within = slice_get_within loaded.entries (length before) these.stops.entry these.stops.there in
-    let front : place_behind c.len.result c.as_slice.result.now (listed_entries c.as_slice-list.result.now) ≡ place_behind (length loaded.image) loaded.sizes (listed_entries before) =
-    λ k. place_behind (c.len.ensures k) (c.as_slice.ensures k) (listed_entries (c.as_slice-list.ensures k)) in
+    let told : listed_entries c.as_slice-list.result.now ≡ listed_entries before = ap (λ (l : List Listed). listed_entries l) c.as_slice-list.ensures ∙ rw c.in-Err-Foreign.field-0-is refl in
+    let front : place_behind loaded.bodies c.len.result c.as_slice.result.now (listed_entries c.as_slice-list.result.now) ≡ place_behind loaded.bodies (length loaded.image) loaded.sizes (listed_entries before) =
+    λ k. place_behind loaded.bodies (c.len.ensures k) (c.as_slice.ensures k) (told k) in
+    let stops_so : StopsAfter loaded.mode catalog db loaded.first loaded.entries (length before) = subst (λ (m : Mode). StopsAfter m catalog db loaded.first loaded.entries (length before)) (sym c.requires.mode) these.stops in
     inr (inl (record {
       catalog = catalog;
       accepted = c.requires.accepted;
@@ -75,6 +81,7 @@ returns-clause-refused g c =
       image = image;
       before = length before;
       within = omega (arith, within);
-      stops = subst (λ (m : Mode). StopsAfter m catalog db loaded.first loaded.entries (length before)) (sym c.requires.mode) these.stops;
-      place = c.in_ok-place_behind-in-Err-Foreign.ensures ∙ front ∙ ap (place_behind (length loaded.image) loaded.sizes) these.are;
+      stops = stops_so;
+      furthest = c.none_gets_further.ensures.entry loaded.mode loaded.bodies loaded.image loaded.first catalog db loaded.entries (length before) c.requires.accepted c.requires.named image stops_so;
+      place = c.in_ok-place_behind-in-Err-Foreign.ensures ∙ front ∙ ap (place_behind loaded.bodies (length loaded.image) loaded.sizes) these.are;
     }))

@@ -15,14 +15,17 @@ use Rattle.ss_recover.proofs.stored.replay_loaded.Goals as goal
 pub replay-requires-clause-on : goal.replay-requires-clause-on
 replay-requires-clause-on g c =
     let (db, image, stands) = c.requires.image in
-    (db, image_takes c.args.catalog.now c.args.loaded.image c.args.loaded.first c.args.database db image stands)
+    (db, image_takes c.args.loaded.bodies c.args.catalog.now c.args.loaded.image c.args.loaded.first c.args.database db image stands)
 
 pub returns-in-Ok-clause-ok : goal.returns-in-Ok-clause-ok
-returns-in-Ok-clause-ok g c = λ parts is_whole.
+returns-in-Ok-clause-ok g c = λ parts given is_whole theirs.
     let (db, image, stands) = c.requires.image in
-    let replayed = c.in-Ok.ensures.replayed db (image_takes c.args.catalog.now c.args.loaded.image c.args.loaded.first c.args.database db image stands) in
+    let replayed = c.in-Ok.ensures.replayed db (image_takes c.args.loaded.bodies c.args.catalog.now c.args.loaded.image c.args.loaded.first c.args.database db image stands) in
     let whole = c.in-Ok.ensures.whole in
     record {
+      form = refl;
+      bytes = refl;
+      given_bodies = theirs;
       accepted = c.requires.accepted;
       db = db;
       image = image;
@@ -30,7 +33,7 @@ returns-in-Ok-clause-ok g c = λ parts is_whole.
       replays = replayed.replays;
       placed = refl;
       few = c.in-Ok.ensures.placed;
-      dealt = record { number = whole.number; parts = record { committed = whole.committed; dealt = c.in-Ok.ensures.dealt ∙ is_whole.parts.dealt } };
+      dealt = record { number = whole.number; parts = record { committed = whole.committed; dealt = c.in-Ok.ensures.dealt ∙ is_whole.parts.dealt; running = is_whole.parts.running } };
       holds = replayed.stands;
     }
 
@@ -38,9 +41,10 @@ pub place_behind-requires : goal.place_behind-requires
 place_behind-requires g c =
     let catalog = c.args.catalog.now in
     let (db, image, stands) = c.requires.image in
-    let on = image_takes catalog c.args.loaded.image c.args.loaded.first c.args.database db image stands in
+    let on = image_takes c.args.loaded.bodies catalog c.args.loaded.image c.args.loaded.first c.args.database db image stands in
     let stops = subst (StopsAsSaid catalog db c.args.loaded.first c.args.loaded.entries) c.in-Err-Foreign.field-0-is (c.in-Err-Foreign.ensures.foreign db on) in
-    let front = ap (λ (l : List Listed). listed_entries l) c.as_slice-list.ensures ∙ stops.before in
+    let told : listed_entries c.as_slice-list.result.now ≡ listed_entries c.in-Err-Foreign.before = ap (λ (l : List Listed). listed_entries l) c.as_slice-list.ensures ∙ rw c.in-Err-Foreign.field-0-is refl in
+    let front = told ∙ stops.before in
     subst (λ (es : List Entry). All IsRecordable es) (sym front) (All-take IsRecordable (length c.in-Err-Foreign.before) c.args.loaded.entries c.requires.recordable)
 
 pub returns-clause-refused : goal.returns-clause-refused
@@ -49,11 +53,13 @@ returns-clause-refused g c =
     let loaded = c.args.loaded in
     let before = c.in-Err-Foreign.before in
     let (db, image, stands) = c.requires.image in
-    let on = image_takes catalog loaded.image loaded.first c.args.database db image stands in
+    let on = image_takes loaded.bodies catalog loaded.image loaded.first c.args.database db image stands in
     let stops = subst (StopsAsSaid catalog db loaded.first loaded.entries) c.in-Err-Foreign.field-0-is (c.in-Err-Foreign.ensures.foreign db on) in
     let within = slice_get_within loaded.entries (length before) stops.entry stops.there in
-    let front : place_behind c.len.result c.as_slice.result.now (listed_entries c.as_slice-list.result.now) ≡ place_behind (length loaded.image) loaded.sizes (listed_entries before) =
-    λ k. place_behind (c.len.ensures k) (c.as_slice.ensures k) (listed_entries (c.as_slice-list.ensures k)) in
+    let told : listed_entries c.as_slice-list.result.now ≡ listed_entries before = ap (λ (l : List Listed). listed_entries l) c.as_slice-list.ensures ∙ rw c.in-Err-Foreign.field-0-is refl in
+    let front : place_behind loaded.bodies c.len.result c.as_slice.result.now (listed_entries c.as_slice-list.result.now) ≡ place_behind loaded.bodies (length loaded.image) loaded.sizes (listed_entries before) =
+    λ k. place_behind loaded.bodies (c.len.ensures k) (c.as_slice.ensures k) (told k) in
+    let stops_so : StopsAfter loaded.mode catalog db loaded.first loaded.entries (length before) = subst (λ (m : Mode). StopsAfter m catalog db loaded.first loaded.entries (length before)) (sym c.requires.mode) (before, refl, stops) in
     inr (inl (record {
       catalog = catalog;
       accepted = c.requires.accepted;
@@ -61,6 +67,7 @@ returns-clause-refused g c =
       image = image;
       before = length before;
       within = omega (arith, within);
-      stops = subst (λ (m : Mode). StopsAfter m catalog db loaded.first loaded.entries (length before)) (sym c.requires.mode) (before, refl, stops);
-      place = c.in_ok-place_behind-in-Err-Foreign.ensures ∙ front ∙ ap (place_behind (length loaded.image) loaded.sizes) stops.before;
+      stops = stops_so;
+      furthest = c.none_gets_further.ensures.entry loaded.mode loaded.bodies loaded.image loaded.first catalog db loaded.entries (length before) c.requires.accepted c.requires.named image stops_so;
+      place = c.in_ok-place_behind-in-Err-Foreign.ensures ∙ front ∙ ap (place_behind loaded.bodies (length loaded.image) loaded.sizes) stops.before;
     }))

@@ -16,7 +16,7 @@ blanks_beside-requires-clause-indexed c =
 pub returns-clause-is_shard : goal.returns-clause-is_shard
 returns-clause-is_shard c =
     let is = c.in_ok-tables.ensures ∙ ap (empty_tables c.args.parts c.args.number) c.as_slice.ensures in
-    if_ok _ _ (λ shard has. blank_is_shard c.args.catalog.now c.args.parts c.args.number c.in_ok-tables.tables shard has c.requires.sound is) c.blanks_beside.result c.blanks_beside.ensures
+    if_ok _ _ (λ shard has. blank_is_shard c.args.catalog.now c.args.parts c.args.number c.in_ok-tables.tables shard has c.requires.sound is c.requires.runs) c.blanks_beside.result c.blanks_beside.ensures
 
 pub returns-clause-holds : goal.returns-clause-holds
 returns-clause-holds c =

@@ -18,4 +18,6 @@ returns c = record {
   windows = c.new.ensures.windows ∙ c.in_ok-windows.ensures ∙ ap empty_windows c.as_slice-2.ensures;
   cursors = c.new.ensures.cursors ∙ c.in_ok-cursors.ensures ∙ ap (λ n. replicate n 0) c.len.ensures;
   sources = c.new.ensures.sources ∙ c.in_ok-sources.ensures ∙ ap (λ n. replicate n finite.empty) c.len-2.ensures;
+  bodies = c.new.ensures.bodies ∙ c.in_ok-bodies.ensures ∙ ap (λ n. replicate n 0) c.len-3.ensures;
+  none_coming = c.new.ensures.coming;
 }

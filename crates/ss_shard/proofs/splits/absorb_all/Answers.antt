@@ -1,7 +1,5 @@
-use Rattle.std.proofs.Common.{◌≡◌, ◌+◌, ℕ, suc, length, sym, subst, arith}
-use Rattle.ss_model.specs.Database.{Database}
+use Rattle.std.proofs.Common.{◌≡◌, ◌+◌, suc, subst, arith}
 use Rattle.ss_shard.specs.Splits.{ArePartlyJoined, HoldPartlyJoined}
-use Rattle.ss_shard.specs.ShardValue.{ShardValue}
 use Rattle.ss_shard.proofs.splits.absorb_all.Goals as goal
 
 pub loop-next-init : goal.loop-next-init

@@ -1,10 +1,8 @@
-use Rattle.std.proofs.Common.{◌≡◌, ℕ, suc, Some, slice_get, slice_set, sym, ap, subst, ◌∙◌}
+use Rattle.std.proofs.Common.{◌≡◌, suc, Some, slice_get, slice_set, sym, ap, subst, ◌∙◌}
 use Rattle.ss_lemmas.proofs.Results.{on_so, error_so}
 use Rattle.ss_undo.proofs.CallerLemmas.{set_same}
-use Rattle.ss_model.specs.Database.{Database}
 use Rattle.ss_shard.specs.Parts.{all_partitions}
 use Rattle.ss_shard.specs.Splits.{ArePartlyJoined, HoldPartlyJoined}
-use Rattle.ss_shard.specs.ShardValue.{ShardValue}
 use Rattle.ss_shard.proofs.PartlyJoined.{may_absorb, absorbed, absorbed_hold}
 use Rattle.ss_shard.proofs.splits.absorb_next.Goals as goal
 

@@ -1,5 +1,4 @@
-use Rattle.std.proofs.Common.{◌≡◌, ◌-◌, ℕ, suc, length, sym, subst, arith}
-use Rattle.ss_model.specs.Database.{Database}
+use Rattle.std.proofs.Common.{◌≡◌, ◌-◌, suc, subst, arith}
 use Rattle.ss_shard.specs.Splits.{ArePartlyJoined, HoldPartlyJoined}
 use Rattle.ss_shard.proofs.splits.release_all.Goals as goal
 

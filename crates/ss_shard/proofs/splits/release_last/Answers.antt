@@ -1,8 +1,6 @@
-use Rattle.std.proofs.Common.{◌≡◌, ℕ, Some, slice_get, slice_set, sym, subst}
-use Rattle.ss_model.specs.Database.{Database}
+use Rattle.std.proofs.Common.{◌≡◌, Some, slice_get, slice_set, sym, subst}
 use Rattle.ss_shard.specs.Parts.{all_partitions}
 use Rattle.ss_shard.specs.Splits.{ArePartlyJoined, HoldPartlyJoined}
-use Rattle.ss_shard.specs.ShardValue.{ShardValue}
 use Rattle.ss_shard.proofs.PartlyJoined.{may_release, released, released_hold}
 use Rattle.ss_shard.proofs.splits.release_last.Goals as goal
 

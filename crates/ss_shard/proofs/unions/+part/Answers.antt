@@ -1,4 +1,4 @@
-use Rattle.std.proofs.Common.{List, ℕ, ◌≡◌, [], ◌∷◌, ◌++◌, sym, subst, rules}
+use Rattle.std.proofs.Common.{List, [], ◌∷◌, ◌++◌, sym, subst, rules}
 use Rattle.ss_shard.specs.ShardValue.{ShardValue}
 use Rattle.ss_shard.specs.Unions.{MayPart, WereParted}
 use Rattle.ss_shard.proofs.InTurn.{may_part_on, may_release_last, parted}

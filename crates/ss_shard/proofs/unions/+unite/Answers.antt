@@ -1,4 +1,4 @@
-use Rattle.std.proofs.Common.{List, ℕ, ◌≡◌, ◌≤◌, [], ◌∷◌, ◌++◌, length, sym, subst, rules}
+use Rattle.std.proofs.Common.{List, [], ◌∷◌, ◌++◌, sym, subst, rules}
 use Rattle.ss_shard.specs.ShardValue.{ShardValue}
 use Rattle.ss_shard.specs.Unions.{AreApart, WereUnited, AreStillApart}
 use Rattle.ss_shard.proofs.InTurn.{one_more, may_absorb, apart_on, united, may_release, still}

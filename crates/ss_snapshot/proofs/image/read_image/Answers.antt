@@ -3,17 +3,17 @@ use Rattle.ss_snapshot.proofs.image.read_image.Goals as goal
 
 pub returns-clause-image : goal.returns-clause-image
 returns-clause-image c =
-    all_read_as c.args.bytes.now c.args.first c.images_are_exact.ensures.stand c.catalog_and_database_in.result c.catalog_and_database_in.ensures.read
+    all_read_as c.args.bodies c.args.bytes.now c.args.first c.images_are_exact.ensures.stand c.catalog_and_database_in.result c.catalog_and_database_in.ensures.read
 
 pub returns-clause-accepted : goal.returns-clause-accepted
-returns-clause-accepted c = all_accepted c.args.bytes.now c.args.first c.catalog_and_database_in.result c.catalog_and_database_in.ensures.read
+returns-clause-accepted c = all_accepted c.args.bodies c.args.bytes.now c.args.first c.catalog_and_database_in.result c.catalog_and_database_in.ensures.read
 
 pub returns-clause-is_whole : goal.returns-clause-is_whole
 returns-clause-is_whole c =
-    all_whole c.args.bytes.now c.args.first c.images_are_exact.ensures.stand c.args.partitions c.catalog_and_database_in.result c.catalog_and_database_in.ensures.read
+    all_whole c.args.bodies c.args.bytes.now c.args.first c.images_are_exact.ensures.stand c.args.partitions c.catalog_and_database_in.result c.catalog_and_database_in.ensures.read
     c.catalog_and_database_in.ensures.whole
 
 pub returns-clause-again : goal.returns-clause-again
 returns-clause-again c =
-    all_found c.args.bytes.now c.args.first c.a_value_has_one_answer.ensures.catalog c.images_are_exact.ensures.again c.bytes_have_one_answer.ensures.either
+    all_found c.args.bodies c.args.bytes.now c.args.first c.images_are_exact.ensures.stand c.bytes_have_one_answer.ensures.kept c.bytes_have_one_answer.ensures.either
     c.catalog_and_database_in.result c.catalog_and_database_in.ensures.read c.catalog_and_database_in.ensures.refused

@@ -5,7 +5,7 @@ pub returns-clause-kept : goal.returns-clause-kept
 returns-clause-kept c = one_kept c.a_value_has_one_answer.ensures.catalog c.an_image_tells_what_is_kept.ensures
 
 pub returns-clause-either : goal.returns-clause-either
-returns-clause-either c = image_or_foreign c.a_value_has_one_answer.ensures.catalog c.images_are_exact.ensures.again
+returns-clause-either c = image_or_foreign c.a_value_has_one_answer.ensures.catalog c.images_are_exact.ensures.again c.spares_aside.ensures c.a_body_has_one_answer.ensures.stands
 
 pub returns-clause-offset : goal.returns-clause-offset
-returns-clause-offset c = one_offset c.a_value_has_one_answer.ensures.catalog
+returns-clause-offset c = one_offset

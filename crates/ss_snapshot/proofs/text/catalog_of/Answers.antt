@@ -1,6 +1,8 @@
 use Rattle.std.proofs.Common.{◌≡◌, ◌∙◌, refl, sym, subst, IsUtf8}
 use Rattle.serde_json.specs.View.{view}
 use Rattle.ss_snapshot.specs.Foreign.{RefusesText}
+use Rattle.ss_catalog.proofs.CallerLemmas.{read_from}
+use Rattle.ss_snapshot.proofs.BothSpares.{no_spares}
 use Rattle.ss_snapshot.proofs.CommonBytes.{other, not_other}
 use Rattle.ss_snapshot.proofs.OneAnswer.{told, another_text}
 use Rattle.ss_snapshot.proofs.text.catalog_of.Goals as goal
@@ -23,7 +25,8 @@ returns-clause-own c =
     record {
       utf8 = subst IsUtf8 (sym (sym c.as_slice.ensures ∙ same)) (c.in_ok-value.ensures.ok).0;
       value = view c.in_ok-value.value;
-      reads = c.in-Ok.ensures.ok;
+      reads = read_from (view c.in_ok-value.value) c.in-Ok.catalog c.in-Ok.ensures.ok;
+      spares = no_spares (view c.in_ok-value.value) c.in-Ok.catalog c.in-Ok.ensures.ok;
     }
 
 pub returns-clause-text : goal.returns-clause-text

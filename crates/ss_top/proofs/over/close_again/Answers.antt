@@ -1,6 +1,7 @@
 use Rattle.std.proofs.Common.{◌≡◌, ◌⊎◌, ◌∙◌, inl, inr, true, is_some, sym, subst}
 use Rattle.std.proofs.lemmas.Bool.{false≢true}
 use Rattle.ss_model.specs.declared.entry.Mode.TheVariants as modes
+use Rattle.ss_snapshot.proofs.BodiesRead.{still}
 use Rattle.ss_top.specs.declared.over.Turn.TheVariants.{Short, Failed}
 use Rattle.std.proofs.Common.{Some}
 use Rattle.ss_top.specs.Turns.{ClosesAgain}
@@ -16,14 +17,17 @@ returns-in_default-clause-closes g c = λ every limit catalog.
 
 pub returns-then-has_failed-clause-closes : goal.returns-then-has_failed-clause-closes
 returns-then-has_failed-clause-closes g c = λ every limit catalog.
-    subst (λ (d : g.row.D.Denot). ClosesAgain {D = g.row.D.Denot} g.D.Disk.kind modes.Strong every limit c.args.printing catalog c.args.requests.now c.args.last c.args.past c.args.place c.args.finished (Failed (Some c.in-Ok.past) d))
+    subst (λ (d : g.row.D.Denot). ClosesAgain {D = g.row.D.Denot} g.D.Disk.kind modes.Strong every limit c.args.printing catalog c.args.requests.now c.args.last c.args.past c.args.place c.args.finished (Failed (Some (record { past = c.in-Ok.past; catalog = c.args.finished.closed.catalog })) d))
     (sym c.into_disk-then-has_failed.ensures)
     (failed_closed g.D.Disk.kind every limit c.args.printing catalog c.args.requests.now c.args.last c.args.past c.args.place c.args.finished c.requires.place.0 c.requires.place.1
-    c.answers_resume.ensures.resume c.answers_resume.ensures.stay c.incarnations_go_on.ensures.more c.runs_over_restarts.ensures c.in-Ok.past c.in-Ok.ensures (sym c.has_failed.ensures.failed ∙ c.if-has_failed.true) c.has_failed.ensures.small)
+    c.answers_resume.ensures.resume c.answers_resume.ensures.stay c.incarnations_go_on.ensures.more c.runs_over_restarts.ensures c.in-Ok.past c.in-Ok.ensures
+    (record { aside = c.spares_aside.ensures; stand = c.a_body_has_one_answer.ensures.stands; body = c.a_body_has_one_answer.ensures.body; one = c.stands_for_one.ensures }) (sym c.has_failed.ensures.failed ∙ c.if-has_failed.true) c.has_failed.ensures.small)
 
 pub returns-then-has_failed-clause-on : goal.returns-then-has_failed-clause-on
-returns-then-has_failed-clause-on g c =
-    goes_on c.args.place c.args.requests.now c.args.past c.in-Ok.past c.args.finished c.args.finished.receipted c.requires.place.0 c.requires.place.1 c.requires.on c.requires.told c.requires.small c.in-Ok.ensures
+returns-then-has_failed-clause-on g c = record {
+  grows = still c.args.finished.closed.catalog c.requires.own.1 c.requires.own.0;
+  on = goes_on c.args.place c.args.requests.now c.args.past c.in-Ok.past c.args.finished c.args.finished.receipted c.requires.place.0 c.requires.place.1 c.requires.on c.requires.told c.requires.small c.in-Ok.ensures;
+}
 
 pub returns-clause-closes : goal.returns-clause-closes
 returns-clause-closes g c = λ every limit catalog.

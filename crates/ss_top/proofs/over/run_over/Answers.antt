@@ -47,7 +47,7 @@ incarnate-requires-2-clause-on g c κs within = c.loop.invariant.on
 pub incarnate-requires-2-clause-alone : goal.incarnate-requires-2-clause-alone
 incarnate-requires-2-clause-alone g c κs within =
     elim (may_at c.args.mode c.args.restarts c.loop.counter c.loop.invariant.within c.requires.restarts) [
-      | inl first ↦ inl (refl, none_at_first g.D.Disk.kind c.args.limit c.args.catalog.now c.args.requests.now c.loop.counter c.args.disk c.loop.left c.loop.past first c.loop.invariant.has)
+      | inl first ↦ inl (refl, none_at_first g.D.Disk.kind c.args.limit c.args.catalog.now c.args.requests.now c.loop.counter c.args.disk c.loop.left c.loop.begun first c.loop.invariant.has)
       | inr strong ↦ inr strong
     ]
 

@@ -25,6 +25,7 @@ run_session-requires g c = λ κs within.
     record {
       stood = goes.s;
       going = goes.log;
+      formed = goes.formed;
       count = goes.count;
       began = λ told. subst (λ (r : Recovery). BeganAt r c.args.recovered.catalog g.begins.db c.args.recovered.first) with.had_again (goes.began told);
       held = λ told. subst (λ (r : Recovery). HoldsFront r c.args.recovered.catalog g.begins.db c.args.recovered.first [] 0 goes.s) with.had_again (goes.held told);

@@ -2,6 +2,7 @@ use Rattle.std.proofs.Common.{◌≤◌, inl, None, refl, sym, subst}
 use Rattle.ss_headline.specs.Disks.{disk_of}
 use Rattle.ss_refusals.specs.Sinks.{sink_of}
 use Rattle.ss_top.specs.Serving.{RecoversTo, TellsStoreFaults}
+use Rattle.ss_top.proofs.Growing.{GrowthLaws}
 use Rattle.ss_top.proofs.LastTurns.{served_later, served_once, served_own, served_told}
 use Rattle.ss_top.specs.declared.session.Printing.TheVariants.{InFull}
 use Rattle.ss_top.proofs.Storing.{recovery_refused, recovered_opened, store_recovered, was_stored, refusal_tells}
@@ -15,7 +16,9 @@ returns-in-Ok-clause-came g c =
     let r = c.in-Ok.ensures.recovered in
     let w = sink_of g.K.Sink.kind c.args.sink.now c.write_turn.new.sink in
     let stored = was_stored g.D.Disk.kind c.args.mode c.args.partitions c.args.disk c.in-Ok.recovered r (λ told empty. (c.in-Ok.ensures.nothing told empty refl).1) in
-    let opened = recovered_opened g.D.Disk.kind c.args.mode _ c.args.partitions c.args.disk c.in-Ok.recovered r c.in-Ok.ensures.later in
+    let bodies = c.a_body_has_one_answer.ensures in
+    let laws : GrowthLaws = record { aside = c.spares_aside.ensures; stand = bodies.stands; body = bodies.body; one = c.stands_for_one.ensures } in
+    let opened = recovered_opened g.D.Disk.kind c.args.mode _ c.args.partitions c.args.disk c.in-Ok.recovered laws r c.in-Ok.ensures.later in
     let over = c.serve_new-turn.ensures.over refl in
     let came = served_once g.D.Disk.kind c.args.mode None c.args.limit InFull c.new-requests.result c.in-Ok.recovered c.serve_new-turn.result (c.serve_new-turn.ensures.new c.args.mode c.in-Ok.ensures.recovered.goes_on) over c.args.disk opened c.in-Ok.ensures.told w c.write_turn.result.0 c.write_turn.ensures.told in
     let own = served_own c.serve_new-turn.result c.serve_new-turn.ensures.served over w c.write_turn.result.0 c.write_turn.ensures.told in
@@ -25,7 +28,9 @@ returns-in-Ok-clause-came g c =
 pub returns-in-Ok-clause-told : goal.returns-in-Ok-clause-told
 returns-in-Ok-clause-told g c =
     let w = sink_of g.K.Sink.kind c.args.sink.now c.write_turn.new.sink in
-    let opened = recovered_opened g.D.Disk.kind c.args.mode _ c.args.partitions c.args.disk c.in-Ok.recovered c.in-Ok.ensures.recovered c.in-Ok.ensures.later in
+    let bodies = c.a_body_has_one_answer.ensures in
+    let laws : GrowthLaws = record { aside = c.spares_aside.ensures; stand = bodies.stands; body = bodies.body; one = c.stands_for_one.ensures } in
+    let opened = recovered_opened g.D.Disk.kind c.args.mode _ c.args.partitions c.args.disk c.in-Ok.recovered laws c.in-Ok.ensures.recovered c.in-Ok.ensures.later in
     let over = c.serve_new-turn.ensures.over refl in
     let told = served_told g.D.Disk.kind c.args.mode None c.args.limit InFull c.new-requests.result c.in-Ok.recovered c.serve_new-turn.result (c.serve_new-turn.ensures.new c.args.mode c.in-Ok.ensures.recovered.goes_on) over c.args.disk opened c.in-Ok.ensures.told w c.write_turn.result.0 c.write_turn.ensures.told in
     subst (λ (d : g.row.D.Denot). TellsStoreFaults c.write_turn.result.0 w (disk_of {D = g.row.D.Denot} g.D.Disk.kind c.args.disk d)) (sym c.write_turn.ensures.disk) told
@@ -33,7 +38,9 @@ returns-in-Ok-clause-told g c =
 pub returns-in-Ok-clause-counts : goal.returns-in-Ok-clause-counts
 returns-in-Ok-clause-counts g c =
     let w = sink_of g.K.Sink.kind c.args.sink.now c.write_turn.new.sink in
-    let opened = recovered_opened g.D.Disk.kind c.args.mode _ c.args.partitions c.args.disk c.in-Ok.recovered c.in-Ok.ensures.recovered c.in-Ok.ensures.later in
+    let bodies = c.a_body_has_one_answer.ensures in
+    let laws : GrowthLaws = record { aside = c.spares_aside.ensures; stand = bodies.stands; body = bodies.body; one = c.stands_for_one.ensures } in
+    let opened = recovered_opened g.D.Disk.kind c.args.mode _ c.args.partitions c.args.disk c.in-Ok.recovered laws c.in-Ok.ensures.recovered c.in-Ok.ensures.later in
     let over = c.serve_new-turn.ensures.over refl in
     let later = served_later g.D.Disk.kind c.args.mode None c.args.limit InFull c.new-requests.result c.in-Ok.recovered c.serve_new-turn.result (c.serve_new-turn.ensures.new c.args.mode c.in-Ok.ensures.recovered.goes_on) over c.args.disk opened c.in-Ok.ensures.told w c.write_turn.result.0 c.write_turn.ensures.told in
     (c.write_turn.ensures.counts, subst (λ (d : g.row.D.Denot). g.D.Disk.kind.faults c.args.disk ≤ g.D.Disk.kind.faults d) (sym c.write_turn.ensures.disk) later)

@@ -1,12 +1,21 @@
-use Rattle.std.proofs.Common.{inr, refl, subst}
+use Rattle.std.proofs.Common.{[], inr, refl, subst}
+use Rattle.ss_model.specs.SparesAside.{with_spares}
 use Rattle.ss_refusals.proofs.CallerLemmas.{OfRefusal, ends_refused, refusal_told}
+use Rattle.ss_top.specs.declared.session.Printing.TheVariants.{InFull}
 use Rattle.ss_top.proofs.Ending.{run_refused, run_came}
+use Rattle.ss_top.proofs.Given.{given_bodies, given_came}
 use Rattle.ss_top.proofs.top.run.Goals as goal
 
 pub returns-in-Ok-clause-ends : goal.returns-in-Ok-clause-ends
 returns-in-Ok-clause-ends g c =
+    let given = c.in-Ok.field-0.catalog in
+    let requests = c.in-Ok.field-0.requests in
+    let read = c.in-Ok.ensures in
+    let serves = c.run_on_store.ensures.came in
     run_came g.D.Disk.kind c.args.disk c.run_on_store.result.1 c.args.mode c.args.every c.args.limit c.args.restarts _ _ c.an_input_has_one_answer.ensures.start c.an_input_has_one_answer.ensures.either c.a_disk_has_one_fault.ensures.empty c.a_disk_has_one_fault.ensures.store c.a_disk_has_one_fault.ensures.one
-    c.in-Ok.field-0.catalog c.in-Ok.field-0.requests c.in-Ok.ensures.ok c.in-Ok.ensures.own.0 c.in-Ok.ensures.end c.run_on_store.result.0 c.run_on_store.ensures.came.came c.run_on_store.ensures.came.cause
+    (with_spares given []) requests read.ok read.bare.0 (given_bodies given serves.stored requests serves.grows read.fit) read.end c.run_on_store.result.0
+    (given_came g.D.Disk.kind c.args.mode c.args.every c.args.limit c.args.restarts InFull given serves.stored requests c.run_on_store.result.0 _ c.args.disk c.run_on_store.result.1 serves.grows serves.came)
+    serves.cause
 
 pub returns-in-Err-clause-ends : goal.returns-in-Err-clause-ends
 returns-in-Err-clause-ends g c =

@@ -1,4 +1,4 @@
-use Rattle.std.proofs.Common.{◌≡◌, ◌∙◌, ◌<◌, ◌++◌, List, [], ◌∷◌, length, take, drop, Err, refl, sym, ap, subst, arith, rules}
+use Rattle.std.proofs.Common.{◌≡◌, ◌∙◌, false, List, [], ◌∷◌, length, take, drop, Err, refl, sym, ap, subst, arith, rules}
 use Rattle.std.proofs.lemmas.Result.{err_from_is_err_and}
 use Rattle.std.proofs.lemmas.List.Elements.{All-drop, All-same}
 use Rattle.ss_model.specs.declared.entry.Entry.{Entry}
@@ -9,7 +9,7 @@ use Rattle.ss_cmdlog.specs.Generation.{Stood}
 use Rattle.ss_cmdlog.specs.Store.{StandsForPart, with_groups}
 use Rattle.ss_cmdlog.specs.Groups.{as_group, groups_of}
 use Rattle.ss_cmdlog.specs.Log.{IsOpen, AddsGroups}
-use Rattle.ss_cmdlog.specs.Logged.{logged}
+use Rattle.ss_cmdlog.specs.Logged.{is_install, logged}
 use Rattle.ss_cmdlog.specs.declared.log.LogError.TheVariants.{NoMemory}
 use Rattle.ss_cmdlog.proofs.Logs.{has_records}
 use Rattle.ss_cmdlog.proofs.Refused.{not_both}
@@ -22,6 +22,8 @@ loop-rest-init g c = record {
   going = c.requires.going;
   same = refl;
   recordable = c.requires.recordable;
+  formed = c.requires.formed;
+  form = refl;
   count = refl;
   still = refl;
   fewer = omega arith;
@@ -53,7 +55,7 @@ returns-in_err-write_next-clause-adds g c = λ s is.
     let so_far = subst (λ (m : Mode). SoFar g.D.Disk.kind m c.args.self.now c.loop-rest.self c.args.entries.now rest) (sym c.loop-rest.invariant.same) c.loop-rest.invariant.so_far in
     let adds : (t : Stood) → t.mode ≡ c.loop-rest.self.mode → IsOpen g.D.Disk.kind c.loop-rest.self t
     → AddsGroups g.D.Disk.kind c.loop-rest.self c.write_next.new.self c.write_next.result t (as_group first) =
-    λ t of open'. c.write_next.ensures.adds t first open' (λ some. are_group c.loop-rest.self.mode rest n c.in_ok-next.next.body.items some next.body.0 next.body.1 c.loop-rest.invariant.recordable next.typed) next.body.0 next.number.0 in
+    λ t of open'. c.write_next.ensures.adds t first open' (λ some. are_group c.loop-rest.self.bodies c.loop-rest.self.mode rest n c.in_ok-next.next.body.items some next.body.0 next.body.1 c.loop-rest.invariant.recordable c.loop-rest.invariant.formed next.typed) next.body.0 next.number.0 in
     let of : s.mode ≡ c.loop-rest.self.mode = sym own in
     record {
       done = λ ok. absurd (not_both c.from_residual-in_err-write_next.result p.0 p.1 ok);
@@ -82,13 +84,16 @@ loop-rest-preserved g c =
     let so_far = subst (λ (m : Mode). SoFar g.D.Disk.kind m c.args.self.now c.loop-rest.self c.args.entries.now rest) (sym i.same) i.so_far in
     let adds : (t : Stood) → t.mode ≡ m → IsOpen g.D.Disk.kind c.loop-rest.self t
     → AddsGroups g.D.Disk.kind c.loop-rest.self c.write_next.new.self c.write_next.result t (as_group first) =
-    λ t of open'. c.write_next.ensures.adds t first open' (λ some. are_group m rest n c.in_ok-next.next.body.items some next.body.0 next.body.1 i.recordable next.typed) next.body.0 next.number.0 in
+    λ t of open'. c.write_next.ensures.adds t first open' (λ some. are_group c.loop-rest.self.bodies m rest n c.in_ok-next.next.body.items some next.body.0 next.body.1 i.recordable i.formed next.typed) next.body.0 next.number.0 in
     let more = added g.D.Disk.kind m c.args.self.now c.loop-rest.self c.write_next.new.self c.write_next.result c.args.entries.now rest n next.within.1
     (as_group first) so_far next.groups adds c.in_ok-write_next.was c.in_ok-write_next.ensures.count in
     record {
       going = c.in_ok-write_next.ensures.cause.goes_on (λ fault. cc) ∙ i.going;
       same = c.in_ok-write_next.ensures.same ∙ i.same;
       recordable = All-same IsRecordable _ _ c.split_at.ensures.back (All-drop IsRecordable n rest i.recordable);
+      formed = λ older. All-same (λ (e : Entry). is_install e ≡ false) _ _ c.split_at.ensures.back
+          (All-drop (λ (e : Entry). is_install e ≡ false) n rest (i.formed (sym c.in_ok-write_next.ensures.form ∙ older)));
+      form = c.in_ok-write_next.ensures.form ∙ i.form;
       count = omega (arith, c.in_ok-write_next.ensures.count, next.within.1);
       still = c.in_ok-write_next.ensures.cause.told (λ fault. cc) ∙ i.still;
       fewer = omega (arith, i.fewer);

@@ -27,6 +27,7 @@ returns-clause-open g c =
       at = λ tells. fresh_open c.args.mode c.args.image.now c.as_slice.result.now _ (g.D.Disk.kind.seen c.fill_both.new.disk) _ _ c.in-Ok.ensures.long (c.as_slice.ensures.value ∙ c.in-Ok.ensures.spelled) (c.requires.empty tells)
           (c.in_default-fill_both.ensures.filled tells) (c.in_default-write_synced.ensures.ok tells) place;
       of_mode = refl;
+      of_form = refl;
       count = λ tells. fresh_counts c.args.mode c.args.image.now;
       only = λ honest. c.in_default-write_synced.ensures.durable honest;
     }

@@ -1,4 +1,4 @@
-use Rattle.std.proofs.Common.{◌≡◌, ◌∙◌, ◌+◌, ◌++◌, ℕ, List, length, None, refl, sym, ap, subst, arith, rules}
+use Rattle.std.proofs.Common.{◌≡◌, ◌∙◌, ◌+◌, ◌++◌, true, ℕ, List, length, None, refl, sym, ap, subst, arith, rules}
 use Rattle.ss_model.specs.declared.entry.Mode.{Mode}
 use Rattle.ss_disk.specs.declared.disk.FileNo.{FileNo}
 use Rattle.ss_disk.proofs.CallerLemmas.{fewer_none}
@@ -18,13 +18,14 @@ switch-requires-clause-open g c = λ tells.
 pub returns-in-Ok-clause-renews : goal.returns-in-Ok-clause-renews
 unfolding head_bytes
 returns-in-Ok-clause-renews g c = λ s open'.
-    let head : c.as_slice.result.now ++ c.args.image.now ≡ head_bytes s.mode c.args.place c.args.image.now =
-    ap (λ (l : List ℕ). l ++ c.args.image.now) (c.as_slice.ensures.value ∙ c.in_ok-front.ensures) ∙ ap (λ (m : Mode). head_bytes m c.args.place c.args.image.now) open'.of_mode in
+    let head : c.as_slice.result.now ++ c.args.image.now ≡ head_bytes true s.mode c.args.place c.args.image.now =
+    ap (λ (l : List ℕ). l ++ c.args.image.now) (c.as_slice.ensures.value ∙ c.in_ok-front.ensures) ∙ ap (λ (m : Mode). head_bytes true m c.args.place c.args.image.now) open'.of_mode in
     let place : length c.as_slice.result.now + length c.args.image.now ≡ c.in-Some-checked_add.gate = omega (arith, c.in-Some-checked_add.ensures) in
     record {
       done = record {
         going = open'.going;
         of_mode = open'.of_mode;
+        of_form = refl;
         at = λ tells. subst (λ (which : FileNo). IsOpenAt (g.D.Disk.kind.seen c.switch.new.disk) which c.in-Some-checked_add.gate (renewed s.mode c.args.place c.args.image.now)) (sym c.other_file-self.ensures)
             (subst (λ (n : ℕ). IsOpenAt (g.D.Disk.kind.seen c.switch.new.disk) (other_file c.args.self.now.file) n (renewed s.mode c.args.place c.args.image.now)) place
             (c.in-Ok.ensures.switched tells s c.args.self.now.gate c.args.place (open'.at tells) c.requires.small head));
@@ -39,13 +40,14 @@ returns-in-Ok-clause-renews g c = λ s open'.
 pub returns-in-Err-NoMemory-clause-renews : goal.returns-in-Err-NoMemory-clause-renews
 unfolding head_bytes
 returns-in-Err-NoMemory-clause-renews g c = λ s open'.
-    let head : c.as_slice.result.now ++ c.args.image.now ≡ head_bytes s.mode c.args.place c.args.image.now =
-    ap (λ (l : List ℕ). l ++ c.args.image.now) (c.as_slice.ensures.value ∙ c.in_ok-front.ensures) ∙ ap (λ (m : Mode). head_bytes m c.args.place c.args.image.now) open'.of_mode in
+    let head : c.as_slice.result.now ++ c.args.image.now ≡ head_bytes true s.mode c.args.place c.args.image.now =
+    ap (λ (l : List ℕ). l ++ c.args.image.now) (c.as_slice.ensures.value ∙ c.in_ok-front.ensures) ∙ ap (λ (m : Mode). head_bytes true m c.args.place c.args.image.now) open'.of_mode in
     record {
       done = tt;
       kept = λ refused. record {
         going = open'.going;
         of_mode = open'.of_mode;
+        of_form = open'.of_form;
         at = λ tells. c.in-Err-NoMemory.ensures.kept tells s c.args.self.now.gate (open'.at tells) cc;
         first = open'.first;
         count = open'.count;
@@ -57,8 +59,8 @@ returns-in-Err-NoMemory-clause-renews g c = λ s open'.
 pub returns-clause-renews : goal.returns-clause-renews
 unfolding head_bytes
 returns-clause-renews g c = λ s open'.
-    let head : c.as_slice.result.now ++ c.args.image.now ≡ head_bytes s.mode c.args.place c.args.image.now =
-    ap (λ (l : List ℕ). l ++ c.args.image.now) (c.as_slice.ensures.value ∙ c.in_ok-front.ensures) ∙ ap (λ (m : Mode). head_bytes m c.args.place c.args.image.now) open'.of_mode in
+    let head : c.as_slice.result.now ++ c.args.image.now ≡ head_bytes true s.mode c.args.place c.args.image.now =
+    ap (λ (l : List ℕ). l ++ c.args.image.now) (c.as_slice.ensures.value ∙ c.in_ok-front.ensures) ∙ ap (λ (m : Mode). head_bytes true m c.args.place c.args.image.now) open'.of_mode in
     record {
       done = tt;
       kept = λ refused. cc;

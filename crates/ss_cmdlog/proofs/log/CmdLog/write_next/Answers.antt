@@ -1,7 +1,6 @@
-use Rattle.std.proofs.Common.{◌≡◌, ◌<◌, ◌+◌, [], ℕ, length, List, Ok, subst, sym, arith}
+use Rattle.std.proofs.Common.{◌≡◌, ◌<◌, ◌+◌, ℕ, length, List, Ok, subst, sym, arith}
 use Rattle.ss_model.specs.declared.entry.Entry.{Entry}
 use Rattle.ss_model.specs.declared.entry.Mode.{Mode}
-use Rattle.ss_cmdlog.specs.Groups.{as_group}
 use Rattle.ss_cmdlog.specs.Log.{HasRecords, AddsGroups}
 use Rattle.ss_cmdlog.proofs.Passing.{passed}
 use Rattle.ss_cmdlog.proofs.Split.{one_as_group, none_as_group}

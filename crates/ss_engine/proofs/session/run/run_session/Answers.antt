@@ -18,7 +18,7 @@ incarnation-requires-clause-log g c = λ κs within.
     let laws = g.met.D.Disk g.world.𝓛 g.world.𝓜 g.world.𝓡 ((λ s x. x), (λ x. x), (λ x. x), λ x. x) in
     let opens : OpensOn {D = g.row.D.Denot} g.D.Disk.kind g.begins.recovery c.args.catalog g.begins.db c.args.opening.first c.args.command_log = search (rules, c.requires) parts 40 in
     holds_at_opening g.begins.recovery c.args.every c.args.catalog g.begins.db c.args.opening.first g.D.Disk.kind laws.honest_tells c.held_fronts_stand.ensures
-    c.args.command_log opens.stood opens.going opens.count opens.began opens.held
+    c.args.command_log opens.stood opens.going opens.formed opens.count opens.began opens.held
 
 pub returns-clause-ok : goal.returns-clause-ok
 returns-clause-ok g c =

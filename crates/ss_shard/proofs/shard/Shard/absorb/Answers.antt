@@ -1,4 +1,4 @@
-use Rattle.std.proofs.Common.{◌≡◌, ◌∙◌, ℕ, List, [], sym, ap, subst}
+use Rattle.std.proofs.Common.{◌≡◌, ◌∙◌, ℕ, List, [], length, sym, ap, subst}
 use Rattle.ss_undo.specs.Indexed.{AreIndexed}
 use Rattle.ss_undo.specs.declared.change.Change.{Change}
 use Rattle.ss_shard.specs.ShardValue.{ShardValue}
@@ -38,6 +38,13 @@ exchange_homes-requires-clause-few c =
     let is : IsCommitted catalog (the_view c.self.inside) = subst (λ (s : ShardValue). IsCommitted catalog s) (sym c.self.view_is) c.requires.may.1.own.committed in
     few_homes catalog (the_view c.self.inside) c.requires.accepted (has_homes catalog (the_view c.self.inside) is)
 
+pub write_over-requires : goal.write_over-requires
+write_over-requires c =
+    let may = c.requires.may.1 in
+    let own = ap (λ (s : ShardValue). length s.bodies) c.self.view_is ∙ may.own.committed.of_catalog.bodies.count in
+    let others = ap (λ (s : ShardValue). length s.bodies) c.other.view_is ∙ may.others.committed.of_catalog.bodies.count in
+    own ∙ sym (ap length c.as_slice-2.ensures ∙ others)
+
 pub returns-clause-ok : goal.returns-clause-ok
 returns-clause-ok c =
     let catalog = c.args.catalog.now in
@@ -50,4 +57,4 @@ returns-clause-ok c =
     (λ held may.
     absorbed catalog n c.requires.some held (the_view c.self.inside) (the_view c.other.inside) may
     c.absorb_lists.new.tables c.absorb_lists.new.others _ _ ensures.ok.0 ensures.ok.1 (subst (λ hs. AllKeyed hs) c.as_slice.ensures c.all_are_keyed.ensures)
-    ensures.columns.0 ensures.columns.1 new back c.exchange_homes.ensures.here c.exchange_homes.ensures.there))
+    ensures.columns.0 ensures.columns.1 _ (c.write_over.ensures ∙ c.as_slice-2.ensures) new back c.exchange_homes.ensures.here c.exchange_homes.ensures.there))

@@ -38,10 +38,10 @@ returns-clause-changed c =
     let inside = c.self.inside in
     let tables = inside.tables in
     let now = c.mark_dead.new.self in
-    let old : ShardValue = record { number = inside.number; tables = inside.tables; changes = inside.undo.items; columns = columns_of inside.indexes; windows = inside.windows; cursors = inside.cursors; sources = inside.sources } in
-    let new : ShardValue = record { number = inside.number; tables = slice_set tables c.from.result now; changes = c.note.new.self.items; columns = columns_of inside.indexes; windows = inside.windows; cursors = inside.cursors; sources = inside.sources } in
+    let old : ShardValue = record { number = inside.number; tables = inside.tables; changes = inside.undo.items; columns = columns_of inside.indexes; windows = inside.windows; cursors = inside.cursors; sources = inside.sources; bodies = inside.bodies; coming = inside.coming } in
+    let new : ShardValue = record { number = inside.number; tables = slice_set tables c.from.result now; changes = c.note.new.self.items; columns = columns_of inside.indexes; windows = inside.windows; cursors = inside.cursors; sources = inside.sources; bodies = inside.bodies; coming = inside.coming } in
     subst (λ (s : ShardValue). Changed s new) c.self.view_is
-    (noted old new (Deleted c.args.table c.args.slot)
+    (noted old new (Deleted c.args.table c.args.slot) (refl, refl)
     (subst (λ t. Step tables (Deleted t c.args.slot) (slice_set tables c.from.result now)) c.from.ensures
     ((one_changed tables c.from.result c.args.slot c.in-Some.rows.now now [] c.in-Some.ensures.item).1 c.mark_dead.ensures.step))
     refl

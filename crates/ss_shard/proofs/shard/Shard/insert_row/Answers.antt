@@ -70,10 +70,10 @@ returns-in-Err-clause-err c =
 pub returns-in-Err-clause-changed : goal.returns-in-Err-clause-changed
 returns-in-Err-clause-changed c =
     let inside = c.self.inside in
-    let old : ShardValue = record { number = inside.number; tables = inside.tables; changes = inside.undo.items; columns = columns_of inside.indexes; windows = inside.windows; cursors = inside.cursors; sources = inside.sources } in
-    let new : ShardValue = record { number = inside.number; tables = slice_set inside.tables c.from.result c.insert_indexed.new.rows; changes = c.room.new.self.items; columns = columns_of c.insert_indexed.new.indexes; windows = inside.windows; cursors = inside.cursors; sources = inside.sources } in
+    let old : ShardValue = record { number = inside.number; tables = inside.tables; changes = inside.undo.items; columns = columns_of inside.indexes; windows = inside.windows; cursors = inside.cursors; sources = inside.sources; bodies = inside.bodies; coming = inside.coming } in
+    let new : ShardValue = record { number = inside.number; tables = slice_set inside.tables c.from.result c.insert_indexed.new.rows; changes = c.room.new.self.items; columns = columns_of c.insert_indexed.new.indexes; windows = inside.windows; cursors = inside.cursors; sources = inside.sources; bodies = inside.bodies; coming = inside.coming } in
     subst (λ (s : ShardValue). Changed s new) c.self.view_is
-    (unnoted old new refl refl refl (ap (slice_set inside.tables c.from.result) c.in-Err.ensures.err ∙ set_same inside.tables c.from.result c.in-Some.rows.now c.in-Some.ensures.item) c.room.ensures.unchanged refl
+    (unnoted old new (refl, refl) refl refl refl (ap (slice_set inside.tables c.from.result) c.in-Err.ensures.err ∙ set_same inside.tables c.from.result c.in-Some.rows.now c.in-Some.ensures.item) c.room.ensures.unchanged refl
     (ap columns_of c.in-Err.ensures.unpaired))
 
 pub returns-clause-ok : goal.returns-clause-ok
@@ -81,7 +81,7 @@ returns-clause-ok c =
     let inside = c.self.inside in
     let was = c.in-Some.rows.now in
     let now = c.insert_indexed.new.rows in
-    let new : ShardValue = record { number = inside.number; tables = slice_set inside.tables c.from.result now; changes = c.note.new.self.items; columns = columns_of c.insert_indexed.new.indexes; windows = inside.windows; cursors = inside.cursors; sources = inside.sources } in
+    let new : ShardValue = record { number = inside.number; tables = slice_set inside.tables c.from.result now; changes = c.note.new.self.items; columns = columns_of c.insert_indexed.new.indexes; windows = inside.windows; cursors = inside.cursors; sources = inside.sources; bodies = inside.bodies; coming = inside.coming } in
     subst (λ (s : ShardValue). RowInserted s new c.args.table c.args.row) c.self.view_is (λ catalog has.
     let tables = inside.tables in
     let windows = inside.windows in
@@ -98,10 +98,10 @@ returns-clause-changed c =
     let now = c.insert_indexed.new.rows in
     let slot = c.in-Ok.slot in
     let step = c.in-Ok.ensures.step in
-    let old : ShardValue = record { number = inside.number; tables = inside.tables; changes = inside.undo.items; columns = columns_of inside.indexes; windows = inside.windows; cursors = inside.cursors; sources = inside.sources } in
-    let new : ShardValue = record { number = inside.number; tables = slice_set tables c.from.result now; changes = c.note.new.self.items; columns = columns_of c.insert_indexed.new.indexes; windows = inside.windows; cursors = inside.cursors; sources = inside.sources } in
+    let old : ShardValue = record { number = inside.number; tables = inside.tables; changes = inside.undo.items; columns = columns_of inside.indexes; windows = inside.windows; cursors = inside.cursors; sources = inside.sources; bodies = inside.bodies; coming = inside.coming } in
+    let new : ShardValue = record { number = inside.number; tables = slice_set tables c.from.result now; changes = c.note.new.self.items; columns = columns_of c.insert_indexed.new.indexes; windows = inside.windows; cursors = inside.cursors; sources = inside.sources; bodies = inside.bodies; coming = inside.coming } in
     subst (λ (s : ShardValue). Changed s new) c.self.view_is
-    (noted old new (Inserted c.args.table slot)
+    (noted old new (Inserted c.args.table slot) (refl, refl)
     (subst (λ t. Step tables (Inserted t slot) (slice_set tables c.from.result now)) c.from.ensures ((one_changed tables c.from.result slot was now [] c.in-Some.ensures.item).0 step))
     refl
     (c.note.ensures.items ∙ ap (λ cs. cs ++ Inserted c.args.table slot ∷ []) c.room.ensures.unchanged)

@@ -59,10 +59,10 @@ returns-clause-changed c =
     let now = c.replace-old.new.self in
     let slot = c.args.slot in
     let step = c.replace-old.ensures.step in
-    let old : ShardValue = record { number = inside.number; tables = inside.tables; changes = inside.undo.items; columns = columns_of inside.indexes; windows = inside.windows; cursors = inside.cursors; sources = inside.sources } in
-    let new : ShardValue = record { number = inside.number; tables = slice_set tables c.from.result now; changes = c.note.new.self.items; columns = columns_of inside.indexes; windows = inside.windows; cursors = inside.cursors; sources = inside.sources } in
+    let old : ShardValue = record { number = inside.number; tables = inside.tables; changes = inside.undo.items; columns = columns_of inside.indexes; windows = inside.windows; cursors = inside.cursors; sources = inside.sources; bodies = inside.bodies; coming = inside.coming } in
+    let new : ShardValue = record { number = inside.number; tables = slice_set tables c.from.result now; changes = c.note.new.self.items; columns = columns_of inside.indexes; windows = inside.windows; cursors = inside.cursors; sources = inside.sources; bodies = inside.bodies; coming = inside.coming } in
     subst (λ (s : ShardValue). Changed s new) c.self.view_is
-    (noted old new (Amended c.args.table slot c.replace-old.result)
+    (noted old new (Amended c.args.table slot c.replace-old.result) (refl, refl)
     (subst (λ t. Step tables (Amended t slot c.replace-old.result) (slice_set tables c.from.result now)) c.from.ensures ((one_changed tables c.from.result slot rows now c.replace-old.result c.in-Some.ensures.item).3 step))
     refl
     (c.note.ensures.items ∙ ap (λ cs. cs ++ Amended c.args.table slot c.replace-old.result ∷ []) c.room.ensures.unchanged)

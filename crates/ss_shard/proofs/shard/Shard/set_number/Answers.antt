@@ -1,4 +1,4 @@
-use Rattle.std.proofs.Common.{◌≡◌, ◌∙◌, ◌<◌, true, false, ap, sym, subst, set, slice_get, length, Some, is_some}
+use Rattle.std.proofs.Common.{◌≡◌, ◌∙◌, ◌<◌, true, false, ap, sym, subst, set, slice_get, length, is_some}
 use Rattle.std.specs.Prelude.{IsSome}
 use Rattle.std.specs.FinMap as finite
 use Rattle.ss_model.specs.Database.{NextNumbers}
@@ -31,7 +31,7 @@ returns c =
     let sources = inside.sources in
     let stream = c.args.stream in
     let source = c.args.source.now in
-    let view : ShardValue = record { number = inside.number; tables = inside.tables; changes = inside.undo.items; columns = columns_of inside.indexes; windows = inside.windows; cursors = inside.cursors; sources = inside.sources } in
+    let view : ShardValue = record { number = inside.number; tables = inside.tables; changes = inside.undo.items; columns = columns_of inside.indexes; windows = inside.windows; cursors = inside.cursors; sources = inside.sources; bodies = inside.bodies; coming = inside.coming } in
     let here : numbers_at sources stream ≡ c.in-Some.sources.now = numbers_here sources stream c.in-Some.sources.now (ap (slice_get sources) (sym c.from.ensures) ∙ c.in-Some.ensures.item) in
     let put : c.set.new.self ≡ finite.insert (numbers_at sources stream) source c.args.next = c.set.ensures ∙ ap (λ (ns : NextNumbers). finite.insert ns source c.args.next) (sym here) in
     (λ i. record view { sources = set sources (c.from.ensures i) (put i) })

@@ -36,10 +36,10 @@ returns-then-units-ge-WINDOW_UNITS-clause-stops c =
 pub returns-then-units-ge-WINDOW_UNITS-clause-changed : goal.returns-then-units-ge-WINDOW_UNITS-clause-changed
 returns-then-units-ge-WINDOW_UNITS-clause-changed c =
     let inside = c.self.inside in
-    let old : ShardValue = record { number = inside.number; tables = inside.tables; changes = inside.undo.items; columns = columns_of inside.indexes; windows = inside.windows; cursors = inside.cursors; sources = inside.sources } in
-    let new : ShardValue = record { number = inside.number; tables = inside.tables; changes = c.room.new.self.items; columns = columns_of inside.indexes; windows = slice_set inside.windows c.from.result c.in-Some.units.now; cursors = inside.cursors; sources = inside.sources } in
+    let old : ShardValue = record { number = inside.number; tables = inside.tables; changes = inside.undo.items; columns = columns_of inside.indexes; windows = inside.windows; cursors = inside.cursors; sources = inside.sources; bodies = inside.bodies; coming = inside.coming } in
+    let new : ShardValue = record { number = inside.number; tables = inside.tables; changes = c.room.new.self.items; columns = columns_of inside.indexes; windows = slice_set inside.windows c.from.result c.in-Some.units.now; cursors = inside.cursors; sources = inside.sources; bodies = inside.bodies; coming = inside.coming } in
     subst (λ (s : ShardValue). Changed s new) c.self.view_is
-    (unnoted old new refl refl (set_same inside.windows c.from.result c.in-Some.units.now c.in-Some.ensures.item) refl c.room.ensures.unchanged refl refl)
+    (unnoted old new (refl, refl) refl refl (set_same inside.windows c.from.result c.in-Some.units.now c.in-Some.ensures.item) refl c.room.ensures.unchanged refl refl)
 
 pub returns-then-units-ge-WINDOW_UNITS-clause-err : goal.returns-then-units-ge-WINDOW_UNITS-clause-err
 returns-then-units-ge-WINDOW_UNITS-clause-err c = set_same c.self.inside.windows c.from.result c.in-Some.units.now c.in-Some.ensures.item ∙ ap (λ (s : ShardValue). s.windows) c.self.view_is
@@ -47,10 +47,10 @@ returns-then-units-ge-WINDOW_UNITS-clause-err c = set_same c.self.inside.windows
 pub returns-in-Err-clause-changed : goal.returns-in-Err-clause-changed
 returns-in-Err-clause-changed c =
     let inside = c.self.inside in
-    let old : ShardValue = record { number = inside.number; tables = inside.tables; changes = inside.undo.items; columns = columns_of inside.indexes; windows = inside.windows; cursors = inside.cursors; sources = inside.sources } in
-    let new : ShardValue = record { number = inside.number; tables = inside.tables; changes = c.room.new.self.items; columns = columns_of inside.indexes; windows = slice_set inside.windows c.from.result c.stage.new.self; cursors = inside.cursors; sources = inside.sources } in
+    let old : ShardValue = record { number = inside.number; tables = inside.tables; changes = inside.undo.items; columns = columns_of inside.indexes; windows = inside.windows; cursors = inside.cursors; sources = inside.sources; bodies = inside.bodies; coming = inside.coming } in
+    let new : ShardValue = record { number = inside.number; tables = inside.tables; changes = c.room.new.self.items; columns = columns_of inside.indexes; windows = slice_set inside.windows c.from.result c.stage.new.self; cursors = inside.cursors; sources = inside.sources; bodies = inside.bodies; coming = inside.coming } in
     subst (λ (s : ShardValue). Changed s new) c.self.view_is
-    (unnoted old new refl refl (ap (slice_set inside.windows c.from.result) c.in-Err.ensures.err.0 ∙ set_same inside.windows c.from.result c.in-Some.units.now c.in-Some.ensures.item) refl c.room.ensures.unchanged refl refl)
+    (unnoted old new (refl, refl) refl refl (ap (slice_set inside.windows c.from.result) c.in-Err.ensures.err.0 ∙ set_same inside.windows c.from.result c.in-Some.units.now c.in-Some.ensures.item) refl c.room.ensures.unchanged refl refl)
 
 pub returns-in-Err-clause-err : goal.returns-in-Err-clause-err
 returns-in-Err-clause-err c =
@@ -60,7 +60,7 @@ returns-in-Err-clause-err c =
 pub returns-clause-ok : goal.returns-clause-ok
 returns-clause-ok c =
     let inside = c.self.inside in
-    let new : ShardValue = record { number = inside.number; tables = inside.tables; changes = c.note.new.self.items; columns = columns_of inside.indexes; windows = slice_set inside.windows c.from.result c.stage.new.self; cursors = inside.cursors; sources = inside.sources } in
+    let new : ShardValue = record { number = inside.number; tables = inside.tables; changes = c.note.new.self.items; columns = columns_of inside.indexes; windows = slice_set inside.windows c.from.result c.stage.new.self; cursors = inside.cursors; sources = inside.sources; bodies = inside.bodies; coming = inside.coming } in
     subst (λ (s : ShardValue). UnitStaged s new c.args.window c.args.unit c.in-Ok.moved) c.self.view_is (λ catalog has.
     let tables = inside.tables in
     let windows = inside.windows in
@@ -75,10 +75,10 @@ returns-clause-changed c =
     let inside = c.self.inside in
     let windows = inside.windows in
     let was = c.in-Some.units.now in
-    let old : ShardValue = record { number = inside.number; tables = inside.tables; changes = inside.undo.items; columns = columns_of inside.indexes; windows = inside.windows; cursors = inside.cursors; sources = inside.sources } in
-    let new : ShardValue = record { number = inside.number; tables = inside.tables; changes = c.note.new.self.items; columns = columns_of inside.indexes; windows = slice_set inside.windows c.from.result c.stage.new.self; cursors = inside.cursors; sources = inside.sources } in
+    let old : ShardValue = record { number = inside.number; tables = inside.tables; changes = inside.undo.items; columns = columns_of inside.indexes; windows = inside.windows; cursors = inside.cursors; sources = inside.sources; bodies = inside.bodies; coming = inside.coming } in
+    let new : ShardValue = record { number = inside.number; tables = inside.tables; changes = c.note.new.self.items; columns = columns_of inside.indexes; windows = slice_set inside.windows c.from.result c.stage.new.self; cursors = inside.cursors; sources = inside.sources; bodies = inside.bodies; coming = inside.coming } in
     subst (λ (s : ShardValue). Changed s new) c.self.view_is
-    (noted_both old new (Staged c.args.window) refl
+    (noted_both old new (Staged c.args.window) (refl, refl) refl
     (subst (λ w. WindowStep windows (Staged w) (slice_set windows c.from.result c.stage.new.self)) c.from.ensures
     (record { old = was; unit = c.args.unit; here = c.in-Some.ensures.item; is = ap (slice_set windows c.from.result) c.in-Ok.ensures.ok }))
     (c.note.ensures.items ∙ ap (λ cs. cs ++ Staged c.args.window ∷ []) c.room.ensures.unchanged) refl refl refl refl refl (λ h. h)

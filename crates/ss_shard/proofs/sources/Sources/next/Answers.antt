@@ -1,4 +1,4 @@
-use Rattle.std.proofs.Common.{◌≡◌, ◌∙◌, ap, sym, unwrap_or}
+use Rattle.std.proofs.Common.{◌∙◌, ap, sym, unwrap_or}
 use Rattle.ss_model.specs.Database.{NextNumbers}
 use Rattle.ss_shard.specs.Sources.{number_of}
 use Rattle.ss_shard.proofs.Numbers.{key_bytes, number_at, get_number}

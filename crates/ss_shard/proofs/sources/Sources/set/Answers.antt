@@ -1,4 +1,4 @@
-use Rattle.std.proofs.Common.{◌≡◌, ◌∙◌, ℕ, true, ap, sym, subst, List, is_some}
+use Rattle.std.proofs.Common.{◌∙◌, ℕ, ap, sym, subst, List, is_some}
 use Rattle.std.specs.FinMap as finite
 use Rattle.std.specs.BTreeMap.{is_at}
 use Rattle.std.specs.Map.{set_value}

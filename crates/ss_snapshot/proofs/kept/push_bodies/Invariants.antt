@@ -1,0 +1,8 @@
+use Rattle.std.proofs.Common.{List, ℕ, ◌<◌, ◌^◌, length, take}
+use Rattle.ss_model.specs.Database.{own_bodies}
+use Rattle.ss_standing.specs.Image.{text_bytes}
+use Rattle.ss_snapshot.proofs.Pieces.{Spelled}
+use Rattle.ss_snapshot.proofs.kept.push_bodies.Given as goal
+
+abbrev pub invariant-loop-procedure : goal.invariant-loop-procedure
+invariant-loop-procedure l = Spelled text_bytes (λ (text : List ℕ). length text < 2 ^ 32) l.fn.out.items l.out.items (take l.procedure (own_bodies l.catalog))

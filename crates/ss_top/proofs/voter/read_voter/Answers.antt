@@ -1,0 +1,11 @@
+use Rattle.std.proofs.Common.{IfOk, rules}
+use Rattle.serde_json.specs.View.{view}
+use Rattle.ss_recover.specs.Recovering.{IsOwnCatalog}
+use Rattle.ss_refusals.proofs.CallerLemmas.{own_read}
+use Rattle.ss_top.proofs.voter.read_voter.Goals as goal
+
+pub returns-clause-own : goal.returns-clause-own
+returns-clause-own c =
+    let read = c.read_catalog.ensures in
+    let own : IfOk c.read_catalog.result IsOwnCatalog = own_read (view c.in-Ok.value) c.read_catalog.result read.ok read.accepted read.utf8 in
+    search rules
