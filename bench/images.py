@@ -8,8 +8,8 @@ by byte as docs/STORE.md says, and by nothing of the program's.
 
 First the same requests are made on a store whose log has all that went before, and on one that has an image in its place:
 both have to print the same replies and tables, and recover to the same. Then images are drawn: tables, windows, streams of which
-some batches are kept, counts, sources and bodies, of which some were installed. Some of all these stores are of the older form,
-whose images have no bodies. `recover` has to print the drawn rows, with a step for each batch that is still to be taken, whatever byte selects one
+some batches are kept, counts, sources and bodies, of which some were installed; among them a nest, whose text is empty, and the
+stream between its members, which never had a batch. Some of all these stores are of the older form, whose images have no bodies. `recover` has to print the drawn rows, with a step for each batch that is still to be taken, whatever byte selects one
 of two files that have the image. Of each image some copies are damaged: a byte is another, or the end is missing, or one
 byte stands behind it. Where the reader here finds a first byte that can't be, the program has to tell just that one, and else
 it has to print what the damaged image says. What was counted is printed at the end.
@@ -37,7 +37,14 @@ DRAWN = {
         {"name": "names", "columns": [["id", INT], ["name", TEXT]], "key": ["id"], "part": 0},
         {"name": "split", "columns": [["name", TEXT], ["id", INT]], "key": ["id", "name"], "by": "id"},
     ],
-    "streams": [{"name": "s", "columns": [["x", INT]]}, {"name": "l", "columns": [["x", INT], ["t", TEXT]]}, {"name": "m", "columns": [["x", INT]]}],
+    "streams": [
+        {"name": "s", "columns": [["x", INT]]},
+        {"name": "l", "columns": [["x", INT], ["t", TEXT]]},
+        {"name": "m", "columns": [["x", INT]]},
+        {"name": "i", "columns": [["x", INT]]},
+        {"name": "u", "columns": [["x", INT]]},
+        {"name": "o", "columns": [["x", INT]]},
+    ],
     "windows": [
         {"name": "by_rows", "columns": [["x", INT]], "owner": "a", "unit": "rows", "size": 3, "slide": 2},
         {"name": "by_batches", "columns": [["t", TEXT]], "owner": "b", "unit": "batches", "size": 2, "slide": 1},
@@ -48,7 +55,11 @@ DRAWN = {
         {"name": "c", "kind": "interior", "inputs": ["l"], "touch": {"part": 1}, "body": []},
         {"name": "b", "kind": "interior", "inputs": ["l", "m"], "touch": {"part": 1}, "body": []},
         {"name": "d", "kind": "interior", "inputs": ["m"], "touch": {"part": 2}, "body": []},
+        {"name": "f", "kind": "interior", "inputs": ["i"], "touch": {"part": 3}, "body": [{"emit": "o", "sql": "SELECT x FROM i"}]},
+        {"name": "e", "kind": "border", "inputs": ["u"], "touch": {"part": 3}, "body": [{"emit": "i", "sql": "SELECT x FROM u"}]},
+        {"name": "g", "kind": "interior", "inputs": ["o"], "touch": {"part": 3}, "body": []},
     ],
+    "nests": [{"name": "ef", "procedures": ["e", "f"]}],
 }
 
 # Bodies that may be installed for these procedures, and change no table.
@@ -99,8 +110,33 @@ def compact(value):
     return json.dumps(value, separators=(",", ":"), sort_keys=True, ensure_ascii=False).encode()
 
 
+def own_text(procedure):
+    """The text of a procedure's own body; a nest's is empty."""
+    return b"" if procedure.get("nest") else compact(procedure["body"])
+
+
 def own_bodies(catalogue):
-    return [compact(procedure["body"]) for procedure in catalogue["procedures"]]
+    return [own_text(procedure) for procedure in joined(catalogue)["procedures"]]
+
+
+def joined(catalogue):
+    """The catalogue that runs, as far as images depend on it: a nest is one procedure in the place of its first member, with the steps of all;
+    and the streams between members."""
+    procedures, inner = {procedure["name"]: procedure for procedure in catalogue["procedures"]}, set()
+    members = {nest["procedures"][0]: [procedures[name] for name in nest["procedures"]] for nest in catalogue.get("nests", [])}
+    named = {nest["procedures"][0]: nest["name"] for nest in catalogue.get("nests", [])}
+    later = {procedure["name"] for own in members.values() for procedure in own[1:]}
+    found = []
+    for procedure in catalogue["procedures"]:
+        own = members.get(procedure["name"])
+        if own:
+            between = {stream for member in own[1:] for stream in takes(member)}
+            steps = [step for member in own for step in member["body"] if step.get("emit") not in between]
+            found.append({**procedure, "name": named[procedure["name"]], "body": steps, "nest": True})
+            inner |= between
+        elif procedure["name"] not in later:
+            found.append(procedure)
+    return {**catalogue, "procedures": found, "inner": inner}
 
 
 def long(n):
@@ -312,6 +348,7 @@ def body_in(data, at, texts):
 def read(data, at, catalogue, most, others=None):
     """What the bytes from here on say is kept, behind the catalogue's text. `others` are the bodies that procedures may have beside
     their own, by their names; with None the image is of the older form."""
+    catalogue = joined(catalogue)
     kept = {"tables": [], "windows": [], "streams": [], "counts": [], "sources": [], "bodies": []}
     for table in catalogue["tables"]:
         rows, at = table_in(data, at, table)
@@ -320,7 +357,7 @@ def read(data, at, catalogue, most, others=None):
         units, at = window_in(data, at, window)
         kept["windows"].append(units)
     for stream in catalogue["streams"]:
-        batches, at = stream_in(data, at, stream, most)
+        batches, at = stream_in(data, at, stream, 0 if stream["name"] in catalogue["inner"] else most)
         kept["streams"].append(batches)
     for _ in catalogue["procedures"]:
         n, at = tested(data, at, 8, lambda n: may_have_taken(catalogue, kept["streams"], kept["counts"], n))
@@ -330,7 +367,7 @@ def read(data, at, catalogue, most, others=None):
             sources, at = sources_in(data, at)
             kept["sources"].append(sources)
     for procedure in catalogue["procedures"] if others is not None else []:
-        text, at = body_in(data, at, [compact(body) for body in [procedure["body"]] + others.get(procedure["name"], [])])
+        text, at = body_in(data, at, [own_text(procedure)] + [compact(body) for body in others.get(procedure["name"], [])])
         kept["bodies"].append(text)
     if at != len(data):
         raise Foreign(at)
@@ -461,9 +498,12 @@ def drawn(draw, magic):
     taken = draw.randrange(max(0, had - 2), had + 1)  # by `a`
     behind = [draw.randrange(max(0, taken - 2), taken + 1) for _ in range(3)]  # by `c`, `b` and `d`
     batches = lambda row, n: [[row() for _ in range(draw.randrange(3))] for _ in range(n)]
-    firsts = [taken, min(behind[0], behind[1]), min(behind[1], behind[2])]
-    hads = [had, taken, taken]
-    rows = [lambda: [integer()], lambda: [integer(), text()], lambda: [integer()]]
+    pushed = draw.randrange(6)
+    nest = draw.randrange(max(0, pushed - 2), pushed + 1)  # by `ef`
+    last = draw.randrange(max(0, nest - 2), nest + 1)  # by `g`
+    firsts = [taken, min(behind[0], behind[1]), min(behind[1], behind[2]), 0, nest, last]
+    hads = [had, taken, taken, 0, pushed, nest]
+    rows = [lambda: [integer()], lambda: [integer(), text()]] + [lambda: [integer()]] * 4
     windows = []
     for window, row in zip(DRAWN["windows"], (lambda: [integer()], lambda: [text()])):
         units = draw.randrange(9)
@@ -473,16 +513,17 @@ def drawn(draw, magic):
         "tables": [[[i, text()] for i in ids], [[name.decode(), i] for i, name in pairs]],
         "windows": windows,
         "streams": [(h, f, batches(row, h - f)) for h, f, row in zip(hads, firsts, rows)],
-        "counts": [0, taken] + behind,
-        "sources": [sorted((name, draw.choice([1, 7, 1 << 63])) for name in draw.sample(["a", "b_1", "c", "x" * 32], draw.randrange(4)))],
-        "bodies": [compact(draw.choice([own["body"]] + DRAWN_OTHERS.get(own["name"], []))) for own in DRAWN["procedures"]] if magic == NEW else [],
+        "counts": [0, taken] + behind + [nest, last],
+        "sources": [sorted((name, draw.choice([1, 7, 1 << 63])) for name in draw.sample(["a", "b_1", "c", "x" * 32], draw.randrange(4))) for _ in range(2)],
+        "bodies": [draw.choice([own_text(own)] + [compact(body) for body in DRAWN_OTHERS.get(own["name"], [])]) for own in joined(DRAWN)["procedures"]] if magic == NEW else [],
     }
 
 
 def expected(kept):
     """The rows and the steps that `recover` has to tell."""
-    had = kept["streams"][0][0]
-    steps = {name: had - taken for name, taken in zip(("a", "c", "b", "d"), kept["counts"][1:]) if had > taken}
+    had, pushed = kept["streams"][0][0], kept["streams"][4][0]
+    names = (("a", had), ("c", had), ("b", had), ("d", had), ("ef", pushed), ("g", pushed))
+    steps = {name: came - taken for (name, came), taken in zip(names, kept["counts"][1:]) if came > taken}
     return {table["name"]: rows for table, rows in zip(DRAWN["tables"], kept["tables"])}, steps
 
 

@@ -1,7 +1,7 @@
 #!/usr/bin/env python3
 """Kills the program in the midst of its runs, recovers its store each time, and goes on.
 
-    python3 bench/kill.py [--kills 100] [--folder FOLDER] [--partitions 2] [--checkpoint K] [--recovery strong] [--installs] [--seed 1]
+    python3 bench/kill.py [--kills 100] [--folder FOLDER] [--partitions 2] [--checkpoint K] [--recovery strong] [--installs] [--nests] [--seed 1]
 
 Runs the program that `./sstore` built (build it first), or the one that SSTORE names, on a store in a new folder inside
 FOLDER. In each round eight clients push batches, each from a source of its own: the last ones of the round before again, and
@@ -13,7 +13,8 @@ done all its pushes, those that were there before as duplicates. With --checkpoi
 was there is in an image, which is read here too; a round that ended has fewer than K entries behind it. With --recovery weak
 the log has the calls, pushes and installs alone, and a recovery runs their steps without a line of them. With --installs clients
 install bodies between their pushes, some of a procedure whose calls leave the number of the body that they ran with: each call has
-to have the one that the log has in front of it, and the next run the last one. Last, of two processes that
+to have the one that the log has in front of it, and the next run the last one. With --nests both procedures of the workflow are a
+nest: a batch that goes from one to the other is in no image, and lists have one step for each push. Last, of two processes that
 begin at once on one folder, twenty times over, one has to be done and the other refused. What was counted is printed at the end.
 """
 
@@ -82,7 +83,15 @@ CATALOGUE = {
         },
     ],
 }
-ADD, MARK = 1, 3  # their numbers
+ADD = 1  # its place
+
+
+def with_nest():
+    """The same where both procedures of the workflow are one, and have their partitions together."""
+    both = {"multi": [0, 1]}
+    procedures = [{**procedure, "touch": both} if "inputs" in procedure else procedure for procedure in CATALOGUE["procedures"]]
+    return {**CATALOGUE, "procedures": procedures, "nests": [{"name": "count", "procedures": ["check", "add"]}]}
+
 
 # What may be installed: of `mark` what tells one body from another, of `add` what comes to the same.
 MARKS = [[{"insert": "marks", "values": [{"arg": "n"}, body]}] for body in range(20)]
@@ -107,17 +116,22 @@ def value(source, seq):
     return 1000 * source + seq
 
 
-def installs(client, chance, marked):
-    """A body of `mark` and a call of it, and now and then one of `add`. The call's number is the next one."""
+def number_of(catalogue, name):
+    """The number that a procedure has in records."""
+    return [procedure["name"] for procedure in images.joined(catalogue)["procedures"]].index(name)
+
+
+def installs(catalogue, client, chance, marked):
+    """A body of `mark` and a call of it, and now and then one of `add`, where this is in no nest. The call's number is the next one."""
     yield {"client": client, "install": "mark", "body": chance.choice(MARKS)}
     yield {"client": client, "call": "mark", "args": [next(marked)]}
-    if chance.random() < 0.3:
+    if chance.random() < 0.3 and "nests" not in catalogue:
         yield {"client": client, "install": "add", "body": chance.choice(ADDS)}
 
 
-def pushes(numbers, many, chance=None, marked=None):
+def pushes(catalogue, numbers, many, chance=None, marked=None):
     """The lines of a round: of each source the last pushes again, and so many new ones, in turn; with installs by chance between them."""
-    lines = [CATALOGUE]
+    lines = [catalogue]
     for step in range(AGAIN + many):
         for source in range(CLIENTS):
             seq = numbers[source] - AGAIN + step
@@ -125,7 +139,7 @@ def pushes(numbers, many, chance=None, marked=None):
                 row = [source, value(source, seq)]
                 lines.append({"client": source, "push": "readings", "source": f"s{source}", "seq": seq, "rows": [row]})
             if chance and chance.random() < 0.1:
-                lines += installs(source, chance, marked)
+                lines += installs(catalogue, source, chance, marked)
     return text_of(lines)
 
 
@@ -133,28 +147,28 @@ def text_of(lines):
     return "".join(json.dumps(line) + "\n" for line in lines)
 
 
-def kept_in(image, first):
+def kept_in(catalogue, image, first):
     """What is kept by an image, where a store has one, and else what an empty one is."""
     if not image:
-        return {"sources": [[]], "tables": [[], []], "bodies": images.own_bodies(CATALOGUE)}
+        return {"sources": [[]], "tables": [[], []], "bodies": images.own_bodies(catalogue)}
     length, at = number(image, 0, 4)
-    return images.read(image, at + length, CATALOGUE, first, OTHERS)
+    return images.read(image, at + length, catalogue, first, OTHERS)
 
 
-def there_in(folder):
+def there_in(catalogue, folder):
     """The next number of each source, where pushes are accepted in their order and once each; the rows of `marks`, and which body a
     call of `mark` has next; the place at which the store's image stands, and how many entries stand behind it."""
     first, image, entries, _ = generation_of(folder)
-    kept = kept_in(image, first)
+    kept, mark = kept_in(catalogue, image, first), number_of(catalogue, "mark")
     numbers, marks, bodies = dict(kept["sources"][0]), dict(kept["tables"][1]), kept["bodies"]
     for entry in entries:
         if entry[0] == "push" and entry[2] == numbers.get(entry[1], 0):
             numbers[entry[1]] = entry[2] + 1
         elif entry[0] == "install":
             bodies[entry[1]] = entry[2]
-        elif entry[0] == "call" and entry[1] == MARK:
-            marks[entry[2][0]] = TEXTS.index(bodies[MARK])
-    return [numbers.get(f"s{source}", 0) for source in range(CLIENTS)], (marks, TEXTS.index(bodies[MARK])), first, len(entries)
+        elif entry[0] == "call" and entry[1] == mark:
+            marks[entry[2][0]] = TEXTS.index(bodies[mark])
+    return [numbers.get(f"s{source}", 0) for source in range(CLIENTS)], (marks, TEXTS.index(bodies[mark])), first, len(entries)
 
 
 # ---- runs
@@ -187,9 +201,9 @@ def check_marks(lines, marks):
     assert printed == marks, f"marks by other bodies: {sorted(set(printed.items()) ^ set(marks.items()))[:4]}"
 
 
-def check_next(folder, run, body, number):
+def check_next(catalogue, folder, run, body, number):
     """The next run has the body that was installed last."""
-    status, lines = call(folder, run, text_of([CATALOGUE, {"call": "mark", "args": [number]}]))
+    status, lines = call(folder, run, text_of([catalogue, {"call": "mark", "args": [number]}]))
     assert status == 0 and ["row", "marks", [number, body]] in lines, f"a call that isn't by body {body}: {lines[-3:]}"
 
 
@@ -255,11 +269,12 @@ def main():
     parser.add_argument("--checkpoint", type=int)
     parser.add_argument("--recovery", choices=["strong", "weak"], default="strong")
     parser.add_argument("--installs", action="store_true")
+    parser.add_argument("--nests", action="store_true")
     parser.add_argument("--seed", type=int, default=1)
     given = parser.parse_args()
     if not os.access(PROGRAM, os.X_OK):
         sys.exit("the program isn't built: run ./sstore - run < examples/stored_run.jsonl first")
-    chance = random.Random(given.seed)
+    chance, catalogue = random.Random(given.seed), with_nest() if given.nests else CATALOGUE
     options = ["--partitions", str(given.partitions), "--recovery", given.recovery]
     run, recover = ["run", *options], ["recover", *options]
     if given.checkpoint:
@@ -268,15 +283,15 @@ def main():
     marked, known = itertools.count(), {}
     with tempfile.TemporaryDirectory(dir=given.folder) as folder:
         opens = [json.dumps({"call": "open", "args": [source]}) for source in range(CLIENTS)]
-        status, _ = call(folder, run, "\n".join([json.dumps(CATALOGUE), *opens]) + "\n")
+        status, _ = call(folder, run, "\n".join([json.dumps(catalogue), *opens]) + "\n")
         assert status == 0, "the store was not made"
         numbers = [0] * CLIENTS
         while kills < given.kills:
             rounds += 1
             many = chance.choice([10, 100, 400])
-            text = pushes(numbers, many, chance if given.installs else None, marked)
+            text = pushes(catalogue, numbers, many, chance if given.installs else None, marked)
             ended = killed(folder, run, text, chance.uniform(0.0, 0.25))
-            there, (marks, body), first, behind = there_in(folder)
+            there, (marks, body), first, behind = there_in(catalogue, folder)
             if ended is None:
                 kills += 1
                 in_midst += there != numbers
@@ -288,6 +303,7 @@ def main():
                 assert len(marks) == len(known) + text.count('"call": "mark"'), "a call was not done"
                 check_tables(lines, there)
                 check_marks(lines, marks)
+                assert not given.nests or {line[2] for line in lines if line[0] == "step"} <= {"count"}, "a step of a member"
             assert all(new >= old for new, old in zip(there, numbers)), "a push that was there is lost"
             assert known.items() <= marks.items(), "a call that was there is lost"
             status, lines = call(folder, recover)
@@ -296,12 +312,12 @@ def main():
             check_tables(lines, there)
             check_marks(lines, marks)
             if given.installs:
-                check_next(folder, run, body, next(marked))
-            numbers, known = there, there_in(folder)[1][0]
+                check_next(catalogue, folder, run, body, next(marked))
+            numbers, known = there, there_in(catalogue, folder)[1][0]
         for _ in range(RACES):
-            race(folder, run, pushes(numbers, 10))
+            race(folder, run, pushes(catalogue, numbers, 10))
             numbers = [number + 10 for number in numbers]
-        there, (marks, _), first, behind = there_in(folder)
+        there, (marks, _), first, behind = there_in(catalogue, folder)
         assert there == numbers and marks == known, "a push or a call was lost between two processes"
         _, groups = entries_of(folder)
     print(f"{rounds} rounds, {kills} killed, {in_midst} of them with pushes of theirs in the log")

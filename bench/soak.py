@@ -5,6 +5,7 @@
     python3 bench/soak.py --runs 10 --partitions 1,2,4,8   ten times over on each of these numbers of partitions
     python3 bench/soak.py --one-door      all clients push into one partition, whose steps set off others on others
     python3 bench/soak.py --installs      clients install bodies of all these procedures as well
+    python3 bench/soak.py --nests         most procedures of the workflow are in nests, so they abort together
     python3 bench/soak.py --write FILE          only writes the input, for a run elsewhere
     python3 bench/soak.py --check INPUT REPORT  only checks a report
 
@@ -12,7 +13,8 @@ Runs the program that `./sstore` built (build it first), or the one that SSTORE 
 and on pushes through a workflow that parts over two partitions and meets again on a third. Then it takes the printed list
 entry by entry, in its order, and does each one on tables of SQLite, in one thread: each outcome, each reply and each row of
 the printed tables has to be what comes of that. It checks too that the list has of each client just its requests, in
-their order, that each procedure takes its batches in order and each after those who make them, and that none is left.
+their order, that each procedure takes its batches in order and each after those who make them, and that none is left. A nest
+is done as its members are one after another, in one transaction.
 Each of so many runs has requests of its own, by a seed one higher each time, and runs them on each number of partitions.
 What is checked is what the contract of the top call says; that it says it of this very program, built and run, and that
 runs end at all, is what a run of this shows.
@@ -101,6 +103,24 @@ CATALOGUE = {
 }
 
 
+def with_nests(catalogue):
+    """The same with two nests: of those who part the workflow, and of `j` with one more behind it, which hands on to a procedure by itself."""
+    fan, others = {"multi": [0, 1, 2]}, {p["name"]: p for p in catalogue["procedures"]}
+    for name in ("a", "p", "q"):
+        others[name] = {**others[name], "touch": fan}
+    others["j"] = {**others["j"], "body": [*others["j"]["body"], {"emit": "m", "sql": "SELECT x FROM pl"}]}
+    seen = [{"sql": "UPDATE joined SET side = 11 WHERE x = :x"}, {"abort_if": "(SELECT COUNT(*) FROM m WHERE x % 50 = 8) > 0", "code": 6}]
+    others["k"] = step("k", ["m"], 3, [{"for_each": "m", "body": seen}, {"emit": "o", "sql": "SELECT x FROM m WHERE x % 3 = 0"}])
+    others["z"] = step("z", ["o"], 1, [{"sql": "INSERT INTO tally SELECT 0 - x - 1, 4 FROM o"}])
+    nests = [{"name": "meet", "procedures": ["j", "k"]}, {"name": "fan", "procedures": ["a", "p", "q"]}]
+    return {**catalogue, "streams": [*catalogue["streams"], *streams(["m", "o"])], "procedures": [*others.values()], "nests": nests}
+
+
+def members_of(catalogue):
+    """Of each nest its members."""
+    return {nest["name"]: nest["procedures"] for nest in catalogue.get("nests", [])}
+
+
 # Bodies that procedures may have in place of their own.
 OTHERS = {
     "open": [[{"sql": "INSERT INTO acct VALUES (:id, :bal + 7)"}], [{"sql": "DELETE FROM acct WHERE id = :id"}, {"sql": "INSERT INTO acct VALUES (:id, :bal)"}]],
@@ -112,16 +132,18 @@ OTHERS = {
     "p": [[{"emit": "pl", "sql": "SELECT x * 4 FROM l"}, {"sql": "INSERT INTO tally SELECT x, 2 FROM l"}]],
     "q": [[{"emit": "qr", "sql": "SELECT x * 2 + 3 FROM r WHERE x % 3 > 0"}, {"abort_if": "(SELECT COUNT(*) FROM r WHERE x % 20 = 1) > 0", "code": 5}]],
     "j": [[{"sql": "INSERT INTO joined SELECT x, 3 FROM qr"}], []],
+    "z": [[{"sql": "INSERT INTO tally SELECT 0 - x - 1, 5 FROM o"}, {"abort_if": "(SELECT COUNT(*) FROM o WHERE x % 20 = 6) > 0", "code": 7}], []],
 }
 
 
-def install():
-    """A body of one of the procedures, its own among them."""
-    own = random.choice(CATALOGUE["procedures"])
+def install(catalogue):
+    """A body of one of the procedures that are in no nest, its own among them."""
+    inside = {name for names in members_of(catalogue).values() for name in names}
+    own = random.choice([procedure for procedure in catalogue["procedures"] if procedure["name"] not in inside])
     return {"install": own["name"], "body": random.choice([own["body"], *OTHERS[own["name"]]])}
 
 
-def requests_of(count, clients, seed, one_door=False, installs=False):
+def requests_of(count, clients, seed, one_door=False, installs=False, catalogue=CATALOGUE):
     """Requests of these clients in turn; each pushes from a source of its own, with numbers that are now and then wrong. By
     one door they are pushes alone, so all of them run on the partition of the border procedure."""
     random.seed(seed)
@@ -129,7 +151,7 @@ def requests_of(count, clients, seed, one_door=False, installs=False):
     for made in range(count):
         client = random.randrange(clients)
         if installs and random.random() < 0.05:
-            yield {"client": client, **install()}
+            yield {"client": client, **install(catalogue)}
             continue
         kind = 0 if one_door else random.random()
         if kind < 0.45:
@@ -153,25 +175,37 @@ class Aborted(Exception):
 
 
 class Replay:
-    """The tables in SQLite, and the batches that procedures hand on, behind the entries so far."""
+    """The tables in SQLite, and the batches that procedures and nests hand on, behind the entries so far."""
 
-    def __init__(self):
+    def __init__(self, catalogue):
+        self.catalogue, self.members = catalogue, members_of(catalogue)
         self.sql = sqlite3.connect(":memory:", isolation_level=None)
-        for table in CATALOGUE["tables"]:
+        for table in catalogue["tables"]:
             self.sql.execute(f"CREATE TABLE {table['name']} ({', '.join(c[0] for c in table['columns'])}, PRIMARY KEY ({', '.join(table['key'])}))")
-        for stream in CATALOGUE["streams"]:
+        for stream in catalogue["streams"]:
             self.sql.execute(f"CREATE TEMP TABLE {stream['name']} (x)")
-        self.procedures = {p["name"]: p for p in CATALOGUE["procedures"]}
-        self.batches = {stream["name"]: [] for stream in CATALOGUE["streams"]}
-        self.taken = {name: 0 for name, p in self.procedures.items() if p["kind"] != "call"}
+        self.procedures = {p["name"]: p for p in catalogue["procedures"]}
+        inside = {name: nest for nest, names in self.members.items() for name in names}
+        runs = {inside.get(name, name) for name, p in self.procedures.items() if p["kind"] != "call"}
+        self.taken = dict.fromkeys(sorted(runs), 0)
+        between = {stream for names in self.members.values() for name in names[1:] for stream in self.procedures[name]["inputs"]}
+        self.batches = {stream["name"]: [] for stream in catalogue["streams"] if stream["name"] not in between}
         self.next = {}
+
+    def inputs(self, name):
+        """What a procedure takes, or a nest, which takes what its first member does."""
+        return self.procedures[self.members.get(name, [name])[0]]["inputs"]
 
     def rows(self, text, args):
         # The sum of nothing is 0, and no value in SQLite.
         return [[0 if value is None else value for value in row] for row in self.sql.execute(text, args)]
 
     def one(self, body_step, args, emitted):
-        if "abort_if" in body_step:
+        if "for_each" in body_step:
+            for row in self.rows(f"SELECT x FROM {body_step['for_each']}", {}):
+                for inner in body_step["body"]:
+                    self.one(inner, {"x": row[0]}, emitted)
+        elif "abort_if" in body_step:
             if self.rows("SELECT " + body_step["abort_if"], args)[0][0]:
                 raise Aborted(["raised", body_step["code"]])
         elif "emit" in body_step:
@@ -185,13 +219,22 @@ class Replay:
                 raise Aborted(["key_taken", body_step["sql"].split()[2]])
         return []
 
-    def body(self, procedure, args):
-        """The outcome of a body, which changes nothing where it aborts, and the batches that it emits."""
-        emitted = {s["emit"]: [] for s in procedure["body"] if "emit" in s}
-        silent = {name: [] for name in emitted}
+    def lend(self, procedure, batches):
+        """The rows that a procedure finds on its inputs."""
+        for stream in procedure.get("inputs", []):
+            self.sql.execute(f"DELETE FROM {stream}")
+            self.sql.executemany(f"INSERT INTO {stream} VALUES (?)", batches[stream])
+
+    def bodies(self, names, args, batches):
+        """The outcome of procedures one after another, each on what those before it emitted, which change nothing where one aborts; and the
+        batches that they emit."""
+        emitted = {s["emit"]: [] for name in names for s in self.procedures[name]["body"] if "emit" in s}
+        silent, replies = {name: [] for name in emitted}, []
         self.sql.execute("BEGIN")
         try:
-            replies = [row for s in procedure["body"] for row in self.one(s, args, emitted)]
+            for name in names:
+                self.lend(self.procedures[name], {**emitted, **batches})
+                replies += [row for s in self.procedures[name]["body"] for row in self.one(s, args, emitted)]
         except Aborted as aborted:
             self.sql.execute("ROLLBACK")
             return ["aborted", *aborted.args[0]], silent
@@ -199,8 +242,8 @@ class Replay:
         return ["done", replies], emitted
 
     def call(self, asked):
-        procedure = self.procedures[asked["call"]]
-        return self.body(procedure, dict(zip([a[0] for a in procedure["args"]], asked["args"])))[0]
+        args = self.procedures[asked["call"]]["args"]
+        return self.bodies([asked["call"]], dict(zip([a[0] for a in args], asked["args"])), {})[0]
 
     def push(self, asked):
         wanted = self.next.get(asked["source"], 0)
@@ -215,28 +258,25 @@ class Replay:
         return ["done", []]
 
     def step(self, name, batch):
-        procedure = self.procedures[name]
-        assert batch == self.taken[name], f"{name} takes batch {batch}, and {self.taken[name]} is next"
+        assert batch == self.taken.get(name), f"{name} takes batch {batch}, and {self.taken.get(name)} is next"
         self.taken[name] += 1
-        for stream in procedure["inputs"]:
+        for stream in self.inputs(name):
             assert batch < len(self.batches[stream]), f"{name} takes a batch of {stream} that isn't there yet"
-            self.sql.execute(f"DELETE FROM {stream}")
-            self.sql.executemany(f"INSERT INTO {stream} VALUES (?)", self.batches[stream][batch])
-        outcome, emitted = self.body(procedure, {})
-        for stream, rows in emitted.items():
-            self.batches[stream].append(rows)
+        outcome, emitted = self.bodies(self.members.get(name, [name]), {}, {stream: self.batches[stream][batch] for stream in self.inputs(name)})
+        for stream in emitted.keys() & self.batches.keys():
+            self.batches[stream].append(emitted[stream])
         return outcome
 
     def tables(self):
-        for name in sorted(t["name"] for t in CATALOGUE["tables"]):
-            key = next(t["key"] for t in CATALOGUE["tables"] if t["name"] == name)
+        for name in sorted(t["name"] for t in self.catalogue["tables"]):
+            key = next(t["key"] for t in self.catalogue["tables"] if t["name"] == name)
             rows = self.rows(f"SELECT * FROM {name} ORDER BY {', '.join(key)}", {})
             yield ["table", name, len(rows)]
             for row in rows:
                 yield ["row", name, row]
 
 
-def check(asked, report):
+def check(asked, report, catalogue=CATALOGUE):
     """Checks a whole report on these requests; the number of entries and of those that are steps."""
     lines = [json.loads(line) for line in report.splitlines()]
     replies = {line[1]: line[2:] for line in lines if line[0] == "reply"}
@@ -247,7 +287,7 @@ def check(asked, report):
     for number, request in enumerate(asked):
         queues.setdefault(request["client"], []).append((number + 2, request))
     turns = {client: iter(enumerate(queue)) for client, queue in queues.items()}
-    replay = Replay()
+    replay = Replay(catalogue)
     steps = 0
     for place, entry in enumerate(entries):
         assert entry[1] == place, f"place {entry[1]} where {place} is next"
@@ -263,24 +303,24 @@ def check(asked, report):
     assert not replies, "a reply without an entry"
     assert all(next(turn, None) is None for turn in turns.values()), "a request without an entry"
     for name, taken in replay.taken.items():
-        for stream in replay.procedures[name]["inputs"]:
+        for stream in replay.inputs(name):
             assert taken == len(replay.batches[stream]), f"{name} has left batches of {stream}"
     assert behind == [*replay.tables(), ["done", len(entries)]], "the tables differ"
     return len(entries), steps
 
 
-def input_of(asked):
-    return "".join(json.dumps(line, separators=(",", ":")) + "\n" for line in [CATALOGUE, *asked])
+def input_of(asked, catalogue=CATALOGUE):
+    return "".join(json.dumps(line, separators=(",", ":")) + "\n" for line in [catalogue, *asked])
 
 
-def soak(asked, seed, partitions, options):
+def soak(asked, catalogue, seed, partitions, options):
     """Runs the requests on so many partitions, checks the report, and prints what was counted."""
     begun = time.perf_counter()
     words = [PROGRAM, "-", "run", "--partitions", str(partitions), *options]
-    done = subprocess.run(words, input=input_of(asked).encode(), capture_output=True)
+    done = subprocess.run(words, input=input_of(asked, catalogue).encode(), capture_output=True)
     took = time.perf_counter() - begun
     assert done.returncode == 0, f"status {done.returncode}"
-    entries, steps = check(asked, done.stdout.decode())
+    entries, steps = check(asked, done.stdout.decode(), catalogue)
     where = f"seed {seed}, {partitions} partition{'s' * (partitions > 1)}"
     print(f"{where}: {entries:,} entries, {steps:,} of them steps, in {took:.2f} s: all as SQLite has them", flush=True)
 
@@ -292,23 +332,25 @@ def main():
     parser.add_argument("--partitions", type=lambda word: [int(part) for part in word.split(",")], default=[8])
     parser.add_argument("--one-door", action="store_true")
     parser.add_argument("--installs", action="store_true")
+    parser.add_argument("--nests", action="store_true")
     parser.add_argument("--checkpoint", metavar="K")
     parser.add_argument("--write", metavar="FILE")
     parser.add_argument("--check", nargs=2, metavar=("INPUT", "REPORT"))
     given = parser.parse_args()
     if given.check:
-        asked = [json.loads(line) for line in open(given.check[0])][1:]
-        print("%d entries, %d of them steps: all as SQLite has them" % check(asked, open(given.check[1]).read()))
+        catalogue, *asked = [json.loads(line) for line in open(given.check[0])]
+        print("%d entries, %d of them steps: all as SQLite has them" % check(asked, open(given.check[1]).read(), catalogue))
         return
+    catalogue = with_nests(CATALOGUE) if given.nests else CATALOGUE
     if given.write:
-        open(given.write, "w").write(input_of(requests_of(given.requests, given.clients, given.seed, given.one_door, given.installs)))
+        open(given.write, "w").write(input_of(requests_of(given.requests, given.clients, given.seed, given.one_door, given.installs, catalogue), catalogue))
         return
     if not os.access(PROGRAM, os.X_OK):
         sys.exit("the program isn't built: run ./sstore - run < examples/stored_run.jsonl first")
     for seed in range(given.seed, given.seed + given.runs):
-        asked = list(requests_of(given.requests, given.clients, seed, given.one_door, given.installs))
+        asked = list(requests_of(given.requests, given.clients, seed, given.one_door, given.installs, catalogue))
         for partitions in given.partitions:
-            soak(asked, seed, partitions, ["--checkpoint", given.checkpoint] if given.checkpoint else [])
+            soak(asked, catalogue, seed, partitions, ["--checkpoint", given.checkpoint] if given.checkpoint else [])
 
 
 if __name__ == "__main__":

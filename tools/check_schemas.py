@@ -4,8 +4,9 @@
     python3 tools/check_schemas.py
 
 A line that a case says is refused by C1 or C11 has to be refused by its schema without its counts (maxItems, and of requests
-maxLength), one refused by C10 or C14 by its counts alone; one refused by another code has to pass but for counts, and one that
-is read has to pass. A refused body has the code of the catalogue that it would make, and one of no procedure isn't looked at.
+maxLength), one refused by C10 or C14 by its counts alone, one refused by N1 by either; one refused by another code has to pass but
+for counts, and one that is read has to pass. A refused body has the code of the catalogue that it would make, and one of no
+procedure, or of a nest, isn't looked at; nor are nests behind another fault of their catalogue.
 Counted apart is what passes since a schema can't say it: a slide above its size, more steps with those inside of a for_each than
 a body may have, an installed step that another kind of procedure may have, a text with more bytes than characters, and 1.0 or -0,
 which are integers to JSON Schema.
@@ -20,7 +21,7 @@ from shared import Wrong, end, file_text, json_value, options
 
 TOP = os.path.dirname(os.path.dirname(os.path.abspath(__file__)))
 DATA = os.path.join(TOP, "crates/ss_cases/data")
-FORM, COUNTS = ("C1", "C11"), ("C10", "C14")
+FORM, COUNTS, EITHER = ("C1", "C11"), ("C10", "C14"), ("N1",)
 KEPT_TO_A_KIND = {"insert", "return_all", "return", "emit", "for_each"}  # forms of steps
 
 
@@ -163,12 +164,22 @@ def pieces_of(text, refused):
             pass
 
 
-def judged(piece, code, found):
-    """Whether what a schema found of a line agrees with the code by which the program refuses it, which is empty where it doesn't."""
-    needed = "form" if code in FORM else "counts" if code in COUNTS else ""
-    if found == needed or (code and not needed and found == "counts") or (code == "C12" and "install" in json.loads(piece)):
-        return "agreed"
-    return "apart" if needed and not found and is_apart(piece) else "wrong"
+def without_nests(piece):
+    """A line whose nests are not looked at, since it is refused before they are."""
+    line = json.loads(piece) if '"nests"' in piece else None
+    return json.dumps({**line, "nests": []}) if isinstance(line, dict) and "nests" in line else piece
+
+
+def judged(piece, code, refused):
+    """Whether what a schema finds of a line agrees with the code by which the program refuses it, which is empty where it doesn't; and what
+    it finds."""
+    if code in ("C12", "C16") and "install" in json.loads(piece):
+        return "agreed", ""
+    found = refused(without_nests(piece) if code and not code.startswith("N") else piece)
+    needed = "form" if code in FORM or code in EITHER else "counts" if code in COUNTS else ""
+    if found == needed or (code and not needed and found == "counts") or (code in EITHER and found):
+        return "agreed", found
+    return "apart" if needed and not found and is_apart(piece) else "wrong", found
 
 
 def main():
@@ -182,8 +193,7 @@ def main():
             continue
         refused = catalogue
         for number, piece in pieces_of(text, line):
-            found = refused(piece)
-            answer = judged(piece, code if number == line else "", found)
+            answer, found = judged(piece, code if number == line else "", refused)
             counts[answer] += 1
             if answer == "wrong":
                 print(f"{where}: the schema finds {found or 'nothing'} in {piece[:200]}, of which the program says {printed[:100]}")

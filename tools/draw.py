@@ -7,8 +7,9 @@
 
 CATALOGUE is an input, or a file with the catalogue alone. It is drawn as it is written, or with the bodies that the input's
 requests install, each later one in place of those before it, in the order of lines. Streams are arrows from who feeds them to who takes them; of each
-procedure it says what it touches, reads and writes, with its windows and triggers. What SQL names is found by its words alone,
-so it may be drawn of a catalogue that is still refused. Status 0: done; 1: the file is wrong; 2: the options are.
+procedure it says what it touches, reads and writes, with its windows and triggers. A nest is one box round its members, with the
+streams between them in it. What SQL names is found by its words alone, so it may be drawn of a catalogue that is still refused.
+Status 0: done; 1: the file is wrong; 2: the options are.
 """
 import html
 import re
@@ -17,7 +18,7 @@ from shared import STEP, Wrong, catalogue_of, end, file_text, has_form, json_val
 
 CLIENTS, NOBODY = "clients", "nobody"
 LETTER, LINE, PAD, GAP = 7.3, 17, 9, 26  # the width of a letter, the height of a line, the space in a box and between boxes
-STYLE = "text{font:12px monospace;fill:#222}.name{font-weight:bold}rect{fill:#f4f6fa;stroke:#567}path{fill:none;stroke:#567}"
+STYLE = "text{font:12px monospace;fill:#222}.name{font-weight:bold}rect{fill:#f4f6fa;stroke:#567}path{fill:none;stroke:#567}rect.nest{fill:#fff;stroke-width:2}"
 
 
 def texts_of(step):
@@ -77,6 +78,40 @@ def links_of(catalogue, feeds):
     return [(f, name, t) for name in feeds for f in feeds[name] or [CLIENTS] for t in takers[name] or [NOBODY]]
 
 
+class Nest:
+    """A box round the boxes of members: what it says of itself, the boxes, and the arrows between them."""
+
+    def __init__(self, lines, boxes, links):
+        self.lines, self.boxes, self.links = lines, boxes, links
+
+
+def members_of(catalogue, names):
+    """Of each member of a nest that is drawn its nest. Who is named twice is in the first."""
+    found = {}
+    for nest in catalogue["nests"]:
+        for name in nest["procedures"]:
+            if name in names:
+                found.setdefault(name, nest["name"])
+    return found
+
+
+def nested(boxes, links, nests, catalogue):
+    """The boxes and arrows of a drawing in which members, whose nests are given, stand inside of these."""
+    touch = {p["name"]: touched(p["touch"]) for p in catalogue["procedures"]}
+    members = {nest["name"]: [name for name in dict.fromkeys(nest["procedures"]) if nests.get(name) == nest["name"]] for nest in catalogue["nests"][::-1]}
+    outer = {}
+    for name, lines in boxes.items():
+        nest = nests.get(name)
+        if nest is None:
+            outer[name] = lines
+        elif name == members[nest][0]:  # the nest's place
+            inside = [link for link in links if nests.get(link[0]) == nest and nests.get(link[2]) == nest]
+            touches = dict.fromkeys(touch[member] for member in members[nest])
+            outer[nest] = Nest([f"nest, {' and '.join(touches)}"], {member: boxes[member] for member in members[nest]}, inside)
+    seen = [(nests.get(f, f), stream, nests.get(t, t)) for f, stream, t in links if f not in nests or nests[f] != nests.get(t)]
+    return outer, list(dict.fromkeys(seen))
+
+
 def tree(node, links, seen, front=""):
     """The arrows from a node on, in lines that are indented by what leads there."""
     mine = [link for link in links if link[0] == node]
@@ -100,9 +135,18 @@ def in_text(boxes, links, tables):
         if root not in seen:  # what no client reaches is fed by itself
             seen.add(root)
             yield from [root, *tree(root, links, seen), ""]
-    for name, lines in boxes.items():
-        yield from [name, *("    " + line for line in lines)]
+    for name, box in boxes.items():
+        yield from framed(name, box) if isinstance(box, Nest) else [name, *("    " + line for line in box)]
     yield from ["", *tables] if tables else []
+
+
+def framed(name, nest):
+    """A nest for a terminal: its members behind a line at the left, and the streams between them."""
+    yield from [f"┌─ {name}", *("│      " + line for line in nest.lines)]
+    for member, lines in nest.boxes.items():
+        yield from [f"│  {member}", *("│      " + line for line in lines)]
+    yield from (f"│  {stream}: {feeder} ─> {taker}" for feeder, stream, taker in nest.links)
+    yield "└─"
 
 
 def back_links(links):
@@ -124,7 +168,7 @@ def back_links(links):
 
 def columns_of(boxes, links):
     """The boxes of the workflows in columns, each behind those that feed it; an arrow that passes a column has a point there."""
-    depth, back = {CLIENTS: 0}, back_links(links)
+    depth, back = {link[0]: 0 for link in links if link[0] == CLIENTS}, back_links(links)
     depth.update({node: 1 for link in links for node in link[::2] if node != CLIENTS})
     for _ in boxes:  # no path is longer
         for feeder, _, taker in (link for link in links if link not in back):
@@ -135,12 +179,25 @@ def columns_of(boxes, links):
         for point in points:
             columns[point[3]].append(point)
         arrows.append((stream, [feeder, *points, taker]))
-    return columns, arrows
+    return [column for column in columns if column], arrows
 
 
-def size_of(name, lines):
-    """The width and height of a box."""
-    return max(map(len, [name, *lines])) * LETTER + 2 * PAD, (len(lines) + 1) * LINE + 2 * PAD
+def size_of(name, box):
+    """The width and height of a box, or of a nest with all that is in it."""
+    lines = box.lines if isinstance(box, Nest) else box
+    width, height = max(map(len, [name, *lines])) * LETTER + 2 * PAD, (len(lines) + 1) * LINE + 2 * PAD
+    if isinstance(box, Nest):
+        _, _, wide, high = inside_of(box)
+        width, height = max(width, wide), height + high
+    return width, height
+
+
+def inside_of(nest):
+    """The arrows between members, where each member is, and the width and height that they take."""
+    columns, arrows = columns_of(nest.boxes, nest.links) if nest.links else ([], [])
+    apart = [name for name in nest.boxes if not any(name in column for column in columns)]  # where the nest is still refused
+    at, height = placed([*columns, *([apart] if apart else [])], nest.boxes, max((len(link[1]) for link in nest.links), default=0))
+    return arrows, at, max(left + width for left, _, width, _ in at.values()) + PAD, height
 
 
 def placed(columns, boxes, widest):
@@ -168,14 +225,29 @@ def in_rows(names, boxes, top, most):
     return at, top + high + GAP
 
 
-def box_in_svg(name, lines, place):
-    """A box with its lines."""
+def box_in_svg(name, box, place):
+    """A box with its lines, and of a nest the members inside."""
     left, top, width, height = place
-    yield f'<rect x="{left:.0f}" y="{top:.0f}" width="{width:.0f}" height="{height:.0f}" rx="5"/>'
+    lines, kind = (box.lines, ' class="nest"') if isinstance(box, Nest) else (box, "")
+    yield f'<rect{kind} x="{left:.0f}" y="{top:.0f}" width="{width:.0f}" height="{height:.0f}" rx="5"/>'
     for number, line in enumerate([name, *lines]):
         kind = "" if number else ' class="name"'
         indent = (len(line) - len(line.lstrip())) * LETTER
         yield f'<text{kind} x="{left + PAD + indent:.0f}" y="{top + PAD + LINE * (number + 0.7):.0f}">{html.escape(line.strip())}</text>'
+    if isinstance(box, Nest):
+        arrows, at, _, _ = inside_of(box)
+        yield f'<g transform="translate({left:.0f} {top + (len(lines) + 1) * LINE + PAD:.0f})">'
+        yield from drawn_in_svg(arrows, at, box.boxes)
+        yield "</g>"
+
+
+def drawn_in_svg(arrows, at, boxes):
+    """Arrows, and the boxes that they lead to."""
+    ports = ports_of(arrows, at)
+    for stream, stops in arrows:
+        yield from arrow_in_svg(stream, stops, at, ports)
+    for name in (node for node in at if isinstance(node, str)):
+        yield from box_in_svg(name, boxes.get(name, []), at[name])
 
 
 def arrow_in_svg(stream, stops, at, ports):
@@ -216,10 +288,7 @@ def in_svg(boxes, links, tables):
     yield '<defs><marker id="tip" markerWidth="9" markerHeight="8" refX="8" refY="4" orient="auto">'
     yield '<path d="M0 0 L8 4 L0 8 z" style="fill:#567"/></marker></defs>'
     yield f'<rect width="{width:.0f}" height="{height:.0f}" style="fill:#fff;stroke:none"/>'
-    for stream, stops in arrows:
-        yield from arrow_in_svg(stream, stops, at, ports_of(arrows, at))
-    for name in (node for node in at if isinstance(node, str)):
-        yield from box_in_svg(name, boxes.get(name, []), at[name])
+    yield from drawn_in_svg(arrows, at, boxes)
     for number, line in enumerate(tables):
         yield f'<text x="{PAD}" y="{top + LINE * (number + 0.7):.0f}">{html.escape(line)}</text>'
     yield "</svg>"
@@ -252,7 +321,8 @@ def main():
     if not boxes:
         raise Wrong(f"{asked.catalogue}: the catalogue has no procedure to draw")
     tables = [] if asked.streams else tables_of(catalogue)
-    for line in (in_svg if asked.svg else in_text)(boxes, links_of(catalogue, feeds), tables):
+    boxes, links = nested(boxes, links_of(catalogue, feeds), members_of(catalogue, boxes), catalogue)
+    for line in (in_svg if asked.svg else in_text)(boxes, links, tables):
         print(line)
 
 

@@ -45,11 +45,18 @@ CODES = {
     "C8": "this stream has not the ends that it needs, a trigger is on it that may not be, or it is of another workflow",
     "C9": "the owner of this window is a call procedure, or SQL of another procedure than its owner names it",
     "C10": "there are too many of these",
+    "N1": "the value at this path is not what may stand among nests, which have two to eight procedures each",
+    "N2": "no border or interior procedure has this name",
+    "N3": "this is in nests twice, or the name of a nest that is a procedure's or another nest's too",
+    "N4": "a later member of this nest takes what none before it emits, or a stream goes from one of it to members and to others",
+    "N5": "the members of this nest have several touch sets",
+    "N6": "a member of this nest owns a window of batches",
     "C11": "the line is no request",
     "C12": "no call procedure, no border stream, or for an install no procedure, has that name",
     "C13": "the arguments, or a row, have another number of values or another type, or a text has more than 255 bytes",
     "C14": "a push has more than 1,024 rows",
     "C15": "the catalogue with this body in the place of the procedure's own would be refused",
+    "C16": "a nest has its own body and gets no other",
 }
 SQL = {
     "S1": "no token begins here",
@@ -134,15 +141,24 @@ def shown_value(text, path):
     yield f"    {path} is {shown[:200]}" + (" .." if shown[200:] else "")
 
 
+def shown_nests(text, name):
+    """The nests that have this name, or a member that has it."""
+    for nest in json.loads(text)["nests"]:
+        if name == nest["name"] or name in nest["procedures"]:
+            yield "    " + json.dumps(nest, ensure_ascii=False)
+
+
 def place_of(lines, number, code, rest):
     """The place of a refusal in the input, or nothing where it isn't there."""
     text = lines[number - 1] if 0 < number <= len(lines) else ""
     try:
         if code in ("C4", "C7"):
             yield from shown_sql(text, rest)
-        elif code == "C1":
+        elif code in ("C1", "N1"):
             yield from shown_value(text, rest[0])
-        elif code in ("L4", "C11", "C12", "C13", "C14") and text:
+        elif code in ("N2", "N3", "N4", "N5", "N6"):
+            yield from shown_nests(text, rest[0])
+        elif code in ("L4", "C11", "C12", "C13", "C14", "C16") and text:
             yield "    " + text[:200] + (" .." if text[200:] else "")
     except (AttributeError, IndexError, KeyError, TypeError, ValueError, RecursionError):
         yield "    (the line of the input has no such place: is it the input that was refused?)"

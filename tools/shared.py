@@ -17,6 +17,7 @@ CATALOGUE = {
     "procedures?": [
         {"name": str, "kind": {"call", "border", "interior"}, "args?": [COLUMN], "inputs?": [str], "touch": object, "body": [STEP]}
     ],
+    "nests?": [{"name": str, "procedures": [str]}],
 }
 KINDS = {str: "a text", int: "an integer", list: "an array", dict: "an object", tuple: "a pair of a name and a type"}
 

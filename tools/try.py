@@ -35,6 +35,9 @@ FILES = {  # in a folder of their own, $T
     '{"name":"b","kind":"border","inputs":["in"],"touch":"all","body":[{"emit":"on","sql":"SELECT k, s FROM in"}]}]}',
     "install.jsonl": '{"procedures":[{"name":"c","kind":"call","touch":{"part":0},"body":[]}]}\n{"call":"c","args":[]}\n{"client":1,"install":"c","body":[{"return":"SELECT x FROM t"},{"sql":7}]}\n'
     '{"install":"nope","body":[]}\n{"install":"c","body":7}\n{"install":"c","body":[{"return_all":"u"},{"return":"SELECT y FROM u"}]}\n',
+    "nests.json": '{"streams":[{"name":"s","columns":[["k","int"]]},{"name":"l","columns":[["k","int"]]}],"procedures":['
+    '{"name":"a","kind":"border","inputs":["s"],"touch":{"part":0},"body":[{"emit":"l","sql":"SELECT k FROM s"}]},{"name":"b","kind":"interior","inputs":["l"],"touch":"all","body":[]},'
+    '{"name":"c","kind":"interior","inputs":["l"],"touch":"all","body":[]}],"nests":[{"name":"n","procedures":["a","nope","b","b"]},{"name":"m","procedures":["b","c"]},{"name":"e","procedures":["gone"]}]}',
     "jsonschema.py": "raise ImportError",
     "store/selector": b"\0",
     "store/gen1": bytes.fromhex(HEAD + LOG),
@@ -67,6 +70,11 @@ CASES = [
     ("draw.py --streams examples/bank.jsonl", "", 1, "no procedure"),
     ("draw.py --installed examples/hotfix.jsonl", "", 0, "as line 8 installs it"),
     ("draw.py --installed $T/install.jsonl", "", 1, "line 3: $.body[1].sql: not a text"),
+    *(("draw.py examples/voting_nest.jsonl", "", 0, said) for said in ("└─ votes_in ─> vote", "┌─ vote", "│      nest, part 0", "│  leaderboard", "│  recorded: validate ─> leaderboard")),
+    ("draw.py --svg examples/voting_nest.jsonl", "", 0, '<rect class="nest"'),
+    *(("draw.py --streams $T/nests.json", "", 0, said) for said in ("   └─ l ─> m", "│      nest, part 0 and all parts", "│  l: a ─> b", "│  c")),
+    *(("draw.py --svg $T/nests.json", "", 0, said) for said in ('<rect class="nest"', "</svg>")),
+    *((f"draw.py examples/refused/{name}.jsonl", "", 0, said) for name, said in (("n01", "┌─ both"), ("n03", "┌─ others"), ("n04", "   └─ told ─> note"))),
     (CALL, "7,a\n", 0, '{"call":"c","args":[7,"a"]}'),
     (CALL + " --client 7 --header", "s,more,k\n\"b,\n\",x,-9223372036854775808\n", 0, '{"client":7,"call":"c","args":[-9223372036854775808,"b,\\n"]}'),
     (PUSH + " --seq 5 --rows 1 --source me", "7,a\n8,b\n", 0, '{"push":"in","source":"me","seq":5,"rows":[[7,"a"]]}'),
@@ -97,6 +105,12 @@ CASES = [
     ("explain.py $T/install.jsonl", '["input",3,"C15","C1","$.procedures[0].body[1].sql"]', 0, "    $.procedures[0].body[1].sql is 7"),
     ("explain.py $T/install.jsonl", '["input",6,"C15","C4","c",1,"S5",7]', 0, "           ^ nothing in scope has this name"),
     ("explain.py $T/install.jsonl", '["input",3,"C15","C1","$.procedures[0].body[7]"]', 0, "(the line of the input has no such place"),
+    *((f"explain.py examples/refused/{name}.jsonl", said, 0, shown) for name, said, shown in (
+        ("n01", '["input",1,"N1","$.nests[0].procedures"]', '    $.nests[0].procedures is ["hear"]'), ("n02", '["input",1,"N2","look"]', '    {"name": "both", "procedures": ["hear", "look"]}'),
+        ("n03", '["input",1,"N3","tell"]', '    {"name": "others", "procedures": ["tell", "note"]}'), ("n04", '["input",1,"N4","both"]', "line 1: N4: a later member"),
+        ("n05", '["input",1,"N5","both"]', "line 1: N5: the members"), ("n06", '["input",1,"N6","both"]', "line 1: N6: a member"), ("c16", '["input",3,"C16"]', '    {"install":"both","body":[]}'),
+        ("c01", '["input",1,"N4","both"]', "(the line of the input has no such place"))),
+    ("explain.py", '["input",3,"C16"]', 0, "line 3: C16: a nest has its own body and gets no other"),
     ("explain.py", '["install",0,0,0,["done",[]]]\n["done",1]', 0, "1 entry"),
     ("explain.py", '["install",0,0,0,["done",[]]]', 0, "the report breaks off"),
     ("explain.py", '["voter",4,4,12,23]', 0, "4 votes asked for, 4 pushes done, 12 steps, 23 entries"),

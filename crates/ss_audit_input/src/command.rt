@@ -11,9 +11,9 @@ ghost use Rattle.ss_audit_input.specs.Told.{AuditComes, HasVerdict, TellsAuditFa
 use crate::input::audit_lines;
 use crate::verdict::tell_verdict;
 use ss_audit::Verdict;
-use ss_catalog::a_value_has_one_answer;
 use ss_catalog_requests::a_request_has_one_answer;
 use ss_lines::{Sink, Source, read_lines};
+use ss_nest::a_nested_value_has_one_answer;
 use ss_refusals::{InputError, Status, refuse};
 use std::alloc::Global;
 
@@ -46,7 +46,7 @@ pub fn audit_input<S: Source, K: Sink>(alloc: Global, source: &mut S, sink: &mut
     ensures counts { (S.kind.faults source.old ≤ S.kind.faults source.new) × (K.kind.faults sink.old ≤ K.kind.faults sink.new) }
 {
     // Do nothing: they state the laws by which an input with a script and a report isn't refused.
-    a_value_has_one_answer();
+    a_nested_value_has_one_answer();
     a_request_has_one_answer();
     match audit_source(alloc, source) {
         Ok(verdict) => tell_verdict(alloc, sink, verdict),

@@ -137,7 +137,7 @@ fn verdict_of(
 
 /// What an audit of these lines answers, or their first refusal.
 ///
-/// Costs what `read_catalog`, `request_of` and `audit` cost, and time linear in the bytes.
+/// Costs what `read_nested`, `request_of` and `audit` cost, and time linear in the bytes.
 pub(crate) fn audit_lines(alloc: Global, lines: &[Line]) -> Result<Verdict, InputError>
     ensures ok { IfOk result (IsVerdict lines.now) }
     ensures refused { IfErr result (RefusesAudit lines.now) }

@@ -15,7 +15,7 @@
 //!
 //! Of units and batches a list of more than 32 rows stands as their number. The definitions ask for no accepted catalogue,
 //! so the base of a `replay` is read without the checks behind its SQL; where a line installs a body, with them, since the
-//! body may then be installed from the beginning on. All entries are those of client 0.
+//! body may then be installed from the beginning on, and so is one with nests. All entries are those of client 0.
 
 use crate::catalogs::{catalog_with_bodies, installs_in};
 use crate::entries::{Asker, entry_of};
@@ -84,11 +84,19 @@ fn unchecked_catalog(alloc: Global, base: &str) -> Result<Catalog, Wrong> {
     catalog
 }
 
-/// The catalogue of a base, in which the bodies may be installed that lines install. Only where there is such a line the base
-/// is read with all checks.
+/// Whether a base has a section of nests.
+fn has_nests(alloc: Global, base: &str) -> Result<bool, Wrong> {
+    let value = json_of(alloc, base)?;
+    let is_there = value.get("nests").is_some();
+    drop(value);
+    Ok(is_there)
+}
+
+/// The catalogue of a base, in which the bodies may be installed that lines install. Only where there is such a line, or a section
+/// of nests, the base is read with all checks.
 fn catalog_for(alloc: Global, base: &str, lines: &str) -> Result<Catalog, Wrong> {
     let installs = installs_in(alloc, lines)?;
-    if installs.is_empty() {
+    if installs.is_empty() && !has_nests(alloc, base)? {
         unchecked_catalog(alloc, base)
     } else {
         catalog_with_bodies(alloc, base, installs.as_slice())

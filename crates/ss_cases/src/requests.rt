@@ -37,8 +37,10 @@ const RIGHT: &str = "[\"audit\",\"yes\",";
 const ON_PARTITIONS: [&str; 3] = ["run", "run --partitions 2", "run --partitions 8"];
 
 /// Those on which an audited block runs. Each store has the log of all executions, from which a recovery has its tables.
-const AUDITED: [&str; 3] = [
+const AUDITED: [&str; 5] = [
+    "run",
     "run --partitions 2",
+    "run --partitions 3",
     "run --partitions 8",
     "run --partitions 8 --checkpoint 7",
 ];

@@ -90,6 +90,7 @@ any_spares catalog spares others q p steps k = record {
   local = λ args. let u = k.local args in record { steps = u.steps; owned = u.owned; triggers = u.triggers };
   limited = k.limited;
   emits = k.emits;
+  adds = k.adds;
 }
 
 module _ (catalog : Catalog) (all : OtherBodies catalog) (q : ℕ) (b : Body) (may : MayHave catalog q b.steps) where

@@ -30,5 +30,6 @@ mod resolve;
 pub use bodies::{add_spare, body_of, read_body};
 pub use error::{CatalogError, Counted, SqlFault, Word};
 pub use laws::{a_body_has_one_answer, a_value_has_one_answer};
-pub use read::read_catalog;
+pub use read::{read_catalog, what_reads_is_accepted};
+pub use resolve::text_of;
 pub use ss_model::{Body, Catalog};

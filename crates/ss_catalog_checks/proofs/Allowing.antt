@@ -25,14 +25,15 @@ use Rattle.ss_model.specs.declared.catalog.Placement.{Placement}
 use Rattle.ss_model.specs.declared.catalog.Placement.TheVariants.{Part as PlacedAt, By}
 use Rattle.ss_model.specs.declared.catalog.Procedure.{Procedure}
 use Rattle.ss_model.specs.declared.catalog.Step.{Step}
-use Rattle.ss_model.specs.declared.catalog.Step.TheVariants.{Sql, AbortIf, ForEach, Emit, Return}
+use Rattle.ss_model.specs.declared.catalog.Step.TheVariants.{Sql, AbortIf, ForEach, Emit, Local, Return}
 use Rattle.ss_model.specs.declared.catalog.Touch.{Touch}
 use Rattle.ss_model.specs.declared.catalog.Touch.TheVariants.{Part, Arg, Multi, All}
 use Rattle.ss_model.specs.declared.catalog.TriggerDef.{TriggerDef}
 use Rattle.ss_model.specs.Claims.{Claims, SourceClaim, JoinClaim, QueryClaim, ValuesClaim, RowsClaim, StatementClaim, TriggerClaim, InnerClaim, StepClaim, UsesOnly}
 use Rattle.ss_model.specs.Conjuncts.{IsLimited, SourceLimited, JoinLimited, QueryLimited, StatementLimited, StepLimited}
 use Rattle.ss_model.specs.Contents.{default_window, owner_from, window_owner, table_placement}
-use Rattle.ss_model.specs.Database.{emits_to}
+use Rattle.ss_model.specs.Database.{emits_to, streams_read}
+use Rattle.ss_model.specs.Nests.{IsPlain, is_plain_step}
 use Rattle.ss_model.specs.Feeds.{goes_into}
 use Rattle.ss_model.specs.Partitions.{GivesArgument, SelectsArgument, local_claims}
 use Rattle.ss_catalog_checks.specs.Localities.{is_limited, is_argument, is_argument_item, gives_argument, selects_argument, is_local_source, is_local_join, is_local_query, takes_values, takes_items, is_local_statement, is_local_inner, verdicts, first_refused, refused_of, breaks_in, refused_in, IsFirstSite}
@@ -183,6 +184,7 @@ module _ (catalog : Catalog) (q : ℕ) (p : Procedure) where
   step_limited (Return x) h = query_limited x ((and_parts _ _ h).0)
   step_limited (ForEach input body) h = tt
   step_limited (Emit s x) h = tt
+  step_limited (Local s x) h = tt
 
   -- each step of a body of which none is refused
   pub body_limited : (body : List Step) → list_all (λ b. b) (flat_map (verdicts catalog p.touch) body) ≡ true → AllByRecursion (StepLimited catalog p.touch) body
@@ -232,6 +234,7 @@ module _ (catalog : Catalog) (inputs : ℕ) (inserted : Bool) (w : ℕ) where
   step_there (AbortIf c code) h e = query_there c.query h e
   step_there (ForEach input body) h e = any_of_both (w < length catalog.windows) (inner_names w) (inner_in_scope catalog inputs inserted) (λ x y g. inner_there x g y) body ((and_parts _ _ h).1) e
   step_there (Emit s x) h e = query_there x ((and_parts _ _ h).1) e
+  step_there (Local s x) h e = query_there x ((and_parts _ _ h).1) e
   step_there (Return x) h e = query_there x h e
 
 -- ---- tests that none passes
@@ -279,7 +282,7 @@ first_not false b h e = refl
 
 -- ---- a procedure of a catalogue of which nothing is refused
 
-module _ (catalog : Catalog) (scope : catalog_in_scope catalog ≡ true) (allowed : IsFirstSite catalog None) (unrefused : refused_window catalog ≡ None) (q : ℕ) (p : Procedure) (is : slice_get catalog.procedures q ≡ Some p) where
+module _ (catalog : Catalog) (plain : IsPlain catalog) (scope : catalog_in_scope catalog ≡ true) (allowed : IsFirstSite catalog None) (unrefused : refused_window catalog ≡ None) (q : ℕ) (p : Procedure) (is : slice_get catalog.procedures q ≡ Some p) where
   abbrev claims : Claims
   claims = local_claims catalog q p
 
@@ -318,7 +321,7 @@ module _ (catalog : Catalog) (scope : catalog_in_scope catalog ≡ true) (allowe
   step_owns : (w : ℕ) → list_any (step_names w) p.body ≡ true → window_owner catalog w ≡ Some q
   step_owns w h =
       at_window w (window_owner catalog w ≡ Some q)
-      (any_of_both (w < length catalog.windows) (step_names w) (step_in_scope catalog (length p.inputs) false) (λ x y g. step_there catalog (length p.inputs) false w x g y) p.body in_scope h)
+      (any_of_both (w < length catalog.windows) (step_names w) (step_in_scope catalog (length (streams_read p)) false) (λ x y g. step_there catalog (length (streams_read p)) false w x g y) p.body in_scope h)
       (λ d e. step_owns_it w d e h)
 
   trigger_owns : (n : ℕ) (t : TriggerDef) → slice_get catalog.triggers n ≡ Some t → runs_in catalog t.on q ≡ true → (w : ℕ) → trigger_names w t ≡ true → window_owner catalog w ≡ Some q
@@ -356,27 +359,29 @@ module _ (catalog : Catalog) (scope : catalog_in_scope catalog ≡ true) (allowe
   runs_window (OnWindow m) w h e = ap (is_owner q) (subst (λ w. window_owner catalog w ≡ Some q) (eqb-true w m h) e) ∙ eq-eqb q q refl
   runs_window (OnStream m) w h e = absurd (cc)
 
-  step_claim : (args : Row) (x : Step) → list_all (λ b. b) (verdicts catalog p.touch x) ≡ true → ((w : ℕ) → step_names w x ≡ true → window_owner catalog w ≡ Some q) → ((s : ℕ) → emits_to s x ≡ true → procedure_emits catalog q s ≡ true) → StepClaim claims catalog args x
-  step_claim args (Sql s) h f g = statement_claim catalog q p args s ((and_parts _ _ h).0) f
-  step_claim args (AbortIf c code) h f g = query_claim catalog q p c.query ((and_parts _ _ h).0) f
-  step_claim args (Return x) h f g = query_claim catalog q p x ((and_parts _ _ h).0) f
-  step_claim args (ForEach input body) h f g = inners_claim catalog q p body h f
-  step_claim args (Emit s x) h f g = (
+  step_claim : (args : Row) (x : Step) → is_plain_step x ≡ true → list_all (λ b. b) (verdicts catalog p.touch x) ≡ true → ((w : ℕ) → step_names w x ≡ true → window_owner catalog w ≡ Some q) → ((s : ℕ) → emits_to s x ≡ true → procedure_emits catalog q s ≡ true) → StepClaim claims catalog args x
+  step_claim args (Sql s) plainly h f g = statement_claim catalog q p args s ((and_parts _ _ h).0) f
+  step_claim args (AbortIf c code) plainly h f g = query_claim catalog q p c.query ((and_parts _ _ h).0) f
+  step_claim args (Return x) plainly h f g = query_claim catalog q p x ((and_parts _ _ h).0) f
+  step_claim args (ForEach input body) plainly h f g = inners_claim catalog q p body h f
+  step_claim args (Local s x) plainly h f g = absurd (cc)
+  step_claim args (Emit s x) plainly h f g = (
     query_claim catalog q p x ((and_parts _ _ h).0) f,
     filtered_all (TriggerClaim claims) (λ t. is_on_stream s t.on) catalog.triggers (λ n t st on. trigger_claim n t st (runs_stream t.on s on (g s (eq-eqb s s refl)))),
   )
 
-  steps_claim : (args : Row) (body : List Step) → list_all (λ b. b) (flat_map (verdicts catalog p.touch) body) ≡ true → ((w : ℕ) → list_any (step_names w) body ≡ true → window_owner catalog w ≡ Some q) → ((s : ℕ) → list_any (emits_to s) body ≡ true → procedure_emits catalog q s ≡ true) → AllByRecursion (StepClaim claims catalog args) body
-  steps_claim args [] h f g = tt
-  steps_claim args (x ∷ body) h f g =
+  steps_claim : (args : Row) (body : List Step) → list_all is_plain_step body ≡ true → list_all (λ b. b) (flat_map (verdicts catalog p.touch) body) ≡ true → ((w : ℕ) → list_any (step_names w) body ≡ true → window_owner catalog w ≡ Some q) → ((s : ℕ) → list_any (emits_to s) body ≡ true → procedure_emits catalog q s ≡ true) → AllByRecursion (StepClaim claims catalog args) body
+  steps_claim args [] plainly h f g = tt
+  steps_claim args (x ∷ body) plainly h f g =
+      let each = and_parts (is_plain_step x) (list_all is_plain_step body) plainly in
       let r = all_of_two (verdicts catalog p.touch x) (flat_map (verdicts catalog p.touch) body) h in (
-        step_claim args x r.0 (λ w e. f w (or_left (step_names w x) _ e)) (λ s e. g s (or_left (emits_to s x) _ e)),
-        steps_claim args body r.1 (λ w e. f w (or_right (step_names w x) _ e)) (λ s e. g s (or_right (emits_to s x) _ e)),
+        step_claim args x each.0 r.0 (λ w e. f w (or_left (step_names w x) _ e)) (λ s e. g s (or_left (emits_to s x) _ e)),
+        steps_claim args body each.1 r.1 (λ w e. f w (or_right (step_names w x) _ e)) (λ s e. g s (or_right (emits_to s x) _ e)),
       )
 
   pub uses_only : (args : Row) → UsesOnly claims catalog q args p
   uses_only args = record {
-    steps = steps_claim args p.body body_allowed step_owns (λ s e. ap (procedure_has (λ d. list_any (emits_to s) d.body)) is ∙ e);
+    steps = steps_claim args p.body (plain q p is).1 body_allowed step_owns (λ s e. ap (procedure_has (λ d. list_any (emits_to s) d.body)) is ∙ e);
     owned = λ w e. e;
     triggers = λ w e. filtered_all (TriggerClaim claims) (λ t. is_on_window w t.on) catalog.triggers (λ n t st on. trigger_claim n t st (runs_window t.on w on e));
   }

@@ -1,12 +1,14 @@
 -- Where no stream is refused, streams end well.
 use Rattle.std.proofs.Common.{◌≡◌, ◌==◌, ◌<◌, ◌≤◌, ◌+◌, ◌⊎◌, inl, inr, ◌&&◌, ◌||◌, nat_lt, ℕ, zero, suc, Bool, true, false, cond, List, [], ◌∷◌, length, slice_get, unwrap_or, Option, Some, None, arith, refl, ap, sym, subst, ◌∙◌}
 use Rattle.std.specs.List.{cons_option, filter, filter_map, find, flat_map, list_all, list_any, range_with_len}
-use Rattle.std.proofs.lemmas.Bool.{and_parts, or_cases, not-false, eqb-true, ltb-true, leb-true}
+use Rattle.std.proofs.lemmas.Bool.{and_parts, both_ways, or_cases, not-false, eqb-true, ltb-true, leb-true}
 use Rattle.std.proofs.lemmas.Option.{slice_get-get_or}
 use Rattle.std.proofs.lemmas.List.Folds.{Any-from_list_any}
 use Rattle.std.proofs.lemmas.List.FromFn.{get_or-range_with_len, length-range_with_len}
 use Rattle.ss_lemmas.proofs.Bools.{some_same, any_of_both, any_at, at_index}
-use Rattle.ss_model.specs.Accepted.{StreamsEndWell}
+use Rattle.ss_model.specs.Accepted.{InnerStreams, StreamsEndWell, procedure_adds, procedure_nests}
+use Rattle.ss_model.specs.Nests.{IsPlain, is_plain_step}
+use Rattle.ss_model.specs.Results.{and_behind}
 use Rattle.ss_model.specs.declared.catalog.Catalog.{Catalog}
 use Rattle.ss_model.specs.declared.catalog.ProcedureKind.{ProcedureKind}
 use Rattle.ss_model.specs.declared.catalog.ProcedureKind.TheVariants.{Call as CallKind, Border, Interior}
@@ -14,10 +16,10 @@ use Rattle.ss_model.specs.declared.catalog.On.{On}
 use Rattle.ss_model.specs.declared.catalog.On.TheVariants.{Stream as OnStream, Window as OnWindow}
 use Rattle.ss_model.specs.declared.catalog.Procedure.{Procedure}
 use Rattle.ss_model.specs.declared.catalog.Step.{Step}
-use Rattle.ss_model.specs.declared.catalog.Step.TheVariants.{Sql, AbortIf, ForEach, Emit, Return}
+use Rattle.ss_model.specs.declared.catalog.Step.TheVariants.{Sql, AbortIf, ForEach, Emit, Local, Return}
 use Rattle.ss_model.specs.declared.catalog.TriggerDef.{TriggerDef}
 use Rattle.ss_model.specs.CatalogForm.{numbers_in_range, touch_in_range}
-use Rattle.ss_model.specs.Database.{emits_to, is_border, is_border_stream, takes_stream}
+use Rattle.ss_model.specs.Database.{adds_to, emits_to, is_border, is_border_stream, is_inner_stream, streams_read, takes_stream}
 use Rattle.ss_model.specs.Orders.{procedure_has, procedure_emits, procedure_takes}
 use Rattle.ss_model.specs.Scopes.{catalog_in_scope, procedure_in_scope, step_in_scope}
 use Rattle.ss_model.specs.Settling.{procedure_numbers, emitting_procedure, border_stream}
@@ -113,22 +115,62 @@ emit_there catalog inputs s (Emit t q) e h = subst (λ t. t < length catalog.str
 emit_there catalog inputs s (Sql st) e h = absurd (cc)
 emit_there catalog inputs s (AbortIf c code) e h = absurd (cc)
 emit_there catalog inputs s (ForEach input body) e h = absurd (cc)
+emit_there catalog inputs s (Local t q) e h = absurd (cc)
 emit_there catalog inputs s (Return q) e h = absurd (cc)
 
-module _ (catalog : Catalog) (numbers : numbers_in_range catalog ≡ true) (scope : catalog_in_scope catalog ≡ true) (none : refused_stream catalog ≡ None) where
+-- ---- a catalogue as it is written has no inner streams
+
+no_adds : (s : ℕ) (body : List Step) → list_all is_plain_step body ≡ true → list_any (adds_to s) body ≡ false
+no_adds s [] h = refl
+no_adds s (Sql st ∷ body) h = no_adds s body h
+no_adds s (AbortIf c code ∷ body) h = no_adds s body h
+no_adds s (ForEach input inner ∷ body) h = no_adds s body h
+no_adds s (Emit t q ∷ body) h = no_adds s body h
+no_adds s (Local t q ∷ body) h = absurd (cc)
+no_adds s (Return q ∷ body) h = no_adds s body h
+
+module _ (catalog : Catalog) (plain : IsPlain catalog) where
+  no_nests : (p s : ℕ) → procedure_nests catalog p s ≡ false
+  no_nests p s = by (slice_get catalog.procedures p) refl
+    where
+      by : (o : Option Procedure) → slice_get catalog.procedures p ≡ o → procedure_has (λ d. list_any (λ i. i == s) d.inner) o ≡ false
+      by None e = refl
+      by (Some d) e = ap (list_any (λ i. i == s)) (plain p d e).0
+
+  none_adds : (p s : ℕ) → procedure_adds catalog p s ≡ false
+  none_adds p s = by (slice_get catalog.procedures p) refl
+    where
+      by : (o : Option Procedure) → slice_get catalog.procedures p ≡ o → procedure_has (λ d. list_any (adds_to s) d.body) o ≡ false
+      by None e = refl
+      by (Some d) e = no_adds s d.body (plain p d e).1
+
+  no_inner : (s : ℕ) → is_inner_stream catalog s ≡ true → ⊥
+  no_inner s h =
+      let d = standing (λ p. list_any (λ i. i == s) p.inner) catalog.procedures h in
+      both_ways true (sym d.passes ∙ ap (list_any (λ i. i == s)) (plain d.number d.item d.stands).0) refl
+
+  pub no_inner_streams : InnerStreams catalog
+  no_inner_streams = record {
+    filled = λ p s. no_nests p s ∙ sym (none_adds p s);
+    one_nest = λ p q s h k. absurd (both_ways true (sym h ∙ no_nests p s) refl);
+    not_emitted = λ p s h. absurd (no_inner s h);
+    not_taken = λ q s h. absurd (no_inner s h);
+  }
+
+module _ (catalog : Catalog) (plain : IsPlain catalog) (numbers : numbers_in_range catalog ≡ true) (scope : catalog_in_scope catalog ≡ true) (none : refused_stream catalog ≡ None) where
   emits_there : (p s : ℕ) → procedure_emits catalog p s ≡ true → s < length catalog.streams
   emits_there p s e =
       let d = having (λ d. list_any (emits_to s) d.body) catalog.procedures p e in
       let h = at_index (procedure_in_scope catalog) catalog.procedures ((and_parts _ _ scope).0) p d.procedure d.stands in
-      any_of_both (s < length catalog.streams) (emits_to s) (step_in_scope catalog (length d.procedure.inputs) false) (emit_there catalog (length d.procedure.inputs) s) d.procedure.body h d.has
+      any_of_both (s < length catalog.streams) (emits_to s) (step_in_scope catalog (length (streams_read d.procedure)) false) (emit_there catalog (length (streams_read d.procedure)) s) d.procedure.body h d.has
 
   inputs_there : (p : Procedure) (s : ℕ) → list_all (λ s. nat_lt s (length catalog.streams)) p.inputs ≡ true → takes_stream s p ≡ true → s < length catalog.streams
   inputs_there p s h t = any_of_both (s < length catalog.streams) (λ i. i == s) (λ i. nat_lt i (length catalog.streams)) (λ i e l. subst (λ k. k < length catalog.streams) (eqb-true i s e) (ltb-true i _ l)) p.inputs h t
 
   takes_there : (n : ℕ) (p : Procedure) (s : ℕ) → slice_get catalog.procedures n ≡ Some p → takes_stream s p ≡ true → s < length catalog.streams
   takes_there n p s e t =
-      let h = at_index (λ p. list_all (λ s. nat_lt s (length catalog.streams)) p.inputs && touch_in_range p.args p.touch) catalog.procedures ((and_parts _ _ numbers).1) n p e in
-      inputs_there p s ((and_parts _ _ h).0) t
+      let h = at_index (λ p. list_all (λ s. nat_lt s (length catalog.streams)) (streams_read p) && touch_in_range p.args p.touch) catalog.procedures ((and_parts _ _ numbers).1) n p e in
+      inputs_there p s (subst (λ (inner : List ℕ). list_all (λ s. nat_lt s (length catalog.streams)) (and_behind p.inputs inner) ≡ true) (plain n p e).0 (and_parts _ _ h).0) t
 
   -- a border stream's border procedure
   border_standing : (s : ℕ) → is_border_stream catalog s ≡ true → Standing (λ p. is_border p.kind && takes_stream s p) catalog.procedures
@@ -234,7 +276,8 @@ module _ (catalog : Catalog) (numbers : numbers_in_range catalog ≡ true) (scop
   pub streams_end_well : StreamsEndWell catalog
   streams_end_well = record {
     wired = record { one_emitter = one_emitter; border_free = border_free; emits_there = emits_there; border_there = border_there };
-    fed = λ s l. fed_by s (ends s l);
+    inner = no_inner_streams catalog plain;
+    fed = λ s l outer. fed_by s (ends s l);
     taken = taken;
     one_consumer = one_consumer;
     no_trigger = no_trigger;

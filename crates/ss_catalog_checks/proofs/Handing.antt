@@ -7,7 +7,7 @@ use Rattle.std.proofs.lemmas.List.Folds.{list_any-append}
 use Rattle.ss_model.specs.declared.catalog.Catalog.{Catalog}
 use Rattle.ss_model.specs.declared.catalog.Procedure.{Procedure}
 use Rattle.ss_model.specs.declared.catalog.Step.{Step}
-use Rattle.ss_model.specs.declared.catalog.Step.TheVariants.{Sql, AbortIf, ForEach, Emit, Return}
+use Rattle.ss_model.specs.declared.catalog.Step.TheVariants.{Sql, AbortIf, ForEach, Emit, Local, Return}
 use Rattle.ss_model.specs.Database.{emits_to, takes_stream}
 use Rattle.ss_model.specs.Orders.{procedure_has, procedure_emits, procedure_takes}
 use Rattle.ss_model.specs.Settling.{procedure_numbers}
@@ -43,6 +43,7 @@ module _ (count p n m : ℕ) where
   emit_so (Sql st) h = absurd (cc)
   emit_so (AbortIf c code) h = absurd (cc)
   emit_so (ForEach input body) h = absurd (cc)
+  emit_so (Local s query) h = absurd (cc)
   emit_so (Return query) h = absurd (cc)
 
   emits_so : (body : List Step) → is_edge (flat_map (emit_edges count p) body) n m ≡ true → (s : ℕ) × (n ≡ p) × (m ≡ count + s) × (list_any (emits_to s) body ≡ true)
@@ -67,6 +68,7 @@ module _ (count p s : ℕ) where
   emit_edge_there (Sql st) h = absurd (cc)
   emit_edge_there (AbortIf c code) h = absurd (cc)
   emit_edge_there (ForEach input body) h = absurd (cc)
+  emit_edge_there (Local t query) h = absurd (cc)
   emit_edge_there (Return query) h = absurd (cc)
 
   emit_edges_there : (body : List Step) → list_any (emits_to s) body ≡ true → is_edge (flat_map (emit_edges count p) body) p (count + s) ≡ true

@@ -12,7 +12,7 @@ use Rattle.ss_model.specs.declared.catalog.On.{On}
 use Rattle.ss_model.specs.declared.catalog.On.TheVariants.{Stream as OnStream, Window as OnWindow}
 use Rattle.ss_model.specs.declared.catalog.Procedure.{Procedure}
 use Rattle.ss_model.specs.declared.catalog.Step.{Step}
-use Rattle.ss_model.specs.declared.catalog.Step.TheVariants.{Sql, AbortIf, ForEach, Emit, Return}
+use Rattle.ss_model.specs.declared.catalog.Step.TheVariants.{Sql, AbortIf, ForEach, Emit, Local, Return}
 use Rattle.ss_model.specs.declared.catalog.TriggerDef.{TriggerDef}
 use Rattle.ss_model.specs.Database.{emits_to}
 use Rattle.ss_model.specs.Accepted.{HasLevels, HasRanks, StagesBelow}
@@ -46,6 +46,7 @@ module _ (catalog : Catalog) where
   step_gives q (Sql st) h = absurd (cc)
   step_gives q (AbortIf c code) h = absurd (cc)
   step_gives q (ForEach input body) h = absurd (cc)
+  step_gives q (Local s query) h = absurd (cc)
   step_gives q (Return query) h = absurd (cc)
 
   step_hands : (q s : ℕ) (x : Step) → emits_to s x ≡ true → procedure_takes catalog q s ≡ true → step_hands_to q x ≡ true
@@ -53,6 +54,7 @@ module _ (catalog : Catalog) where
   step_hands q s (Sql st) e h = absurd (cc)
   step_hands q s (AbortIf c code) e h = absurd (cc)
   step_hands q s (ForEach input body) e h = absurd (cc)
+  step_hands q s (Local t query) e h = absurd (cc)
   step_hands q s (Return query) e h = absurd (cc)
 
   body_gives : (q : ℕ) (body : List Step) → list_any (step_hands_to q) body ≡ true → (s : ℕ) × (list_any (emits_to s) body ≡ true) × (procedure_takes catalog q s ≡ true)

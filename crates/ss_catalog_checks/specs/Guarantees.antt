@@ -7,6 +7,7 @@ use Rattle.ss_model.specs.CatalogForm.{numbers_in_range}
 use Rattle.ss_model.specs.Contents.{window_owner}
 use Rattle.ss_model.specs.Database.{is_streaming}
 use Rattle.ss_model.specs.Feeds.{BatchesGoForward}
+use Rattle.ss_model.specs.Nests.{IsPlain}
 use Rattle.ss_model.specs.Orders.{procedure_has}
 use Rattle.ss_model.specs.Scopes.{catalog_in_scope}
 use Rattle.ss_catalog_checks.specs.Cascades.{IsOnTriggerCycle}
@@ -29,9 +30,10 @@ UnreturningTriggersHaveRanks =
 abbrev pub UnreturningBatchesGoForward : Type 0
 UnreturningBatchesGoForward = (catalog : Catalog) → IsFirst (IsOnTriggerCycle catalog) None → BatchesGoForward catalog
 
--- law: where no stream is refused, streams end well
+-- law: where no stream of a plain catalogue is refused, streams end well
 abbrev pub UnrefusedStreamsEndWell : Type 0
-UnrefusedStreamsEndWell = (catalog : Catalog) → numbers_in_range catalog ≡ true → catalog_in_scope catalog ≡ true → refused_stream catalog ≡ None → StreamsEndWell catalog
+UnrefusedStreamsEndWell =
+    (catalog : Catalog) → IsPlain catalog → numbers_in_range catalog ≡ true → catalog_in_scope catalog ≡ true → refused_stream catalog ≡ None → StreamsEndWell catalog
 
 -- law: where no window is refused, a window's owner is a streaming procedure
 abbrev pub UnrefusedWindowsAreOwned : Type 0
@@ -39,8 +41,8 @@ UnrefusedWindowsAreOwned =
     (catalog : Catalog) → numbers_in_range catalog ≡ true → refused_window catalog ≡ None →
     (w q : ℕ) → window_owner catalog w ≡ Some q → procedure_has (λ p. is_streaming p.kind) (slice_get catalog.procedures q) ≡ true
 
--- law: where no SQL and no window is refused, each procedure uses what it may
+-- law: where no SQL and no window of a plain catalogue is refused, each procedure uses what it may
 abbrev pub UnrefusedSqlIsLocal : Type 0
 UnrefusedSqlIsLocal =
-    (catalog : Catalog) → catalog_in_scope catalog ≡ true → IsFirstSite catalog None → refused_window catalog ≡ None →
+    (catalog : Catalog) → IsPlain catalog → catalog_in_scope catalog ≡ true → IsFirstSite catalog None → refused_window catalog ≡ None →
     (q : ℕ) (p : Procedure) → slice_get catalog.procedures q ≡ Some p → UsesItsOwn catalog q p

@@ -22,7 +22,7 @@ use Rattle.ss_model.specs.declared.catalog.On.{On}
 use Rattle.ss_model.specs.declared.catalog.Inner.{Inner}
 use Rattle.ss_model.specs.declared.catalog.Inner.TheVariants.{Sql as InnerSql, AbortIf as InnerAbortIf}
 use Rattle.ss_model.specs.declared.catalog.Step.{Step}
-use Rattle.ss_model.specs.declared.catalog.Step.TheVariants.{Sql, AbortIf, ForEach, Emit, Return}
+use Rattle.ss_model.specs.declared.catalog.Step.TheVariants.{Sql, AbortIf, ForEach, Emit, Local, Return}
 use Rattle.ss_model.specs.declared.catalog.Procedure.{Procedure}
 use Rattle.ss_model.specs.declared.catalog.TriggerDef.{TriggerDef}
 use Rattle.ss_model.specs.Contents.{table_placement}
@@ -128,6 +128,7 @@ module _ (catalog : Catalog) (touch : Touch) where
   verdicts (AbortIf c code) = is_local_query c.query ∷ []
   verdicts (ForEach input body) = true ∷ map is_local_inner body
   verdicts (Emit s q) = is_local_query q ∷ []
+  verdicts (Local s q) = is_local_query q ∷ []
   verdicts (Return q) = is_local_query q ∷ []
 
   -- the first step of a body that is not allowed

@@ -12,7 +12,7 @@ use Rattle.ss_model.specs.declared.catalog.Inner.{Inner}
 use Rattle.ss_model.specs.declared.catalog.Inner.TheVariants.{Sql as InnerSql, AbortIf as InnerAbortIf}
 use Rattle.ss_model.specs.declared.catalog.On.{On}
 use Rattle.ss_model.specs.declared.catalog.Step.{Step}
-use Rattle.ss_model.specs.declared.catalog.Step.TheVariants.{Sql, AbortIf, ForEach, Emit, Return}
+use Rattle.ss_model.specs.declared.catalog.Step.TheVariants.{Sql, AbortIf, ForEach, Emit, Local, Return}
 use Rattle.ss_model.specs.declared.catalog.TriggerDef.{TriggerDef}
 use Rattle.ss_model.specs.declared.catalog.WindowDef.{WindowDef}
 use Rattle.ss_model.specs.Feeds.{goes_into}
@@ -53,6 +53,7 @@ module _ (w : ℕ) where
   step_names (AbortIf c code) = query_names c.query
   step_names (ForEach input body) = list_any inner_names body
   step_names (Emit s q) = query_names q
+  step_names (Local s q) = query_names q
   step_names (Return q) = query_names q
 
   -- a trigger names it

@@ -28,6 +28,7 @@ fn add_emit(
         Step::Sql(_) => Ok(()),
         Step::AbortIf { .. } => Ok(()),
         Step::ForEach { .. } => Ok(()),
+        Step::Local { .. } => Ok(()),
         Step::Return(_) => Ok(()),
     }
 }

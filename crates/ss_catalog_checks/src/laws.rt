@@ -18,7 +18,8 @@ pub fn unreturning_batches_go_forward()
     ensures { UnreturningBatchesGoForward }
 {}
 
-/// Where no stream is refused, emitters, consumers, triggers and workflows are those of an accepted catalogue.
+/// Where no stream of a plain catalogue is refused, emitters, consumers, triggers and workflows are those of an accepted
+/// catalogue.
 pub fn unrefused_streams_end_well()
     ensures { UnrefusedStreamsEndWell }
 {}
@@ -28,8 +29,8 @@ pub fn unrefused_windows_are_owned()
     ensures { UnrefusedWindowsAreOwned }
 {}
 
-/// Where no SQL and no window is refused, each procedure uses the tables that its touch set allows and its own
-/// windows, and reads split tables under an argument by that argument alone.
+/// Where no SQL and no window of a plain catalogue is refused, each procedure uses the tables that its touch set allows
+/// and its own windows, and reads split tables under an argument by that argument alone.
 pub fn unrefused_sql_is_local()
     ensures { UnrefusedSqlIsLocal }
 {}

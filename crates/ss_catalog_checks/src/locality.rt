@@ -75,6 +75,7 @@ fn add_step(
             add_inner(catalog, touch, body.as_slice(), all)
         }
         Step::Emit { query, .. } => add(all, is_local_query(catalog, touch, query)),
+        Step::Local { query, .. } => add(all, is_local_query(catalog, touch, query)),
         Step::Return(query) => add(all, is_local_query(catalog, touch, query)),
     }
 }

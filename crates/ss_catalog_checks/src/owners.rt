@@ -90,6 +90,7 @@ fn step_names(window: usize, step: &Step) -> bool
         Step::AbortIf { test, .. } => query_names(window, &test.query),
         Step::ForEach { body, .. } => inners_name(window, body.as_slice()),
         Step::Emit { query, .. } => query_names(window, query),
+        Step::Local { query, .. } => query_names(window, query),
         Step::Return(query) => query_names(window, query),
     }
 }

@@ -109,6 +109,7 @@ fn count_step(tallies: &mut Seq<Count>, step: &Step, mark: usize) -> Result<(), 
         Step::Sql(_) => Ok(()),
         Step::AbortIf { .. } => Ok(()),
         Step::ForEach { .. } => Ok(()),
+        Step::Local { .. } => Ok(()),
         Step::Return(_) => Ok(()),
     }
 }

@@ -73,6 +73,7 @@ fn set_step_emitters(
         Step::Sql(_) => Ok(()),
         Step::AbortIf { .. } => Ok(()),
         Step::ForEach { .. } => Ok(()),
+        Step::Local { .. } => Ok(()),
         Step::Return(_) => Ok(()),
     }
 }

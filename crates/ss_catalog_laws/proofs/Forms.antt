@@ -10,6 +10,7 @@ use Rattle.ss_model.specs.declared.catalog.TableDef.{TableDef}
 use Rattle.ss_model.specs.Accepted.{Keyed}
 use Rattle.ss_model.specs.CatalogForm.{all_distinct, is_of_kind, has_distinct_names, numbers_in_range, is_within_limits, has_window_sizes, has_distinct_numbers, has_parts, has_form}
 use Rattle.ss_model.specs.Contents.{table_placement, key_columns}
+use Rattle.ss_model.specs.Database.{streams_read}
 use Rattle.ss_catalog_outline.specs.declared.types.TriggerOutline.{TriggerOutline}
 use Rattle.ss_catalog_outline.specs.declared.types.ProcedureOutline.{ProcedureOutline}
 use Rattle.ss_catalog_outline.specs.declared.types.Outline.{Outline}
@@ -27,6 +28,7 @@ use Rattle.ss_catalog_laws.proofs.Known.{IsAmong, TableKnown, ProcedureKnown, Ou
 use Rattle.ss_catalog_laws.proofs.Within.{IsUpTo, ProcedureWithin, OutlineWithin}
 use Rattle.ss_catalog_laws.proofs.InOrder.{each_read, map_read, length_read}
 use Rattle.ss_catalog_laws.proofs.SectionForms.{TableForm, StreamForm, WindowForm, table_form, stream_form, window_form}
+use Rattle.ss_catalog_laws.proofs.Plain.{resolved_plain}
 use Rattle.ss_catalog_laws.proofs.ProcedureForms.{ProcedureForm, TriggerForm, procedure_form, trigger_form}
 
 -- one test and another
@@ -130,7 +132,7 @@ module _ (o : Outline) (catalog : Catalog) (read : OutlineRead o) (once : Outlin
       (all_pass TableForm _ (λ d f. both f.indexes_in_range f.in_range) catalog.tables tables))
       (all_pass (WindowForm (length o.procedures)) _ (λ d f. ap (nat_lt d.owner) procedures_count ∙ f.owner_in_range) catalog.windows windows))
       (all_pass (TriggerForm catalog) _ (λ t f. f.in_range) catalog.triggers triggers))
-      (all_pass (ProcedureForm (length o.streams)) _ (λ p f. both (ap (λ n. list_all (λ s. nat_lt s n) p.inputs) streams_count ∙ f.inputs_in_range) f.touch_range) catalog.procedures procedures)
+      (all_pass (ProcedureForm (length o.streams)) _ (λ p f. both (ap (λ n. list_all (λ s. nat_lt s n) (streams_read p)) streams_count ∙ f.inputs_in_range) f.touch_range) catalog.procedures procedures)
 
   within_limits : is_within_limits catalog ≡ true
   within_limits =
@@ -186,4 +188,5 @@ module _ (o : Outline) (catalog : Catalog) (read : OutlineRead o) (once : Outlin
     no_arg = λ q p is. (of_procedure q p is).no_arg;
     somewhere = λ q p is. (of_procedure q p is).somewhere;
     keyed = λ t. keyed_by t (slice_get catalog.tables t) refl;
+    plain = resolved_plain o catalog r;
   }

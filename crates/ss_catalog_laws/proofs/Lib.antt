@@ -9,6 +9,7 @@ pub mod Numbered
 pub mod Numbers
 pub mod Once
 pub mod OutlineRead
+pub mod Plain
 pub mod Positions
 pub mod ProcedureForms
 pub mod ProceduresRead

@@ -15,8 +15,8 @@ use Rattle.ss_model.specs.declared.catalog.Procedure.{Procedure}
 use Rattle.ss_model.specs.declared.catalog.Step.{Step}
 use Rattle.ss_model.specs.declared.catalog.TriggerDef.{TriggerDef}
 use Rattle.ss_model.specs.Accepted.{IsCallStep, IsArg, IsSomewhere}
-use Rattle.ss_model.specs.CatalogForm.{columns_distinct, all_distinct, numbers_distinct, listed_parts, is_some_list, inputs_of_kind, args_of_kind, is_of_kind, step_of_kind, trigger_in_range, touch_in_range, step_size}
-use Rattle.ss_model.specs.Database.{is_call, is_streaming}
+use Rattle.ss_model.specs.CatalogForm.{columns_distinct, all_distinct, numbers_distinct, listed_parts, is_some_list, inputs_of_kind, args_of_kind, is_of_kind, step_of_kind, trigger_in_range, touch_in_range, step_size, body_within_limit}
+use Rattle.ss_model.specs.Database.{is_call, is_streaming, streams_read}
 use Rattle.ss_catalog_outline.specs.declared.types.TouchOutline.{TouchOutline}
 use Rattle.ss_catalog_outline.specs.declared.types.TouchOutline.TheVariants.{Part, Arg, Multi, All}
 use Rattle.ss_catalog_outline.specs.declared.types.TriggerOutline.{TriggerOutline}
@@ -48,12 +48,12 @@ use Rattle.ss_catalog_laws.proofs.StepForms.{IsOfKind, call_step, body_stands, b
 pub record ProcedureForm (streams : ℕ) (p : Procedure) : Type 0 where
   pub args_once : columns_distinct p.args ≡ true
   pub args_within : nat_le (length p.args) 16 ≡ true
-  pub inputs_in_range : list_all (λ s. nat_lt s streams) p.inputs ≡ true
-  pub inputs_once : numbers_distinct p.inputs ≡ true
+  pub inputs_in_range : list_all (λ s. nat_lt s streams) (streams_read p) ≡ true
+  pub inputs_once : numbers_distinct (streams_read p) ≡ true
   pub inputs_within : nat_le (length p.inputs) 8 ≡ true
   pub touch_range : touch_in_range p.args p.touch ≡ true
   pub parts_once : numbers_distinct (listed_parts p.touch) ≡ true
-  pub steps_within : nat_le (sum (map step_size p.body)) 32 ≡ true
+  pub steps_within : body_within_limit p.inner p.body ≡ true
   pub of_kind : is_of_kind p ≡ true
   pub call_steps : is_call p.kind ≡ true → AllByRecursion IsCallStep p.body
   pub no_arg : is_streaming p.kind ≡ true → IsArg p.touch → ⊥

@@ -9,10 +9,11 @@ use Rattle.ss_model.specs.declared.catalog.Inner.{Inner}
 use Rattle.ss_model.specs.declared.catalog.ProcedureKind.{ProcedureKind}
 use Rattle.ss_model.specs.declared.catalog.ProcedureKind.TheVariants.{Call as CallKind, Border, Interior}
 use Rattle.ss_model.specs.declared.catalog.Step.{Step}
-use Rattle.ss_model.specs.declared.catalog.Step.TheVariants.{Sql, AbortIf, ForEach, Emit, Return}
+use Rattle.ss_model.specs.declared.catalog.Step.TheVariants.{Sql, AbortIf, ForEach, Emit, Local, Return}
 use Rattle.ss_model.specs.Accepted.{IsCallStep}
 use Rattle.ss_model.specs.CatalogForm.{step_of_kind, step_size}
 use Rattle.ss_model.specs.Database.{is_call}
+use Rattle.ss_model.specs.Nests.{is_plain_step}
 use Rattle.ss_catalog_outline.specs.declared.types.StepOutline.{StepOutline}
 use Rattle.ss_catalog_outline.specs.declared.types.StepOutline.TheVariants as outline
 use Rattle.ss_catalog_outline.specs.declared.types.ProcedureOutline.{ProcedureOutline}
@@ -102,6 +103,7 @@ call_step CallKind (AbortIf c code) call h = tt
 call_step CallKind (Return q) call h = tt
 call_step CallKind (ForEach input xs) call h = absurd (cc)
 call_step CallKind (Emit s q) call h = absurd (cc)
+call_step CallKind (Local s q) call h = absurd (cc)
 call_step Border b call h = absurd (cc)
 call_step Interior b call h = absurd (cc)
 
@@ -116,6 +118,21 @@ size_by (outline.ForEach stream body) b is = ap step_size is.2 ∙ ap (λ k. 1 +
 size_by (outline.Emit stream query) b is = ap step_size is.2
 size_by (outline.Return query) b is = ap step_size is.1
 
+-- ---- it is no step on an inner stream
+
+-- a step as it is written
+abbrev pub IsPlainStep : Step → Type 0
+IsPlainStep b = is_plain_step b ≡ true
+
+plain_by : (s : StepOutline) (b : Step) → IsStepOf s b → IsPlainStep b
+plain_by (outline.Insert table values) b is = ap is_plain_step is.1
+plain_by (outline.ReturnAll table) b is = ap is_plain_step is.1
+plain_by (outline.Sql text) b is = ap is_plain_step is.1
+plain_by (outline.AbortIf test code) b is = ap is_plain_step is.1
+plain_by (outline.ForEach stream body) b is = ap is_plain_step is.2
+plain_by (outline.Emit stream query) b is = ap is_plain_step is.2
+plain_by (outline.Return query) b is = ap is_plain_step is.1
+
 -- ---- the steps of a body
 
 module _ (o : Outline) (p : ProcedureOutline) (body : List Step) (read : AllRead step_count (StepReads o p) 0 p.body body) where
@@ -124,3 +141,6 @@ module _ (o : Outline) (p : ProcedureOutline) (body : List Step) (read : AllRead
 
   pub body_sizes : map step_size body ≡ map step_count p.body
   body_sizes = map_read step_count (StepReads o p) step_size step_count (λ n s b r. size_by s b (step_is o p n s b r)) 0 p.body body read
+
+  pub body_plain : AllByRecursion (λ (s : StepOutline). Unit {0}) p.body → AllByRecursion IsPlainStep body
+  body_plain all = each_read step_count (StepReads o p) (λ (s : StepOutline). Unit {0}) IsPlainStep (λ n s b r none. plain_by s b (step_is o p n s b r)) 0 p.body body read all

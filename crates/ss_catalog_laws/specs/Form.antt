@@ -8,6 +8,7 @@ use Rattle.ss_model.specs.Accepted.{IsCallStep, IsArg, IsSomewhere, Keyed}
 use Rattle.ss_model.specs.CatalogForm.{has_form}
 use Rattle.ss_model.specs.Contents.{table_placement, key_columns}
 use Rattle.ss_model.specs.Database.{is_call, is_streaming}
+use Rattle.ss_model.specs.Nests.{IsPlain}
 use Rattle.ss_catalog_outline.specs.declared.types.Outline.{Outline}
 use Rattle.ss_catalog_outline.specs.Outlines.{read_outline}
 use Rattle.ss_catalog_outline.specs.Twice.{name_twice}
@@ -15,13 +16,15 @@ use Rattle.ss_catalog_outline.specs.Unknown.{name_unknown}
 use Rattle.ss_catalog_outline.specs.Limits.{over_limit}
 use Rattle.ss_catalog_resolve.specs.Bodies.{Resolves}
 
--- what `Accepted` says of names, numbers, kinds, touch sets and limits
+-- what `Accepted` says of names, numbers, kinds, touch sets and limits, and that nothing of it is of nests
 pub record HasForm (catalog : Catalog) : Type 0 where
   pub form : has_form catalog ≡ true
   pub call_steps : (q : ℕ) (p : Procedure) → slice_get catalog.procedures q ≡ Some p → is_call p.kind ≡ true → AllByRecursion IsCallStep p.body
   pub no_arg : (q : ℕ) (p : Procedure) → slice_get catalog.procedures q ≡ Some p → is_streaming p.kind ≡ true → IsArg p.touch → ⊥
   pub somewhere : (q : ℕ) (p : Procedure) → slice_get catalog.procedures q ≡ Some p → IsSomewhere p.touch
   pub keyed : (t : ℕ) → Keyed (table_placement (slice_get catalog.tables t)) (key_columns (slice_get catalog.tables t))
+  -- no procedure has inner streams
+  pub plain : IsPlain catalog
 
 -- law: a resolved outline has the form of an accepted catalogue
 abbrev pub ResolvedHasForm : Type 0

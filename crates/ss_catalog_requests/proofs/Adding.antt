@@ -1,5 +1,5 @@
 -- Only an install changes the catalogue.
-use Rattle.std.proofs.Common.{◌≡◌, ℕ, Bool, true, false, Ok, Err, refl, sym, subst}
+use Rattle.std.proofs.Common.{◌≡◌, ℕ, false, Ok, Err, refl, sym, subst}
 use Rattle.std.specs.Prelude.{IfOk, ok_or}
 use Rattle.serde_json.specs.Data.{Data}
 use Rattle.ss_model.specs.declared.catalog.Catalog.{Catalog}
@@ -15,7 +15,7 @@ use Rattle.ss_catalog_requests.specs.declared.request.RequestError.TheVariants.{
 use Rattle.ss_catalog_requests.specs.Shape.{read_request}
 use Rattle.ss_catalog_requests.specs.Targets.{procedure_named, call_named, border_stream_named, procedure_args}
 use Rattle.ss_catalog_requests.specs.Fitting.{fitting_row, fitting_rows}
-use Rattle.ss_catalog_requests.specs.Requests.{OrRefused, ◌>>=◌, in_shape, few_rows, asked_of, said_of}
+use Rattle.ss_catalog_requests.specs.Requests.{OrRefused, ◌>>=◌, in_shape, few_rows, taking_bodies, asked_of, said_of}
 use Rattle.ss_catalog_requests.specs.Answers.{AddsAsked, is_install}
 
 then_any : {A B : Type 0} (Q : B → Type 0) (r : OrRefused A) (f : A → OrRefused B) → ((a : A) → IfOk (f a) Q) → IfOk (r >>= f) Q
@@ -35,7 +35,9 @@ asked_none catalog line (Push name source seq rows) =
     then_any IsNoInstall (ok_or (border_stream_named catalog name) (UnknownTarget line)) _ (λ s.
     then_any IsNoInstall (ok_or (fitting_rows (stream_schema catalog s) rows) (Arguments line)) _ (λ all.
     then_any IsNoInstall (few_rows line all) _ (λ few. refl)))
-asked_none catalog line (Install name) = then_any IsNoInstall (ok_or (procedure_named catalog name) (UnknownTarget line)) _ (λ n. tt)
+asked_none catalog line (Install name) =
+    then_any IsNoInstall (ok_or (procedure_named catalog name) (UnknownTarget line)) _ (λ n.
+    then_any IsNoInstall (taking_bodies catalog line n) _ (λ q. tt))
 
 said_none : (catalog : Catalog) (line : ℕ) (d : Data) → IfOk (said_of catalog line d) (λ s. IsNoInstall s.what)
 unfolding said_of

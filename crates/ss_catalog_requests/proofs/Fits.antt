@@ -1,5 +1,5 @@
 -- What is read as a request fits the catalogue.
-use Rattle.std.proofs.Common.{◌≡◌, ◌<◌, ◌≤◌, ◌^◌, ◌-◌, ◌&&◌, ℕ, zero, suc, Bool, true, false, cond, List, [], ◌∷◌, length, slice_get, Option, Some, None, Ok, Err, refl, subst, arith}
+use Rattle.std.proofs.Common.{◌≡◌, ◌<◌, ◌≤◌, ◌^◌, ◌-◌, ◌&&◌, ℕ, Bool, true, false, cond, List, [], ◌∷◌, length, slice_get, Option, Some, None, Ok, Err, refl, subst, arith}
 use Rattle.std.specs.Prelude.{IfOk, IfSome, ok_or, option_map, unwrap_or, option_and_then, nat_lt, nat_le, codes}
 use Rattle.std.specs.List.{find, list_all, range_with_len}
 use Rattle.std.specs.Str.{bytes_eq}
@@ -13,7 +13,7 @@ use Rattle.ss_model.specs.declared.catalog.Procedure.{Procedure}
 use Rattle.ss_model.specs.declared.catalog.Catalog.{Catalog}
 use Rattle.ss_model.specs.declared.entry.Asked.{Asked}
 use Rattle.ss_model.specs.Settling.{procedure_numbers}
-use Rattle.ss_model.specs.Database.{only_when, is_call, is_border_stream, has_call, push_fits, fits_entry, stream_schema}
+use Rattle.ss_model.specs.Database.{only_when, is_call, is_border_stream, has_call, push_fits, fits_entry, stream_schema, takes_bodies}
 use Rattle.ss_model.specs.Report.{asked_entry}
 use Rattle.ss_catalog_json.specs.Readings.{OrFault, Reading, ◌>>=◌, inside, key_step, or_here, only_where, read_between, read_or, read_key, read_key_or, object_of, has_key, read_word, read_name}
 use Rattle.ss_catalog_requests.specs.declared.outline.AskedOutline.{AskedOutline}
@@ -23,11 +23,11 @@ use Rattle.ss_catalog_requests.specs.declared.request.Said.{Said}
 use Rattle.ss_catalog_requests.specs.declared.request.Said.TheVariants.{Whole, Body}
 use Rattle.ss_catalog_requests.specs.declared.request.SaidRequest.{SaidRequest}
 use Rattle.ss_catalog_requests.specs.declared.request.RequestError.{RequestError}
-use Rattle.ss_catalog_requests.specs.declared.request.RequestError.TheVariants.{UnknownTarget, Arguments, TooManyRows}
+use Rattle.ss_catalog_requests.specs.declared.request.RequestError.TheVariants.{UnknownTarget, Arguments, TooManyRows, Nested}
 use Rattle.ss_catalog_requests.specs.Shape.{read_client, read_seq, read_row, read_rows, call_keys, read_call, push_keys, read_push, install_keys, read_install, read_any_array, read_asked, read_request}
-use Rattle.ss_catalog_requests.specs.Targets.{is_procedure_named, procedure_named, is_call_named, call_named, is_stream_named, is_border_stream_named, border_stream_named, procedure_args}
+use Rattle.ss_catalog_requests.specs.Targets.{procedure_named, is_call_named, call_named, is_stream_named, is_border_stream_named, border_stream_named, procedure_args}
 use Rattle.ss_catalog_requests.specs.Fitting.{fitting_row, fitting_rows}
-use Rattle.ss_catalog_requests.specs.Requests.{OrRefused, in_shape, few_rows, asked_of, said_of}
+use Rattle.ss_catalog_requests.specs.Requests.{OrRefused, in_shape, few_rows, taking_bodies, asked_of, said_of}
 use Rattle.ss_catalog_requests.specs.Requests as requests
 
 -- ---- what is read
@@ -160,27 +160,24 @@ push_takes catalog name client s seq rows small below named few fit =
     let numbered : (nat_lt client 8 && is_border_stream catalog s && nat_le (length rows) 1024 && nat_lt seq (2 ^ 63)) ≡ true = and_from _ _ counted (lt-ltb seq (2 ^ 63) below) in
     and_from _ _ numbered fit
 
-found_within : (ps : List Procedure) (n : ℕ) (p : Procedure) → slice_get ps n ≡ Some p → n < length ps
-found_within [] n p e = absurd (cc)
-found_within (x ∷ xs) zero p e = omega arith
-found_within (x ∷ xs) (suc n) p e = let h : n < length xs = found_within xs n p e in omega arith
+some_any : {A : Type 0} (o : Option A) → IfSome o (λ a. Unit {0})
+some_any None = tt
+some_any (Some a) = tt
 
--- the procedure that was found is there
-named_within : (name : List ℕ) (ps : List Procedure) (n : ℕ) → is_procedure_named name (slice_get ps n) ≡ true → n < length ps
-named_within name ps n named = by (slice_get ps n) refl named
-  where
-    by : (o : Option Procedure) → slice_get ps n ≡ o → is_procedure_named name o ≡ true → n < length ps
-    by None e named = absurd (cc)
-    by (Some p) e named = found_within ps n p e
+-- a procedure takes bodies, or it is refused
+takes_or_nested : (catalog : Catalog) (line n : ℕ) (b : Bool) → takes_bodies (slice_get catalog.procedures n) ≡ b
+    → IfOk (cond b (Ok n) (Err (Nested line))) (λ (q : ℕ). takes_bodies (slice_get catalog.procedures q) ≡ true)
+takes_or_nested catalog line n true e = e
+takes_or_nested catalog line n false e = tt
 
 -- what is asked for fits the catalogue
 abbrev pub Fitting : Catalog → ℕ → Asked → Type 0
 Fitting catalog client what = fits_entry catalog (asked_entry client 0 what) ≡ true
 
--- what an outline says fits it; of an install the procedure is there
+-- what an outline says fits it; of an install the procedure is there, and is no nest
 abbrev pub FittingSaid : Catalog → ℕ → Said → Type 0
 FittingSaid catalog client (Whole what) = Fitting catalog client what
-FittingSaid catalog client (Body q) = q < length catalog.procedures
+FittingSaid catalog client (Body q) = takes_bodies (slice_get catalog.procedures q) ≡ true
 
 pub asked_of_fits : (catalog : Catalog) (line client : ℕ) (said : AskedOutline) → client < 8 → IsSeqBelow said → IfOk (asked_of catalog line said) (FittingSaid catalog client)
 asked_of_fits catalog line client (Call name args) small seq =
@@ -198,9 +195,10 @@ asked_of_fits catalog line client (Push name source seq rows) small below =
     (rows_are_few _ line all _ refl fit) (λ few both.
     push_takes catalog name client s seq few small below named both.1 both.0)))
 asked_of_fits catalog line client (Install name) small below =
-    then_found (λ n. is_procedure_named name (slice_get catalog.procedures n) ≡ true) (FittingSaid catalog client) (ok_or (procedure_named catalog name) (UnknownTarget line)) _
-    (ok_or_some _ (procedure_named catalog name) _ (find_passes _ (procedure_numbers catalog))) (λ n named.
-    named_within name catalog.procedures n named)
+    then_found (λ n. Unit {0}) (FittingSaid catalog client) (ok_or (procedure_named catalog name) (UnknownTarget line)) _
+    (ok_or_some (λ n. Unit {0}) (procedure_named catalog name) _ (some_any (procedure_named catalog name))) (λ n named.
+    then_found (λ q. takes_bodies (slice_get catalog.procedures q) ≡ true) (FittingSaid catalog client) (taking_bodies catalog line n) _
+    (takes_or_nested catalog line n (takes_bodies (slice_get catalog.procedures n)) refl) (λ q takes. takes))
 
 -- law: what is said fits its catalogue
 pub said_of_fits : (catalog : Catalog) (line : ℕ) (d : Data) → IfOk (said_of catalog line d) (λ s. (s.client < 8) × FittingSaid catalog s.client s.what)

@@ -9,13 +9,13 @@ use Rattle.ss_model.specs.declared.entry.Asked.{Asked}
 use Rattle.ss_model.specs.declared.entry.Request.{Request}
 use Rattle.ss_model.specs.SparesAside.{with_spares}
 use Rattle.ss_catalog.specs.declared.error.CatalogError.{CatalogError}
-use Rattle.ss_catalog.specs.Bodies.{BodyReads, RefusesBody, HasOneBody, IsBodyOrRefused, HasOneBodyRefusal}
+use Rattle.ss_nest.specs.Bodies.{NestedBodyReads, RefusesNestedBody, HasOneNestedBody, IsNestedBodyOrRefused, HasOneNestedBodyRefusal}
 use Rattle.ss_catalog.proofs.CallerLemmas.{err_same, ok_or_err, ok_same}
 use Rattle.ss_catalog_requests.specs.declared.request.Said.{Said}
 use Rattle.ss_catalog_requests.specs.declared.request.Said.TheVariants.{Whole, Body as SaidBody}
 use Rattle.ss_catalog_requests.specs.declared.request.SaidRequest.{SaidRequest}
 use Rattle.ss_catalog_requests.specs.declared.request.RequestError.{RequestError}
-use Rattle.ss_catalog_requests.specs.declared.request.RequestError.TheVariants.{NoMemory, Shape, UnknownTarget, Arguments, TooManyRows, BadBody}
+use Rattle.ss_catalog_requests.specs.declared.request.RequestError.TheVariants.{NoMemory, Shape, UnknownTarget, Arguments, TooManyRows, Nested, BadBody}
 use Rattle.ss_catalog_requests.specs.Requests.{said_of}
 use Rattle.ss_catalog_requests.specs.Answers.{BodyAt, BodyFaultAt, HasLongBody, AsksFor, Asks, Installs, RefusesInstall, RefusesRequest, IsAskedOrRefused, HasOneRequestRefusal, AsksWithoutSpares, RefusesWithoutSpares}
 
@@ -31,6 +31,7 @@ refused_so catalog line d (Shape at) other h = h
 refused_so catalog line d (UnknownTarget at) other h = h
 refused_so catalog line d (Arguments at) other h = h
 refused_so catalog line d (TooManyRows at) other h = h
+refused_so catalog line d (Nested at) other h = h
 refused_so catalog line d (BadBody at x) other h = h
 
 pub from_install : (catalog : Catalog) (line : ℕ) (d : Data) (q : ℕ) (e : RequestError) → Installs catalog line d q → RefusesInstall catalog line d q e
@@ -40,6 +41,7 @@ from_install catalog line d q (Shape at) is h = inr (q, is, h)
 from_install catalog line d q (UnknownTarget at) is h = inr (q, is, h)
 from_install catalog line d q (Arguments at) is h = inr (q, is, h)
 from_install catalog line d q (TooManyRows at) is h = inr (q, is, h)
+from_install catalog line d q (Nested at) is h = inr (q, is, h)
 from_install catalog line d q (BadBody at x) is h = inr (q, is, h)
 
 -- a refusal of a body is for its length, or for a fault of the body
@@ -52,6 +54,7 @@ refused_body catalog line d q (Shape at) other h = inl (ap Shape h.0, h.1)
 refused_body catalog line d q (UnknownTarget at) other h = absurd h
 refused_body catalog line d q (Arguments at) other h = absurd h
 refused_body catalog line d q (TooManyRows at) other h = absurd h
+refused_body catalog line d q (Nested at) other h = absurd h
 refused_body catalog line d q (BadBody at x) other h = inr (x, ap (λ n. BadBody n x) h.0, h.1)
 
 -- ---- one answer
@@ -63,18 +66,18 @@ same_procedure : (catalog : Catalog) (line : ℕ) (d : Data) (q r : ℕ) → Ins
 same_procedure catalog line d q r h k =
     let same : SaidBody q ≡ SaidBody r = ap (λ (s : SaidRequest). s.what) (ok_same (said_of catalog line d) _ _ h.1 k.1) in cc
 
-module _ (one : HasOneBody) (either : IsBodyOrRefused) (once : HasOneBodyRefusal) where
+module _ (one : HasOneNestedBody) (either : IsNestedBodyOrRefused) (once : HasOneNestedBodyRefusal) where
   one_body_at : (catalog : Catalog) (q : ℕ) (d : Data) (b c : Body) → BodyAt catalog q d b → BodyAt catalog q d c → b ≡ c
   one_body_at catalog q d b c h k =
-      one catalog q h.0 b c h.2 (subst (λ (v : Data). BodyReads catalog q v c) (same_value (get (codes "body") d) k.0 h.0 k.1 h.1) k.2)
+      one catalog q h.0 b c h.2 (subst (λ (v : Data). NestedBodyReads catalog q v c) (same_value (get (codes "body") d) k.0 h.0 k.1 h.1) k.2)
 
   body_or_fault : (catalog : Catalog) (q : ℕ) (d : Data) (b : Body) (x : CatalogError) → BodyAt catalog q d b → BodyFaultAt catalog q d x → ⊥
   body_or_fault catalog q d b x h k =
-      k.3 (either catalog q k.0 b x (subst (λ (v : Data). BodyReads catalog q v b) (same_value (get (codes "body") d) h.0 k.0 h.1 k.1) h.2) k.2)
+      k.3 (either catalog q k.0 b x (subst (λ (v : Data). NestedBodyReads catalog q v b) (same_value (get (codes "body") d) h.0 k.0 h.1 k.1) h.2) k.2)
 
   one_fault_at : (catalog : Catalog) (q : ℕ) (d : Data) (x y : CatalogError) → BodyFaultAt catalog q d x → BodyFaultAt catalog q d y → x ≡ y
   one_fault_at catalog q d x y h k =
-      once catalog q h.0 x y h.2 (subst (λ (v : Data). RefusesBody catalog q v y) (same_value (get (codes "body") d) k.0 h.0 k.1 h.1) k.2) h.3 k.3
+      once catalog q h.0 x y h.2 (subst (λ (v : Data). RefusesNestedBody catalog q v y) (same_value (get (codes "body") d) k.0 h.0 k.1 h.1) k.2) h.3 k.3
 
   asked_or_body : (catalog : Catalog) (line : ℕ) (d : Data) (q : ℕ) (what : Asked) (e : RequestError) → AsksFor catalog d (SaidBody q) what → RefusedBody catalog line d q e → ⊥
   asked_or_body catalog line d q what e a (inl h) =
@@ -98,6 +101,7 @@ module _ (one : HasOneBody) (either : IsBodyOrRefused) (once : HasOneBodyRefusal
   asked_or_refused catalog line d r (UnknownTarget at) a h = absurd (asked_apart catalog line d r (UnknownTarget at) (λ same. cc) a h)
   asked_or_refused catalog line d r (Arguments at) a h = absurd (asked_apart catalog line d r (Arguments at) (λ same. cc) a h)
   asked_or_refused catalog line d r (TooManyRows at) a h = absurd (asked_apart catalog line d r (TooManyRows at) (λ same. cc) a h)
+  asked_or_refused catalog line d r (Nested at) a h = absurd (asked_apart catalog line d r (Nested at) (λ same. cc) a h)
   asked_or_refused catalog line d r (BadBody at x) a h = absurd (asked_apart catalog line d r (BadBody at x) (λ same. cc) a h)
 
   one_body_refusal : (catalog : Catalog) (line : ℕ) (d : Data) (q : ℕ) (e f : RequestError) → RefusedBody catalog line d q e → RefusedBody catalog line d q f → e ≡ f
@@ -123,19 +127,14 @@ said_aside : (catalog : Catalog) (spares : List (List Body)) (line : ℕ) (d : D
 unfolding said_of
 said_aside catalog spares line d = refl
 
-body_aside : (catalog : Catalog) (spares others : List (List Body)) (q : ℕ) (body : Data) (b : Body) → BodyReads (with_spares catalog spares) q body b
-    → BodyReads (with_spares catalog others) q body b
+body_aside : (catalog : Catalog) (spares others : List (List Body)) (q : ℕ) (body : Data) (b : Body) → NestedBodyReads (with_spares catalog spares) q body b
+    → NestedBodyReads (with_spares catalog others) q body b
 body_aside catalog spares others q body b h = record {
   whole = h.whole;
-  is_read_from = h.is_read_from;
-  outline = h.outline;
-  changed = h.changed;
-  passes = h.passes;
-  limits = h.limits;
-  steps = h.steps;
-  text = h.text;
-  utf8 = h.utf8;
-  reads_back = h.reads_back;
+  is_from = h.is_from;
+  number = h.number;
+  is_plain_one = h.is_plain_one;
+  reads = h.reads;
 }
 
 asks_aside : (catalog : Catalog) (spares others : List (List Body)) (d : Data) (said : Said) (what : Asked) → AsksFor (with_spares catalog spares) d said what
@@ -150,6 +149,7 @@ install_aside catalog spares others line d q (Shape at) h = (h.0, (h.1.0, (h.1.1
 install_aside catalog spares others line d q (UnknownTarget at) h = h
 install_aside catalog spares others line d q (Arguments at) h = h
 install_aside catalog spares others line d q (TooManyRows at) h = h
+install_aside catalog spares others line d q (Nested at) h = h
 install_aside catalog spares others line d q (BadBody at x) h = h
 
 refused_aside : (catalog : Catalog) (spares others : List (List Body)) (line : ℕ) (d : Data) (e : RequestError) → Refused (with_spares catalog spares) line d e
@@ -165,6 +165,7 @@ request_aside catalog spares others line d (Shape at) h = refused_aside catalog 
 request_aside catalog spares others line d (UnknownTarget at) h = refused_aside catalog spares others line d (UnknownTarget at) h
 request_aside catalog spares others line d (Arguments at) h = refused_aside catalog spares others line d (Arguments at) h
 request_aside catalog spares others line d (TooManyRows at) h = refused_aside catalog spares others line d (TooManyRows at) h
+request_aside catalog spares others line d (Nested at) h = refused_aside catalog spares others line d (Nested at) h
 request_aside catalog spares others line d (BadBody at x) h = refused_aside catalog spares others line d (BadBody at x) h
 
 pub refuses_without : RefusesWithoutSpares

@@ -1,5 +1,5 @@
 -- What fits a catalogue fits it still with more bodies to be installed.
-use Rattle.std.proofs.Common.{◌≡◌, ◌∙◌, ◌||◌, ◌&&◌, cond, ℕ, Bool, true, false, List, [], ◌∷◌, length, get_or, Option, Some, refl, sym, ap}
+use Rattle.std.proofs.Common.{◌≡◌, ◌∙◌, ◌||◌, ◌&&◌, cond, ℕ, Bool, true, false, List, [], ◌∷◌, length, get_or, slice_get, Option, Some, refl, sym, ap}
 use Rattle.std.specs.Prelude.{is_some, nat_lt, nat_le}
 use Rattle.std.specs.List.{find, list_any, list_all}
 use Rattle.std.specs.Str.{bytes_eq}
@@ -8,7 +8,7 @@ use Rattle.ss_model.specs.declared.catalog.Body.{Body}
 use Rattle.ss_model.specs.declared.catalog.Catalog.{Catalog}
 use Rattle.ss_model.specs.declared.entry.Entry.{Entry}
 use Rattle.ss_model.specs.declared.entry.Entry.TheVariants.{Call, Push, Step, Install}
-use Rattle.ss_model.specs.Database.{own_text, spare_bodies, has_spare, has_body, fits_entry}
+use Rattle.ss_model.specs.Database.{own_text, spare_bodies, has_spare, has_body, takes_bodies, fits_entry}
 use Rattle.ss_model.specs.SparesAside.{with_spares, GoesOnWith}
 
 any_found : (p : Body → Bool) (xs : List Body) → list_any p xs ≡ is_some (find p xs)
@@ -38,8 +38,8 @@ module _ (catalog : Catalog) (spares : List (List Body)) (on : GoesOnWith catalo
   fits_still (Push client index s source seq rows) h = h
   fits_still (Step n r) h = h
   fits_still (Install client index q text) h =
-      let parts = and_parts (nat_lt client 8 && nat_lt q (length catalog.procedures) && nat_le (length text) 1048576) (has_body catalog q text) h in
-      and_from (nat_lt client 8 && nat_lt q (length catalog.procedures) && nat_le (length text) 1048576) (has_body (with_spares catalog spares) q text) parts.0 (may_too q text parts.1)
+      let parts = and_parts (nat_lt client 8 && takes_bodies (slice_get catalog.procedures q) && nat_le (length text) 1048576) (has_body catalog q text) h in
+      and_from (nat_lt client 8 && takes_bodies (slice_get catalog.procedures q) && nat_le (length text) 1048576) (has_body (with_spares catalog spares) q text) parts.0 (may_too q text parts.1)
 
   pub all_fit_still : (es : List Entry) → list_all (fits_entry catalog) es ≡ true → list_all (fits_entry (with_spares catalog spares)) es ≡ true
   all_fit_still [] h = refl

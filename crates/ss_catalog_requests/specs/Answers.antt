@@ -10,7 +10,8 @@ use Rattle.ss_model.specs.declared.entry.Request.{Request}
 use Rattle.ss_model.specs.SparesAside.{with_spares}
 use Rattle.ss_catalog.specs.declared.error.CatalogError.{CatalogError}
 use Rattle.ss_catalog.specs.declared.error.CatalogError.TheVariants as fault
-use Rattle.ss_catalog.specs.Bodies.{BodyReads, IsBodyOf, RefusesBody, with_added}
+use Rattle.ss_catalog.specs.Bodies.{with_added}
+use Rattle.ss_nest.specs.Bodies.{NestedBodyReads, IsNestedBodyOf, RefusesNestedBody}
 use Rattle.ss_catalog_requests.specs.declared.request.Said.{Said}
 use Rattle.ss_catalog_requests.specs.declared.request.Said.TheVariants.{Whole, Body as SaidBody}
 use Rattle.ss_catalog_requests.specs.declared.request.SaidRequest.{SaidRequest}
@@ -22,11 +23,11 @@ use Rattle.ss_catalog_requests.specs.Requests.{said_of}
 
 -- the value at `body` reads as this body of procedure q
 abbrev pub BodyAt : Catalog → ℕ → Data → Body → Type 0
-BodyAt catalog q d b = (body : Data) × (get (codes "body") d ≡ Some body) × BodyReads catalog q body b
+BodyAt catalog q d b = (body : Data) × (get (codes "body") d ≡ Some body) × NestedBodyReads catalog q body b
 
 -- the value at `body` is refused as a body of procedure q, for this fault
 abbrev pub BodyFaultAt : Catalog → ℕ → Data → CatalogError → Type 0
-BodyFaultAt catalog q d e = (body : Data) × (get (codes "body") d ≡ Some body) × RefusesBody catalog q body e × (e ≡ fault.NoMemory → ⊥)
+BodyFaultAt catalog q d e = (body : Data) × (get (codes "body") d ≡ Some body) × RefusesNestedBody catalog q body e × (e ≡ fault.NoMemory → ⊥)
 
 -- the value at `body` reads as a body of procedure q, the text of which is too long
 abbrev pub HasLongBody : Catalog → ℕ → Data → Type 0
@@ -51,7 +52,7 @@ Asks catalog line d r =
 
 -- where an install is asked for the catalogue became the old one with the body of its text added, and else it stayed
 abbrev pub AddsAsked : Catalog → Catalog → Asked → Type 0
-AddsAsked old new (Install q text) = (b : Body) × IsBodyOf old q text b × (new ≡ with_added old q b)
+AddsAsked old new (Install q text) = (b : Body) × IsNestedBodyOf old q text b × (new ≡ with_added old q b)
 AddsAsked old new what = new ≡ old
 
 -- ---- the refusals

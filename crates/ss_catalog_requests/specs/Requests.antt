@@ -1,10 +1,10 @@
 -- What a JSON value says to a catalogue by its shape, its name and its values, or the first refusal for these.
-use Rattle.std.specs.Prelude.{◌≡◌, ℕ, length, cond, nat_le, ok_or, Result, Ok, Err}
+use Rattle.std.specs.Prelude.{◌≡◌, ℕ, length, cond, nat_le, ok_or, slice_get, Result, Ok, Err}
 use Rattle.serde_json.specs.Data.{Data}
 use Rattle.ss_value.specs.Rows.{Rows}
 use Rattle.ss_model.specs.declared.catalog.Catalog.{Catalog}
 use Rattle.ss_model.specs.declared.entry.Asked.TheVariants.{Call, Push}
-use Rattle.ss_model.specs.Database.{stream_schema}
+use Rattle.ss_model.specs.Database.{stream_schema, takes_bodies}
 use Rattle.ss_catalog_json.specs.Readings.{OrFault}
 use Rattle.ss_catalog_requests.specs.declared.outline.AskedOutline.{AskedOutline}
 use Rattle.ss_catalog_requests.specs.declared.outline.AskedOutline.TheVariants.{Call as CallOutline, Push as PushOutline, Install as InstallOutline}
@@ -12,7 +12,7 @@ use Rattle.ss_catalog_requests.specs.declared.request.Said.{Said}
 use Rattle.ss_catalog_requests.specs.declared.request.Said.TheVariants.{Whole, Body}
 use Rattle.ss_catalog_requests.specs.declared.request.SaidRequest.{SaidRequest}
 use Rattle.ss_catalog_requests.specs.declared.request.RequestError.{RequestError}
-use Rattle.ss_catalog_requests.specs.declared.request.RequestError.TheVariants.{NoMemory, Shape, UnknownTarget, Arguments, TooManyRows}
+use Rattle.ss_catalog_requests.specs.declared.request.RequestError.TheVariants.{NoMemory, Shape, UnknownTarget, Arguments, TooManyRows, Nested}
 use Rattle.ss_catalog_requests.specs.Shape.{read_request}
 use Rattle.ss_catalog_requests.specs.Targets.{procedure_named, call_named, border_stream_named, procedure_args}
 use Rattle.ss_catalog_requests.specs.Fitting.{fitting_row, fitting_rows}
@@ -36,6 +36,10 @@ in_shape line (Err way) = Err (Shape line)
 abbrev pub few_rows : ℕ → Rows → OrRefused Rows
 few_rows line rows = cond (nat_le (length rows) 1024) (Ok rows) (Err (TooManyRows line))
 
+-- a procedure that may have other bodies than its own: a nest may not
+abbrev pub taking_bodies : Catalog → ℕ → ℕ → OrRefused ℕ
+taking_bodies catalog line n = cond (takes_bodies (slice_get catalog.procedures n)) (Ok n) (Err (Nested line))
+
 -- what is asked for: first its name is looked up, then its values are compared with columns, and then its rows are counted; a
 -- body isn't read
 abbrev pub asked_of : Catalog → ℕ → AskedOutline → OrRefused Said
@@ -50,7 +54,8 @@ asked_of catalog line (PushOutline stream source seq rows) =
     Ok (Whole (Push s source seq few))
 asked_of catalog line (InstallOutline procedure) =
     ok_or (procedure_named catalog procedure) (UnknownTarget line) >>= λ n.
-    Ok (Body n)
+    taking_bodies catalog line n >>= λ q.
+    Ok (Body q)
 
 -- what a value on this line says to a catalogue, or the first refusal for its shape, its name or its values: the shape comes before all
 -- else

@@ -4,7 +4,7 @@
 
 ghost use Rattle.ss_catalog_requests.specs.Answers.{HasOneRequest, IsAskedOrRefused, HasOneRequestRefusal, AsksWithoutSpares, RefusesWithoutSpares};
 
-use ss_catalog::a_body_has_one_answer;
+use ss_nest::a_nested_body_has_one_answer;
 
 /// A value asks for one request at most; one that asks for a request has no refusal but `NoMemory`; a value has one
 /// other refusal at most; and which bodies may be installed already makes no difference to either.
@@ -15,5 +15,5 @@ pub fn a_request_has_one_answer()
     ensures asked_aside { AsksWithoutSpares }
     ensures refused_aside { RefusesWithoutSpares }
 {
-    a_body_has_one_answer();
+    a_nested_body_has_one_answer();
 }

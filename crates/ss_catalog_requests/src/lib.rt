@@ -9,7 +9,8 @@
 //!   that a border procedure takes. The batch is the one of number `seq`, an Int of at least 0, from this source, a name.
 //! - `{"client":0,"install":"procedure","body":[..]}` installs a body for a procedure, of whatever kind: from this
 //!   request on the procedure runs the steps of this body, an array as the catalogue has it at `body`. Touch set,
-//!   arguments, inputs and kind stay. The text of the body is the compact text of the array.
+//!   arguments, inputs and kind stay. The text of the body is the compact text of the array. A nest has no other body
+//!   than its own, and a member of a nest is no procedure.
 //!
 //! It is a push where `push` is there, else an install where `install` is there, and else a call.
 //!
@@ -22,8 +23,9 @@
 //! - C13: the number or a type of the arguments, or of a row's values, is not that of the procedure's arguments or
 //!   the stream's columns, or a text is over 255 bytes.
 //! - C14: there are over 1,024 rows.
-//! - C15: the catalogue would be refused with that body in place of the procedure's own; the error carries that
-//!   refusal. Bodies that were installed before make no difference.
+//! - C16: an install names a nest.
+//! - C15: the catalogue without its nests would be refused with that body in place of the procedure's own; the error
+//!   carries that refusal. Bodies that were installed before make no difference.
 //! - C11 again: the text of the body has over 1,048,576 bytes.
 //!
 //! What a request asks for and why it is refused are relations (`Asks`, `RefusesRequest`), since the grammar of the SQL

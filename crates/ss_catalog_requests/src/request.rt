@@ -1,17 +1,18 @@
 //! The request that a JSON value is, or the first reason to refuse it.
 
-ghost use Rattle.std.specs.Prelude.{◌≡◌, ◌≤◌, ◌<◌, ℕ, Ok, true, false, codes, length, IfOk, OnOk, IfErr, OnErr, IfSome, option_map};
+ghost use Rattle.std.specs.Prelude.{◌≡◌, ◌≤◌, ◌<◌, ℕ, Ok, true, false, codes, length, slice_get, IfOk, OnOk, IfErr, OnErr, IfSome, option_map};
 ghost use Rattle.serde_json.specs.Data.{depth};
 ghost use Rattle.serde_json.specs.Find.{get};
 ghost use Rattle.serde_json.specs.Read.{max_depth};
 ghost use Rattle.serde_json.specs.View.{view};
-ghost use Rattle.ss_model.specs.Database.{fits_entry, has_body};
+ghost use Rattle.ss_model.specs.Database.{fits_entry, has_body, takes_bodies};
 ghost use Rattle.ss_model.specs.Report.{asked_entry};
 ghost use Rattle.ss_model.specs.AcceptedBodies.{OtherBodies};
 ghost use Rattle.ss_model.specs.SparesAside.{with_spares, GoesOnWith};
-ghost use Rattle.ss_catalog.specs.Bodies.{WasRead, MayHave, with_added};
+ghost use Rattle.ss_catalog.specs.Bodies.{MayHave, with_added};
+ghost use Rattle.ss_nest.specs.Reads.{WasNested};
 ghost use Rattle.ss_catalog_requests.specs.declared.outline.AskedOutline.TheVariants.{Call as CallOutline, Push as PushOutline, Install as InstallOutline};
-ghost use Rattle.ss_catalog_requests.specs.Requests.{few_rows, asked_of, said_of, RefusesAs};
+ghost use Rattle.ss_catalog_requests.specs.Requests.{few_rows, taking_bodies, asked_of, said_of, RefusesAs};
 ghost use Rattle.ss_catalog_requests.specs.Answers.{AddsAsked, BodyAt, AsksFor, Asks, RefusesInstall, RefusesRequest, is_install};
 
 use crate::fitting::{fitting_args, fitting_rows};
@@ -19,9 +20,10 @@ use crate::outline::AskedOutline;
 use crate::shape::read_request;
 use crate::targets::{border_stream_named, call_named, procedure_named};
 use serde_json::Value as Json;
-use ss_catalog::{CatalogError, add_spare, read_body};
+use ss_catalog::{CatalogError, add_spare};
 use ss_catalog_json::ReadError;
 use ss_model::{Asked, Body, Catalog, Request};
+use ss_nest::read_nested_body;
 use ss_value::{Copies, Name, NoMemory, Row, Rows};
 use std::alloc::Global;
 
@@ -38,6 +40,8 @@ pub enum RequestError {
     Arguments { line: u64 },
     /// C14: a push has more than 1,024 rows.
     TooManyRows { line: u64 },
+    /// C16: an install names a nest, which has no body but its own.
+    Nested { line: u64 },
     /// C15: the catalogue is refused with the body in place of the procedure's own; `fault` is never out of memory.
     BadBody { line: u64, fault: CatalogError },
 }
@@ -132,6 +136,17 @@ fn push_of(
     }))
 }
 
+fn taking_bodies(catalog: &Catalog, line: u64, number: usize) -> Result<usize, RequestError>
+    ensures ok { IfOk result (λ n. taking_bodies catalog.now line number ≡ Ok n) }
+    ensures refused { IfErr result (RefusesAs (taking_bodies catalog.now line number)) }
+{
+    if catalog.takes_bodies(number) {
+        Ok(number)
+    } else {
+        Err(RequestError::Nested { line })
+    }
+}
+
 fn body_for(catalog: &Catalog, line: u64, name: &[u8]) -> Result<Said, RequestError>
     ensures ok { IfOk result (λ asked. asked_of catalog.now line (InstallOutline name.now) ≡ Ok asked) }
     ensures refused { IfErr result (RefusesAs (asked_of catalog.now line (InstallOutline name.now))) }
@@ -139,6 +154,8 @@ fn body_for(catalog: &Catalog, line: u64, name: &[u8]) -> Result<Said, RequestEr
     let Some(number) = procedure_named(catalog, name) else {
         return Err(RequestError::UnknownTarget { line });
     };
+    // Behind the name and before the body, as C16 between C12 and C15.
+    let number = taking_bodies(catalog, line, number)?;
     let procedure = section(number)?;
     Ok(Said::Body(procedure))
 }
@@ -206,8 +223,7 @@ fn body_at(
     value: &Json,
 ) -> Result<Body, RequestError>
     requires levels { depth (view value.now) ≤ max_depth }
-    requires was_read { WasRead catalog.now }
-    requires within { procedure < length catalog.now.procedures }
+    requires was_read { WasNested catalog.now }
     ensures ok { IfOk result (BodyAt catalog.now procedure (view value.now)) }
     ensures may_have { IfOk result (λ body. MayHave catalog.now procedure body.steps) }
     ensures refused { IfErr result (RefusesInstall catalog.now line (view value.now) procedure) }
@@ -216,7 +232,7 @@ fn body_at(
     let Some(body) = value_at_body(value) else {
         return Err(RequestError::NoMemory);
     };
-    match read_body(alloc, catalog, procedure, body) {
+    match read_nested_body(alloc, catalog, procedure, body) {
         Ok(body) => Ok(body),
         Err(CatalogError::NoMemory) => Err(RequestError::NoMemory),
         Err(fault) => Err(RequestError::BadBody { line, fault }),
@@ -235,8 +251,7 @@ fn short_body_at(
     value: &Json,
 ) -> Result<Body, RequestError>
     requires levels { depth (view value.now) ≤ max_depth }
-    requires was_read { WasRead catalog.now }
-    requires within { procedure < length catalog.now.procedures }
+    requires was_read { WasNested catalog.now }
     ensures ok { IfOk result (BodyAt catalog.now procedure (view value.now)) }
     ensures short { IfOk result (λ body. length body.text ≤ 1048576) }
     ensures may_have { IfOk result (λ body. MayHave catalog.now procedure body.steps) }
@@ -281,9 +296,9 @@ fn install(
     value: &Json,
 ) -> Result<Asked, RequestError>
     requires levels { depth (view value.now) ≤ max_depth }
-    requires was_read { WasRead catalog.old }
+    requires was_read { WasNested catalog.old }
     requires spares { OtherBodies catalog.old }
-    requires within { procedure < length catalog.old.procedures }
+    requires takes { takes_bodies (slice_get catalog.old.procedures procedure) ≡ true }
     ensures asks { IfOk result (AsksFor catalog.old (view value.now) (Said.Body procedure)) }
     ensures refused { IfErr result (RefusesInstall catalog.old line (view value.now) procedure) }
     ensures added { IfOk result (AddsAsked catalog.old catalog.new) }
@@ -304,8 +319,8 @@ fn install(
 /// What a value on this line asks of a catalogue, or its first refusal.
 ///
 /// Refuses `Shape` (C11), then `UnknownTarget` (C12), then `Arguments` (C13), then `TooManyRows` (C14), each for the
-/// whole value before the next; an install behind C12 `BadBody` (C15), and last `Shape` again, where the body's text
-/// is too long. The crate's page says when.
+/// whole value before the next; an install behind C12 `Nested` (C16), then `BadBody` (C15), and last `Shape` again,
+/// where the body's text is too long. The crate's page says when.
 ///
 /// The body of an install is added to those that may be installed in the catalogue, unless it has it already. Nothing
 /// else of the catalogue changes, nothing at all where there is an error or another request, and the catalogue goes on
@@ -323,14 +338,14 @@ pub fn request_of(
     value: &Json,
 ) -> Result<Request, RequestError>
     requires levels { depth (view value.now) ≤ max_depth }
-    requires was_read { WasRead catalog.old }
+    requires was_read { WasNested catalog.old }
     requires spares { OtherBodies catalog.old }
     ensures asks { IfOk result (Asks catalog.old line (view value.now)) }
     ensures refused { IfErr result (RefusesRequest catalog.old line (view value.now)) }
     ensures added { IfOk result (λ r. AddsAsked catalog.old catalog.new r.what) }
     ensures same { catalog.new ≡ with_spares catalog.old catalog.new.spares }
     ensures goes_on { GoesOnWith catalog.old catalog.new.spares }
-    ensures stays_read { WasRead catalog.new }
+    ensures stays_read { WasNested catalog.new }
     ensures stand { OtherBodies catalog.new }
     ensures err { OnErr result (catalog.new ≡ catalog.old) }
     ensures others { IfOk result (λ r. is_install r.what ≡ false → catalog.new ≡ catalog.old) }

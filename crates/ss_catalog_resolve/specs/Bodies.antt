@@ -45,6 +45,7 @@ module _ (o : Outline) where
     kind = p.kind;
     args = p.args;
     inputs = inputs_of o p;
+    inner = [];
     touch = touch_of p.args p.touch;
     body = body;
   }

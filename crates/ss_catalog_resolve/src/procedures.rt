@@ -92,6 +92,7 @@ impl<'a> OutlineIndex<'a> {
             kind: procedure.kind,
             args,
             inputs,
+            inner: Seq::new(alloc),
             touch,
             body,
         })

@@ -16,11 +16,11 @@ stream = record { name = codes "s"; schema = record { name = codes "x"; kind = I
 
 -- the border procedure, which takes the stream and does nothing
 abbrev pub taker : Procedure
-taker = record { name = codes "a"; kind = Border; args = []; inputs = 0 ∷ []; touch = Part 0; body = [] }
+taker = record { name = codes "a"; kind = Border; args = []; inputs = 0 ∷ []; inner = []; touch = Part 0; body = [] }
 
 -- the call procedure, which does nothing either
 abbrev pub note : Procedure
-note = record { name = codes "note"; kind = CallKind; args = []; inputs = []; touch = Part 1; body = [] }
+note = record { name = codes "note"; kind = CallKind; args = []; inputs = []; inner = []; touch = Part 1; body = [] }
 
 abbrev pub workflow : Catalog
 workflow = record { tables = []; streams = stream ∷ []; windows = []; triggers = []; procedures = taker ∷ note ∷ []; own_texts = []; spares = []; text = [] }

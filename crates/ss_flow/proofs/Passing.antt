@@ -1,6 +1,6 @@
 -- A procedure passes a batch of one input after the other.
-use Rattle.std.proofs.Common.{◌≡◌, ◌≢◌, ◌≤◌, ◌<◌, ◌==◌, ◌∙◌, ◌⊎◌, ◌||◌, ◌&&◌, inl, inr, ℕ, true, false, cond, not, nat_lt, List, [], ◌∷◌, length, get_or, set, slice_get, Some, None, arith, ap, sym, subst, refl, length-set}
-use Rattle.std.proofs.lemmas.Bool.{ltb-true, or_right, or_left, not-true}
+use Rattle.std.proofs.Common.{◌≡◌, ◌≢◌, ◌≤◌, ◌<◌, ◌==◌, ◌∙◌, ◌⊎◌, ◌||◌, ◌&&◌, inl, inr, ℕ, true, false, cond, not, nat_lt, List, [], ◌∷◌, ◌++◌, length, get_or, set, slice_get, Some, None, arith, ap, sym, subst, refl, length-set}
+use Rattle.std.proofs.lemmas.Bool.{ltb-true, or_right, or_left, or_parts, not-true}
 use Rattle.std.proofs.lemmas.Bool.Decides.{eqb_tells, Decides-eqb}
 use Rattle.std.proofs.lemmas.List.{get_or-set_same, get_or-set_other}
 use Rattle.std.specs.List.{AllByRecursion, list_all, list_any}
@@ -9,10 +9,12 @@ use Rattle.ss_model.specs.declared.catalog.Catalog.{Catalog}
 use Rattle.ss_model.specs.declared.catalog.Procedure.{Procedure}
 use Rattle.ss_model.specs.declared.entry.Entry.TheVariants.{Step as StepEntry}
 use Rattle.ss_model.specs.Accepted.{Accepted}
-use Rattle.ss_model.specs.Database.{takes_stream}
+use Rattle.ss_model.specs.Database.{streams_read, takes_stream}
 use Rattle.ss_model.specs.Orders.{procedure_has, procedure_takes}
 use Rattle.ss_model.specs.CatalogForm.{numbers_distinct, listed_parts, touch_in_range}
+use Rattle.ss_model.proofs.CallerLemmas.{behind_is}
 use Rattle.ss_lemmas.proofs.Bools.{at_index, first_of_two, second_of_two}
+use Rattle.ss_lemmas.proofs.EachOf.{all_parts}
 use Rattle.ss_stream.specs.Pending.{HasNext, Pending, passed_by}
 use Rattle.ss_stream.specs.Streams.{ReservedStreams, SparesElsewhere, no_stream, spare_at, stream_at}
 use Rattle.ss_flow.specs.Advances.{LeavesRoom, passed_among}
@@ -106,13 +108,24 @@ all_below : (n : ℕ) (xs : List ℕ) → list_all (λ s. nat_lt s n) xs ≡ tru
 all_below n [] e = tt
 all_below n (x ∷ xs) e = (ltb-true x n (first_of_two _ _ e), all_below n xs (second_of_two (nat_lt x n) _ e))
 
+-- the first of numbers that are distinct are so by themselves
+no_more : (n : ℕ) (xs ys : List ℕ) → list_any (λ m. n == m) (xs ++ ys) ≡ false → list_any (λ m. n == m) xs ≡ false
+no_more n [] ys e = refl
+no_more n (x ∷ xs) ys e = let parts = or_parts (n == x) (list_any (λ m. n == m) (xs ++ ys)) e in rw (parts.0, no_more n xs ys parts.1) refl
+
+first_distinct : (xs ys : List ℕ) → numbers_distinct (xs ++ ys) ≡ true → numbers_distinct xs ≡ true
+first_distinct [] ys e = refl
+first_distinct (x ∷ xs) ys e = rw (no_more x xs ys (not-true (list_any (λ m. x == m) (xs ++ ys)) (first_of_two _ _ e)), first_distinct xs ys (second_of_two (not (list_any (λ m. x == m) (xs ++ ys))) _ e)) refl
+
 pub inputs_sound : (catalog : Catalog) → Accepted catalog → (q : ℕ) (p : Procedure) → slice_get catalog.procedures q ≡ Some p → SoundInputs catalog p
 inputs_sound catalog accepted q p is =
     let numbers = second_of_two _ _ (first_of_two _ _ (first_of_two _ _ (first_of_two _ _ (first_of_two _ _ (first_of_two _ _ accepted.form))))) in
     let distinct = second_of_two _ _ (first_of_two _ _ (first_of_two _ _ accepted.form)) in
+    let once = first_of_two _ _ (at_index (λ p. numbers_distinct (streams_read p) && numbers_distinct (listed_parts p.touch)) catalog.procedures (second_of_two _ _ distinct) q p is) in
+    let below = all_below (length catalog.streams) (streams_read p) (first_of_two _ _ (at_index (λ p. list_all (λ s. nat_lt s (length catalog.streams)) (streams_read p) && touch_in_range p.args p.touch) catalog.procedures (second_of_two _ _ numbers) q p is)) in
     record {
-      distinct = first_of_two _ _ (at_index (λ p. numbers_distinct p.inputs && numbers_distinct (listed_parts p.touch)) catalog.procedures (second_of_two _ _ distinct) q p is);
-      there = all_below (length catalog.streams) p.inputs (first_of_two _ _ (at_index (λ p. list_all (λ s. nat_lt s (length catalog.streams)) p.inputs && touch_in_range p.args p.touch) catalog.procedures (second_of_two _ _ numbers) q p is));
+      distinct = first_distinct p.inputs p.inner (subst (λ (ss : List ℕ). numbers_distinct ss ≡ true) (behind_is p.inputs p.inner) once);
+      there = (all_parts (λ s. s < length catalog.streams) p.inputs p.inner (subst (AllByRecursion (λ s. s < length catalog.streams)) (behind_is p.inputs p.inner) below)).0;
     }
 
 -- ---- and of a step

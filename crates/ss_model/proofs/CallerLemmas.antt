@@ -1,5 +1,7 @@
 -- What crates above may rely on: the lemmas of this crate that they cite.
 
+-- A list with others behind it is both, one after the other.
+pub use Rattle.ss_model.proofs.Behind.{behind_is}
 -- The two parts of a body's run: its steps, and the closing of its windows.
 pub use Rattle.ss_model.proofs.BodyParts.{body_done, steps_stop, windows_stop}
 -- An entry that has a value fits, and one that fits and is ready has a value.

@@ -37,7 +37,7 @@ step_sync =
       (search (crosses, sendable) depth 40, tt),
       (
         (search (crosses, sendable) depth 40, (search (crosses, sendable) depth 40, tt)),
-        ((search (crosses, sendable) depth 40, (search (crosses, sendable) depth 40, tt)), ((search (crosses, sendable) depth 40, (search (crosses, sendable) depth 40, tt)), ((search (crosses, sendable) depth 40, tt), tt))),
+        ((search (crosses, sendable) depth 40, (search (crosses, sendable) depth 40, tt)), ((search (crosses, sendable) depth 40, (search (crosses, sendable) depth 40, tt)), ((search (crosses, sendable) depth 40, (search (crosses, sendable) depth 40, tt)), ((search (crosses, sendable) depth 40, tt), tt)))),
       ),
     )
 

@@ -1,5 +1,5 @@
 -- What typing guarantees of queries and of runs: rows that fit give rows that fit.
-use Rattle.std.specs.Prelude.{◌≡◌, ℕ, true, List, [], get_or, slice_get, Option, Some, None}
+use Rattle.std.specs.Prelude.{◌≡◌, ℕ, true, List, [], get_or, length, slice_get, Option, Some, None}
 use Rattle.std.specs.List.{AllByRecursion}
 use Rattle.ss_value.specs.declared.schema.Column.{Column}
 use Rattle.ss_value.specs.Fit.{fits_schema}
@@ -45,5 +45,5 @@ abbrev pub RunsStayWhole : Type 0
 RunsStayWhole =
     (catalog : Catalog) → Accepted catalog → (q : ℕ) (p : Procedure) (args : Row) (batches : List Rows) (s : Contents) →
     slice_get catalog.procedures q ≡ Some p →
-    fits_schema p.args args ≡ true → ((i : ℕ) → FitAll (input_schema catalog p.inputs [] i) (get_or batches i [])) → WholeContents catalog s →
+    fits_schema p.args args ≡ true → length batches ≡ length p.inputs → ((i : ℕ) → FitAll (input_schema catalog p.inputs [] i) (get_or batches i [])) → WholeContents catalog s →
     WholeResult catalog (run_procedure catalog q p args batches s)

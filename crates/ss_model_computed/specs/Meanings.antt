@@ -75,7 +75,7 @@ fire_to_depth depth c inserted on w = run_triggers (context_of c) (cascade_to_de
 
 -- ---- bodies
 
--- the run of a body on these contents leaves this result
-abbrev pub BodyLeaves : Catalog → ℕ → List Step → Row → List Rows → Option Value → HeldContents → HeldResult → Type 0
-BodyLeaves catalog number body args batches split s r =
-    body_result catalog (contents_of s) (run_body (record { catalog = catalog; procedure = number; args = args; batches = batches; split_value = split }) body (contents_of s)) ≡ body_result_of r
+-- the run of a body, with these inner streams, on these contents leaves this result
+abbrev pub BodyLeaves : Catalog → ℕ → List Step → Row → List Rows → List ℕ → Option Value → HeldContents → HeldResult → Type 0
+BodyLeaves catalog number body args batches inner split s r =
+    body_result catalog (contents_of s) (run_body (record { catalog = catalog; procedure = number; args = args; batches = batches; inner = inner; split_value = split }) body (contents_of s)) ≡ body_result_of r

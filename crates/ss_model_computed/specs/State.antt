@@ -26,5 +26,6 @@ context_of c = record {
   procedure = c.procedure;
   args = c.args.now;
   batches = c.batches.now;
+  inner = c.inner.now;
   split_value = option_copied c.split_value;
 }

@@ -68,14 +68,15 @@ impl Execution {
     }
 }
 
-/// What an execution is given: the catalogue, its procedure's number, arguments and batches, and the value of split
-/// columns that it is limited to, if any.
+/// What an execution is given: the catalogue, its procedure's number, arguments, batches and inner streams, and the
+/// value of split columns that it is limited to, if any.
 #[derive(Drop)]
 pub struct Context<'a> {
     pub catalog: &'a Catalog,
     pub procedure: u16,
     pub args: &'a Row,
     pub batches: &'a Seq<Rows>,
+    pub inner: &'a Seq<u16>,
     pub split_value: Option<&'a Value>,
 }
 

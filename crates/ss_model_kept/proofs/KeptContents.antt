@@ -28,7 +28,7 @@ use Rattle.ss_model.specs.declared.catalog.TriggerDef.{TriggerDef}
 use Rattle.ss_model.specs.declared.catalog.Inner.{Inner}
 use Rattle.ss_model.specs.declared.catalog.Inner.TheVariants.{Sql as InnerSql, AbortIf as InnerAbortIf}
 use Rattle.ss_model.specs.declared.catalog.Step.{Step}
-use Rattle.ss_model.specs.declared.catalog.Step.TheVariants.{Sql, AbortIf, ForEach, Emit, Return}
+use Rattle.ss_model.specs.declared.catalog.Step.TheVariants.{Sql, AbortIf, ForEach, Emit, Local, Return}
 use Rattle.ss_model.specs.Results.{try_map}
 use Rattle.ss_model.specs.Expressions.{expr_value}
 use Rattle.ss_model.specs.Queries.{query_result}
@@ -163,6 +163,7 @@ module _ (context : Context) where
   step_whole (AbortIf c code) = query_whole c.query
   step_whole (ForEach input body) = all_of _ inner_whole body
   step_whole (Emit s q) = (query_whole q, all_of _ trigger_whole _)
+  step_whole (Local s q) = (query_whole q, all_of _ trigger_whole _)
   step_whole (Return q) = query_whole q
 
   -- a body gives the same on contents of which the same is kept, and leaves them so

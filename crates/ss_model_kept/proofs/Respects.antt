@@ -1,5 +1,5 @@
 -- Runs on two contents in a relation: the same outcome, and contents in the relation.
-use Rattle.std.proofs.Common.{◌≡◌, ℕ, ℤ, zero, suc, ◌^◌, Bool, true, false, not, List, [], ◌∷◌, ◌++◌, refl, ap, subst, Ok, Some, None, get_or, set, length, nat_le, ◌==◌}
+use Rattle.std.proofs.Common.{◌≡◌, ℕ, ℤ, zero, suc, ◌^◌, Bool, true, false, not, List, [], ◌∷◌, ◌++◌, map, refl, ap, subst, Ok, Some, None, get_or, set, length, nat_le, ◌==◌}
 use Rattle.std.specs.declared.option.Option.{Option}
 use Rattle.std.specs.List.{AllByRecursion, filter}
 use Rattle.std.specs.FinMap as finmap
@@ -22,16 +22,16 @@ use Rattle.ss_sql_trees.specs.declared.typed.Condition.{Condition}
 use Rattle.ss_model.specs.declared.catalog.Inner.{Inner}
 use Rattle.ss_model.specs.declared.catalog.Inner.TheVariants.{Sql as InnerSql, AbortIf as InnerAbortIf}
 use Rattle.ss_model.specs.declared.catalog.Step.{Step}
-use Rattle.ss_model.specs.declared.catalog.Step.TheVariants.{Sql, AbortIf, ForEach, Emit, Return}
+use Rattle.ss_model.specs.declared.catalog.Step.TheVariants.{Sql, AbortIf, ForEach, Emit, Local, Return}
 use Rattle.ss_model.specs.declared.entry.Reason.TheVariants.{Raised}
-use Rattle.ss_model.specs.Results.{◌>>=◌, try_map, WhenOk}
+use Rattle.ss_model.specs.Results.{◌>>=◌, try_map, and_behind, WhenOk}
 use Rattle.ss_value.specs.Rows.{Row, Rows, column_value}
 use Rattle.ss_value.specs.Order.{value_cmp}
 use Rattle.ss_model.specs.Expressions.{cmp_holds, expr_value}
 use Rattle.ss_model.specs.Queries.{query_result, join_source}
 use Rattle.ss_model.specs.Contents.{Contents, window_def, visible_rows, visible_end, window_units, append_unit, put_entries, remove_entries, table_at, visible_table, matches_split, source_rows}
 use Rattle.ss_model.specs.Statements.{Context, Execution, Cascade, insert_row, matching_entries, updated_row, update_rows, delete_rows, when_moved, close_unit, stage_by_unit, StatementEffect, Wrote, Staged, insert_into, statement_effect, apply_effect, context_query, execute_statement, is_on_window, is_on_stream, run_triggers, cascade_to_depth, trigger_cascade}
-use Rattle.ss_model.specs.Bodies.{check_condition, execute_abort_if, execute_inner, emit_rows, execute_step, owned_batch_windows, close_window, run_body, exceeds_row_limit}
+use Rattle.ss_model.specs.Bodies.{check_condition, execute_abort_if, execute_inner, emit_rows, step_on, batches_so_far, execute_step, owned_batch_windows, close_window, run_body, exceeds_row_limit}
 use Rattle.ss_model.specs.Claims.{Claims, SourceClaim, JoinClaim, QueryClaim, ValuesClaim, RowsClaim, StatementClaim, TriggerClaim, InnerClaim, StepClaim}
 use Rattle.ss_model_kept.proofs.Related.{Related, related_then, equal_first_then, related_try_fold, equal_test_abort, same_test_abort, same_first_then}
 use Rattle.ss_model.proofs.CallerLemmas.{when_ok_at, try_filter_when_ok, try_map_when_ok, when_ok_then, when_ok_map, all_of, anything}
@@ -211,15 +211,17 @@ module _ (context : Context) (u : Claims) (fit : ℕ → Row → Type 0) (R : Co
       triggers_related (trigger_cascade context) rows _ h (cascade_related _ c) _ _
       (record { contents_related = r.contents_related; open_units = r.open_units; emitted = ap (λ e. set e s (get_or e s [] ++ rows)) r.emitted; reply = r.reply }))
 
-  step_related : TriggersClaimed u context.catalog → (x : Step) → StepClaim u context.catalog context.args x → (w v : Execution) → ExecutionRelated R w v → Related (ExecutionRelated R) (execute_step context x w) (execute_step context x v)
-  step_related c (Sql s) h w v r = statement_related (trigger_cascade context) [] context.args s h (cascade_related _ c) w v r
-  step_related c (AbortIf x code) h w v r = abort_if_related context.args x code w v h r
-  step_related c (ForEach input body) h w v r =
+  step_on_related : TriggersClaimed u context.catalog → (x : Step) → StepClaim u context.catalog context.args x → (w v : Execution) → ExecutionRelated R w v → Related (ExecutionRelated R) (step_on context x w) (step_on context x v)
+  step_on_related c (Sql s) h w v r = statement_related (trigger_cascade context) [] context.args s h (cascade_related _ c) w v r
+  step_on_related c (AbortIf x code) h w v r = abort_if_related context.args x code w v h r
+  step_on_related c (ForEach input body) h w v r =
       related_try_fold (ExecutionRelated R) (λ _. Unit {0}) _ _ (λ row _ w v q.
       related_try_fold (ExecutionRelated R) (InnerClaim u) _ _ (λ x p w v q. inner_related c row x p w v q) body h w v q) (get_or context.batches input []) (all_of _ (λ _. tt) _) w v r
-  step_related c (Emit s q) h w v r =
+  step_on_related c (Emit s q) h w v r =
       equal_first_then (ExecutionRelated R) _ _ _ _ (query_same [] context.args q w.contents v.contents h.0 r.contents_related) (λ rows _. emit_related c s rows h.1 w v r)
-  step_related c (Return q) h w v r =
+  step_on_related c (Local s q) h w v r =
+      equal_first_then (ExecutionRelated R) _ _ _ _ (query_same [] context.args q w.contents v.contents h.0 r.contents_related) (λ rows _. emit_related c s rows h.1 w v r)
+  step_on_related c (Return q) h w v r =
       equal_first_then (ExecutionRelated R) _ _ _ _ (query_same [] context.args q w.contents v.contents h r.contents_related) (λ rows _.
       equal_test_abort (ExecutionRelated R) _ _ _ _ _ (ap (λ old. exceeds_row_limit old rows) r.reply) (λ _.
       record { contents_related = r.contents_related; open_units = r.open_units; emitted = r.emitted; reply = ap (λ old. old ++ rows) r.reply }))
@@ -230,10 +232,30 @@ module _ (context : Context) (u : Claims) (fit : ℕ → Row → Type 0) (R : Co
       (close_related (trigger_cascade context) n (get_or w.open_units n []) (record w { open_units = set w.open_units n [] }) (record v { open_units = set v.open_units n [] }) (cascade_related _ c) h
       (record { contents_related = r.contents_related; open_units = ap (λ o. set o n []) r.open_units; emitted = r.emitted; reply = r.reply }))
 
+module _ (context : Context) (u : Claims) (fit : ℕ → Row → Type 0) (R : Contents → Contents → Type 0) (k : Respects context u fit R) where
+  -- which batches there are is nothing to a relation on contents
+  on : (batches : List Rows) → Respects (record context { batches = batches }) u fit R
+  on batches = record {
+    valued = k.valued;
+    queried = k.queried;
+    seen = k.seen;
+    shown = k.shown;
+    counted = k.counted;
+    inserted = k.inserted;
+    put = k.put;
+    dropped = k.dropped;
+    closed = k.closed;
+  }
+
+  step_related : TriggersClaimed u context.catalog → (x : Step) → StepClaim u context.catalog context.args x → (w v : Execution) → ExecutionRelated R w v → Related (ExecutionRelated R) (execute_step context x w) (execute_step context x v)
+  step_related c x h w v r =
+      subst (λ b. Related (ExecutionRelated R) (execute_step context x w) (step_on (record context { batches = b }) x v)) (ap (λ e. and_behind context.batches (map (λ s. get_or e s []) context.inner)) r.emitted)
+      (step_on_related (record context { batches = batches_so_far context w }) u fit R (on (batches_so_far context w)) c x h w v r)
+
   -- a body in scope runs alike on contents in the relation
   pub body_related : (body : List Step) → TriggersClaimed u context.catalog → AllByRecursion (StepClaim u context.catalog context.args) body → AllByRecursion u.window (owned_batch_windows context.catalog context.procedure) → (s z : Contents) → R s z → Related (ExecutionRelated R) (run_body context body s) (run_body context body z)
   unfolding run_body
   body_related body c steps own s z r =
       related_then (ExecutionRelated R) (ExecutionRelated R) _ _ _ _
       (related_try_fold (ExecutionRelated R) (StepClaim u context.catalog context.args) _ _ (λ x p w v q. step_related c x p w v q) body steps _ _ (record { contents_related = r; open_units = refl; emitted = refl; reply = refl }))
-      (λ w v q. related_try_fold (ExecutionRelated R) u.window _ _ (λ n p w v q. close_window_related c n p w v q) (owned_batch_windows context.catalog context.procedure) own w v q)
+      (λ w v q. related_try_fold (ExecutionRelated R) u.window _ _ (λ n p w v q. close_window_related context u fit R k c n p w v q) (owned_batch_windows context.catalog context.procedure) own w v q)

@@ -10,7 +10,7 @@ use Rattle.ss_model.specs.declared.catalog.Catalog.{Catalog}
 use Rattle.ss_model.specs.declared.catalog.Procedure.{Procedure}
 use Rattle.ss_model.specs.declared.catalog.TriggerDef.{TriggerDef}
 use Rattle.ss_model.specs.declared.catalog.Step.{Step}
-use Rattle.ss_model.specs.declared.catalog.Step.TheVariants.{Sql, AbortIf, ForEach, Emit, Return}
+use Rattle.ss_model.specs.declared.catalog.Step.TheVariants.{Sql, AbortIf, ForEach, Emit, Local, Return}
 use Rattle.ss_model.specs.Results.{OrAbort, ◌>>=◌, try_fold, abort_when}
 use Rattle.ss_value.specs.declared.value.Value.{Value}
 use Rattle.ss_value.specs.declared.Unit.{Unit as UnitKind}
@@ -24,7 +24,7 @@ use Rattle.ss_model.specs.declared.catalog.Inner.TheVariants.{Sql as InnerSql, A
 use Rattle.ss_model.specs.declared.entry.Reason.TheVariants.{BatchFull, ReplyFull}
 use Rattle.ss_model.specs.Contents.{Contents, visible_table, window_def}
 use Rattle.ss_model.specs.Statements.{Context, Execution, Cascade, stage_by_unit, StatementEffect, Wrote, Staged, apply_effect, statement_effect, cascade_to_depth, is_on_window, insert_row, update_rows, delete_rows, close_unit, context_query, execute_statement, run_triggers, is_on_stream, trigger_cascade}
-use Rattle.ss_model.specs.Bodies.{exceeds_row_limit, check_condition, execute_abort_if, execute_inner, execute_step, execution_start, owned_batch_windows, close_window, run_body}
+use Rattle.ss_model.specs.Bodies.{exceeds_row_limit, check_condition, execute_abort_if, execute_inner, step_on, batches_so_far, execution_start, owned_batch_windows, close_window, run_body}
 use Rattle.ss_model.specs.Database.{body_result, split_value_for, run_procedure}
 use Rattle.ss_model.specs.CatalogForm.{step_of_kind, body_within_limit, has_frame, has_form, is_of_kind, head_of_kind, is_within_limits, counts_within_limits, has_distinct_names, numbers_in_range, has_window_sizes, has_distinct_numbers, has_parts}
 use Rattle.ss_model.specs.Typing.{procedure_typed}
@@ -53,18 +53,12 @@ module _ (cascade : Cascade) (context : Context) where
   step_with (AbortIf c code) w = execute_abort_if context context.args c code w
   step_with (ForEach input body) w = try_fold (λ row. try_fold (inner_with row) body) (get_or context.batches input []) w
   step_with (Emit s q) w = context_query context [] context.args q w.contents >>= λ rows. emit_with s rows w
+  step_with (Local s q) w = context_query context [] context.args q w.contents >>= λ rows. emit_with s rows w
   step_with (Return q) w =
       context_query context [] context.args q w.contents >>= λ rows.
       abort_when (exceeds_row_limit w.reply rows) ReplyFull (Ok (record w { reply = w.reply ++ rows }))
 
-  abbrev close_with : ℕ → Execution → OrAbort Execution
-  close_with n w = close_unit context.catalog cascade n (get_or w.open_units n []) (record w { open_units = set w.open_units n [] })
-
-  abbrev body_with : List Step → Contents → OrAbort Execution
-  body_with body s =
-      try_fold step_with body (execution_start context.catalog s) >>= try_fold close_with (owned_batch_windows context.catalog context.procedure)
-
-step_is : (context : Context) (x : Step) → execute_step context x ≡ step_with (trigger_cascade context) context x
+step_is : (context : Context) (x : Step) → step_on context x ≡ step_with (trigger_cascade context) context x
 step_is context (Sql s) = refl
 step_is context (AbortIf c code) = refl
 step_is context (ForEach input body) = λ i w. try_fold (λ row. try_fold (λ x. inner_is row x i) body) (get_or context.batches input []) w
@@ -73,22 +67,19 @@ step_is context (ForEach input body) = λ i w. try_fold (λ row. try_fold (λ x.
     inner_is row (InnerSql s) = refl
     inner_is row (InnerAbortIf c code) = refl
 step_is context (Emit s q) = refl
+step_is context (Local s q) = refl
 step_is context (Return q) = refl
 
-body_is : (context : Context) (body : List Step) (s : Contents) → run_body context body s ≡ body_with (trigger_cascade context) context body s
-unfolding run_body
-body_is context body s = λ i. try_fold (λ x. step_is context x i) body (execution_start context.catalog s) >>= try_fold (close_window context) (owned_batch_windows context.catalog context.procedure)
-
-module _ (catalog : Catalog) (procedures : List Procedure) (spares : List (List Body)) (q : ℕ) (args : Row) (batches : List Rows) (split_value : Option Value) where
+module _ (catalog : Catalog) (procedures : List Procedure) (spares : List (List Body)) (q : ℕ) (args : Row) (batches : List Rows) (inner : List ℕ) (split_value : Option Value) where
   -- with other procedures, and with other bodies to be installed
   abbrev other : Catalog
   other = record catalog { procedures = procedures; spares = spares }
 
   abbrev before : Context
-  before = record { catalog = catalog; procedure = q; args = args; batches = batches; split_value = split_value }
+  before = record { catalog = catalog; procedure = q; args = args; batches = batches; inner = inner; split_value = split_value }
 
   abbrev changed : Context
-  changed = record { catalog = other; procedure = q; args = args; batches = batches; split_value = split_value }
+  changed = record { catalog = other; procedure = q; args = args; batches = batches; inner = inner; split_value = split_value }
 
   made_same : (inserted : Rows) (params : Row) (st : Statement) (s : Contents) → statement_effect changed inserted params st s ≡ statement_effect before inserted params st s
   unfolding insert_row update_rows delete_rows visible_table
@@ -142,19 +133,28 @@ module _ (catalog : Catalog) (procedures : List Procedure) (spares : List (List 
     step_same (AbortIf c code) w = abort_if_same args c code w
     step_same (ForEach input body) w = λ i. try_fold (λ row. try_fold (λ x v. inner_same row x v i) body) (get_or batches input []) w
     step_same (Emit s x) w = λ i. query_same [] args x w.contents i >>= λ rows. emit_same s rows w i
+    step_same (Local s x) w = λ i. query_same [] args x w.contents i >>= λ rows. emit_same s rows w i
     step_same (Return x) w = λ i. query_same [] args x w.contents i >>= λ rows. abort_when (exceeds_row_limit w.reply rows) ReplyFull (Ok (record w { reply = w.reply ++ rows }))
 
-    body_same : (body : List Step) (s : Contents) → body_with cascade changed body s ≡ body_with cascade before body s
-    body_same body s = λ i.
-        try_fold (λ x w. step_same x w i) body (execution_start catalog s) >>= try_fold (λ n w. closed_same cascade n (get_or w.open_units n []) (record w { open_units = set w.open_units n [] }) i) (owned_batch_windows catalog q)
+  on_same : (x : Step) (w : Execution) → step_on changed x w ≡ step_on before x w
+  on_same x w =
+      ap (λ (f : Execution → OrAbort Execution). f w) (step_is changed x) ∙ step_same (trigger_cascade changed) x w
+      ∙ ap (λ (c : Cascade). step_with c before x w) (nested_same (length catalog.windows)) ∙ sym (ap (λ (f : Execution → OrAbort Execution). f w) (step_is before x))
 
-  run_same : (body : List Step) (s : Contents) → run_body changed body s ≡ run_body before body s
-  run_same body s =
-      body_is changed body s ∙ body_same (trigger_cascade changed) body s
-      ∙ ap (λ (c : Cascade). body_with c before body s) (nested_same (length catalog.windows)) ∙ sym (body_is before body s)
+  close_same : (n : ℕ) (w : Execution) → close_window changed n w ≡ close_window before n w
+  close_same n w =
+      closed_same (trigger_cascade changed) n (get_or w.open_units n []) (record w { open_units = set w.open_units n [] })
+      ∙ ap (λ (c : Cascade). close_unit catalog c n (get_or w.open_units n []) (record w { open_units = set w.open_units n [] })) (nested_same (length catalog.windows))
+
+module _ (catalog : Catalog) (procedures : List Procedure) (spares : List (List Body)) (q : ℕ) (args : Row) (batches : List Rows) (inner : List ℕ) (split_value : Option Value) where
+  run_same : (body : List Step) (s : Contents) → run_body (changed catalog procedures spares q args batches inner split_value) body s ≡ run_body (before catalog procedures spares q args batches inner split_value) body s
+  unfolding run_body
+  run_same body s = λ i.
+      try_fold (λ x w. on_same catalog procedures spares q args (batches_so_far (before catalog procedures spares q args batches inner split_value) w) inner split_value x w i) body (execution_start catalog s)
+      >>= try_fold (λ n w. close_same catalog procedures spares q args batches inner split_value n w i) (owned_batch_windows catalog q)
 
 pub run_reads_one : (catalog : Catalog) (procedures : List Procedure) (spares : List (List Body)) (q : ℕ) (p : Procedure) (args : Row) (batches : List Rows) (s : Contents) → run_procedure (record catalog { procedures = procedures; spares = spares }) q p args batches s ≡ run_procedure catalog q p args batches s
-run_reads_one catalog procedures spares q p args batches s = ap (body_result catalog s) (run_same catalog procedures spares q args batches (split_value_for p.touch args) p.body s)
+run_reads_one catalog procedures spares q p args batches s = ap (body_result catalog s) (run_same catalog procedures spares q args batches p.inner (split_value_for p.touch args) p.body s)
 
 -- ---- in parts
 
@@ -187,13 +187,13 @@ module _ (catalog : Catalog) where
     frame_of : has_frame catalog ≡ true
     frame_of =
         rebuilt (has_distinct_names catalog) (numbers_in_range catalog) (is_within_limits catalog) (has_window_sizes catalog) (has_distinct_numbers catalog) (has_parts catalog) (list_all is_of_kind catalog.procedures) (counts_within_limits catalog) (list_all head_of_kind catalog.procedures) form
-        (first_of_two (counts_within_limits catalog) (list_all (λ p. body_within_limit p.body) catalog.procedures) limits)
+        (first_of_two (counts_within_limits catalog) (list_all (λ p. body_within_limit p.inner p.body) catalog.procedures) limits)
         (all_from head_of_kind catalog.procedures (λ q p is. first_of_two (head_of_kind p) (list_all (step_of_kind p.kind) p.body) (at_index is_of_kind catalog.procedures kinds q p is)))
 
   form_of : has_frame catalog ≡ true → OwnBodies catalog → has_form catalog ≡ true
   form_of frame bodies =
       rebuilt (has_distinct_names catalog) (numbers_in_range catalog) (counts_within_limits catalog) (has_window_sizes catalog) (has_distinct_numbers catalog) (has_parts catalog) (list_all head_of_kind catalog.procedures) (is_within_limits catalog) (list_all is_of_kind catalog.procedures) frame
-      (and_from (counts_within_limits catalog) (list_all (λ p. body_within_limit p.body) catalog.procedures) (third_part (has_distinct_names catalog) (numbers_in_range catalog) (counts_within_limits catalog) (has_window_sizes catalog) (has_distinct_numbers catalog) (has_parts catalog) (list_all head_of_kind catalog.procedures) frame) (all_from (λ p. body_within_limit p.body) catalog.procedures (λ q p is. (bodies q p is).size)))
+      (and_from (counts_within_limits catalog) (list_all (λ p. body_within_limit p.inner p.body) catalog.procedures) (third_part (has_distinct_names catalog) (numbers_in_range catalog) (counts_within_limits catalog) (has_window_sizes catalog) (has_distinct_numbers catalog) (has_parts catalog) (list_all head_of_kind catalog.procedures) frame) (all_from (λ p. body_within_limit p.inner p.body) catalog.procedures (λ q p is. (bodies q p is).size)))
       (all_from is_of_kind catalog.procedures (λ q p is. and_from (head_of_kind p) (list_all (step_of_kind p.kind) p.body) (at_index head_of_kind catalog.procedures (second_of_two _ _ frame) q p is) (bodies q p is).kind))
 
   frame_in : Accepted catalog → AcceptedFrame catalog
@@ -207,12 +207,13 @@ module _ (catalog : Catalog) where
   pub bodies_in : Accepted catalog → OwnBodies catalog
   bodies_in a q p is = record {
     kind = second_of_two _ _ (at_index is_of_kind catalog.procedures (kinds a.form) q p is);
-    size = at_index (λ p. body_within_limit p.body) catalog.procedures (second_of_two _ _ (limits a.form)) q p is;
+    size = at_index (λ p. body_within_limit p.inner p.body) catalog.procedures (second_of_two _ _ (limits a.form)) q p is;
     typed = at_index (procedure_typed catalog) catalog.procedures (first_of_two _ _ a.typed) q p is;
     in_scope = at_index (procedure_in_scope catalog) catalog.procedures (first_of_two _ _ a.in_scope) q p is;
     local = (a.uses q p is).local;
     limited = (a.uses q p is).limited;
     emits = λ s. refl;
+    adds = λ s. refl;
   }
 
   pub joined : AcceptedFrame catalog → OwnBodies catalog → OtherBodies catalog → Accepted catalog

@@ -14,7 +14,7 @@ use Rattle.ss_model.specs.declared.entry.Entry.TheVariants.{Call, Push, Step as 
 use Rattle.ss_model.specs.declared.entry.Emitted.{Emitted}
 use Rattle.ss_model.specs.Results.{map_indexed}
 use Rattle.ss_model.specs.Contents.{window_owner, window_def, kept_units}
-use Rattle.ss_model.specs.Database.{Database, Applied, empty_database, fits_entry, has_call, has_step, stream_schema, batch_count, stream_batches, is_border, takes_stream, is_ready, is_call, with_body, own_text, has_body}
+use Rattle.ss_model.specs.Database.{Database, Applied, empty_database, fits_entry, has_call, has_step, takes_bodies, stream_schema, batch_count, stream_batches, is_border, takes_stream, is_ready, is_call, with_body, own_text, has_body}
 use Rattle.ss_model.specs.Orders.{MatchesCounts}
 use Rattle.ss_model.specs.Partitions.{home_partition, home_of, home_of_owner, window_partition, row_partition, border_procedure, procedure_touches, touches, part, seen_bodies}
 use Rattle.ss_model.specs.Settling.{emitting_procedure, kept, least_count, rank_from, rank, is_ready_now, lower_rank, next_settled}
@@ -22,7 +22,7 @@ use Rattle.ss_model.specs.Batches.{output_batches, emitted_batches}
 use Rattle.ss_model.specs.WholeDatabase.{batch_fits, WholeDatabase}
 use Rattle.ss_model.specs.AcceptedBodies.{with_bodies, AcceptedBodies}
 use Rattle.ss_model.specs.BodiesAside.{SameBodiesAside}
-use Rattle.ss_model_laws.proofs.ChangedBodies.{changed, length_same, at_number, was_there, has_same, takes_same, border_same, emits_same, emitter_same, stream_same}
+use Rattle.ss_model_laws.proofs.ChangedBodies.{changed, length_same, at_number, was_there, has_same, takes_same, border_same, inner_same, emits_same, emitter_same, stream_same}
 
 -- the home of a procedure that is found
 found_home : (n : ℕ) (s : ℕ) (bodies : ℕ → List Step) (ps : List Procedure) → home_partition n (find (λ p. cond (is_border p.kind) (takes_stream s p) false) (changed bodies ps)) ≡ home_partition n (find (λ p. cond (is_border p.kind) (takes_stream s p) false) ps)
@@ -105,7 +105,7 @@ module _ (catalog : Catalog) (bodies : ℕ → List Step) where
   fits_same (Call client index q args) = named_same (has_call client args) q (λ p. refl)
   fits_same (Push client index s source seq rows) = λ i. nat_lt client 8 && border_same catalog bodies s i && nat_le (length rows) 1024 && nat_lt seq (2 ^ 63) && list_all (fits_schema (stream_schema catalog s)) rows
   fits_same (StepEntry q r) = named_same has_step q (λ p. refl)
-  fits_same (Install client index q text) = λ i. nat_lt client 8 && nat_lt q (length_same bodies catalog.procedures i) && nat_le (length text) 1048576 && has_body catalog q text
+  fits_same (Install client index q text) = λ i. nat_lt client 8 && named_same takes_bodies q (λ p. refl) i && nat_le (length text) 1048576 && has_body catalog q text
 
   ready_same : (db : Database) (q : ℕ) → is_ready_now other db q ≡ is_ready_now catalog db q
   ready_same db q = has_same catalog bodies (is_ready db q (batch_count db q)) (λ body p. refl) q
@@ -161,6 +161,7 @@ module _ (catalog : Catalog) (bodies : ℕ → List Step) where
       batches = λ s. subst (λ n. list_all (batch_fits (stream_schema catalog s)) (drop n (stream_batches db s)) ≡ true) (sym (least_same db s)) (k.batches s);
       calls = λ q p is. let c = was_there catalog bodies q p is in subst (λ (z : Procedure). is_call z.kind ≡ true → batch_count db q ≡ 0) c.is (k.calls q c.was c.stood);
       next_numbers = λ s source n is. let m = k.next_numbers s source n is in record { border = border_same catalog bodies s ∙ m.border; at_least = m.at_least; at_most = m.at_most };
+      inner = λ s e. k.inner s (sym (inner_same catalog bodies s) ∙ e);
       body_count = k.body_count ∙ sym (length_same bodies catalog.procedures);
       bodies = λ q p is. let c = was_there catalog bodies q p is in k.bodies q c.was c.stood;
     }
@@ -173,6 +174,7 @@ module _ (catalog : Catalog) (bodies : ℕ → List Step) where
       batches = λ s. subst (λ n. list_all (batch_fits (stream_schema catalog s)) (drop n (stream_batches db s)) ≡ true) (least_same db s) (k.batches s);
       calls = λ q p is. k.calls q (with_body (bodies q) p) (at_number bodies catalog.procedures q ∙ ap (option_map (with_body (bodies q))) is);
       next_numbers = λ s source n is. let m = k.next_numbers s source n is in record { border = sym (border_same catalog bodies s) ∙ m.border; at_least = m.at_least; at_most = m.at_most };
+      inner = λ s e. k.inner s (inner_same catalog bodies s ∙ e);
       body_count = k.body_count ∙ length_same bodies catalog.procedures;
       bodies = λ q p is. k.bodies q (with_body (bodies q) p) (at_number bodies catalog.procedures q ∙ ap (option_map (with_body (bodies q))) is);
     }

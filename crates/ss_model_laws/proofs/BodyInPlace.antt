@@ -4,18 +4,18 @@ use Rattle.std.proofs.lemmas.Bool.Decides.{eqb_tells}
 use Rattle.std.specs.declared.option.Option.{Option}
 use Rattle.std.specs.Option.{option_map}
 use Rattle.std.specs.List.{list_any}
-use Rattle.ss_lemmas.proofs.Bools.{some_same}
+use Rattle.ss_lemmas.proofs.Bools.{some_same, is_false}
 use Rattle.ss_lemmas.proofs.Numbers.{eqb_self}
 use Rattle.ss_model.specs.declared.catalog.Catalog.{Catalog}
 use Rattle.ss_model.specs.declared.catalog.Procedure.{Procedure}
 use Rattle.ss_model.specs.declared.catalog.Step.{Step}
-use Rattle.ss_model.specs.Database.{emits_to, is_border_stream, with_body}
+use Rattle.ss_model.specs.Database.{emits_to, adds_to, is_border_stream, is_inner_stream, with_body}
 use Rattle.ss_model.specs.Orders.{procedure_emits, procedure_has}
 use Rattle.ss_model.specs.Spares.{AcceptedBody}
-use Rattle.ss_model.specs.Accepted.{Accepted}
+use Rattle.ss_model.specs.Accepted.{Accepted, procedure_adds}
 use Rattle.ss_model.specs.AcceptedBodies.{AcceptedBodies, with_body_at}
 use Rattle.ss_model_laws.proofs.AcceptedBodies.{bodies_in}
-use Rattle.ss_model_laws.proofs.ChangedBodies.{at_number, border_same, may_change}
+use Rattle.ss_model_laws.proofs.ChangedBodies.{at_number, border_same, inner_same, nests_same, may_change}
 
 module _ (catalog : Catalog) (accepted : Accepted catalog) (q : ℕ) (p : Procedure) (is : slice_get catalog.procedures q ≡ Some p) (body : List Step) where
   abbrev chosen : ℕ → List Step
@@ -52,10 +52,13 @@ module _ (catalog : Catalog) (accepted : Accepted catalog) (q : ℕ) (p : Proced
             ap (list_any (emits_to s)) (ap (λ b. cond b body (unwrap_or (option_map (λ (d : Procedure). d.body) (slice_get catalog.procedures n)) [])) t.0 ∙ ap (λ o. unwrap_or (option_map (λ (d : Procedure). d.body) o) []) e)
 
     gains : (s : ℕ) → list_any (emits_to s) body ≡ true → list_any (emits_to s) p.body ≡ false → ⊥
-    gains s new old = by (accepted.structure.streams.fed s (changed.structure.streams.wired.emits_there q s here))
+    gains s new old = by (accepted.structure.streams.fed s (changed.structure.streams.wired.emits_there q s here) (is_false _ apart))
       where
         here : procedure_emits there q s ≡ true
         here = emits_there s ∙ new
+
+        apart : is_inner_stream catalog s ≡ true → ⊥
+        apart i = let f : true ≡ false = sym here ∙ (changed.structure.streams.inner).not_emitted q s (inner_same catalog chosen s ∙ i) in cc
 
         other : (n : ℕ) → procedure_emits catalog n s ≡ true → n ≡ q → ⊥
         other n e same = let f : true ≡ false = sym e ∙ ap (λ z. procedure_emits catalog z s) same ∙ emits_here s ∙ old in cc
@@ -65,10 +68,13 @@ module _ (catalog : Catalog) (accepted : Accepted catalog) (q : ℕ) (p : Proced
         by (inr (n, e)) = other n e (changed.structure.streams.wired.one_emitter n q s (emits_else n s (other n e) ∙ e) here)
 
     loses : (s : ℕ) → list_any (emits_to s) body ≡ false → list_any (emits_to s) p.body ≡ true → ⊥
-    loses s new old = by (changed.structure.streams.fed s (accepted.structure.streams.wired.emits_there q s here))
+    loses s new old = by (changed.structure.streams.fed s (accepted.structure.streams.wired.emits_there q s here) (is_false _ apart))
       where
         here : procedure_emits catalog q s ≡ true
         here = emits_here s ∙ old
+
+        apart : is_inner_stream there s ≡ true → ⊥
+        apart i = let f : true ≡ false = sym here ∙ (accepted.structure.streams.inner).not_emitted q s (sym (inner_same catalog chosen s) ∙ i) in cc
 
         other : (n : ℕ) → procedure_emits there n s ≡ true → n ≡ q → ⊥
         other n e same = let f : true ≡ false = sym e ∙ ap (λ z. procedure_emits there z s) same ∙ emits_there s ∙ new in cc
@@ -86,6 +92,12 @@ module _ (catalog : Catalog) (accepted : Accepted catalog) (q : ℕ) (p : Proced
         by false true g l = absurd (l refl refl)
         by false false g l = refl
 
+    same_adds : (s : ℕ) → list_any (adds_to s) body ≡ list_any (adds_to s) p.body
+    same_adds s =
+        let here : procedure_adds catalog q s ≡ list_any (adds_to s) p.body = ap (procedure_has (λ d. list_any (adds_to s) d.body)) is in
+        let now : procedure_adds there q s ≡ list_any (adds_to s) body = ap (procedure_has (λ d. list_any (adds_to s) d.body)) stands in
+        sym now ∙ sym ((changed.structure.streams.inner).filled q s) ∙ nests_same catalog chosen q s ∙ (accepted.structure.streams.inner).filled q s ∙ here
+
     pub from_place : AcceptedBody catalog q p body
     from_place =
         let k = bodies_in there changed q (with_body body p) stands in
@@ -97,6 +109,7 @@ module _ (catalog : Catalog) (accepted : Accepted catalog) (q : ℕ) (p : Proced
           local = λ args. let u = k.local args in record { steps = u.steps; owned = u.owned; triggers = u.triggers };
           limited = k.limited;
           emits = same_emits;
+          adds = same_adds;
         }
 
   -- ---- and back

@@ -1,5 +1,5 @@
 -- A body of an accepted catalogue on whole contents leaves whole contents, and batches that fit.
-use Rattle.std.proofs.Common.{◌≡◌, ◌≤◌, ◌<◌, ◌+◌, ◌^◌, ℕ, ℤ, zero, suc, nat_lt, nat_le, Bool, true, false, not, ◌&&◌, ◌==◌, List, [], ◌∷◌, ◌++◌, get_or, set, length, replicate, slice_get, refl, sym, ap, subst, Some, None, Ok, Err, unwrap_or, arith}
+use Rattle.std.proofs.Common.{◌≡◌, ◌≤◌, ◌<◌, ◌+◌, ◌^◌, ℕ, ℤ, zero, suc, nat_lt, nat_le, Bool, true, false, not, ◌&&◌, ◌==◌, List, [], ◌∷◌, ◌++◌, map, get_or, set, length, replicate, slice_get, refl, sym, ap, subst, Some, None, Ok, Err, unwrap_or, arith}
 use Rattle.std.proofs.lemmas.Bool.{ltb-true, ltb-false, le-leb, and_from}
 use Rattle.std.proofs.lemmas.Bool.Decides.{Decides-eqb}
 use Rattle.std.proofs.lemmas.List.{length-append}
@@ -22,23 +22,23 @@ use Rattle.ss_model.specs.declared.catalog.On.{On}
 use Rattle.ss_model.specs.declared.catalog.On.TheVariants.{Stream as OnStream, Window as OnWindow}
 use Rattle.ss_model.specs.declared.catalog.Procedure.{Procedure}
 use Rattle.ss_model.specs.declared.catalog.Step.{Step}
-use Rattle.ss_model.specs.declared.catalog.Step.TheVariants.{Sql, AbortIf, ForEach, Emit, Return}
+use Rattle.ss_model.specs.declared.catalog.Step.TheVariants.{Sql, AbortIf, ForEach, Emit, Local, Return}
 use Rattle.ss_model.specs.declared.catalog.TriggerDef.{TriggerDef}
 use Rattle.ss_model.specs.declared.catalog.WindowDef.{WindowDef}
 use Rattle.ss_model.specs.declared.entry.Reason.TheVariants.{Raised, BatchFull, ReplyFull, WindowFull}
-use Rattle.ss_model.specs.Results.{OrAbort, try_fold, WhenOk}
+use Rattle.ss_model.specs.Results.{OrAbort, try_fold, and_behind, WhenOk}
 use Rattle.ss_model.specs.Expressions.{cmp_holds, expr_value}
 use Rattle.ss_model.specs.Contents.{Contents, window_units, append_unit, window_def, visible_end}
 use Rattle.ss_model.specs.Statements.{Context, Execution, Cascade, when_moved, close_unit, stage_by_unit, stage_row, context_query, StatementEffect, Wrote, Staged, apply_effect, statement_effect, execute_statement, run_triggers, cascade_to_depth, trigger_cascade, is_on_window, is_on_stream}
-use Rattle.ss_model.specs.Bodies.{exceeds_row_limit, check_condition, execute_abort_if, execute_inner, emit_rows, execute_step, is_batches_unit, is_closed_by, owned_batch_windows, close_window, execution_start, run_body}
-use Rattle.ss_model.specs.Database.{body_result, run_procedure, split_value_for, stream_schema, Database, present}
+use Rattle.ss_model.specs.Bodies.{exceeds_row_limit, check_condition, execute_abort_if, execute_inner, emit_rows, step_on, batches_so_far, execute_step, is_batches_unit, is_closed_by, owned_batch_windows, close_window, execution_start, run_body}
+use Rattle.ss_model.specs.Database.{body_result, run_procedure, split_value_for, stream_schema, streams_read, Database, present}
 use Rattle.ss_model.specs.Typing.{window_schema, input_schema, schemas_of, inner_typed, step_typed, trigger_schema, trigger_typed, procedure_typed, catalog_typed}
 use Rattle.ss_model.specs.Scopes.{statement_in_scope, inner_in_scope, step_in_scope, is_on_a_stream, trigger_in_scope, procedure_in_scope, catalog_in_scope}
 use Rattle.ss_model.specs.WholeDatabase.{has_unit_size, unit_fits, WholeContents, batch_fits}
 use Rattle.ss_model.specs.SoundRuns.{FitAll, WholeResult}
 use Rattle.ss_model_kept.proofs.CallerLemmas.{set_one, filter_passes}
 use Rattle.ss_lemmas.proofs.Bools.{first_of_two, second_of_two, some_same, at_index, each_filtered}
-use Rattle.ss_model.proofs.CallerLemmas.{when_ok_then, anything}
+use Rattle.ss_model.proofs.CallerLemmas.{behind_is, when_ok_then, anything}
 use Rattle.ss_model_laws.proofs.QuerySound.{all_append}
 use Rattle.ss_model_laws.proofs.WholeChanges.{when_ok_unless, append_whole}
 use Rattle.ss_model_laws.proofs.StatementSound.{AtHand, try_fold_when_ok, each_of, all_test, query_fits, EffectWhole, effect_whole}
@@ -186,81 +186,119 @@ module _ (context : Context) (typed : catalog_typed context.catalog ≡ true) (i
   abort_if_whole : (param : Row) (c : Condition) (code : ℤ) (w : Execution) → Whole w → WhenOk Whole (execute_abort_if context param c code w)
   abort_if_whole param c code w h = when_ok_then (λ _. Unit {0}) Whole (context_query context [] param c.query w.contents) _ (anything (context_query context [] param c.query w.contents)) (λ rows _. condition_whole param c code rows w h)
 
-  module _ (p : Procedure) (right : procedure_typed catalog p ≡ true) (scope : procedure_in_scope catalog p ≡ true) (args : fits_schema p.args context.args ≡ true) (inputs : (i : ℕ) → FitAll (input_schema catalog p.inputs [] i) (get_or context.batches i [])) where
-    hand : AtHand catalog p.inputs (length p.inputs) false [] context.batches []
+  -- ---- the body
+
+  none_at : {A : Type 0} (n i : ℕ) → get_or (replicate {A = List A} n []) i [] ≡ []
+  none_at zero i = refl
+  none_at (suc n) zero = refl
+  none_at (suc n) (suc i) = none_at n i
+
+  start_whole : (s : Contents) → WholeContents catalog s → Whole (execution_start catalog s)
+  start_whole s h = record {
+    contents = h;
+    open_units = λ n. subst (FitAll (window_schema catalog n)) (sym (none_at (length catalog.windows) n)) tt;
+    emitted = λ n. subst (λ b. batch_fits (stream_schema catalog n) b ≡ true) (sym (none_at (length catalog.streams) n)) refl;
+  }
+
+  closed_kind : (o : Option WindowDef) (d : WindowDef) (unit : Rows) → o ≡ Some d → is_closed_by context.procedure o ≡ true → has_unit_size d.unit unit ≡ true
+  closed_kind None d unit is e = cc
+  closed_kind (Some k) d unit is e = subst (λ (z : WindowDef). has_unit_size z.unit unit ≡ true) (some_same _ _ is) (by k.unit (second_of_two _ _ e))
+    where
+      by : (k : UnitKind) → is_batches_unit k ≡ true → has_unit_size k unit ≡ true
+      by RowsUnit e = cc
+      by BatchesUnit e = refl
+
+  none_open : (n : ℕ) (w : Execution) → Whole w → Whole (record w { open_units = set w.open_units n [] })
+  none_open n w h = record {
+    contents = h.contents;
+    open_units = λ m. set_one (FitAll (window_schema catalog m)) w.open_units n m [] [] (h.open_units m) (λ e. tt);
+    emitted = h.emitted;
+  }
+
+  closed_whole : (n : ℕ) → is_closed_by context.procedure (slice_get catalog.windows n) ≡ true → (w : Execution) → Whole w → WhenOk Whole (close_window context n w)
+  closed_whole n e w h = close_whole catalog (trigger_cascade context) cascade_whole n (get_or w.open_units n []) (record w { open_units = set w.open_units n [] }) (none_open n w h) (λ d is.
+      and_from _ _ (closed_kind (slice_get catalog.windows n) d (get_or w.open_units n []) is e) (all_test _ (get_or w.open_units n []) (subst (λ cs. FitAll cs (get_or w.open_units n [])) (schema_is catalog n d is) (h.open_units n))))
+
+  module _ (p : Procedure) (right : procedure_typed catalog p ≡ true) (scope : procedure_in_scope catalog p ≡ true) (args : fits_schema p.args context.args ≡ true) (inputs : (i : ℕ) → FitAll (input_schema catalog (streams_read p) [] i) (get_or context.batches i [])) where
+    hand : AtHand catalog (streams_read p) (length (streams_read p)) false [] context.batches []
     hand = record { batches = λ i e. inputs i; inserted = λ e. tt }
 
-    sql_whole : (params : List Column) (param : Row) (st : Statement) (w : Execution) → Whole w → fits_schema params param ≡ true → statement_in_scope catalog (length p.inputs) false st ≡ true → statement_typed (schemas_of catalog p.inputs [] params) st ≡ true → WhenOk Whole (execute_statement context (trigger_cascade context) [] param st w)
-    sql_whole = statement_whole p.inputs (length p.inputs) false [] [] hand (trigger_cascade context) cascade_whole
+    sql_whole : (params : List Column) (param : Row) (st : Statement) (w : Execution) → Whole w → fits_schema params param ≡ true → statement_in_scope catalog (length (streams_read p)) false st ≡ true → statement_typed (schemas_of catalog (streams_read p) [] params) st ≡ true → WhenOk Whole (execute_statement context (trigger_cascade context) [] param st w)
+    sql_whole = statement_whole (streams_read p) (length (streams_read p)) false [] [] hand (trigger_cascade context) cascade_whole
 
-    inner_whole : (params : List Column) (param : Row) (x : Inner) (w : Execution) → Whole w → fits_schema params param ≡ true → inner_in_scope catalog (length p.inputs) false x ≡ true → inner_typed catalog p.inputs [] params x ≡ true → WhenOk Whole (execute_inner context param x w)
+    inner_whole : (params : List Column) (param : Row) (x : Inner) (w : Execution) → Whole w → fits_schema params param ≡ true → inner_in_scope catalog (length (streams_read p)) false x ≡ true → inner_typed catalog (streams_read p) [] params x ≡ true → WhenOk Whole (execute_inner context param x w)
     inner_whole params param (InnerSql st) w h fits s t = sql_whole params param st w h fits s t
     inner_whole params param (InnerAbortIf c code) w h fits s t = abort_if_whole param c code w h
 
     abbrev in_scope_inner : Inner → Bool
-    in_scope_inner = inner_in_scope catalog (length p.inputs) false
+    in_scope_inner = inner_in_scope catalog (length (streams_read p)) false
 
     abbrev typed_inner : ℕ → Inner → Bool
-    typed_inner input = inner_typed catalog p.inputs [] (input_schema catalog p.inputs [] input)
+    typed_inner input = inner_typed catalog (streams_read p) [] (input_schema catalog (streams_read p) [] input)
 
-    for_each_whole : (input : ℕ) (body : List Inner) (w : Execution) → Whole w → list_all in_scope_inner body ≡ true → list_all (typed_inner input) body ≡ true → WhenOk Whole (execute_step context (ForEach input body) w)
+    for_each_whole : (input : ℕ) (body : List Inner) (w : Execution) → Whole w → list_all in_scope_inner body ≡ true → list_all (typed_inner input) body ≡ true → WhenOk Whole (step_on context (ForEach input body) w)
     for_each_whole input body w h scopes types =
-        try_fold_when_ok Whole (λ row. fits_schema (input_schema catalog p.inputs [] input) row ≡ true) (λ row. try_fold (execute_inner context row) body) (λ row f v k.
+        try_fold_when_ok Whole (λ row. fits_schema (input_schema catalog (streams_read p) [] input) row ≡ true) (λ row. try_fold (execute_inner context row) body) (λ row f v k.
         try_fold_when_ok Whole (λ x. (in_scope_inner x && typed_inner input x) ≡ true) (execute_inner context row) (λ x q u z.
-        inner_whole (input_schema catalog p.inputs [] input) row x u z f (first_of_two _ _ q) (second_of_two _ _ q)) body (each_of _ body (all_both in_scope_inner (typed_inner input) body scopes types)) v k) (get_or context.batches input []) (inputs input) w h
+        inner_whole (input_schema catalog (streams_read p) [] input) row x u z f (first_of_two _ _ q) (second_of_two _ _ q)) body (each_of _ body (all_both in_scope_inner (typed_inner input) body scopes types)) v k) (get_or context.batches input []) (inputs input) w h
 
-    step_whole : (x : Step) (w : Execution) → Whole w → (step_in_scope catalog (length p.inputs) false x && step_typed catalog p.inputs [] p.args x) ≡ true → WhenOk Whole (execute_step context x w)
-    step_whole (Sql st) w h r = sql_whole p.args context.args st w h args (first_of_two _ _ r) (second_of_two _ _ r)
-    step_whole (AbortIf c code) w h r = abort_if_whole context.args c code w h
-    step_whole (ForEach input body) w h r =
-        for_each_whole input body w h (second_of_two (nat_lt input (length p.inputs)) (list_all (in_scope_inner) body) (first_of_two (step_in_scope catalog (length p.inputs) false (ForEach input body)) (step_typed catalog p.inputs [] p.args (ForEach input body)) r))
-        (second_of_two (nat_lt input (length p.inputs)) (list_all (typed_inner input) body) (second_of_two (step_in_scope catalog (length p.inputs) false (ForEach input body)) (step_typed catalog p.inputs [] p.args (ForEach input body)) r))
-    step_whole (Emit s q) w h r =
+    step_on_whole : (x : Step) (w : Execution) → Whole w → (step_in_scope catalog (length (streams_read p)) false x && step_typed catalog (streams_read p) [] p.args x) ≡ true → WhenOk Whole (step_on context x w)
+    step_on_whole (Sql st) w h r = sql_whole p.args context.args st w h args (first_of_two _ _ r) (second_of_two _ _ r)
+    step_on_whole (AbortIf c code) w h r = abort_if_whole context.args c code w h
+    step_on_whole (ForEach input body) w h r =
+        for_each_whole input body w h (second_of_two (nat_lt input (length (streams_read p))) (list_all (in_scope_inner) body) (first_of_two (step_in_scope catalog (length (streams_read p)) false (ForEach input body)) (step_typed catalog (streams_read p) [] p.args (ForEach input body)) r))
+        (second_of_two (nat_lt input (length (streams_read p))) (list_all (typed_inner input) body) (second_of_two (step_in_scope catalog (length (streams_read p)) false (ForEach input body)) (step_typed catalog (streams_read p) [] p.args (ForEach input body)) r))
+    step_on_whole (Emit s q) w h r =
         when_ok_then (FitAll (stream_schema catalog s)) Whole (context_query context [] context.args q w.contents) _
-        (query_fits context p.inputs (length p.inputs) false [] [] hand w.contents p.args context.args q (stream_schema catalog s) h.contents args (second_of_two _ _ (first_of_two _ _ r)) (first_of_two _ _ (second_of_two _ _ r)) (second_of_two _ _ (second_of_two _ _ r))) (λ rows fits. emit_whole s rows w h fits)
-    step_whole (Return q) w h r =
+        (query_fits context (streams_read p) (length (streams_read p)) false [] [] hand w.contents p.args context.args q (stream_schema catalog s) h.contents args (second_of_two _ _ (first_of_two _ _ r)) (first_of_two _ _ (second_of_two _ _ r)) (second_of_two _ _ (second_of_two _ _ r))) (λ rows fits. emit_whole s rows w h fits)
+    step_on_whole (Local s q) w h r =
+        when_ok_then (FitAll (stream_schema catalog s)) Whole (context_query context [] context.args q w.contents) _
+        (query_fits context (streams_read p) (length (streams_read p)) false [] [] hand w.contents p.args context.args q (stream_schema catalog s) h.contents args (second_of_two _ _ (first_of_two _ _ r)) (first_of_two _ _ (second_of_two _ _ r)) (second_of_two _ _ (second_of_two _ _ r))) (λ rows fits. emit_whole s rows w h fits)
+    step_on_whole (Return q) w h r =
         when_ok_then (λ _. Unit {0}) Whole (context_query context [] context.args q w.contents) _ (anything (context_query context [] context.args q w.contents)) (λ rows _.
         when_ok_unless Whole (exceeds_row_limit w.reply rows) ReplyFull (Ok (record w { reply = w.reply ++ rows })) (λ e. record { contents = h.contents; open_units = h.open_units; emitted = h.emitted }))
 
-    -- ---- the body
+-- the batches of the inner streams fit too, behind those of the inputs
+inner_fit : (catalog : Catalog) (g : ℕ → Rows) → ((s : ℕ) → FitAll (stream_schema catalog s) (g s)) → (inner : List ℕ) (i : ℕ) → FitAll (unwrap_or (option_map (stream_schema catalog) (slice_get inner i)) []) (get_or (map g inner) i [])
+inner_fit catalog g h [] i = tt
+inner_fit catalog g h (s ∷ ss) zero = h s
+inner_fit catalog g h (s ∷ ss) (suc i) = inner_fit catalog g h ss i
 
-    none_at : {A : Type 0} (n i : ℕ) → get_or (replicate {A = List A} n []) i [] ≡ []
-    none_at zero i = refl
-    none_at (suc n) zero = refl
-    none_at (suc n) (suc i) = none_at n i
+all_fit : (catalog : Catalog) (g : ℕ → Rows) → ((s : ℕ) → FitAll (stream_schema catalog s) (g s)) → (inner : List ℕ) (batches : List Rows) (inputs : List ℕ) → length batches ≡ length inputs →
+    ((i : ℕ) → FitAll (unwrap_or (option_map (stream_schema catalog) (slice_get inputs i)) []) (get_or batches i [])) →
+    (i : ℕ) → FitAll (unwrap_or (option_map (stream_schema catalog) (slice_get (inputs ++ inner) i)) []) (get_or (batches ++ map g inner) i [])
+all_fit catalog g h inner [] [] l k i = inner_fit catalog g h inner i
+all_fit catalog g h inner [] (t ∷ ts) l k i = absurd (omega arith)
+all_fit catalog g h inner (b ∷ bs) [] l k i = absurd (omega arith)
+all_fit catalog g h inner (b ∷ bs) (t ∷ ts) l k zero = k 0
+all_fit catalog g h inner (b ∷ bs) (t ∷ ts) l k (suc i) = all_fit catalog g h inner bs ts (omega arith) (λ i. k (suc i)) i
 
-    start_whole : (s : Contents) → WholeContents catalog s → Whole (execution_start catalog s)
-    start_whole s h = record {
-      contents = h;
-      open_units = λ n. subst (FitAll (window_schema catalog n)) (sym (none_at (length catalog.windows) n)) tt;
-      emitted = λ n. subst (λ b. batch_fits (stream_schema catalog n) b ≡ true) (sym (none_at (length catalog.streams) n)) refl;
-    }
+module _
+    (context : Context) (typed : catalog_typed context.catalog ≡ true) (in_scope : catalog_in_scope context.catalog ≡ true)
+    (p : Procedure) (right : procedure_typed context.catalog p ≡ true) (scope : procedure_in_scope context.catalog p ≡ true) (args : fits_schema p.args context.args ≡ true)
+    (inner_is : context.inner ≡ p.inner) (count : length context.batches ≡ length p.inputs) (inputs : (i : ℕ) → FitAll (input_schema context.catalog p.inputs [] i) (get_or context.batches i []))
+  where
+    abbrev AllWhole : Execution → Type 0
+    AllWhole = WholeExecution context.catalog
 
-    closed_kind : (o : Option WindowDef) (d : WindowDef) (unit : Rows) → o ≡ Some d → is_closed_by context.procedure o ≡ true → has_unit_size d.unit unit ≡ true
-    closed_kind None d unit is e = cc
-    closed_kind (Some k) d unit is e = subst (λ (z : WindowDef). has_unit_size z.unit unit ≡ true) (some_same _ _ is) (by k.unit (second_of_two _ _ e))
-      where
-        by : (k : UnitKind) → is_batches_unit k ≡ true → has_unit_size k unit ≡ true
-        by RowsUnit e = cc
-        by BatchesUnit e = refl
+    so_far : (w : Execution) → AllWhole w → (i : ℕ) → FitAll (input_schema context.catalog (streams_read p) [] i) (get_or (batches_so_far context w) i [])
+    so_far w h i =
+        let g : ℕ → Rows = λ s. get_or w.emitted s [] in
+        let fits : (s : ℕ) → FitAll (stream_schema context.catalog s) (g s) = λ s. each_of _ (g s) (second_of_two _ _ (h.emitted s)) in
+        subst (λ z. FitAll (input_schema context.catalog (streams_read p) [] i) (get_or (and_behind context.batches (map g z)) i [])) (sym inner_is)
+        (subst (λ (z : List ℕ). FitAll (input_schema context.catalog z [] i) (get_or (and_behind context.batches (map g p.inner)) i [])) (sym (behind_is p.inputs p.inner))
+        (subst (λ (z : List Rows). FitAll (input_schema context.catalog (p.inputs ++ p.inner) [] i) (get_or z i [])) (sym (behind_is context.batches (map g p.inner)))
+        (all_fit context.catalog g fits p.inner context.batches p.inputs count inputs i)))
 
-    none_open : (n : ℕ) (w : Execution) → Whole w → Whole (record w { open_units = set w.open_units n [] })
-    none_open n w h = record {
-      contents = h.contents;
-      open_units = λ m. set_one (FitAll (window_schema catalog m)) w.open_units n m [] [] (h.open_units m) (λ e. tt);
-      emitted = h.emitted;
-    }
+    step_whole : (x : Step) (w : Execution) → AllWhole w → (step_in_scope context.catalog (length (streams_read p)) false x && step_typed context.catalog (streams_read p) [] p.args x) ≡ true → WhenOk AllWhole (execute_step context x w)
+    step_whole x w h r = step_on_whole (record context { batches = batches_so_far context w }) typed in_scope p right scope args (so_far w h) x w h r
 
-    closed_whole : (n : ℕ) → is_closed_by context.procedure (slice_get catalog.windows n) ≡ true → (w : Execution) → Whole w → WhenOk Whole (close_window context n w)
-    closed_whole n e w h = close_whole catalog (trigger_cascade context) cascade_whole n (get_or w.open_units n []) (record w { open_units = set w.open_units n [] }) (none_open n w h) (λ d is.
-        and_from _ _ (closed_kind (slice_get catalog.windows n) d (get_or w.open_units n []) is e) (all_test _ (get_or w.open_units n []) (subst (λ cs. FitAll cs (get_or w.open_units n [])) (schema_is catalog n d is) (h.open_units n))))
-
-    pub body_whole : (s : Contents) → WholeContents catalog s → WhenOk Whole (run_body context p.body s)
+    pub body_whole : (s : Contents) → WholeContents context.catalog s → WhenOk AllWhole (run_body context p.body s)
     unfolding run_body
     body_whole s h =
-        when_ok_then Whole Whole (try_fold (execute_step context) p.body (execution_start catalog s)) _
-        (try_fold_when_ok Whole (λ x. (step_in_scope catalog (length p.inputs) false x && step_typed catalog p.inputs [] p.args x) ≡ true) (execute_step context) (λ x r w k. step_whole x w k r) p.body (each_of _ p.body (all_both (step_in_scope catalog (length p.inputs) false) (step_typed catalog p.inputs [] p.args) p.body scope right)) (execution_start catalog s) (start_whole s h)) (λ w k.
-        try_fold_when_ok Whole (λ n. is_closed_by context.procedure (slice_get catalog.windows n) ≡ true) (close_window context) (λ n e v z. closed_whole n e v z) (owned_batch_windows catalog context.procedure) (filter_passes (λ n. is_closed_by context.procedure (slice_get catalog.windows n)) (range_with_len 0 (length catalog.windows))) w k)
+        when_ok_then AllWhole AllWhole (try_fold (execute_step context) p.body (execution_start context.catalog s)) _
+        (try_fold_when_ok AllWhole (λ x. (step_in_scope context.catalog (length (streams_read p)) false x && step_typed context.catalog (streams_read p) [] p.args x) ≡ true) (execute_step context) (λ x r w k. step_whole x w k r) p.body (each_of _ p.body (all_both (step_in_scope context.catalog (length (streams_read p)) false) (step_typed context.catalog (streams_read p) [] p.args) p.body scope right)) (execution_start context.catalog s) (start_whole context typed in_scope s h)) (λ w k.
+        try_fold_when_ok AllWhole (λ n. is_closed_by context.procedure (slice_get (context.catalog).windows n) ≡ true) (close_window context) (λ n e v z. closed_whole context typed in_scope n e v z) (owned_batch_windows context.catalog context.procedure) (filter_passes (λ n. is_closed_by context.procedure (slice_get (context.catalog).windows n)) (range_with_len 0 (length (context.catalog).windows))) w k)
 
 -- ---- what a procedure leaves
 
@@ -273,16 +311,16 @@ result_whole : (catalog : Catalog) (s : Contents) (x : OrAbort Execution) → Wh
 result_whole _ s (Ok w) h k = record { contents = k.contents; emitted = k.emitted }
 result_whole catalog s (Err r) h k = record { contents = h; emitted = λ n. subst (λ b. batch_fits (stream_schema catalog n) b ≡ true) (sym (nothing_emitted (length catalog.streams) n)) refl }
 
-pub run_whole : (catalog : Catalog) → catalog_typed catalog ≡ true → catalog_in_scope catalog ≡ true → (q : ℕ) (p : Procedure) (args : Row) (batches : List Rows) (s : Contents) → slice_get catalog.procedures q ≡ Some p → fits_schema p.args args ≡ true → ((i : ℕ) → FitAll (input_schema catalog p.inputs [] i) (get_or batches i [])) → WholeContents catalog s → WholeResult catalog (run_procedure catalog q p args batches s)
-run_whole catalog typed in_scope q p args batches s is fits inputs h =
-    let context : Context = record { catalog = catalog; procedure = q; args = args; batches = batches; split_value = split_value_for p.touch args } in
+pub run_whole : (catalog : Catalog) → catalog_typed catalog ≡ true → catalog_in_scope catalog ≡ true → (q : ℕ) (p : Procedure) (args : Row) (batches : List Rows) (s : Contents) → slice_get catalog.procedures q ≡ Some p → fits_schema p.args args ≡ true → length batches ≡ length p.inputs → ((i : ℕ) → FitAll (input_schema catalog p.inputs [] i) (get_or batches i [])) → WholeContents catalog s → WholeResult catalog (run_procedure catalog q p args batches s)
+run_whole catalog typed in_scope q p args batches s is fits count inputs h =
+    let context : Context = record { catalog = catalog; procedure = q; args = args; batches = batches; inner = p.inner; split_value = split_value_for p.touch args } in
     result_whole catalog s (run_body context p.body s) h
-    (body_whole context typed in_scope p (at_index (procedure_typed catalog) catalog.procedures (first_of_two _ _ typed) q p is) (at_index (procedure_in_scope catalog) catalog.procedures (first_of_two _ _ in_scope) q p is) fits inputs s h)
+    (body_whole context typed in_scope p (at_index (procedure_typed catalog) catalog.procedures (first_of_two _ _ typed) q p is) (at_index (procedure_in_scope catalog) catalog.procedures (first_of_two _ _ in_scope) q p is) fits refl count inputs s h)
 
 -- the same of a procedure as it is in a database
-pub present_whole : (catalog : Catalog) (accepted : Accepted catalog) (q : ℕ) (p : Procedure) → slice_get catalog.procedures q ≡ Some p → (db : Database) (args : Row) (batches : List Rows) (s : Contents) → fits_schema p.args args ≡ true → ((i : ℕ) → FitAll (input_schema catalog p.inputs [] i) (get_or batches i [])) → WholeContents catalog s → WholeResult catalog (run_procedure catalog q (present catalog db q p) args batches s)
-present_whole catalog accepted q p is db args batches s fits inputs h =
+pub present_whole : (catalog : Catalog) (accepted : Accepted catalog) (q : ℕ) (p : Procedure) → slice_get catalog.procedures q ≡ Some p → (db : Database) (args : Row) (batches : List Rows) (s : Contents) → fits_schema p.args args ≡ true → length batches ≡ length p.inputs → ((i : ℕ) → FitAll (input_schema catalog p.inputs [] i) (get_or batches i [])) → WholeContents catalog s → WholeResult catalog (run_procedure catalog q (present catalog db q p) args batches s)
+present_whole catalog accepted q p is db args batches s fits count inputs h =
     let here : Procedure = present catalog db q p in
     let may = present_accepted catalog accepted q p is db in
-    let context : Context = record { catalog = catalog; procedure = q; args = args; batches = batches; split_value = split_value_for p.touch args } in
-    result_whole catalog s (run_body context here.body s) h (body_whole context accepted.typed accepted.in_scope here may.typed may.in_scope fits inputs s h)
+    let context : Context = record { catalog = catalog; procedure = q; args = args; batches = batches; inner = p.inner; split_value = split_value_for p.touch args } in
+    result_whole catalog s (run_body context here.body s) h (body_whole context accepted.typed accepted.in_scope here may.typed may.in_scope fits refl count inputs s h)

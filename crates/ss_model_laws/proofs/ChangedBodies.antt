@@ -1,5 +1,5 @@
 -- An accepted catalogue with other bodies is accepted.
-use Rattle.std.proofs.Common.{◌≡◌, ℕ, zero, suc, Bool, true, cond, ◌&&◌, ◌||◌, nat_le, nat_lt, ◌⊎◌, inl, inr, List, [], ◌∷◌, map, get_or, length, slice_get, refl, sym, ap, ◌∙◌, subst, Some, None, unwrap_or}
+use Rattle.std.proofs.Common.{◌≡◌, ◌==◌, ℕ, zero, suc, Bool, true, cond, ◌&&◌, ◌||◌, nat_le, nat_lt, ◌⊎◌, inl, inr, List, [], ◌∷◌, map, get_or, length, slice_get, refl, sym, ap, ◌∙◌, subst, Some, None, unwrap_or}
 use Rattle.std.specs.Option.{option_map}
 use Rattle.std.specs.declared.option.Option.{Option}
 use Rattle.std.specs.List.{find, list_all, list_any, range_with_len}
@@ -9,14 +9,14 @@ use Rattle.ss_model.specs.declared.catalog.Catalog.{Catalog}
 use Rattle.ss_model.specs.declared.catalog.Procedure.{Procedure}
 use Rattle.ss_model.specs.declared.catalog.Step.{Step}
 use Rattle.ss_model.specs.Results.{map_indexed}
-use Rattle.ss_model.specs.Database.{emits_to, is_streaming, is_border, is_border_stream, takes_stream, with_body, spare_bodies}
+use Rattle.ss_model.specs.Database.{emits_to, adds_to, is_streaming, is_border, is_border_stream, is_inner_stream, takes_stream, streams_read, with_body, spare_bodies}
 use Rattle.ss_model.specs.Orders.{IsWired, procedure_emits, procedure_has, procedure_takes}
 use Rattle.ss_model.specs.Claims.{UsesOnly}
 use Rattle.ss_model.specs.Partitions.{local_claims}
 use Rattle.ss_model.specs.Settling.{border_stream, border_stream_from, first_input, emitting_procedure, procedure_numbers}
 use Rattle.ss_model.specs.Feeds.{Reaches, at_once, through, BatchesGoForward}
 use Rattle.ss_model.specs.CatalogForm.{has_frame, head_of_kind, has_distinct_names, numbers_in_range, counts_within_limits, has_window_sizes, has_distinct_numbers, has_parts, all_distinct, source_names, columns_distinct, numbers_distinct, listed_parts, touch_in_range, trigger_in_range, placement_in_range}
-use Rattle.ss_model.specs.Accepted.{Accepted, AcceptedStructure, IsArg, IsSomewhere, StreamsEndWell}
+use Rattle.ss_model.specs.Accepted.{Accepted, AcceptedStructure, InnerStreams, IsArg, IsSomewhere, StreamsEndWell, procedure_adds, procedure_nests}
 use Rattle.ss_model.specs.AcceptedBodies.{with_bodies, AcceptedBodies, AcceptedFrame, OwnBodies, BodiesMayChange, OtherBodies}
 use Rattle.ss_lemmas.proofs.Bools.{some_same}
 use Rattle.ss_model_laws.proofs.AcceptedBodies.{in_parts, joined}
@@ -83,6 +83,12 @@ module _ (catalog : Catalog) (bodies : ℕ → List Step) where
   pub border_same : (s : ℕ) → is_border_stream other s ≡ is_border_stream catalog s
   border_same s = any_same (λ p. is_border p.kind && takes_stream s p) (λ body p. refl) bodies catalog.procedures
 
+  pub inner_same : (s : ℕ) → is_inner_stream other s ≡ is_inner_stream catalog s
+  inner_same s = any_same (λ p. list_any (λ i. i == s) p.inner) (λ body p. refl) bodies catalog.procedures
+
+  pub nests_same : (p s : ℕ) → procedure_nests other p s ≡ procedure_nests catalog p s
+  nests_same p s = has_same (λ d. list_any (λ i. i == s) d.inner) (λ body p. refl) p
+
   -- ---- the form
 
   frame_same : has_frame other ≡ has_frame catalog
@@ -100,7 +106,7 @@ module _ (catalog : Catalog) (bodies : ℕ → List Step) where
           && list_all (λ d. list_all (list_all (λ c. nat_lt c (length d.schema))) d.indexes && placement_in_range d d.placement) catalog.tables
           && list_all (λ d. nat_lt d.owner (length_same bodies catalog.procedures i)) catalog.windows
           && list_all (λ t. trigger_in_range catalog t.on) catalog.triggers
-          && all_same (λ p. list_all (λ s. nat_lt s (length catalog.streams)) p.inputs && touch_in_range p.args p.touch) (λ body p. refl) bodies catalog.procedures i
+          && all_same (λ p. list_all (λ s. nat_lt s (length catalog.streams)) (streams_read p) && touch_in_range p.args p.touch) (λ body p. refl) bodies catalog.procedures i
 
       limits : counts_within_limits other ≡ counts_within_limits catalog
       limits = λ i.
@@ -113,7 +119,7 @@ module _ (catalog : Catalog) (bodies : ℕ → List Step) where
       numbers : has_distinct_numbers other ≡ has_distinct_numbers catalog
       numbers = λ i.
           list_all (λ d. numbers_distinct d.key && list_all numbers_distinct d.indexes) catalog.tables
-          && all_same (λ p. numbers_distinct p.inputs && numbers_distinct (listed_parts p.touch)) (λ body p. refl) bodies catalog.procedures i
+          && all_same (λ p. numbers_distinct (streams_read p) && numbers_distinct (listed_parts p.touch)) (λ body p. refl) bodies catalog.procedures i
 
   -- ---- windows
 
@@ -133,6 +139,13 @@ module _ (catalog : Catalog) (bodies : ℕ → List Step) where
         by : (o : Option Procedure) → slice_get catalog.procedures p ≡ o → procedure_has (λ d. list_any (emits_to s) d.body) (option_map (with_body (bodies p)) o) ≡ procedure_has (λ d. list_any (emits_to s) d.body) o
         by None e = refl
         by (Some d) e = (accepted p d e).emits s
+
+    adds_same : (p s : ℕ) → procedure_adds other p s ≡ procedure_adds catalog p s
+    adds_same p s = ap (procedure_has (λ d. list_any (adds_to s) d.body)) (at_number bodies catalog.procedures p) ∙ by (slice_get catalog.procedures p) refl
+      where
+        by : (o : Option Procedure) → slice_get catalog.procedures p ≡ o → procedure_has (λ d. list_any (adds_to s) d.body) (option_map (with_body (bodies p)) o) ≡ procedure_has (λ d. list_any (adds_to s) d.body) o
+        by None e = refl
+        by (Some d) e = (accepted p d e).adds s
 
     pub emitter_same : (s : ℕ) → emitting_procedure other s ≡ emitting_procedure catalog s
     emitter_same s =
@@ -173,12 +186,21 @@ module _ (catalog : Catalog) (bodies : ℕ → List Step) where
       border_there = λ s b. w.border_there s (border_back s b);
     }
 
+    inner_streams : InnerStreams catalog → InnerStreams other
+    inner_streams k = record {
+      filled = λ p s. nests_same p s ∙ k.filled p s ∙ sym (adds_same p s);
+      one_nest = λ p q s e f. k.one_nest p q s (sym (nests_same p s) ∙ e) (sym (nests_same q s) ∙ f);
+      not_emitted = λ p s e. emits_same p s ∙ k.not_emitted p s (sym (inner_same s) ∙ e);
+      not_taken = λ q s e. takes_same q s ∙ k.not_taken q s (sym (inner_same s) ∙ e);
+    }
+
     -- ---- the frame
 
     streams : StreamsEndWell catalog → StreamsEndWell other
     streams k = record {
       wired = wired k.wired;
-      fed = λ s l. fed s (k.fed s l);
+      inner = inner_streams k.inner;
+      fed = λ s l apart. fed s (k.fed s l (sym (inner_same s) ∙ apart));
       taken = λ p s e. let (q, t) = k.taken p s (emits_back p s e) in (q, takes_same q s ∙ t);
       one_consumer = λ p q s b t u. k.one_consumer p q s (border_back s b) (takes_back p s t) (takes_back q s u);
       no_trigger = λ s b. k.no_trigger s (border_back s b);
@@ -221,6 +243,7 @@ module _ (catalog : Catalog) (bodies : ℕ → List Step) where
       local = λ args. uses_there q p args body (bodies q) (k.local args);
       limited = k.limited;
       emits = λ s. k.emits s ∙ sym ((accepted q p is).emits s);
+      adds = λ s. k.adds s ∙ sym ((accepted q p is).adds s);
     }
 
     body_back : (q : ℕ) (p : Procedure) → slice_get catalog.procedures q ≡ Some p → (body : List Step) → AcceptedBody other q (with_body (bodies q) p) body → AcceptedBody catalog q p body
@@ -232,6 +255,7 @@ module _ (catalog : Catalog) (bodies : ℕ → List Step) where
       local = λ args. uses_back q p args body (bodies q) (k.local args);
       limited = k.limited;
       emits = λ s. k.emits s ∙ (accepted q p is).emits s;
+      adds = λ s. k.adds s ∙ (accepted q p is).adds s;
     }
 
     own_bodies : OwnBodies other

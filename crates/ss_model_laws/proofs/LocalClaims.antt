@@ -26,7 +26,7 @@ use Rattle.ss_model.specs.declared.catalog.TriggerDef.{TriggerDef}
 use Rattle.ss_model.specs.declared.catalog.Inner.{Inner}
 use Rattle.ss_model.specs.declared.catalog.Inner.TheVariants.{Sql as InnerSql, AbortIf as InnerAbortIf}
 use Rattle.ss_model.specs.declared.catalog.Step.{Step}
-use Rattle.ss_model.specs.declared.catalog.Step.TheVariants.{Sql, AbortIf, ForEach, Emit, Return}
+use Rattle.ss_model.specs.declared.catalog.Step.TheVariants.{Sql, AbortIf, ForEach, Emit, Local, Return}
 use Rattle.ss_value.specs.Rows.{Row, Rows, column_value}
 use Rattle.ss_model.specs.Contents.{window_owner, table_placement, key_columns, has_split_value, matches_split}
 use Rattle.ss_model.specs.Statements.{Context}
@@ -85,6 +85,7 @@ module _ (C : Row → Type 0) (u v : Claims) (h : Implies C u v) where
     step_implied catalog args (AbortIf c code) k = query_implied c.query k
     step_implied catalog args (ForEach input body) k = all_with (InnerClaim u) (InnerClaim v) inner_implied body k
     step_implied catalog args (Emit s q) k = (query_implied q k.0, all_with (TriggerClaim u) (TriggerClaim v) trigger_implied _ k.1)
+    step_implied catalog args (Local s q) k = (query_implied q k.0, all_with (TriggerClaim u) (TriggerClaim v) trigger_implied _ k.1)
     step_implied catalog args (Return q) k = query_implied q k
 
     pub uses_implied : (catalog : Catalog) (n : ℕ) (args : Row) (p : Procedure) → UsesOnly u catalog n args p → UsesOnly v catalog n args p

@@ -14,7 +14,7 @@ use Rattle.ss_model.specs.declared.catalog.Procedure.{Procedure}
 use Rattle.ss_model.specs.declared.entry.Entry.{Entry}
 use Rattle.ss_model.specs.declared.entry.Entry.TheVariants.{Call, Push, Step as StepEntry, Install}
 use Rattle.ss_model.specs.declared.entry.Listed.{Listed}
-use Rattle.ss_model.specs.Database.{Database, Applied, BodyResult, is_border, apply, apply_call, apply_step, only_when, call_fits, is_ready, stepped, input_batches, run_procedure, present, with_body, steps_named, body_text, spare_bodies, has_spare, has_body, own_text, body_named}
+use Rattle.ss_model.specs.Database.{Database, Applied, BodyResult, is_border, apply, apply_call, apply_step, only_when, call_fits, is_ready, stepped, input_batches, run_procedure, present, with_body, steps_named, body_text, spare_bodies, has_spare, has_body, takes_bodies, own_text, body_named}
 use Rattle.ss_model.specs.Replays.{Replays, after, database_after}
 use Rattle.ss_model.specs.Settling.{kept, border_stream, border_stream_from, first_input, emitting_procedure}
 use Rattle.ss_model.specs.Claims.{UsesOnly}
@@ -73,6 +73,7 @@ module _ (catalog : Catalog) (accepted : Accepted catalog) (spares : List (List 
   streams_too : StreamsEndWell catalog → StreamsEndWell other
   streams_too k = record {
     wired = record { one_emitter = k.wired.one_emitter; border_free = k.wired.border_free; emits_there = k.wired.emits_there; border_there = k.wired.border_there };
+    inner = record { filled = k.inner.filled; one_nest = k.inner.one_nest; not_emitted = k.inner.not_emitted; not_taken = k.inner.not_taken };
     fed = k.fed;
     taken = k.taken;
     one_consumer = k.one_consumer;
@@ -101,6 +102,7 @@ module _ (catalog : Catalog) (accepted : Accepted catalog) (spares : List (List 
     local = λ args. uses_too q (with_body b.steps p) args (s.local args);
     limited = s.limited;
     emits = s.emits;
+    adds = s.adds;
   }
 
   still_accepted : Accepted other
@@ -161,7 +163,7 @@ module _ (catalog : Catalog) (accepted : Accepted catalog) (spares : List (List 
     still_applies (Push client index s source seq rows) a is = is
     still_applies (StepEntry q r) a is = step_same q r (slice_get catalog.procedures q) refl ∙ is
     still_applies (Install client index q text) a is =
-        allowed _ _ _ a (λ h. and_from (nat_lt client 8 && nat_lt q (length catalog.procedures) && nat_le (length text) 1048576) (has_body other q text) (first_of_two _ _ h) (may_too q text (second_of_two _ _ h))) is
+        allowed _ _ _ a (λ h. and_from (nat_lt client 8 && takes_bodies (slice_get catalog.procedures q) && nat_le (length text) 1048576) (has_body other q text) (first_of_two _ _ h) (may_too q text (second_of_two _ _ h))) is
 
   -- ---- whole databases
 
@@ -172,6 +174,7 @@ module _ (catalog : Catalog) (accepted : Accepted catalog) (spares : List (List 
       matched = record { shape = record { counts = k.in_step.matched.shape.counts; streams = k.in_step.matched.shape.streams }; streams = k.in_step.matched.streams };
       within = k.in_step.within;
     };
+    inner = k.inner;
     next_count = k.next_count;
     batches = k.batches;
     calls = k.calls;

@@ -13,7 +13,7 @@ use Rattle.ss_sql_trees.specs.declared.typed.Expr.{Expr}
 use Rattle.ss_sql_trees.specs.declared.typed.Query.{Query}
 use Rattle.ss_sql_trees.specs.declared.typed.Joined.{Joined}
 use Rattle.ss_model.specs.declared.catalog.Step.{Step}
-use Rattle.ss_model.specs.declared.catalog.Step.TheVariants.{Sql, AbortIf, ForEach, Emit, Return}
+use Rattle.ss_model.specs.declared.catalog.Step.TheVariants.{Sql, AbortIf, ForEach, Emit, Local, Return}
 use Rattle.ss_model.specs.Results.{try_map, WhenOk}
 use Rattle.ss_value.specs.Rows.{Row, Rows, column_value}
 use Rattle.ss_value.specs.Order.{values_equal}
@@ -81,6 +81,7 @@ module _ (catalog : Catalog) (n q : ℕ) (p : Procedure) (args : Row) (batches :
   call_step none (AbortIf c code) i k = query_implied (λ row. row ≡ args) (local_claims catalog q p) scope (call_implied none) c.query k
   call_step none (ForEach input body) i k = absurd i
   call_step none (Emit s x) i k = absurd i
+  call_step none (Local s x) i k = absurd i
   call_step none (Return x) i k = query_implied (λ row. row ≡ args) (local_claims catalog q p) scope (call_implied none) x k
 
   call_steps : ((w : ℕ) → window_owner catalog w ≡ Some q → ⊥) → (body : List Step) → AllByRecursion IsCallStep body → AllByRecursion (StepClaim (local_claims catalog q p) catalog args) body → AllByRecursion (StepClaim scope catalog args) body

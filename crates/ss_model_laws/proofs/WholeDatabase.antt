@@ -1,8 +1,8 @@
 -- The empty database of an accepted catalogue is whole, and a whole database stays so.
-use Rattle.std.proofs.Common.{◌≡◌, ◌≤◌, ◌<◌, ◌+◌, ◌-◌, ◌^◌, ℕ, zero, suc, nat_lt, nat_le, Bool, true, false, cond, ◌==◌, List, [], ◌∷◌, ◌++◌, map, drop, get_or, length, replicate, slice_get, refl, sym, ap, ◌∙◌, subst, Some, None, unwrap_or, ◌⊎◌, inl, inr, ◌≢◌, arith, length-set, set}
+use Rattle.std.proofs.Common.{◌≡◌, ◌&&◌, ◌≤◌, ◌<◌, ◌+◌, ◌-◌, ◌^◌, ℕ, zero, suc, nat_lt, nat_le, Bool, true, false, cond, ◌==◌, List, [], ◌∷◌, ◌++◌, map, drop, get_or, length, replicate, slice_get, refl, sym, ap, ◌∙◌, subst, Some, None, unwrap_or, ◌⊎◌, inl, inr, ◌≢◌, arith, length-set, set}
 use Rattle.std.proofs.lemmas.Bool.{ltb-true, ltb-false, and_from, or_right, or_left}
 use Rattle.std.proofs.lemmas.Bool.Decides.{Decides-eqb, eqb_tells}
-use Rattle.std.proofs.lemmas.List.{length-replicate, get_or_past}
+use Rattle.std.proofs.lemmas.List.{length-map, length-replicate, get_or_past}
 use Rattle.std.proofs.Math.Nat.{le_trans}
 use Rattle.std.specs.Option.{option_map}
 use Rattle.std.specs.declared.option.Option.{Option}
@@ -28,7 +28,7 @@ use Rattle.ss_model.specs.declared.entry.Entry.TheVariants.{Call, Push, Step as 
 use Rattle.ss_model.specs.declared.entry.Listed.{Listed}
 use Rattle.ss_model.specs.declared.entry.Outcome.TheVariants.{Done, Duplicate, Gap}
 use Rattle.ss_model.specs.Contents.{table_at, window_units, first_kept, kept_units}
-use Rattle.ss_model.specs.Database.{Database, NextNumbers, Applied, empty_database, apply, apply_call, apply_step, accept_batch, append_batches, next_number, push_fits, batch_count, stream_batches, stream_schema, takes_stream, emits_to, is_call, is_streaming, has_step, fits_entry, has_body, has_spare, own_text, body_text}
+use Rattle.ss_model.specs.Database.{Database, NextNumbers, Applied, empty_database, apply, apply_call, apply_step, accept_batch, append_batches, next_number, push_fits, batch_count, stream_batches, stream_schema, takes_stream, emits_to, is_border, is_border_stream, is_inner_stream, is_call, is_streaming, has_step, fits_entry, has_body, has_spare, own_text, body_text}
 use Rattle.ss_model.specs.Replays.{database_after, after}
 use Rattle.ss_model.specs.Orders.{procedure_takes, procedure_has}
 use Rattle.ss_model.specs.CatalogForm.{is_of_kind, inputs_of_kind, args_of_kind}
@@ -38,7 +38,7 @@ use Rattle.ss_model.specs.Settling.{least_count, procedure_numbers}
 use Rattle.ss_model.specs.InStep.{IsInStep}
 use Rattle.ss_model.specs.WholeDatabase.{is_within_limit, WholeTable, unit_fits, WholeContents, batch_fits, NextNumberFits, WholeDatabase, WholeDatabaseStays, HadAtMost}
 use Rattle.ss_model.specs.SoundRuns.{FitAll}
-use Rattle.ss_lemmas.proofs.Bools.{first_of_two, second_of_two, some_same, at_index}
+use Rattle.ss_lemmas.proofs.Bools.{first_of_two, second_of_two, some_same, either_so, at_index}
 use Rattle.ss_model_kept.proofs.CallerLemmas.{drop_on, SameKeptDatabase, least_rises, same_least, reads_kept, set_one, get_or-map_index, length-map_index, get_or-alike}
 use Rattle.ss_model_laws.proofs.WholeChanges.{all_dropped}
 use Rattle.ss_model_laws.proofs.Effects.{Effect, effect, counted, WasReady, of_when}
@@ -134,6 +134,36 @@ call_or_not CallKind c s = cc
 call_or_not Border c s = cc
 call_or_not Interior c s = cc
 
+-- one that passes has an index
+one_at : (test : Procedure → Bool) (ps : List Procedure) → list_any test ps ≡ true → (n : ℕ) × (p : Procedure) × (slice_get ps n ≡ Some p) × (test p ≡ true)
+one_at test [] e = cc
+one_at test (p ∷ ps) e = by (one_at test ps) (either_so _ _ e)
+  where
+    by : (list_any test ps ≡ true → (n : ℕ) × (q : Procedure) × (slice_get ps n ≡ Some q) × (test q ≡ true)) → (test p ≡ true) ⊎ (list_any test ps ≡ true) → (n : ℕ) × (q : Procedure) × (slice_get (p ∷ ps) n ≡ Some q) × (test q ≡ true)
+    by later (inl h) = (0, p, refl, h)
+    by later (inr h) = let (n, q, is, k) = later h in (suc n, q, is, k)
+
+none_of : (bs : List Rows) → length bs ≡ 0 → bs ≡ []
+none_of [] l = refl
+none_of (b ∷ bs) l = absurd (omega arith)
+
+no_inputs : (k : ProcedureKind) (inputs : List ℕ) → is_call k ≡ true → inputs_of_kind k inputs ≡ true → length {A = Rows} [] ≡ length inputs
+no_inputs CallKind [] c h = refl
+no_inputs CallKind (s ∷ inputs) c h = cc
+no_inputs Border inputs c h = cc
+no_inputs Interior inputs c h = cc
+
+-- a stream to which a procedure does not emit is as before
+not_grown : (p : Procedure) (emitted : List Rows) (ss : List (List Rows)) (s : ℕ) → list_any (emits_to s) p.body ≡ false → get_or (append_batches p emitted ss) s [] ≡ get_or ss s []
+not_grown p emitted ss s none = by (nat_lt s (length ss)) refl
+  where
+    by : (b : Bool) → nat_lt s (length ss) ≡ b → get_or (append_batches p emitted ss) s [] ≡ get_or ss s []
+    by true e = get_or-map_index (λ s bs. cond (list_any (emits_to s) p.body) (bs ++ get_or emitted s [] ∷ []) bs) ss s [] [] (ltb-true _ _ e) ∙ ap (λ b. cond b (get_or ss s [] ++ get_or emitted s [] ∷ []) (get_or ss s [])) none
+    by false e =
+        let past : length ss ≤ s = ltb-false _ _ e in
+        let same : length (append_batches p emitted ss) ≡ length ss = length-map_index _ ss in
+        get_or_past (append_batches p emitted ss) s [] (omega arith) ∙ sym (get_or_past ss s [] past)
+
 no_args : (k : ProcedureKind) (args : List Column) → is_streaming k ≡ true → args_of_kind k args ≡ true → fits_schema args [] ≡ true
 no_args CallKind args s h = cc
 no_args Border [] s h = refl
@@ -144,6 +174,13 @@ no_args Interior (c ∷ args) s h = cc
 module _ (catalog : Catalog) (accepted : Accepted catalog) where
   pub kinds : (q : ℕ) (p : Procedure) → slice_get catalog.procedures q ≡ Some p → is_of_kind p ≡ true
   kinds = at_index is_of_kind catalog.procedures (second_of_two _ _ accepted.form)
+
+  -- no border stream is an inner one
+  inner_or_border : (s : ℕ) → is_inner_stream catalog s ≡ true → is_border_stream catalog s ≡ true → ⊥
+  inner_or_border s inner border =
+      let (n, d, at_n, passes) = one_at (λ p. is_border p.kind && takes_stream s p) catalog.procedures border in
+      let wrong : true ≡ false = sym (ap (procedure_has (takes_stream s)) at_n ∙ second_of_two _ _ passes) ∙ (accepted.structure.streams.inner).not_taken n s inner in
+      cc
 
   -- ---- what an entry leaves of tables, windows, batches and next numbers
 
@@ -160,16 +197,19 @@ module _ (catalog : Catalog) (accepted : Accepted catalog) where
     next_count : length a.db.next_numbers ≡ length catalog.streams
     batches : KeptFit a.db
     next_numbers : (s : ℕ) (source : List ℕ) (n : ℕ) → finmap.get (get_or a.db.next_numbers s finmap.empty) source ≡ Some n → NextNumberFits catalog s n
+    inner : (s : ℕ) → is_inner_stream catalog s ≡ true → stream_batches a.db s ≡ []
 
   call_left : (db : Database) (client q : ℕ) (args : Row) (o : Option Procedure) (a : Applied) → slice_get catalog.procedures q ≡ o → WholeDatabase catalog db → apply_call catalog db client q args o ≡ Some a → Left db a
   call_left db client q args None a is h e = cc
   call_left db client q args (Some p) a is h e =
       let known = of_when _ _ a e in
       subst (Left db) (some_same _ a known.1) (record {
-        contents = (present_whole catalog accepted q p is db args [] db.contents (second_of_two _ _ known.0) (λ i. tt) h.contents).contents;
+        contents = (present_whole catalog accepted q p is db args [] db.contents (second_of_two _ _ known.0)
+            (no_inputs p.kind p.inputs (second_of_two _ _ (first_of_two _ _ known.0)) (first_of_two _ _ (first_of_two _ _ (kinds q p is)))) (λ i. tt) h.contents).contents;
         next_count = h.next_count;
         batches = h.batches;
         next_numbers = h.next_numbers;
+        inner = h.inner;
       })
 
   same_left : (db : Database) (a : Applied) → WholeDatabase catalog db → a.db ≡ db → Left db a
@@ -178,6 +218,7 @@ module _ (catalog : Catalog) (accepted : Accepted catalog) where
     next_count = subst (λ z. length z.next_numbers ≡ length catalog.streams) (sym e) h.next_count;
     batches = subst KeptFit (sym e) h.batches;
     next_numbers = λ s source n is. h.next_numbers s source n (subst (λ z. finmap.get (get_or z.next_numbers s finmap.empty) source ≡ Some n) e is);
+    inner = λ s is. ap (λ z. stream_batches z s) e ∙ h.inner s is;
   }
 
   module _ (client t seq : ℕ) (source : List ℕ) (rows : Rows) (fits : push_fits catalog client t seq rows ≡ true) where
@@ -205,6 +246,8 @@ module _ (catalog : Catalog) (accepted : Accepted catalog) where
           (subst (λ z. list_all (batch_fits (stream_schema catalog s)) (drop k (stream_batches db z)) ≡ true) (sym e) (h.batches s))
           (subst (λ z. batch_fits (stream_schema catalog z) rows ≡ true) e rows_fit_batch));
       next_numbers = λ s. set_one (λ m. (name : List ℕ) (n : ℕ) → finmap.get m name ≡ Some n → NextNumberFits catalog s n) db.next_numbers t s _ finmap.empty (h.next_numbers s) (λ e. subst (λ z. (name : List ℕ) (n : ℕ) → finmap.get (finmap.insert (get_or db.next_numbers t finmap.empty) source (seq + 1)) name ≡ Some n → NextNumberFits catalog z n) e (number_inserted (get_or db.next_numbers t finmap.empty) (h.next_numbers t)));
+      inner = λ s is. set_one (λ bs. bs ≡ []) db.streams t s _ [] (h.inner s is) (λ same.
+          absurd (inner_or_border s is (subst (λ z. is_border_stream catalog z ≡ true) same (second_of_two _ _ (first_of_two _ _ (first_of_two _ _ (first_of_two _ _ fits)))))));
     }
 
     abbrev numbered : Database → ℕ → Bool → Bool → Applied
@@ -233,6 +276,7 @@ module _ (catalog : Catalog) (accepted : Accepted catalog) where
       let count : batch_count db q ≡ r = (Decides-eqb _ _).0 (second_of_two _ _ (first_of_two _ _ known.0)) in
       let run = present_whole catalog accepted q p is db [] (map (λ s. get_or (stream_batches db s) r []) p.inputs) db.contents
       (no_args p.kind p.args streaming (second_of_two _ _ (first_of_two _ _ (kinds q p is))))
+      (length-map p.inputs (λ s. get_or (stream_batches db s) r []))
       (λ i. inputs_fit catalog (λ s. get_or (stream_batches db s) r []) p.inputs i (λ s t. one_fits (stream_schema catalog s) (least_count catalog db s) r (stream_batches db s) (reads_kept catalog q r p is db s count t) (h.batches s))) h.contents in
       let same = some_same _ a known.1 in
       let behind = subst (λ z. LeastRises db z.db) (sym same) rises in
@@ -241,6 +285,7 @@ module _ (catalog : Catalog) (accepted : Accepted catalog) where
         next_count = h.next_count;
         batches = λ s. grown_fits p _ db.streams (least_count catalog db) _ run.emitted behind h.batches s (nat_lt s (length db.streams)) refl;
         next_numbers = h.next_numbers;
+        inner = λ s t. not_grown p _ db.streams s (sym (ap (procedure_has (λ d. list_any (emits_to s) d.body)) is) ∙ (accepted.structure.streams.inner).not_emitted q s t) ∙ h.inner s t;
       })
 
   left : (db : Database) (e : Entry) (a : Applied) → WholeDatabase catalog db → LeastRises db a.db → apply catalog db e ≡ Some a → Left db a
@@ -252,7 +297,7 @@ module _ (catalog : Catalog) (accepted : Accepted catalog) where
       subst (Left db) same (push_left client t seq source rows known.0 db (next_number db t source) _ _ h (subst (λ z. LeastRises db z.db) (sym same) rises))
   left db (StepEntry q r) a h rises e = step_left db q r (slice_get catalog.procedures q) a refl h rises e
   left db (Install client index q text) a h rises e =
-      subst (Left db) (some_same _ a (of_when _ _ a e).1) (record { contents = h.contents; next_count = h.next_count; batches = h.batches; next_numbers = h.next_numbers })
+      subst (Left db) (some_same _ a (of_when _ _ a e).1) (record { contents = h.contents; next_count = h.next_count; batches = h.batches; next_numbers = h.next_numbers; inner = h.inner })
 
   -- ---- counts
 
@@ -334,6 +379,7 @@ module _ (catalog : Catalog) (accepted : Accepted catalog) where
         batches = l.batches;
         calls = still_none db e a h k (applied_fits catalog db e a is);
         next_numbers = l.next_numbers;
+        inner = l.inner;
         body_count = (bodies_left db e a is).0 ∙ h.body_count;
         bodies = λ q p at. (bodies_left db e a is).1 q (h.bodies q p at);
       }
@@ -358,6 +404,7 @@ module _ (catalog : Catalog) (accepted : Accepted catalog) where
         let m = least_count catalog (empty_database catalog) s in
         subst (λ bs. list_all (batch_fits (stream_schema catalog s)) (drop m bs) ≡ true) (sym (get_or-alike (length catalog.streams) s [])) (all_dropped (batch_fits (stream_schema catalog s)) m [] refl);
     calls = λ q p is call. get_or-alike (length catalog.procedures) q 0;
+    inner = λ s is. get_or-alike (length catalog.streams) s [];
     body_count = as_many_own (own_text catalog) catalog.procedures;
     bodies = λ q p at. subst (λ text. has_body catalog q text ≡ true) (sym (own_at (own_text catalog) catalog.procedures q p at)) (or_left (bytes_eq (own_text catalog q) (own_text catalog q)) (has_spare catalog q (own_text catalog q)) (same_text (own_text catalog q)));
     next_numbers = λ s source n is. let no : None ≡ Some n = sym (ap (λ m. finmap.get m source) (get_or-alike (length catalog.streams) s finmap.empty) ∙ get-empty (slice_cmp nat_cmp) source) ∙ is in cc;
@@ -439,4 +486,5 @@ module _ (catalog : Catalog) (x y : Database) (same : SameKeptDatabase catalog x
     body_count = sym (ap length same.bodies) ∙ h.body_count;
     bodies = λ q p at. ap (λ bodies. has_body catalog q (get_or bodies q [])) (sym same.bodies) ∙ h.bodies q p at;
     next_numbers = λ s source n is. h.next_numbers s source n (ap (λ ms. finmap.get (get_or ms s finmap.empty) source) same.next_numbers ∙ is);
+    inner = λ s e. none_of _ (sym (same.lengths s) ∙ ap length (h.inner s e));
   }

@@ -1,5 +1,5 @@
 -- Workflows of an accepted catalogue: where the inputs of a procedure come from.
-use Rattle.std.proofs.Common.{◌≡◌, ◌≤◌, ◌<◌, ℕ, zero, suc, nat_lt, Bool, true, false, cond, ◌&&◌, ◌==◌, List, [], ◌∷◌, get_or, length, slice_get, refl, sym, ap, ◌∙◌, subst, Some, unwrap_or, ◌⊎◌, inl, inr, arith}
+use Rattle.std.proofs.Common.{◌≡◌, ◌≤◌, ◌<◌, ℕ, zero, suc, nat_lt, Bool, true, false, cond, ◌&&◌, ◌||◌, ◌==◌, List, [], ◌∷◌, get_or, length, slice_get, refl, sym, ap, ◌∙◌, subst, Some, unwrap_or, ◌⊎◌, inl, inr, arith}
 use Rattle.std.proofs.lemmas.Bool.{ltb-true, and_from}
 use Rattle.std.proofs.lemmas.Bool.Decides.{Decides-eqb}
 use Rattle.std.proofs.Math.Nat.{le_trans}
@@ -10,15 +10,17 @@ use Rattle.ss_model.specs.declared.catalog.ProcedureKind.{ProcedureKind}
 use Rattle.ss_model.specs.declared.catalog.ProcedureKind.TheVariants.{Call as CallKind, Border, Interior}
 use Rattle.ss_model.specs.declared.catalog.Procedure.{Procedure}
 use Rattle.ss_model.specs.declared.catalog.Step.{Step}
-use Rattle.ss_model.specs.declared.catalog.Step.TheVariants.{Sql, AbortIf, ForEach, Emit, Return}
-use Rattle.ss_model.specs.Database.{Database, batch_count, stream_batches, takes_stream, emits_to, is_streaming, is_border, is_border_stream}
+use Rattle.ss_model.specs.declared.catalog.Step.TheVariants.{Sql, AbortIf, ForEach, Emit, Local, Return}
+use Rattle.ss_model.specs.Database.{Database, batch_count, stream_batches, takes_stream, streams_read, emits_to, is_streaming, is_border, is_border_stream}
+use Rattle.ss_model.specs.Results.{and_behind}
+use Rattle.std.proofs.lemmas.List.Folds.{list_any-append}
 use Rattle.ss_model.specs.Orders.{procedure_has, procedure_takes, procedure_emits}
 use Rattle.ss_model.specs.CatalogForm.{inputs_of_kind, step_of_kind, touch_in_range}
 use Rattle.ss_model.specs.Settling.{streams_on, border_stream, border_stream_from, first_input, emitting_procedure, is_ready_now, Drained}
 use Rattle.ss_model.specs.Settled.{NoneReady}
 use Rattle.ss_model.specs.Accepted.{Accepted}
 use Rattle.ss_model.specs.InStep.{IsInStep}
-use Rattle.ss_lemmas.proofs.Bools.{first_of_two, second_of_two, either_so, at_index, any_at}
+use Rattle.ss_lemmas.proofs.Bools.{first_of_two, second_of_two, either_so, at_index, any_at, is_false}
 use Rattle.ss_model_laws.proofs.Effects.{found_in}
 use Rattle.ss_model_laws.proofs.Readiness.{named, took_all, ready_parts}
 use Rattle.ss_model_laws.proofs.WholeDatabase.{kinds, has_input}
@@ -32,6 +34,11 @@ some_index test (x ∷ xs) e = by (some_index test xs) (either_so _ _ e)
     by later (inl h) = (0, x, refl, h)
     by later (inr h) = let (n, y, is, k) = later h in (suc n, y, is, k)
 
+-- an input is among the streams that are read
+input_read : (inputs inner : List ℕ) (s : ℕ) → list_any (λ i. i == s) inputs ≡ true → list_any (λ i. i == s) (and_behind inputs inner) ≡ true
+input_read inputs [] s e = e
+input_read inputs (t ∷ ts) s e = list_any-append (λ i. i == s) inputs (t ∷ ts) ∙ ap (λ b. b || list_any (λ i. i == s) (t ∷ ts)) e
+
 emits_streams : (k : ProcedureKind) (s : ℕ) (body : List Step) → list_any (emits_to s) body ≡ true → list_all (step_of_kind k) body ≡ true → is_streaming k ≡ true
 emits_streams Border s body e h = refl
 emits_streams Interior s body e h = refl
@@ -42,6 +49,7 @@ emits_streams CallKind s body e h = absurd (none body e h)
     step (AbortIf c code) f g = cc
     step (ForEach input inner) f g = cc
     step (Emit t q) f g = cc
+    step (Local t q) f g = cc
     step (Return q) f g = cc
 
     none : (body : List Step) → list_any (emits_to s) body ≡ true → list_all (step_of_kind CallKind) body ≡ true → ⊥
@@ -66,12 +74,13 @@ module _ (catalog : Catalog) (accepted : Accepted catalog) where
     at_border : is_border_stream catalog s ≡ true → border_stream catalog q ≡ s → Source q s
     emitted_by : (p : ℕ) → procedure_emits catalog p s ≡ true → border_stream catalog p ≡ border_stream catalog q → Source q s
 
-  within_streams : (q s : ℕ) → procedure_takes catalog q s ≡ true → s < length catalog.streams
+  -- a stream that is taken is there
+  pub within_streams : (q s : ℕ) → procedure_takes catalog q s ≡ true → s < length catalog.streams
   within_streams q s takes =
       let (p, is, t) = named (takes_stream s) (slice_get catalog.procedures q) takes in
       let ranges = second_of_two _ _ (second_of_two _ _ (first_of_two _ _ (first_of_two _ _ (first_of_two _ _ (first_of_two _ _ (first_of_two _ _ accepted.form)))))) in
-      let inputs = first_of_two _ _ (at_index (λ p. list_all (λ s. nat_lt s (length catalog.streams)) p.inputs && touch_in_range p.args p.touch) catalog.procedures ranges q p is) in
-      ltb-true s _ (found_in p.inputs (λ s. nat_lt s (length catalog.streams)) s inputs t)
+      let inputs = first_of_two _ _ (at_index (λ p. list_all (λ s. nat_lt s (length catalog.streams)) (streams_read p) && touch_in_range p.args p.touch) catalog.procedures ranges q p is) in
+      ltb-true s _ (found_in (streams_read p) (λ s. nat_lt s (length catalog.streams)) s inputs (input_read p.inputs p.inner s t))
 
   -- a border procedure's stream
   only_input : (inputs : List ℕ) (s : ℕ) → inputs_of_kind Border inputs ≡ true → list_any (λ i. i == s) inputs ≡ true → get_or inputs 0 0 ≡ s
@@ -114,7 +123,7 @@ module _ (catalog : Catalog) (accepted : Accepted catalog) where
       by : (p : Procedure) → slice_get catalog.procedures q ≡ Some p → takes_stream s p ≡ true → (k : ProcedureKind) → p.kind ≡ k → Source q s
       by p is t CallKind e = let no : false ≡ true = sym (ap (procedure_has (λ p. is_streaming p.kind)) is ∙ ap is_streaming e) ∙ streams in cc
       by p is t Border e = at_border (stream_of_border q s p is e t) (border_at q s p is e t)
-      by p is t Interior e = inner p is e (accepted.structure.streams.fed s (within_streams q s takes))
+      by p is t Interior e = inner p is e (accepted.structure.streams.fed s (within_streams q s takes) (is_false _ (λ i. let wrong : true ≡ false = sym takes ∙ (accepted.structure.streams.inner).not_taken q s i in cc)))
 
   input_of : (q : ℕ) → Streams q → (s : ℕ) × (procedure_takes catalog q s ≡ true)
   input_of q streams = let (p, is, t) = named (λ p. is_streaming p.kind) (slice_get catalog.procedures q) streams in has_input catalog accepted q p is t

@@ -1,6 +1,6 @@
 //! Batches that an execution takes, lent from where they stand.
 
-ghost use Rattle.std.specs.Prelude.{◌≡◌, [], ◌∷◌, ◌++◌, slice_get, OnOk, OnErr};
+ghost use Rattle.std.specs.Prelude.{◌≡◌, [], ◌∷◌, ◌++◌, map, slice_get, IfOk, OnOk, OnErr};
 ghost use Rattle.std.specs.Option.{option_copied};
 
 use ss_value::{NoMemory, Rows};
@@ -47,6 +47,16 @@ impl<'a> Batches<'a> {
         }
     }
 
+    /// The same batches, lent once more, so that others can follow them. Linear in those that stand in no list, each of which
+    /// takes the memory of a reference again.
+    pub fn again(&self, alloc: Global) -> Result<Batches<'a>, NoMemory>
+        ensures { IfOk result (λ batches. batches ≡ self.now) }
+    {
+        let mut batches = Batches::all(alloc, self.first);
+        push_all(self.others.as_slice(), &mut batches)?;
+        Ok(batches)
+    }
+
     /// One batch more, behind the others. Out of memory leaves them as they are. Constant on average.
     pub fn push(&mut self, rows: &'a Rows) -> Result<(), NoMemory>
         ensures ok { OnOk result (self.new ≡ self.old ++ rows.now ∷ []) }
@@ -69,4 +79,14 @@ impl<'a> Batches<'a> {
             self.others.get(at - count).copied()
         }
     }
+}
+
+/// Puts batches behind others, in order.
+fn push_all<'a>(more: &[&'a Rows], batches: &mut Batches<'a>) -> Result<(), NoMemory>
+    ensures { OnOk result (batches.new ≡ batches.old ++ map (λ rows. rows.now) more.now) }
+{
+    for rows in more {
+        batches.push(*rows)?;
+    }
+    Ok(())
 }

@@ -1,18 +1,27 @@
--- Triggers neither see the batches of an execution nor change them.
-use Rattle.std.proofs.Common.{◌≡◌, ◌^◌, ◌==◌, nat_le, not, ℕ, zero, suc, Bool, true, false, List, [], ◌∷◌, length, refl, sym, ap, ◌∙◌, Ok, Err}
+-- Triggers neither see the batches of an execution so far nor change them, and no more do the steps that add no row to one.
+use Rattle.std.proofs.Common.{◌≡◌, ◌^◌, ◌==◌, nat_le, not, ℕ, ℤ, zero, suc, Bool, true, false, List, [], ◌∷◌, ◌++◌, get_or, length, refl, sym, ap, ◌∙◌, Ok, Err}
 use Rattle.std.specs.List.{filter}
-use Rattle.ss_value.specs.Rows.{Row, Rows}
+use Rattle.ss_value.specs.Order.{value_cmp}
+use Rattle.ss_value.specs.Rows.{Row, Rows, column_value}
 use Rattle.ss_value.specs.declared.Unit.{Unit as UnitKind}
 use Rattle.ss_value.specs.declared.Unit.TheVariants.{Rows as RowsUnit, Batches as BatchesUnit}
+use Rattle.ss_sql_trees.specs.declared.typed.Condition.{Condition}
 use Rattle.ss_sql_trees.specs.declared.typed.Statement.{Statement}
+use Rattle.ss_model.specs.declared.catalog.Inner.{Inner}
+use Rattle.ss_model.specs.declared.catalog.Inner.TheVariants.{Sql as InnerSql, AbortIf as InnerAbortIf}
+use Rattle.ss_model.specs.declared.catalog.Step.{Step}
+use Rattle.ss_model.specs.declared.catalog.Step.TheVariants.{Sql, AbortIf, ForEach, Emit, Local, Return}
 use Rattle.ss_model.specs.declared.catalog.TriggerDef.{TriggerDef}
-use Rattle.ss_model.specs.declared.entry.Reason.TheVariants.{WindowFull}
+use Rattle.ss_model.specs.declared.entry.Reason.TheVariants.{Raised, ReplyFull, WindowFull}
 use Rattle.ss_model.specs.Results.{OrAbort, ◌>>=◌, try_fold, abort_when}
+use Rattle.ss_model.specs.Expressions.{cmp_holds, expr_value}
 use Rattle.ss_model.specs.Contents.{window_units, window_def, append_unit, visible_end}
-use Rattle.ss_model.specs.Statements.{Context, Execution, Cascade, StatementEffect, Wrote, Staged, when_moved, close_unit, stage_by_unit, stage_row, statement_effect, apply_effect, execute_statement, run_triggers, cascade_to_depth, trigger_cascade, is_on_window}
+use Rattle.ss_model.specs.Statements.{Context, Execution, Cascade, StatementEffect, Wrote, Staged, when_moved, close_unit, stage_by_unit, stage_row, context_query, statement_effect, apply_effect, execute_statement, run_triggers, cascade_to_depth, trigger_cascade, is_on_window}
+use Rattle.ss_model.specs.Bodies.{check_condition, exceeds_row_limit, execute_abort_if, execute_inner, step_on}
 use Rattle.ss_model.specs.declared.run_error.RunError.{RunError}
 use Rattle.ss_model.specs.declared.run_error.RunError.TheVariants.{NoMemory, Abort}
 use Rattle.ss_model.specs.Stops.{StopsAs}
+use Rattle.ss_proc.specs.Executions.{adds_rows}
 
 -- an execution with these batches
 abbrev pub with_batches : List Rows → Execution → Execution
@@ -69,6 +78,48 @@ cascade_apart (suc depth) context n e w = triggers_apart context (cascade_to_dep
 
 pub stream_apart : (context : Context) (inserted : Rows) (ts : List TriggerDef) → Apart (run_triggers context (trigger_cascade context) inserted ts)
 stream_apart context inserted ts = triggers_apart context (trigger_cascade context) (cascade_apart (length (context.catalog).windows) context) inserted ts
+
+-- ---- steps
+
+-- what is found first neither sees them nor changes them
+found_apart : {A : Type 0} (x : OrAbort A) (f : A → Execution → OrAbort Execution) → ((a : A) → Apart (f a)) → (e : List Rows) (w : Execution) → (x >>= λ a. f a (with_batches e w)) ≡ ((x >>= λ a. f a w) >>= keeps e)
+found_apart (Ok a) f each e w = each a e w
+found_apart (Err r) f each e w = refl
+
+raised_apart : (code : ℤ) (holds : Bool) → Apart (λ w. abort_when holds (Raised code) (Ok w))
+raised_apart code true e w = refl
+raised_apart code false e w = refl
+
+check_apart : (params : Row) (c : Condition) (code : ℤ) (rows : Rows) → Apart (check_condition params c code rows)
+check_apart params c code [] e w = refl
+check_apart params c code (row ∷ []) e w = found_apart (expr_value [] params c.right) (λ v w. abort_when (cmp_holds c.cmp (value_cmp (column_value row 0) v)) (Raised code) (Ok w)) (λ v. raised_apart code (cmp_holds c.cmp (value_cmp (column_value row 0) v))) e w
+check_apart params c code (row ∷ next ∷ rows) e w = refl
+
+replied_apart : (rows : Rows) → Apart (λ w. abort_when (exceeds_row_limit w.reply rows) ReplyFull (Ok (record w { reply = w.reply ++ rows })))
+replied_apart rows e w = by (exceeds_row_limit w.reply rows)
+  where
+    by : (full : Bool) → abort_when full ReplyFull (Ok (record w { emitted = e; reply = w.reply ++ rows })) ≡ (abort_when full ReplyFull (Ok (record w { reply = w.reply ++ rows })) >>= keeps e)
+    by true = refl
+    by false = refl
+
+module _ (context : Context) where
+  sql_apart : (params : Row) (st : Statement) → Apart (execute_statement context (trigger_cascade context) [] params st)
+  sql_apart params st = statement_apart context (trigger_cascade context) (cascade_apart (length (context.catalog).windows) context) [] params st
+
+  abort_if_apart : (params : Row) (c : Condition) (code : ℤ) → Apart (execute_abort_if context params c code)
+  abort_if_apart params c code e w = found_apart (context_query context [] params c.query w.contents) (check_condition params c code) (check_apart params c code) e w
+
+  inner_apart : (row : Row) (inner : Inner) → Apart (execute_inner context row inner)
+  inner_apart row (InnerSql st) = sql_apart row st
+  inner_apart row (InnerAbortIf c code) = abort_if_apart row c code
+
+  pub step_apart : (step : Step) → adds_rows step ≡ false → Apart (step_on context step)
+  step_apart (Sql st) still = sql_apart context.args st
+  step_apart (AbortIf c code) still = abort_if_apart context.args c code
+  step_apart (ForEach input body) still = fold_apart (λ row. try_fold (execute_inner context row) body) (λ row. fold_apart (execute_inner context row) (inner_apart row) body) (get_or context.batches input [])
+  step_apart (Emit s q) still = absurd (cc)
+  step_apart (Local s q) still = absurd (cc)
+  step_apart (Return q) still = λ e w. found_apart (context_query context [] context.args q w.contents) _ replied_apart e w
 
 -- so the batches are as before
 pub batches_stay : (f : Execution → OrAbort Execution) → Apart f → (w v : Execution) → f w ≡ Ok v → v.emitted ≡ w.emitted

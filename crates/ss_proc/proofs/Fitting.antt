@@ -18,11 +18,11 @@ use Rattle.ss_model.specs.declared.catalog.TriggerDef.{TriggerDef}
 use Rattle.ss_model.specs.declared.catalog.Inner.{Inner}
 use Rattle.ss_model.specs.declared.catalog.Inner.TheVariants.{Sql as InnerSql, AbortIf as InnerAbortIf}
 use Rattle.ss_model.specs.declared.catalog.Step.{Step}
-use Rattle.ss_model.specs.declared.catalog.Step.TheVariants.{Sql, AbortIf, ForEach, Emit, Return}
+use Rattle.ss_model.specs.declared.catalog.Step.TheVariants.{Sql, AbortIf, ForEach, Emit, Local, Return}
 use Rattle.ss_model.specs.declared.catalog.TableDef.{TableDef}
 use Rattle.ss_model.specs.Accepted.{Accepted}
 use Rattle.ss_model.specs.CatalogForm.{numbers_in_range}
-use Rattle.ss_model.specs.Database.{Database, empty_database, present}
+use Rattle.ss_model.specs.Database.{Database, empty_database, present, streams_read}
 use Rattle.ss_model.specs.Contents.{key_columns}
 use Rattle.ss_model.specs.Scopes.{procedure_in_scope, trigger_in_scope, is_on_a_stream, step_in_scope, inner_in_scope, statement_in_scope, target_in_scope}
 use Rattle.ss_model.specs.Typing.{procedure_typed, trigger_typed, trigger_schema, input_schema, schemas_of, step_typed, inner_typed, target_schema}
@@ -124,6 +124,7 @@ module _ (catalog : Catalog) (keys : list_all key_in_range catalog.tables ≡ tr
     step_runs params (AbortIf c code) typed scope = tt
     step_runs params (ForEach input body) typed scope = inners_run (input_schema catalog inputs [] input) body (second_of_two _ _ typed) (second_of_two _ _ scope)
     step_runs params (Emit s q) typed scope = tt
+    step_runs params (Local s q) typed scope = tt
     step_runs params (Return q) typed scope = tt
 
     steps_run : (params : List Column) (steps : List Step) → list_all (step_typed catalog inputs [] params) steps ≡ true → list_all (step_in_scope catalog (length inputs) false) steps ≡ true → AllByRecursion (StepRuns catalog) steps
@@ -140,6 +141,7 @@ module _ (catalog : Catalog) (accepted : Accepted catalog) where
   may_run = record {
     keyed = accepted.structure.keyed;
     triggers = triggers_fit catalog all_keys catalog.triggers (second_of_two _ _ accepted.typed) (second_of_two _ _ accepted.in_scope);
+    scope = second_of_two _ _ accepted.in_scope;
     few = few_triggers catalog accepted.form;
   }
 
@@ -147,13 +149,13 @@ module _ (catalog : Catalog) (accepted : Accepted catalog) where
   own_fits q p is =
       let typed : procedure_typed catalog p ≡ true = at_index (procedure_typed catalog) catalog.procedures (first_of_two _ _ accepted.typed) q p is in
       let scope : procedure_in_scope catalog p ≡ true = at_index (procedure_in_scope catalog) catalog.procedures (first_of_two _ _ accepted.in_scope) q p is in
-      steps_run catalog all_keys p.inputs p.args p.body typed scope
+      steps_run catalog all_keys (streams_read p) p.args p.body typed scope
 
   -- each step of each procedure may run, whatever body it has
   pub body_fits : (q : ℕ) (p : Procedure) → slice_get catalog.procedures q ≡ Some p → ProcedureRuns catalog q p
   body_fits q p is = record {
     own = own_fits q p is;
-    installed = λ db. let a = present_accepted catalog accepted q p is db in steps_run catalog all_keys p.inputs p.args (present catalog db q p).body a.typed a.in_scope;
+    installed = λ db. let a = present_accepted catalog accepted q p is db in steps_run catalog all_keys (streams_read p) p.args (present catalog db q p).body a.typed a.in_scope;
   }
 
   -- so may those that it has on a shard

@@ -1,10 +1,10 @@
 -- What an install comes to on each database that a shard stands for.
-use Rattle.std.proofs.Common.{◌≡◌, ◌∙◌, ◌&&◌, nat_lt, nat_le, ℕ, true, List, [], set, length, ap, sym, subst, Some}
+use Rattle.std.proofs.Common.{◌≡◌, ◌∙◌, ◌&&◌, nat_lt, nat_le, ℕ, true, List, [], set, length, slice_get, ap, sym, subst, Some}
 use Rattle.ss_lemmas.proofs.Bools.{second_of_two}
 use Rattle.ss_model.specs.declared.catalog.Catalog.{Catalog}
 use Rattle.ss_model.specs.declared.entry.Entry.TheVariants.{Install}
 use Rattle.ss_model.specs.declared.entry.Outcome.TheVariants.{Done}
-use Rattle.ss_model.specs.Database.{Database, Applied, apply, has_body, install_fits, only_when}
+use Rattle.ss_model.specs.Database.{Database, Applied, apply, has_body, takes_bodies, install_fits, only_when}
 use Rattle.ss_shard.specs.Bodies.{texts_of, with_coming}
 use Rattle.ss_shard.specs.ShardValue.{ShardValue}
 use Rattle.ss_shard.specs.Shards.{CanRollBack, IsCommitted, IsOf}
@@ -16,7 +16,7 @@ use Rattle.ss_proc.specs.Entries.{Installs, Ran}
 
 -- an install that fits has the text of a body that its procedure may have
 pub install_has : (catalog : Catalog) (client n : ℕ) (text : List ℕ) → install_fits catalog client n text ≡ true → has_body catalog n text ≡ true
-install_has catalog client n text fits = second_of_two (nat_lt client 8 && nat_lt n (length catalog.procedures) && nat_le (length text) 1048576) _ fits
+install_has catalog client n text fits = second_of_two (nat_lt client 8 && takes_bodies (slice_get catalog.procedures n) && nat_le (length text) 1048576) _ fits
 
 module _ (catalog : Catalog) (old new : ShardValue) where
   module _ (n : ℕ) (text : List ℕ) (installs : Installs catalog n text old new) where

@@ -1,7 +1,9 @@
 pub mod CallerLemmas
+pub mod Apart
 pub mod Doing
 pub mod Firing
-pub mod Apart
+pub mod Unseen
+pub mod SoFar
 pub mod Emitting
 mod RowLists
 pub mod Owned

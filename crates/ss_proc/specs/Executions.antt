@@ -1,18 +1,19 @@
 -- What an execution is given, how far it is, and what it leaves.
-use Rattle.std.specs.Prelude.{◌≡◌, ◌≤◌, ℕ, [], ◌++◌, replicate, length, slice_get, Some, Ok}
-use Rattle.std.specs.List.{AllByRecursion}
+use Rattle.std.specs.Prelude.{◌≡◌, ◌≤◌, ℕ, Bool, true, false, List, [], ◌++◌, map, get_or, replicate, length, slice_get, Some, Ok}
+use Rattle.std.specs.List.{AllByRecursion, list_all}
 use Rattle.std.specs.Option.{option_map}
 use Rattle.ss_value.specs.Rows.{Rows, column_value}
 use Rattle.ss_model.specs.declared.catalog.Catalog.{Catalog}
 use Rattle.ss_model.specs.declared.catalog.Inner.{Inner}
 use Rattle.ss_model.specs.declared.catalog.Inner.TheVariants.{Sql as InnerSql, AbortIf as InnerAbortIf}
 use Rattle.ss_model.specs.declared.catalog.Step.{Step}
-use Rattle.ss_model.specs.declared.catalog.Step.TheVariants.{Sql, AbortIf, ForEach, Emit, Return}
+use Rattle.ss_model.specs.declared.catalog.Step.TheVariants.{Sql, AbortIf, ForEach, Emit, Local, Return}
 use Rattle.ss_model.specs.declared.entry.Reason.TheVariants.{ReplyFull}
 use Rattle.ss_model.specs.declared.catalog.Procedure.{Procedure}
 use Rattle.ss_model.specs.Accepted.{Accepted}
 use Rattle.ss_model.specs.Database.{Database, present}
-use Rattle.ss_model.specs.Results.{OrAbort, abort_when}
+use Rattle.ss_model.specs.Results.{OrAbort, abort_when, and_behind}
+use Rattle.ss_model.specs.Scopes.{trigger_in_scope}
 use Rattle.ss_model.specs.Statements.{Context, Execution}
 use Rattle.ss_model.specs.Bodies.{exceeds_row_limit}
 use Rattle.ss_shard.specs.ShardValue.{ShardValue}
@@ -29,8 +30,19 @@ context_of g = record {
   procedure = g.procedure;
   args = g.args.now;
   batches = g.batches.now;
+  inner = g.inner.now;
   split_value = option_map (λ a. column_value g.args.now a) g.arg;
 }
+
+-- what a step is given where these were emitted so far, to the model: it sees the inner batches behind those that are given
+abbrev pub context_seen : Given → List Rows → Context
+context_seen g emitted = record (context_of g) { batches = and_behind g.batches.now (map (λ s. get_or emitted s []) g.inner.now) }
+
+-- whether a step adds rows to the batch of a stream
+abbrev pub adds_rows : Step → Bool
+adds_rows (Emit s q) = true
+adds_rows (Local s q) = true
+adds_rows _ = false
 
 -- how far an execution is, to the model: tables and windows as the shard has them, and the rest as the work has it
 abbrev pub execution_of : ShardValue → Work → Execution
@@ -55,10 +67,11 @@ empty_work catalog = record {
 abbrev pub TriggersFit : Catalog → Type 0
 TriggersFit catalog = AllByRecursion (λ t. AllByRecursion (FitsTables catalog) t.statements) catalog.triggers
 
--- executions may run: tables are split by columns of their keys, and there are at most 64 triggers, which fit
+-- executions may run: tables are split by columns of their keys, and there are at most 64 triggers, which fit and see no batch
 pub record MayRun (catalog : Catalog) : Type 0 where
   pub keyed : SplitByKeys catalog
   pub triggers : TriggersFit catalog
+  pub scope : list_all (trigger_in_scope catalog) catalog.triggers ≡ true
   pub few : length catalog.triggers ≤ 64
 
 -- they may run on a shard: it is one of the catalogue
@@ -77,6 +90,7 @@ StepRuns catalog (Sql s) = FitsTables catalog s
 StepRuns catalog (AbortIf c code) = Unit {0}
 StepRuns catalog (ForEach input body) = AllByRecursion (InnerRuns catalog) body
 StepRuns catalog (Emit s q) = Unit {0}
+StepRuns catalog (Local s q) = Unit {0}
 StepRuns catalog (Return q) = Unit {0}
 
 -- the reply with rows behind it, or the abort where these are more than it may have

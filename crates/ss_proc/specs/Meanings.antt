@@ -18,7 +18,7 @@ use Rattle.ss_plan.specs.Statements.{effect_of}
 use Rattle.ss_plan.specs.declared.statement.Wrote.{Wrote}
 use Rattle.ss_proc.specs.Waiting.{waits_for}
 use Rattle.ss_proc.specs.declared.firings.TriggerEvent.{TriggerEvent}
-use Rattle.ss_proc.specs.Executions.{context_of, execution_of}
+use Rattle.ss_proc.specs.Executions.{context_of, context_seen, execution_of}
 use Rattle.ss_proc.specs.declared.work.Given.{Given}
 use Rattle.ss_proc.specs.declared.work.Work.{Work}
 use Rattle.ss_proc.specs.declared.bodies.BodyResult.{BodyResult}
@@ -50,6 +50,10 @@ EffectStops g inserted params statement shard = StopsAs (statement_effect (conte
 -- the rows of a query of a body
 abbrev pub rows_of_query : Given → Row → Query → ShardValue → OrAbort Rows
 rows_of_query g params query shard = context_query (context_of g) [] params query (contents_of shard)
+
+-- the rows of a query of a body, on the arguments, where these batches were emitted so far
+abbrev pub rows_seen : Given → List Rows → Query → ShardValue → OrAbort Rows
+rows_seen g emitted query shard = context_query (context_seen g emitted) [] g.args.now query (contents_of shard)
 
 -- ---- windows and triggers, where those of windows may nest to a depth
 

@@ -13,7 +13,7 @@ ghost use Rattle.ss_proc.specs.Executions.{context_of, MayRun, MayRunOn, StepRun
 ghost use Rattle.ss_proc.specs.Meanings.{BodyDone, BodyLeaves};
 
 use crate::row_lists::RowLists;
-use crate::steps::run_steps;
+use crate::so_far::run_steps;
 use crate::windows::close_owned;
 use crate::work::{Given, Work, empty_work};
 use ss_model::{Outcome, RunError, Step, Touch};

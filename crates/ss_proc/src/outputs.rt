@@ -42,8 +42,8 @@ fn add_output(stream: u16, left: &mut RowLists, batches: &mut Seq<Emitted>) -> R
     Ok(())
 }
 
-/// The batch of each stream that a procedure emits to, empty ones too, in rising order of streams. The rows are moved. Linear
-/// in the steps of the body for each stream.
+/// The batch of each stream that a procedure emits to, empty ones too, in rising order of streams. Those of its inner streams
+/// go no further. The rows are moved. Linear in the steps of the body for each stream.
 pub fn emitted_batches(
     alloc: Global,
     catalog: &Catalog,

@@ -15,10 +15,12 @@ pub struct RowLists {
     alloc: Global,
     count: usize,
     begun: Seq<Rows>,
+    /// An empty list, which is lent for one that isn't begun.
+    nothing: Rows,
 }
 
 impl Model for RowLists {
-    ghost use Rattle.std.specs.Prelude.{◌≤◌, List, length};
+    ghost use Rattle.std.specs.Prelude.{◌≡◌, ◌≤◌, List, [], length};
     ghost use Rattle.ss_value.specs.Rows.{Rows};
     ghost use Rattle.ss_proc.specs.RowLists.{filled_up};
 
@@ -26,7 +28,7 @@ impl Model for RowLists {
 
     ghost view = { λ l. filled_up l.count l.begun };
 
-    ghost invariant = { λ l. length l.begun ≤ l.count };
+    ghost invariant = { λ l. (length l.begun ≤ l.count) × (l.nothing ≡ []) };
 }
 
 impl RowLists {
@@ -38,6 +40,7 @@ impl RowLists {
             alloc,
             count,
             begun: Seq::new(alloc),
+            nothing: Seq::new(alloc),
         }
     }
 
@@ -48,6 +51,16 @@ impl RowLists {
         match self.begun.get(usize::from(number)) {
             Some(list) => list.as_slice(),
             None => &[],
+        }
+    }
+
+    /// A list as it stands, and an empty one where there is no list of this number. Constant.
+    pub fn list(&self, number: u16) -> &Rows
+        ensures { result.now ≡ get_or self.now number [] }
+    {
+        match self.begun.get(usize::from(number)) {
+            Some(list) => list,
+            None => &self.nothing,
         }
     }
 

@@ -98,6 +98,7 @@ fn run_procedure(
         args,
         arg: touched_argument(&procedure.touch),
         batches,
+        inner: procedure.inner.as_slice(),
     };
     let body = shard.body(catalog, number);
     run_body(alloc, &given, body, shard)

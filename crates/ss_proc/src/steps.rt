@@ -1,9 +1,8 @@
-//! The steps of a body.
+//! A step of a body, on batches that stay as they are while it runs.
 
 ghost use Rattle.std.specs.List.{AllByRecursion};
 ghost use Rattle.ss_model.specs.declared.catalog.Step.TheVariants.{Emit, Return};
-ghost use Rattle.ss_model.specs.Results.{try_fold};
-ghost use Rattle.ss_model.specs.Bodies.{execute_inner, execute_step};
+ghost use Rattle.ss_model.specs.Bodies.{execute_inner, step_on};
 ghost use Rattle.ss_proc.specs.Executions.{context_of, MayRunOn, InnerRuns, StepRuns};
 ghost use Rattle.ss_model.specs.Depths.{inner_steps, steps_of_input, steps_of_rows};
 ghost use Rattle.ss_proc.specs.Meanings.{Does};
@@ -105,7 +104,7 @@ fn emit(
     work: &mut Work,
 ) -> Result<(), RunError>
     requires may_run { MayRunOn given.now.catalog.now shard.old }
-    ensures { Does (execute_step (context_of given.now) (Emit stream query.now)) result shard.old work.old shard.new work.new }
+    ensures { Does (step_on (context_of given.now) (Emit stream query.now)) result shard.old work.old shard.new work.new }
 {
     let rows = execution_query(alloc, given, given.args, query, shard)?;
     emit_rows(alloc, given, stream, rows, shard, work)
@@ -120,16 +119,17 @@ fn reply(
     work: &mut Work,
 ) -> Result<(), RunError>
     requires may_run { MayRunOn given.now.catalog.now shard.now }
-    ensures { Does (execute_step (context_of given.now) (Return query.now)) result shard.now work.old shard.now work.new }
+    ensures { Does (step_on (context_of given.now) (Return query.now)) result shard.now work.old shard.now work.new }
 {
     let rows = execution_query(alloc, given, given.args, query, shard)?;
     reply_rows(rows, &mut work.reply)
 }
 
-/// Runs a step of a body, whose parameters are the arguments.
+/// Runs a step of a body, whose parameters are the arguments, on the batches that are given. A step on an inner stream does what an
+/// emit does.
 ///
 /// Aborts exactly where the model's step does, and with the same reason.
-fn run_step(
+pub fn run_step_on(
     alloc: Global,
     given: &Given,
     step: &Step,
@@ -138,7 +138,7 @@ fn run_step(
 ) -> Result<(), RunError>
     requires may_run { MayRunOn given.now.catalog.now shard.old }
     requires fits { StepRuns given.now.catalog.now step.now }
-    ensures { Does (execute_step (context_of given.now) step.now) result shard.old work.old shard.new work.new }
+    ensures { Does (step_on (context_of given.now) step.now) result shard.old work.old shard.new work.new }
 {
     match step {
         Step::Sql(statement) => {
@@ -149,24 +149,7 @@ fn run_step(
             for_each_of(alloc, given, *input, body.as_slice(), shard, work)
         }
         Step::Emit { stream, query } => emit(alloc, given, *stream, query, shard, work),
+        Step::Local { stream, query } => emit(alloc, given, *stream, query, shard, work),
         Step::Return(query) => reply(alloc, given, query, shard, work),
     }
-}
-
-/// Runs the steps of a body in order, up to the first abort.
-pub fn run_steps(
-    alloc: Global,
-    given: &Given,
-    steps: &[Step],
-    shard: &mut Shard,
-    work: &mut Work,
-) -> Result<(), RunError>
-    requires may_run { MayRunOn given.now.catalog.now shard.old }
-    requires fits { AllByRecursion (StepRuns given.now.catalog.now) steps.now }
-    ensures { Does (try_fold (execute_step (context_of given.now)) steps.now) result shard.old work.old shard.new work.new }
-{
-    for step in steps {
-        run_step(alloc, given, step, shard, work)?;
-    }
-    Ok(())
 }

@@ -20,8 +20,11 @@ pub struct Given<'a, 'b: 'a> {
     pub args: &'a Row,
     /// The argument that an `arg` procedure's touch set names, and None in every other procedure.
     pub arg: Option<u8>,
-    /// The batch of each input, by position.
+    /// The batch of each input, by position. While a step of a procedure with inner streams runs, the batches of these so far
+    /// stand behind them.
     pub batches: &'a Batches<'b>,
+    /// The procedure's inner streams, in the order of their positions.
+    pub inner: &'a [u16],
 }
 
 /// How far an execution is, beside its shard: the unit that it has open in each window, its batch for each stream, and its

@@ -39,6 +39,7 @@ module _ (catalog : Catalog) (spares : List (List Body)) where
   streams_too : StreamsEndWell catalog → StreamsEndWell other
   streams_too k = record {
     wired = record { one_emitter = k.wired.one_emitter; border_free = k.wired.border_free; emits_there = k.wired.emits_there; border_there = k.wired.border_there };
+    inner = record { filled = k.inner.filled; one_nest = k.inner.one_nest; not_emitted = k.inner.not_emitted; not_taken = k.inner.not_taken };
     fed = k.fed;
     taken = k.taken;
     one_consumer = k.one_consumer;

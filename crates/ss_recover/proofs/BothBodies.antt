@@ -14,7 +14,7 @@ use Rattle.ss_model.specs.AcceptedBodies.{OtherBodies}
 use Rattle.ss_model.specs.Database.{body_named, has_spare, spare_bodies}
 use Rattle.ss_model.specs.Spares.{AcceptedBody}
 use Rattle.ss_model.specs.SparesAside.{GoesOnWith, with_spares}
-use Rattle.ss_catalog.specs.Bodies.{BodiesMayStand, BodyReads, HasOneBody, IsBodyOf}
+use Rattle.ss_nest.specs.Bodies.{HasOneNestedBody, IsNestedBodyOf, NestedBodiesMayStand, NestedBodyReads}
 use Rattle.ss_catalog.proofs.WithSpare.{any_spares}
 use Rattle.ss_snapshot.specs.Own.{IsReadFromItsText, SameButSpares}
 use Rattle.ss_snapshot.proofs.BothSpares.{body_more, both, both_own}
@@ -52,9 +52,9 @@ any_behind p (x ∷ xs) ys h = or_true (p x) (list_any p (xs ++ ys)) (any_behind
 record Found (c : Catalog) (q : ℕ) (text : List ℕ) (xs : List Body) : Type 0 where
   body : Body
   found : body_named text xs ≡ Some body
-  is : IsBodyOf c q text body
+  is : IsNestedBodyOf c q text body
 
-found_in : (c : Catalog) (q : ℕ) (text : List ℕ) (xs : List Body) → AllByRecursion (λ (b : Body). IsBodyOf c q b.text b) xs → list_any (λ (b : Body). bytes_eq b.text text) xs ≡ true → Found c q text xs
+found_in : (c : Catalog) (q : ℕ) (text : List ℕ) (xs : List Body) → AllByRecursion (λ (b : Body). IsNestedBodyOf c q b.text b) xs → list_any (λ (b : Body). bytes_eq b.text text) xs ≡ true → Found c q text xs
 found_in c q text [] all h = absurd (cc)
 found_in c q text (x ∷ xs) all h = by (bytes_eq x.text text) refl h (found_in c q text xs all.1)
   where
@@ -64,16 +64,16 @@ found_in c q text (x ∷ xs) all h = by (bytes_eq x.text text) refl h (found_in 
     by false is k rest = (let later = rest k in record { body = later.body; found = ap (λ (t : Bool). cond t (Some x) (body_named text xs)) is ∙ later.found; is = later.is })
 
 -- a text is that of one body
-one_of_text : HasOneBody → (c : Catalog) (q : ℕ) (text : List ℕ) (x y : Body) → IsBodyOf c q text x → IsBodyOf c q text y → x ≡ y
+one_of_text : HasOneNestedBody → (c : Catalog) (q : ℕ) (text : List ℕ) (x y : Body) → IsNestedBodyOf c q text x → IsNestedBodyOf c q text y → x ≡ y
 one_of_text one c q text x y is other =
     let same : read x.text ≡ read y.text = ap read (is.1 ∙ sym other.1) in
-    let says : is.0.0 ≡ other.0.0 = some_same is.0.0 other.0.0 (sym is.0.1.reads_back ∙ same ∙ other.0.1.reads_back) in
-    one c q other.0.0 x y (subst (λ (d : Data). BodyReads c q d x) says is.0.1) other.0.1
+    let says : is.0.0 ≡ other.0.0 = some_same is.0.0 other.0.0 (sym is.0.1.reads.reads_back ∙ same ∙ other.0.1.reads.reads_back) in
+    one c q other.0.0 x y (subst (λ (d : Data). NestedBodyReads c q d x) says is.0.1) other.0.1
 
-module _ (stand : BodiesMayStand) (one : HasOneBody) where
+module _ (stand : NestedBodiesMayStand) (one : HasOneNestedBody) where
   -- what a catalogue has to be installed may stand in it
   stand_there : (c : Catalog) → IsReadFromItsText c → OtherBodies c
-  stand_there c own q p there = all_with (λ (b : Body). IsBodyOf c q b.text b) (λ (b : Body). AcceptedBody c q p b.steps) (λ b is. stand c q is.0.0 b is.0.1 p there) (spare_bodies c q) (own.spares q)
+  stand_there c own q p there = all_with (λ (b : Body). IsNestedBodyOf c q b.text b) (λ (b : Body). AcceptedBody c q p b.steps) (λ b is. stand c q is.0.0 b is.0.1 p there) (spare_bodies c q) (own.spares q)
 
   -- with more bodies of their texts, among them all texts that it has, a catalogue goes on
   goes_on_with : (c : Catalog) (spares : List (List Body)) → IsReadFromItsText c → IsReadFromItsText (with_spares c spares)
@@ -85,7 +85,7 @@ module _ (stand : BodiesMayStand) (one : HasOneBody) where
     same = λ q text h.
         let old = found_in c q text (spare_bodies c q) (own.spares q) h in
         let new = found_in (with_spares c spares) q text (get_or spares q []) (grown.spares q) (has q text h) in
-        let there : IsBodyOf c q text new.body = body_more (with_spares c spares) c.spares q text new.body new.is in
+        let there : IsNestedBodyOf c q text new.body = body_more (with_spares c spares) c.spares q text new.body new.is in
         new.found ∙ ap (λ (b : Body). Some b) (one_of_text one c q text new.body old.body there old.is) ∙ sym old.found;
   }
 

@@ -13,7 +13,7 @@ use Rattle.ss_model.specs.Database.{Database as Model}
 use Rattle.ss_model.specs.Settled.{SettlingTerminates}
 use Rattle.ss_model.specs.Settling.{IsWeakList, kept}
 use Rattle.ss_model.specs.SparesAside.{GoesOnWith, SparesAside, with_spares}
-use Rattle.ss_catalog.specs.Bodies.{BodiesMayStand, HasOneBody}
+use Rattle.ss_nest.specs.Bodies.{HasOneNestedBody, NestedBodiesMayStand}
 use Rattle.ss_weak_lists.specs.Stops.{PassesLast, WeakStopsOnce}
 use Rattle.ss_weak_lists.specs.WeakLists.{KeptCarriesWeak, WeakListsGrow}
 use Rattle.ss_snapshot.specs.Images.{HasOneKept, IsImageOf}
@@ -71,8 +71,8 @@ has_place Weak catalog d first entries n stops = omega (arith, stops.before.few)
 -- the laws from which it follows
 pub record Laws : Type 0 where
   pub aside : SparesAside
-  pub stand : BodiesMayStand
-  pub one_body : HasOneBody
+  pub stand : NestedBodiesMayStand
+  pub one_body : HasOneNestedBody
   pub one_kept : HasOneKept
   pub once : WeakStopsOnce
   pub carries : KeptCarriesWeak

@@ -34,22 +34,22 @@ use Rattle.ss_snapshot.specs.Bodies.{GrowsTo}
 use Rattle.ss_snapshot.specs.Images.{IsImageOf, IsReadAs}
 use Rattle.ss_snapshot.specs.Own.{IsReadFromItsText}
 use Rattle.ss_recover.specs.Loading.{HasMore}
-use Rattle.ss_recover.proofs.NoEmpty.{no_empty}
+use Rattle.ss_recover.proofs.NoEmpty.{alone_with_own, no_empty}
 
 -- ---- the number of a body that is there
 
--- a procedure's own body, or one of its list
-abbrev pub IsThere : Catalog → ℕ → ℕ → Type 0
-IsThere c q k = (k ≡ 0) ⊎ ((i : ℕ) × (b : Body) × (k ≡ suc i) × (slice_get (spare_bodies c q) i ≡ Some b))
+-- a procedure's own body, or one of its list; or the procedure gets no other ones
+abbrev pub IsThere : Catalog → Catalog → ℕ → ℕ → Type 0
+IsThere old new q k = (k ≡ 0) ⊎ ((i : ℕ) × (b : Body) × (k ≡ suc i) × (slice_get (spare_bodies old q) i ≡ Some b)) ⊎ (spare_bodies new q ≡ spare_bodies old q)
 
 -- the text of another number is empty
-number_there : (c : Catalog) (q k : ℕ) → has_body c q [] ≡ false → has_body c q (text_numbered c q k) ≡ true → IsThere c q k
-number_there c q zero none has = inl refl
-number_there c q (suc i) none has = by (slice_get (spare_bodies c q) i) refl has
+number_there : (c new : Catalog) (q k : ℕ) → has_body c q [] ≡ false → has_body c q (text_numbered c q k) ≡ true → IsThere c new q k
+number_there c new q zero none has = inl refl
+number_there c new q (suc i) none has = by (slice_get (spare_bodies c q) i) refl has
   where
-    by : (o : Option Body) → slice_get (spare_bodies c q) i ≡ o → has_body c q (unwrap_or (option_map (λ (b : Body). b.text) o) []) ≡ true → IsThere c q (suc i)
+    by : (o : Option Body) → slice_get (spare_bodies c q) i ≡ o → has_body c q (unwrap_or (option_map (λ (b : Body). b.text) o) []) ≡ true → IsThere c new q (suc i)
     by None is h = absurd (cc)
-    by (Some b) is h = inr (i, b, refl, is)
+    by (Some b) is h = inr (inl (i, b, refl, is))
 
 or_front : (a b : Bool) → a ≡ true → (a || b) ≡ true
 or_front true b h = refl
@@ -80,14 +80,18 @@ module _ (old new : Catalog) (more : HasMore old new) (q : ℕ) where
   still_at i b is = ap (λ (l : List Body). slice_get l i) (more.behind q).1 ∙ get_front (spare_bodies old q) (more.behind q).0 i b is
 
   -- a number that is there has the same text and the same steps
-  text_stays : (k : ℕ) → IsThere old q k → text_numbered new q k ≡ text_numbered old q k
+  text_stays : (k : ℕ) → IsThere old new q k → text_numbered new q k ≡ text_numbered old q k
   text_stays k (inl is) = ap (text_numbered new q) is ∙ own_stays ∙ sym (ap (text_numbered old q) is)
-  text_stays k (inr (i, b, is, at)) =
+  text_stays zero (inr (inr same)) = own_stays
+  text_stays (suc i) (inr (inr same)) = ap (λ (l : List Body). unwrap_or (option_map (λ (b : Body). b.text) (slice_get l i)) []) same
+  text_stays k (inr (inl (i, b, is, at))) =
       ap (text_numbered new q) is ∙ ap (λ (o : Option Body). unwrap_or (option_map (λ (b : Body). b.text) o) []) (still_at i b at ∙ sym at) ∙ sym (ap (text_numbered old q) is)
 
-  steps_stay : (k : ℕ) (p : Procedure) → IsThere old q k → steps_numbered new q k p ≡ steps_numbered old q k p
+  steps_stay : (k : ℕ) (p : Procedure) → IsThere old new q k → steps_numbered new q k p ≡ steps_numbered old q k p
   steps_stay k p (inl is) = ap (λ (n : ℕ). steps_numbered new q n p) is ∙ sym (ap (λ (n : ℕ). steps_numbered old q n p) is)
-  steps_stay k p (inr (i, b, is, at)) =
+  steps_stay zero p (inr (inr same)) = refl
+  steps_stay (suc i) p (inr (inr same)) = ap (λ (l : List Body). unwrap_or (option_map (λ (b : Body). b.steps) (slice_get l i)) p.body) same
+  steps_stay k p (inr (inl (i, b, is, at))) =
       ap (λ (n : ℕ). steps_numbered new q n p) is ∙ ap (λ (o : Option Body). unwrap_or (option_map (λ (b : Body). b.steps) o) p.body) (still_at i b at ∙ sym at)
       ∙ sym (ap (λ (n : ℕ). steps_numbered old q n p) is)
 
@@ -100,7 +104,7 @@ module _ (old new : Catalog) (more : HasMore old new) (q : ℕ) where
       by false is h = ap (λ (own : Bool). steps_from p own (body_named text (spare_bodies new q))) (ap (λ (t : List ℕ). bytes_eq t text) own_stays)
           ∙ ap (steps_from p (bytes_eq (own_text old q) text)) (ap (body_named text) (more.behind q).1 ∙ found_front (λ (b : Body). bytes_eq b.text text) (spare_bodies old q) (more.behind q).0 h)
 
-  pub number_stays : (k : ℕ) → IsThere old q k → has_body old q (text_numbered old q k) ≡ true → IsBodyNumber old q k → IsBodyNumber new q k
+  pub number_stays : (k : ℕ) → IsThere old new q k → has_body old q (text_numbered old q k) ≡ true → IsBodyNumber old q k → IsBodyNumber new q k
   number_stays k there has is = λ p.
       steps_stay k p there ∙ is p ∙ sym (named_stays (text_numbered old q k) p has) ∙ ap (λ (t : List ℕ). steps_named new q t p) (sym (text_stays k there))
 
@@ -120,16 +124,24 @@ module _ (old new : Catalog) (own : IsReadFromItsText old) (more : HasMore old n
   number_of q = get_or shard.bodies q 0
 
   -- each number is that of a body that is there
-  at : (q : ℕ) → IsThere old q (number_of q) × (has_body old q (text_numbered old q (number_of q)) ≡ true)
+  at : (q : ℕ) → IsThere old new q (number_of q) × (has_body old q (text_numbered old q (number_of q)) ≡ true)
   at q = by (cases_lt q (length shard.bodies))
     where
       itself : bytes_eq (own_text old q) (own_text old q) ≡ true
       itself = (bytes_eq-Decides (own_text old q) (own_text old q)).1 refl
 
-      own_there : IsThere old q 0 × (has_body old q (text_numbered old q 0) ≡ true)
+      own_there : IsThere old new q 0 × (has_body old q (text_numbered old q 0) ≡ true)
       own_there = (inl refl, or_front (bytes_eq (own_text old q) (own_text old q)) (list_any (λ (b : Body). bytes_eq b.text (own_text old q)) (spare_bodies old q)) itself)
 
-      by : (q < length shard.bodies) ⊎ (length shard.bodies ≤ q) → IsThere old q (number_of q) × (has_body old q (text_numbered old q (number_of q)) ≡ true)
+      -- a procedure whose own text is empty has no other bodies, now as before
+      by_text : (p : Procedure) → slice_get old.procedures q ≡ Some p → has_body old q (text_numbered old q (number_of q)) ≡ true
+          → (has_body old q [] ≡ false) ⊎ (own_text old q ≡ []) → IsThere old new q (number_of q)
+      by_text p is has (inl none) = number_there old new q (number_of q) none has
+      by_text p is has (inr none) =
+          let still = ap (λ (c : Catalog). slice_get c.procedures q) more.grows.same ∙ is in
+          inr (inr (alone_with_own new q p still more.grows.own (own_stays old new more q ∙ none) ∙ sym (alone_with_own old q p is own none)))
+
+      by : (q < length shard.bodies) ⊎ (length shard.bodies ≤ q) → IsThere old new q (number_of q) × (has_body old q (text_numbered old q (number_of q)) ≡ true)
       by (inl less) =
           let long = long_indexed (text_numbered old) shard.bodies in
           let count = ap (λ (ts : List (List ℕ)). length ts) holds.bodies in
@@ -137,8 +149,8 @@ module _ (old new : Catalog) (own : IsReadFromItsText old) (more : HasMore old n
           let p = some_at old.procedures q (omega (arith, less, long, count, all)) in
           let text = text_held old shard db holds.bodies q less in
           let has : has_body old q (text_numbered old q (number_of q)) ≡ true = subst (λ (t : List ℕ). has_body old q t ≡ true) text (whole.bodies q p.0 p.1) in
-          (number_there old q (number_of q) (no_empty old own q p.0 p.1) has, has)
-      by (inr past) = subst (λ (k : ℕ). IsThere old q k × (has_body old q (text_numbered old q k) ≡ true)) (sym (get_or_past shard.bodies q 0 past)) own_there
+          (by_text p.0 p.1 has (no_empty old q p.0 p.1 own), has)
+      by (inr past) = subst (λ (k : ℕ). IsThere old new q k × (has_body old q (text_numbered old q k) ≡ true)) (sym (get_or_past shard.bodies q 0 past)) own_there
 
   texts_stay : texts_of new shard.bodies ≡ db.bodies
   texts_stay = same_indexed (text_numbered new) (text_numbered old) shard.bodies (λ q less. text_stays old new more q (number_of q) (at q).0) ∙ holds.bodies
@@ -202,6 +214,7 @@ module _ (old : Catalog) (spares : List (List Body)) (has : (q : ℕ) (text : Li
     };
     next_count = k.next_count;
     batches = k.batches;
+    inner = k.inner;
     calls = k.calls;
     next_numbers = λ s source n is. let m = k.next_numbers s source n is in record { border = m.border; at_least = m.at_least; at_most = m.at_most };
     body_count = k.body_count;

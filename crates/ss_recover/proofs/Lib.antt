@@ -14,6 +14,7 @@ pub mod Faulty
 pub mod Renewals
 pub mod Furthest
 pub mod MoreBodies
+pub mod Written
 pub mod NoProcedure
 pub mod GivenBodies
 pub mod NoEmpty

@@ -15,7 +15,7 @@ use Rattle.ss_model.specs.declared.entry.Mode.{Mode}
 use Rattle.ss_model.specs.declared.entry.Mode.TheVariants.{Strong, Weak}
 use Rattle.ss_model.specs.declared.entry.Outcome.TheVariants.{Done}
 use Rattle.ss_model.specs.Accepted.{Accepted}
-use Rattle.ss_model.specs.Database.{Applied, Database as Model, apply, apply_step, batch_count, has_body, is_border, is_ready, only_when, stepped_on, input_batches}
+use Rattle.ss_model.specs.Database.{Applied, Database as Model, apply, apply_step, batch_count, has_body, takes_bodies, is_border, is_ready, only_when, stepped_on, input_batches}
 use Rattle.ss_model.specs.Replays.{Replays, after, database_after}
 use Rattle.ss_model.specs.Orders.{procedure_has}
 use Rattle.ss_model.specs.Settling.{IsWeakList, Settles, after_entries, emitting_procedure, is_ready_now, lower_rank, next_settled, procedure_numbers, rank, rank_from}
@@ -83,7 +83,7 @@ module _ (aside : SparesAside) (catalog : Catalog) (accepted : Accepted catalog)
   value_back d (Install client index q text) finds b is =
       let fits = applied_fits more d (Install client index q text) b is in
       fitting_applies catalog d (Install client index q text)
-      (and_from (nat_lt client 8 && nat_lt q (length catalog.procedures) && nat_le (length text) 1048576) (has_body catalog q text) (first_of_two _ _ fits) (finds (second_of_two _ _ fits))) refl
+      (and_from (nat_lt client 8 && takes_bodies (slice_get catalog.procedures q) && nat_le (length text) 1048576) (has_body catalog q text) (first_of_two _ _ fits) (finds (second_of_two _ _ fits))) refl
 
   pub same_value : (d : Model) → WholeDatabase catalog d → (e : Entry) → FindsBody more catalog e → apply more d e ≡ apply catalog d e
   same_value d whole e finds = by (apply catalog d e) refl (apply more d e) refl

@@ -1,100 +1,118 @@
--- No procedure of a catalogue that was read has a body with the empty text.
-use Rattle.std.proofs.Common.{◌≡◌, ◌∙◌, ◌||◌, ◌+◌, ℕ, zero, suc, Bool, true, false, List, [], ◌∷◌, get_or, slice_get, Option, Some, None, Ok, refl, sym, ap}
-use Rattle.std.specs.Prelude.{codes, option_and_then, option_map, unwrap_or}
-use Rattle.std.specs.List.{AllByRecursion, list_any}
+-- A procedure of a catalogue that was read has no body with the empty text; but where its own is empty, as a nest's is, it has that alone.
+use Rattle.std.proofs.Common.{◌≡◌, ◌∙◌, ◌||◌, ◌⊎◌, inl, inr, ℕ, zero, suc, Bool, true, false, cond, List, [], ◌∷◌, ◌++◌, get_or, slice_get, Option, Some, None, refl, sym, ap, subst}
+use Rattle.std.specs.Prelude.{option_map, unwrap_or}
+use Rattle.std.specs.List.{AllByRecursion, find, list_any}
 use Rattle.std.specs.Str.{bytes_eq}
+use Rattle.std.proofs.lemmas.Bool.{both_ways, or_parts}
 use Rattle.std.proofs.lemmas.Slice.Eq.{bytes_eq-Decides}
-use Rattle.serde_json.specs.Data.{Data, null, boolean, number, string, array, object, Items, no_items, item}
-use Rattle.serde_json.specs.Find.{as_array, get}
-use Rattle.serde_json.specs.Written.{compact_text}
+use Rattle.serde_json.specs.Data.{Data}
+use Rattle.ss_lemmas.proofs.Bools.{any_at, some_same}
 use Rattle.ss_model.specs.declared.catalog.Body.{Body}
 use Rattle.ss_model.specs.declared.catalog.Catalog.{Catalog}
+use Rattle.ss_model.specs.declared.catalog.Nest.{Nest}
 use Rattle.ss_model.specs.declared.catalog.Procedure.{Procedure}
-use Rattle.ss_model.specs.declared.catalog.ProcedureKind.{ProcedureKind}
 use Rattle.ss_model.specs.Database.{has_body, own_text, spare_bodies}
-use Rattle.ss_model.specs.SparesAside.{with_spares}
-use Rattle.ss_catalog_json.specs.Readings.{◌>>=◌, inside, key_step, item_step, object_of, or_here, read_items_from, read_key, read_name}
-use Rattle.ss_catalog_outline.specs.declared.types.StepOutline.{StepOutline}
-use Rattle.ss_catalog_outline.specs.declared.types.ProcedureOutline.{ProcedureOutline}
-use Rattle.ss_catalog_outline.specs.declared.types.Outline.{Outline}
-use Rattle.ss_catalog_outline.specs.Steps.{read_steps}
-use Rattle.ss_catalog_outline.specs.Procedures.{procedure_keys, read_args, read_inputs, read_procedure, read_procedure_kind, read_touch}
-use Rattle.ss_catalog_outline.specs.Outlines.{read_outline}
-use Rattle.ss_catalog_resolve.specs.InOrder.{AllRead}
-use Rattle.ss_catalog_resolve.specs.Bodies.{ProcedureReads}
-use Rattle.ss_catalog.specs.Bodies.{IsBodyOf, with_body_in}
-use Rattle.ss_catalog.specs.Texts.{body_text, body_texts, each_body_text}
-use Rattle.ss_catalog.proofs.InPlace.{bind_ok}
-use Rattle.ss_catalog.proofs.OneAnswer.{ok_same}
+use Rattle.ss_model.specs.Nests.{is_head, items_in_place, nest_procedure, nested_texts}
+use Rattle.ss_catalog.specs.Bodies.{with_body_in}
+use Rattle.ss_catalog.specs.Checks.{procedure_name}
 use Rattle.ss_catalog.proofs.OneBody.{placed}
 use Rattle.ss_catalog.proofs.Refused.{resolved_of, shape_of}
+use Rattle.ss_nest.specs.Bodies.{IsNestedBodyOf, NestedBodyReads}
+use Rattle.ss_nest.specs.Members.{is_taken, member_again, or_next, twice_behind}
+use Rattle.ss_nest.specs.Moves.{has_member, nest_with, placed as placed_in}
+use Rattle.ss_nest.specs.Outlines.{plain_value}
+use Rattle.ss_nest.proofs.CallerLemmas.{From, alone, found_name, from, joined, named_there, placed_by, plain_reads}
 use Rattle.ss_snapshot.specs.Own.{IsReadFromItsText}
-use Rattle.ss_recover.proofs.NoProcedure.{inside_ok, section, section_of}
+use Rattle.ss_recover.proofs.Written.{has_text, steps_have_text}
 
--- ---- the texts of values
+-- ---- where own texts stand
 
--- steps are an array, whose text begins with a bracket
-steps_have_text : (kind : ProcedureKind) (d : Data) (steps : List StepOutline) → read_steps kind d ≡ Ok steps → compact_text d ≡ [] → ⊥
-steps_have_text kind null steps e h = cc
-steps_have_text kind (boolean b) steps e h = cc
-steps_have_text kind (number n) steps e h = cc
-steps_have_text kind (string s) steps e h = cc
-steps_have_text kind (array ds) steps e h = cc
-steps_have_text kind (object ms) steps e h = cc
+nothing_at : (q : ℕ) → get_or {A = List ℕ} [] q [] ≡ []
+nothing_at zero = refl
+nothing_at (suc q) = refl
 
-body_has_text : (o : Option Data) (kind : ProcedureKind) (steps : List StepOutline) → (or_here o >>= λ d. inside (key_step (codes "body")) (read_steps kind d)) ≡ Ok steps
-    → unwrap_or (option_map compact_text o) [] ≡ [] → ⊥
-body_has_text None kind steps e h = cc
-body_has_text (Some d) kind steps e h = steps_have_text kind d steps (inside_ok (key_step (codes "body")) (read_steps kind d) steps e) h
-
-procedure_has_text : (d : Data) (p : ProcedureOutline) → read_procedure d ≡ Ok p → body_text d ≡ [] → ⊥
-procedure_has_text d p e h =
-    let o = bind_ok (object_of procedure_keys d) _ p e in
-    let name = bind_ok (read_key (codes "name") read_name d) _ p o.2 in
-    let kind = bind_ok (read_key (codes "kind") read_procedure_kind d) _ p name.2 in
-    let args = bind_ok (read_args kind.0 d) _ p kind.2 in
-    let inputs = bind_ok (read_inputs kind.0 d) _ p args.2 in
-    let touch = bind_ok (read_key (codes "touch") (read_touch kind.0) d) _ p inputs.2 in
-    let own = bind_ok (read_key (codes "body") (read_steps kind.0) d) _ p touch.2 in
-    body_has_text (get (codes "body") d) kind.0 own.0 own.1 h
-
-items_have_texts : (n : ℕ) (ds : Items) (ps : List ProcedureOutline) (q : ℕ) (p : ProcedureOutline) → read_items_from n read_procedure ds ≡ Ok ps → slice_get ps q ≡ Some p
-    → get_or (each_body_text ds) q [] ≡ [] → ⊥
-items_have_texts n no_items [] q p e is h = cc
-items_have_texts n no_items (x ∷ ps) q p e is h = cc
-items_have_texts n (item d ds) [] q p e is h = cc
-items_have_texts n (item d ds) (x ∷ ps) zero p e is h =
-    let first = bind_ok (inside (item_step n) (read_procedure d)) _ (x ∷ ps) e in
-    procedure_has_text d first.0 (inside_ok (item_step n) (read_procedure d) first.0 first.1) h
-items_have_texts n (item d ds) (x ∷ ps) (suc q) p e is h =
-    let first = bind_ok (inside (item_step n) (read_procedure d)) _ (x ∷ ps) e in
-    let rest = bind_ok (read_items_from (suc n) read_procedure ds) _ (x ∷ ps) first.2 in
-    let same : first.0 ∷ rest.0 ≡ x ∷ ps = ok_same (Ok (first.0 ∷ rest.0)) (first.0 ∷ rest.0) (x ∷ ps) refl rest.2 in
-    let tails : rest.0 ≡ ps = cc in
-    items_have_texts (suc n) ds ps q p (rest.1 ∙ ap Ok tails) is h
-
--- those of the procedures of a catalogue's value
-value_has_texts : (d : Data) (o : Outline) (q : ℕ) (p : ProcedureOutline) → read_outline d ≡ Ok o → slice_get o.procedures q ≡ Some p → get_or (body_texts d) q [] ≡ [] → ⊥
-value_has_texts d o q p e is h = by (get (codes "procedures") d) (section_of d o e) h
+found_at : {A : Type 0} (p : A → Bool) (xs : List A) (x : A) → find p xs ≡ Some x → (i : ℕ) × (slice_get xs i ≡ Some x)
+found_at p [] x e = absurd (cc)
+found_at p (y ∷ xs) x e = by (p y) e (found_at p xs x)
   where
-    by : (x : Option Data) → section x ≡ Ok o.procedures → get_or (each_body_text (unwrap_or (option_and_then as_array x) no_items)) q [] ≡ [] → ⊥
-    by None reads k = let none : [] ≡ o.procedures = ok_same (section None) [] o.procedures refl reads in cc
-    by (Some null) reads k = cc
-    by (Some (boolean b)) reads k = cc
-    by (Some (number n)) reads k = cc
-    by (Some (string s)) reads k = cc
-    by (Some (array ds)) reads k = items_have_texts 0 ds o.procedures q p (inside_ok (key_step (codes "procedures")) (read_items_from 0 read_procedure ds) o.procedures reads) is k
-    by (Some (object ms)) reads k = cc
+    by : (b : Bool) → cond b (Some y) (find p xs) ≡ Some x → (find p xs ≡ Some x → (i : ℕ) × (slice_get xs i ≡ Some x)) → (i : ℕ) × (slice_get (y ∷ xs) i ≡ Some x)
+    by true k rest = (zero, k)
+    by false k rest = let r = rest k in (suc r.0, r.1)
+
+-- a nest's text is empty
+abbrev no_text : Nest → List ℕ → List ℕ
+no_text nest own = []
+
+module _ {A : Type 0} (nests : List Nest) (f : Nest → A → A) where
+  -- an item that stands somewhere, with the text there: it was there with its text, or is what a nest has, with the empty text
+  data TextFrom (xs : List A) (texts : List (List ℕ)) (made : A) (text : List ℕ) : Type 0 where
+    by_itself : (m : ℕ) → slice_get xs m ≡ Some made → text ≡ get_or texts m [] → TextFrom xs texts made text
+    of_nest : (i : ℕ) (nest : Nest) → slice_get nests i ≡ Some nest → (z : A) → made ≡ f nest z → text ≡ [] → TextFrom xs texts made text
+
+  one_later : (x : A) (xs : List A) (t : List ℕ) (texts : List (List ℕ)) (made : A) (text : List ℕ) → TextFrom xs texts made text → TextFrom (x ∷ xs) (t ∷ texts) made text
+  one_later x xs t texts made text (by_itself m is same) = by_itself (suc m) is same
+  one_later x xs t texts made text (of_nest i nest at z same none) = of_nest i nest at z same none
+
+  text_from : (q : ℕ) (xs : List A) (texts : List (List ℕ)) (j : ℕ) (made : A) → slice_get (items_in_place f nests q xs) j ≡ Some made
+      → TextFrom xs texts made (get_or (nested_texts nests q texts) j [])
+  text_from q [] texts j made is = absurd (cc)
+  text_from q (x ∷ xs) [] j made is = by (from nests f q (x ∷ xs) j made is)
+    where
+      by : From nests f q (x ∷ xs) made → TextFrom (x ∷ xs) [] made (get_or {A = List ℕ} [] j [])
+      by (alone m at none) = by_itself m at (nothing_at j ∙ sym (nothing_at m))
+      by (joined i nest at z same) = of_nest i nest at z same (nothing_at j)
+  text_from q (x ∷ xs) (t ∷ ts) j made is =
+      subst (λ (ys : List (List ℕ)). TextFrom (x ∷ xs) (t ∷ ts) made (get_or (ys ++ texts_behind) j [])) (sym (placed_by no_text q t nests))
+      (by (nest_with nests q) refl j (ap (λ (ys : List A). slice_get (ys ++ behind) j) (sym (placed_by f q x nests)) ∙ is)
+      (λ k e. one_later x xs t ts made (get_or texts_behind k []) (text_from (suc q) xs ts k made e)))
+    where
+      behind : List A
+      behind = items_in_place f nests (suc q) xs
+
+      texts_behind : List (List ℕ)
+      texts_behind = nested_texts nests (suc q) ts
+
+      head : (nest : Nest) (i : ℕ) → slice_get nests i ≡ Some nest → (b : Bool) (j : ℕ) → slice_get (cond b (f nest x ∷ []) [] ++ behind) j ≡ Some made
+          → ((k : ℕ) → slice_get behind k ≡ Some made → TextFrom (x ∷ xs) (t ∷ ts) made (get_or texts_behind k []))
+          → TextFrom (x ∷ xs) (t ∷ ts) made (get_or (cond b (no_text nest t ∷ []) [] ++ texts_behind) j [])
+      head nest i at true zero e rest = of_nest i nest at x (sym (some_same (f nest x) made e)) refl
+      head nest i at true (suc k) e rest = rest k e
+      head nest i at false j e rest = rest j e
+
+      by : (o : Option Nest) → nest_with nests q ≡ o → (j : ℕ) → slice_get (placed_in f o q x ++ behind) j ≡ Some made
+          → ((k : ℕ) → slice_get behind k ≡ Some made → TextFrom (x ∷ xs) (t ∷ ts) made (get_or texts_behind k []))
+          → TextFrom (x ∷ xs) (t ∷ ts) made (get_or (placed_in no_text o q t ++ texts_behind) j [])
+      by None out zero e rest = by_itself zero e refl
+      by None out (suc k) e rest = rest k e
+      by (Some nest) found j e rest = let at = found_at (has_member q) nests nest found in head nest at.0 at.1 (is_head q nest.members) j e rest
+
+-- ---- names
+
+neither : (b : Bool) (name : List ℕ) (next : Option (List ℕ)) → cond b (Some name) next ≡ None → (b ≡ false) × (next ≡ None)
+neither true name next e = absurd (cc)
+neither false name next e = (refl, e)
+
+next_none : (o next : Option (List ℕ)) → or_next o next ≡ None → next ≡ None
+next_none None next e = e
+next_none (Some name) next e = absurd (cc)
+
+-- a nest has no procedure's name
+name_apart : (c : Catalog) (before nests : List Nest) → twice_behind c before nests ≡ None → (i : ℕ) (nest : Nest) → slice_get nests i ≡ Some nest
+    → list_any (λ (p : Procedure). bytes_eq p.name nest.name) c.procedures ≡ false
+name_apart c before [] none i nest is = absurd (cc)
+name_apart c before (n ∷ ns) none i nest is =
+    let fresh = neither (is_taken c before n.name) n.name (or_next (member_again c before n) (twice_behind c (before ++ n ∷ []) ns)) none in
+    by i is fresh.0 (name_apart c (before ++ n ∷ []) ns (next_none (member_again c before n) (twice_behind c (before ++ n ∷ []) ns) fresh.1))
+  where
+    by : (i : ℕ) → slice_get (n ∷ ns) i ≡ Some nest → is_taken c before n.name ≡ false
+        → ((k : ℕ) (m : Nest) → slice_get ns k ≡ Some m → list_any (λ (p : Procedure). bytes_eq p.name m.name) c.procedures ≡ false)
+        → list_any (λ (p : Procedure). bytes_eq p.name nest.name) c.procedures ≡ false
+    by zero at free rest =
+        subst (λ (m : Nest). list_any (λ (p : Procedure). bytes_eq p.name m.name) c.procedures ≡ false) (some_same n nest at)
+        (or_parts (list_any (λ (p : Procedure). bytes_eq p.name n.name) c.procedures) (list_any (λ (m : Nest). bytes_eq m.name n.name) before) free).0
+    by (suc k) at free rest = rest k nest at
 
 -- ---- of a catalogue
-
--- a procedure that was read has an outline
-outline_at : (o : Outline) (k : ℕ) (ps : List ProcedureOutline) (xs : List Procedure) (q : ℕ) (x : Procedure) → AllRead (λ p. 1) (ProcedureReads o) k ps xs → slice_get xs q ≡ Some x
-    → (p : ProcedureOutline) × (slice_get ps q ≡ Some p)
-outline_at o k [] xs q x all is = let none : None ≡ Some x = sym (ap (λ (l : List Procedure). slice_get l q) all) ∙ is in absurd (cc)
-outline_at o k (p ∷ ps) [] q x all is = absurd all
-outline_at o k (p ∷ ps) (y ∷ xs) zero x all is = (p, refl)
-outline_at o k (p ∷ ps) (y ∷ xs) (suc q) x all is = outline_at o (k + 1) ps xs q x all.1 is
 
 or_none : (a b : Bool) → a ≡ false → b ≡ false → (a || b) ≡ false
 or_none true b h k = cc
@@ -107,28 +125,59 @@ unlike text none = by (bytes_eq text []) refl
     by true is = absurd (none ((bytes_eq-Decides text []).0 is))
     by false is = refl
 
-module _ (c : Catalog) (own : IsReadFromItsText c) (q : ℕ) (p : Procedure) (is : slice_get c.procedures q ≡ Some p) where
-  own_has_text : own_text c q ≡ [] → ⊥
-  own_has_text h =
-      let o = own.reads.outline in
-      let base = with_spares c [] in
-      let resolved = resolved_of own.value o base own.reads.passes in
-      let there = outline_at o 0 o.procedures base.procedures q p resolved.1.procedures is in
-      value_has_texts own.value o q there.0 (shape_of own.value o base resolved) there.1 (sym (ap (λ (ts : List (List ℕ)). get_or ts q []) own.reads.own_texts) ∙ h)
+-- the name of a procedure, by what is there
+abbrev name_of : Option Procedure → List ℕ
+name_of o = unwrap_or (option_map (λ (p : Procedure). p.name) o) []
 
-  spare_has_text : (b : Body) → IsBodyOf c q b.text b → b.text ≡ [] → ⊥
-  spare_has_text b body h =
-      let reads = body.0.1 in
-      let d = with_body_in q body.0.0 reads.whole in
-      let there = placed c q body.0.0 reads.whole p reads.is_read_from reads.outline is (shape_of d reads.outline reads.changed (resolved_of d reads.outline reads.changed reads.passes)) in
-      steps_have_text there.p.kind body.0.0 there.steps there.shape (sym reads.text ∙ h)
+module _ (c : Catalog) (q : ℕ) (p : Procedure) (is : slice_get c.procedures q ≡ Some p) where
+  module _ (body : Data) (b : Body) (h : NestedBodyReads c q body b) where
+    abbrev plain : Catalog
+    plain = h.is_from.plain
 
-  spares_have_texts : (xs : List Body) → AllByRecursion (λ (b : Body). IsBodyOf c q b.text b) xs → list_any (λ (b : Body). bytes_eq b.text []) xs ≡ false
+    there : (x : Procedure) × (slice_get plain.procedures h.number ≡ Some x)
+    there = named_there plain (procedure_name c q) h.number h.is_plain_one
+
+    named : there.0.name ≡ p.name
+    named = sym (ap name_of there.1) ∙ found_name plain (procedure_name c q) h.number h.is_plain_one ∙ ap name_of is
+
+    -- a procedure that has a body of a text has an own one with a text
+    own_is_some : own_text c q ≡ [] → ⊥
+    own_is_some none = by (text_from h.is_from.nests (nest_procedure plain) 0 plain.procedures plain.own_texts q p (ap (λ (k : Catalog). slice_get k.procedures q) (sym h.is_from.joined) ∙ is))
+      where
+        by : TextFrom h.is_from.nests (nest_procedure plain) plain.procedures plain.own_texts p (get_or (nested_texts h.is_from.nests 0 plain.own_texts) q []) → ⊥
+        by (by_itself m at text) =
+            has_text (plain_value h.whole) plain (plain_reads c h.whole h.is_from) m p at
+            (sym text ∙ ap (λ (k : Catalog). get_or k.own_texts q []) (sym h.is_from.joined) ∙ none)
+        by (of_nest i nest at z same text) =
+            both_ways (list_any (λ (x : Procedure). bytes_eq x.name nest.name) plain.procedures)
+            (name_apart plain [] h.is_from.nests h.is_from.passes.0.0.0.1 i nest at)
+            (any_at (λ (x : Procedure). bytes_eq x.name nest.name) plain.procedures h.number there.0 there.1
+            ((bytes_eq-Decides there.0.name nest.name).1 (named ∙ ap (λ (x : Procedure). x.name) same)))
+
+    body_is_some : b.text ≡ [] → ⊥
+    body_is_some none =
+        let reads = h.reads in
+        let d = with_body_in h.number body reads.whole in
+        let at = placed plain h.number body reads.whole there.0 reads.is_read_from reads.outline there.1 (shape_of d reads.outline reads.changed (resolved_of d reads.outline reads.changed reads.passes)) in
+        steps_have_text at.p.kind body at.steps at.shape (sym reads.text ∙ none)
+
+  spares_have_texts : (xs : List Body) → AllByRecursion (λ (b : Body). IsNestedBodyOf c q b.text b) xs → list_any (λ (b : Body). bytes_eq b.text []) xs ≡ false
   spares_have_texts [] all = refl
   spares_have_texts (x ∷ xs) all =
-      or_none (bytes_eq x.text []) (list_any (λ (b : Body). bytes_eq b.text []) xs) (unlike x.text (spare_has_text x all.0)) (spares_have_texts xs all.1)
+      or_none (bytes_eq x.text []) (list_any (λ (b : Body). bytes_eq b.text []) xs) (unlike x.text (body_is_some all.0.0.0 x all.0.0.1)) (spares_have_texts xs all.1)
 
-  pub no_empty : has_body c q [] ≡ false
-  no_empty =
-      or_none (bytes_eq (own_text c q) []) (list_any (λ (b : Body). bytes_eq b.text []) (spare_bodies c q)) (unlike (own_text c q) own_has_text)
-      (spares_have_texts (spare_bodies c q) (own.spares q))
+  no_spares_there : own_text c q ≡ [] → (xs : List Body) → AllByRecursion (λ (b : Body). IsNestedBodyOf c q b.text b) xs → xs ≡ []
+  no_spares_there none [] all = refl
+  no_spares_there none (x ∷ xs) all = absurd (own_is_some all.0.0.0 x all.0.0.1 none)
+
+  -- one whose own text is empty may have no other body
+  pub alone_with_own : IsReadFromItsText c → own_text c q ≡ [] → spare_bodies c q ≡ []
+  alone_with_own read none = no_spares_there none (spare_bodies c q) (read.spares q)
+
+  -- else it has no body with the empty text
+  pub no_empty : IsReadFromItsText c → (has_body c q [] ≡ false) ⊎ (own_text c q ≡ [])
+  no_empty read = by (bytes_eq (own_text c q) []) refl
+    where
+      by : (t : Bool) → bytes_eq (own_text c q) [] ≡ t → (has_body c q [] ≡ false) ⊎ (own_text c q ≡ [])
+      by true same = inr ((bytes_eq-Decides (own_text c q) []).0 same)
+      by false other = inl (or_none (bytes_eq (own_text c q) []) (list_any (λ (b : Body). bytes_eq b.text []) (spare_bodies c q)) other (spares_have_texts (spare_bodies c q) (read.spares q)))

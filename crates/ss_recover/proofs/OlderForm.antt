@@ -96,6 +96,7 @@ module _ (aside : SparesAside) (catalog : Catalog) (accepted : Accepted catalog)
     };
     next_count = k.next_count;
     batches = k.batches;
+    inner = k.inner;
     calls = k.calls;
     next_numbers = λ s source n is. let m = k.next_numbers s source n is in record { border = m.border; at_least = m.at_least; at_most = m.at_most };
     body_count = k.body_count;

@@ -20,7 +20,7 @@ use Rattle.ss_model.specs.SparesAside.{SparesAside, with_spares}
 use Rattle.ss_model.specs.WholeDatabase.{HadAtMost, WholeDatabase, WholenessStays}
 use Rattle.ss_model_laws.proofs.CallerLemmas.{had_at_most, whole_after}
 use Rattle.ss_weak_lists.specs.WeakLists.{KeptCarriesWeak, WeakListsHoldAsked}
-use Rattle.ss_catalog.specs.Answers.{HasOneCatalog}
+use Rattle.ss_nest.specs.Answers.{HasOneNested}
 use Rattle.ss_disk.specs.Files.{Files}
 use Rattle.ss_disk.proofs.CallerLemmas.{leaves_less, stays_fewer, stays_join}
 use Rattle.ss_value.specs.FaultCounts.{Rose}
@@ -257,7 +257,7 @@ module _ {D : Type 0} (kind : DiskKind D) (told_by : kind.honest → kind.tells)
       stands_so told = subst (λ (d : Files). StandsFor d s) (reads.same told) (open_stands (kind.seen log.disk) log.file log.gate s (is_open.at told))
 
       -- its catalogue is the given one, with more bodies to be installed
-      module _ (one : HasOneCatalog) (theirs : IfSome given IsOwnCatalog) (same : IfSome given (λ (c : Catalog). r.catalog.text ≡ c.text)) where
+      module _ (one : HasOneNested) (theirs : IfSome given IsOwnCatalog) (same : IfSome given (λ (c : Catalog). r.catalog.text ≡ c.text)) where
         pub given_one : IsGivenOne given r.catalog
         given_one c given_is =
             let own = (subst (λ (o : Option Catalog). IfSome o IsOwnCatalog) given_is theirs).1 in
@@ -313,7 +313,7 @@ module _ {D : Type 0} (kind : DiskKind D) (told_by : kind.honest → kind.tells)
           front : kind.tells → StandsForIt kind mode (with_log next) db (kind.seen old)
           front told = stood_front recovery r.catalog db r.first (kind.seen old) runs.began (was_stood told)
 
-          recovered : HasOneCatalog → IfSome given IsOwnCatalog → IfSome given (λ (c : Catalog). r.catalog.text ≡ c.text)
+          recovered : HasOneNested → IfSome given IsOwnCatalog → IfSome given (λ (c : Catalog). r.catalog.text ≡ c.text)
               → (kind.honest → LeavesOldOr kind old next.disk (StandsForIt kind mode (with_log next) db))
               → (kind.honest → (more : Catalog) → GrowsTo r.catalog more → (list : List Listed) → StandsOnBy recovery more list kind.moment kind.images (kind.moment old) next.disk)
               → IsRecovered kind mode given parts old (with_log next) db
@@ -330,7 +330,7 @@ module _ {D : Type 0} (kind : DiskKind D) (told_by : kind.honest → kind.tells)
 
         -- where the generation is of the new form, nothing is called
         pub same_form : (next : CmdLog D) → IsOpen kind next s → next.count ≡ r.first → s.bodies ≡ true → next.disk ≡ log.disk
-            → HasOneCatalog → IfSome given IsOwnCatalog → IfSome given (λ (c : Catalog). r.catalog.text ≡ c.text) → IsRecovered kind mode given parts old (with_log next) db
+            → HasOneNested → IfSome given IsOwnCatalog → IfSome given (λ (c : Catalog). r.catalog.text ≡ c.text) → IsRecovered kind mode given parts old (with_log next) db
         same_form next opens count new disk one theirs same =
             let only : OnlyReads kind old next.disk = subst (OnlyReads kind old) (sym disk) reads in
             recovered next s opens count (inl (new, refl)) runs.held one theirs same
@@ -339,7 +339,7 @@ module _ {D : Type 0} (kind : DiskKind D) (told_by : kind.honest → kind.tells)
 
         -- ---- an older form
 
-        module _ (aside : SparesAside) (hold_all : CheckpointsHold) (one_weak : WeaklyStandsForOne) (stand : HeldFrontsStand) (keep : CheckpointsKeepFronts D kind.moment kind.images) (one : HasOneCatalog) where
+        module _ (aside : SparesAside) (hold_all : CheckpointsHold) (one_weak : WeaklyStandsForOne) (stand : HeldFrontsStand) (keep : CheckpointsKeepFronts D kind.moment kind.images) (one : HasOneNested) where
           module _ (older : s.bodies ≡ false) (fits : FitsImage true r.catalog (kept r.catalog db)) where
             abbrev next_one : Stood
             next_one = checkpoint_of s.mode r.catalog r.first db

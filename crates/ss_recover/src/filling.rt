@@ -11,9 +11,10 @@ ghost use Rattle.ss_snapshot.specs.Bodies.{HasNoBody};
 ghost use Rattle.ss_snapshot.specs.Own.{IsReadFromItsText};
 ghost use Rattle.ss_recover.specs.Loading.{AreBodies, AreNamed, AreSpares, HasGivenBodies, HasMore};
 
-use ss_catalog::{a_body_has_one_answer, a_value_has_one_answer, add_spare, body_of};
+use ss_catalog::add_spare;
 use ss_model::{Body, Catalog, Entry};
 use ss_model_laws::spares_aside;
+use ss_nest::{a_nested_body_has_one_answer, a_nested_value_has_one_answer, nested_body_of};
 use ss_value::{NoMemory, Seq};
 use std::alloc::Global;
 
@@ -31,14 +32,14 @@ fn fill_body(
     ensures more { OnOk result (HasMore catalog.old catalog.new) }
     ensures named { OnOk result ((has_body catalog.new procedure text.now ≡ true) ⊎ HasNoBody catalog.new procedure text.now) }
 {
-    a_body_has_one_answer();
-    a_value_has_one_answer();
+    a_nested_body_has_one_answer();
+    a_nested_value_has_one_answer();
     spares_aside();
     let number = usize::from(procedure);
     if number >= catalog.procedures.len() || catalog.has_body(number, text) {
         return Ok(());
     }
-    match body_of(alloc, catalog, procedure, text)? {
+    match nested_body_of(alloc, catalog, procedure, text)? {
         None => Ok(()),
         Some(body) => {
             add_spare(alloc, catalog, procedure, body)?;
@@ -132,8 +133,8 @@ pub(crate) fn fill_given(
     ensures more { OnOk result (HasMore catalog.old catalog.new) }
     ensures bodies { OnOk result (HasGivenBodies catalog.new given.now) }
 {
-    a_body_has_one_answer();
-    a_value_has_one_answer();
+    a_nested_body_has_one_answer();
+    a_nested_value_has_one_answer();
     let Some(given) = given else {
         return Ok(());
     };

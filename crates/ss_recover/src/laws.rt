@@ -4,8 +4,8 @@
 
 ghost use Rattle.ss_recover.specs.Laws.{EmptyHasNoFault, HasOneFault, NamedStopFurthest, PassesInAll, StoreHasNoFault, StoreIsOne};
 
-use ss_catalog::a_body_has_one_answer;
 use ss_model_laws::{settling_terminates, spares_aside};
+use ss_nest::a_nested_body_has_one_answer;
 use ss_snapshot::bytes_have_one_answer;
 use ss_weak_lists::{kept_carries_weak, weak_lists_grow, weak_stops_once};
 
@@ -31,7 +31,7 @@ pub(crate) fn none_gets_further()
 {
     spares_aside();
     settling_terminates();
-    a_body_has_one_answer();
+    a_nested_body_has_one_answer();
     bytes_have_one_answer();
     weak_stops_once();
     kept_carries_weak();

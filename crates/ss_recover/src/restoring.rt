@@ -16,7 +16,6 @@ use crate::error::RecoverError;
 use crate::recovered::Recovered;
 use crate::renewing::in_new_form;
 use crate::stored::{Stored, StoredError, stored_in};
-use ss_catalog::a_value_has_one_answer;
 use ss_cmdlog::{CmdLog, LogError};
 use ss_disk::Disk;
 use ss_fronts::{
@@ -24,6 +23,7 @@ use ss_fronts::{
 };
 use ss_model::{Catalog, Mode};
 use ss_model_laws::{spares_aside, wholeness_stays};
+use ss_nest::a_nested_value_has_one_answer;
 use ss_proc::Runner;
 use ss_standing::images_are_exact;
 use ss_weak_lists::{kept_carries_weak, weak_lists_hold_asked};
@@ -167,7 +167,7 @@ pub(crate) fn restore<N: Runner, D: Disk>(
     ensures later { MatchResult result (λ r. D.kind.faults disk ≤ D.kind.faults r.log.disk) (λ refused. D.kind.faults disk ≤ D.kind.faults refused.1) }
     ensures told { TellsFaults D.kind disk result }
 {
-    a_value_has_one_answer();
+    a_nested_value_has_one_answer();
     checkpoints_hold();
     checkpoints_keep_fronts::<D>();
     held_fronts_stand();

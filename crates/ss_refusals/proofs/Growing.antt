@@ -1,5 +1,5 @@
 -- A catalogue goes on with the bodies that requests install, one after another.
-use Rattle.std.proofs.Common.{◌≡◌, ◌∙◌, ◌<◌, ◌+◌, ℕ, List, [], ◌∷◌, ◌++◌, true, Result, Ok, Err, length, take, get_or, refl, sym, ap, subst}
+use Rattle.std.proofs.Common.{◌≡◌, ◌∙◌, ◌<◌, ◌+◌, ℕ, List, [], ◌∷◌, ◌++◌, true, Result, Ok, Err, inr, length, take, get_or, sym, ap, subst}
 use Rattle.std.specs.Prelude.{IfOk, IsUtf8, OnErr}
 use Rattle.serde_json.specs.Data.{Data}
 use Rattle.std.specs.List.{list_all}
@@ -13,13 +13,13 @@ use Rattle.ss_model.specs.AcceptedBodies.{OtherBodies}
 use Rattle.ss_model.specs.Database.{fits_entry}
 use Rattle.ss_model.specs.Report.{asked_entries, asked_entry}
 use Rattle.ss_model.specs.SparesAside.{GoesOnWith, SparesAside, with_spares}
-use Rattle.ss_catalog.specs.Bodies.{WasRead}
-use Rattle.ss_catalog.specs.Reads.{Reads}
-use Rattle.ss_catalog.specs.declared.error.CatalogError.{CatalogError}
-use Rattle.ss_catalog.proofs.CallerLemmas.{goes_on_again, goes_on_same, read_from}
+use Rattle.ss_catalog.proofs.CallerLemmas.{goes_on_again, goes_on_same}
 use Rattle.ss_catalog_requests.specs.declared.request.RequestError.{RequestError}
 use Rattle.ss_catalog_requests.specs.Answers.{AddsAsked, Asks, AsksWithoutSpares, RefusesRequest as RefusesValue, RefusesWithoutSpares}
 use Rattle.ss_catalog_requests.proofs.CallerLemmas.{fits_still}
+use Rattle.ss_nest.specs.declared.error.NestError.{NestError}
+use Rattle.ss_nest.specs.Reads.{ReadsNested, WasNested}
+use Rattle.ss_nest.proofs.CallerLemmas.{nested_from, unspared}
 use Rattle.ss_snapshot.specs.Bodies.{GrowsTo}
 use Rattle.ss_snapshot.specs.Own.{IsReadFromItsText}
 use Rattle.ss_snapshot.proofs.CallerLemmas.{no_spares}
@@ -27,14 +27,14 @@ use Rattle.ss_snapshot.proofs.BodiesRead.{grown_by, grown_on, own_added, still}
 use Rattle.ss_recover.specs.Recovering.{IsOwnCatalog}
 use Rattle.ss_refusals.specs.declared.input.InputError.{InputError}
 use Rattle.ss_refusals.specs.declared.input.InputError.TheVariants.{Line as OfLine, NoCatalog, Catalog as OfCatalog, Request as OfRequest}
-use Rattle.ss_refusals.specs.Refused.{RefusesAmong, RefusesLater, RefusesRequest}
+use Rattle.ss_refusals.specs.Refused.{RefusesAmong, RefusesLater, RefusesLines, RefusesRequest}
 use Rattle.ss_refusals.specs.Starts.{AsksFor, AskInOrder, HasBodiesFor, SaysCatalog, StartLines}
 use Rattle.ss_refusals.proofs.InputRequests.{EachFits, EachFits-push, asked_more, refused_among}
 
 -- ---- one request
 
 -- what recovery may be given may be asked
-pub own_was_read : (c : Catalog) → IsOwnCatalog c → WasRead c
+pub own_was_read : (c : Catalog) → IsOwnCatalog c → WasNested c
 own_was_read c own = (own.1.value, own.1.reads)
 
 pub own_others : (c : Catalog) → IsOwnCatalog c → OtherBodies c
@@ -142,8 +142,8 @@ bodies_for first now rs grows on fit = record {
 -- ---- without the bodies
 
 -- a catalogue that was read has none to be installed
-pub none_read : (value : Data) (c : Catalog) → Reads value c → with_spares c [] ≡ c
-none_read value c reads = ap (λ s. with_spares c s) (sym reads.passes.0.0.0.0.0.1.spares)
+pub none_read : (value : Data) (c : Catalog) → ReadsNested value c → with_spares c [] ≡ c
+none_read value c reads = ap (λ s. with_spares c s) (sym (unspared value c reads))
 
 -- so it is what it went on as, without the bodies
 pub bare : (l : Line) (first now : Catalog) → SaysCatalog l first → GrowsTo first now → with_spares now [] ≡ first
@@ -156,6 +156,11 @@ started lines rest l first now rs parts says grows asked =
     subst (λ (ls : List Line). StartLines ls (with_spares now []) rs) (sym parts)
     (subst (λ (c : Catalog). SaysCatalog l c × AskInOrder c rest rs) (sym (bare l first now says grows)) (says, asked))
 
+-- a refusal behind the catalogue's line is one of the lines
+pub refused_behind : (lines rest : List Line) (l : Line) (first : Catalog) (e : InputError) → lines ≡ l ∷ rest → SaysCatalog l first → RefusesAmong first rest e → RefusesLines lines e
+refused_behind lines rest l first e parts says refused =
+    subst (λ (ls : List Line). RefusesLines ls e) (sym parts) (inr (record { catalog = first; says = says; refused = refused }))
+
 pub bare_own : (l : Line) (first now : Catalog) → SaysCatalog l first → GrowsTo first now → IsOwnCatalog first → IsOwnCatalog (with_spares now [])
 bare_own l first now says grows own = subst IsOwnCatalog (sym (bare l first now says grows)) own
 
@@ -165,7 +170,7 @@ bare_on l first now says grows on = subst (λ (c : Catalog). GoesOnWith c now.sp
 -- ---- what was read
 
 -- a catalogue that was read may be given to recovery
-pub own_read : (value : Data) (r : Result Catalog CatalogError) → IfOk r (Reads value) → IfOk r Accepted → IfOk r (λ c. IsUtf8 c.text) → IfOk r IsOwnCatalog
+pub own_read : (value : Data) (r : Result Catalog NestError) → IfOk r (ReadsNested value) → IfOk r Accepted → IfOk r (λ c. IsUtf8 c.text) → IfOk r IsOwnCatalog
 own_read value (Ok c) reads accepted utf8 =
-    (accepted, record { utf8 = utf8; value = value; reads = read_from value c reads; spares = no_spares value c reads })
+    (accepted, record { utf8 = utf8; value = value; reads = nested_from value c reads; spares = no_spares value c reads })
 own_read value (Err e) reads accepted utf8 = tt

@@ -11,10 +11,10 @@ use Rattle.ss_lines.specs.Lines.{lines_of, max_input}
 use Rattle.ss_lines.specs.Refusals.{RefusesAs}
 use Rattle.ss_model.specs.declared.catalog.Catalog.{Catalog}
 use Rattle.ss_model.specs.declared.entry.Request.{Request}
-use Rattle.ss_catalog.specs.declared.error.CatalogError.{CatalogError}
-use Rattle.ss_catalog.specs.declared.error.CatalogError.TheVariants as catalog
-use Rattle.ss_catalog.specs.Reads.{Reads, Refuses}
-use Rattle.ss_catalog.specs.Answers.{IsReadOrRefused}
+use Rattle.ss_nest.specs.declared.error.NestError.{NestError}
+use Rattle.ss_nest.specs.declared.error.NestError.TheVariants as nested
+use Rattle.ss_nest.specs.Reads.{ReadsNested, RefusesNested}
+use Rattle.ss_nest.specs.Answers.{HasOneNested, HasOneNestedRefusal, IsNestedOrRefused}
 use Rattle.ss_catalog_requests.specs.declared.request.RequestError.{RequestError}
 use Rattle.ss_catalog_requests.specs.declared.request.RequestError.TheVariants as request
 use Rattle.ss_catalog_requests.specs.Answers.{Asks, HasOneRequest, HasOneRequestRefusal, IsAskedOrRefused, RefusesRequest as RefusesValue}
@@ -33,9 +33,9 @@ pub record RequestLaws : Type 0 where
 -- what the laws of a catalogue's value say, and those of a request's: one catalogue, not refused where it reads, and one refusal
 pub record InputLaws : Type 0 where
   pub asking : RequestLaws
-  pub reading : (d : Data) (a b : Catalog) → Reads d a → Reads d b → a ≡ b
-  pub either : IsReadOrRefused
-  pub refusal : (d : Data) (e f : CatalogError) → Refuses d e → Refuses d f → (e ≡ catalog.NoMemory → ⊥) → (f ≡ catalog.NoMemory → ⊥) → e ≡ f
+  pub reading : HasOneNested
+  pub either : IsNestedOrRefused
+  pub refusal : HasOneNestedRefusal
 
 -- ---- what says nothing
 
@@ -56,8 +56,8 @@ request_means : (e : RequestError) → says_nothing (OfRequest e) ≡ false → 
 request_means e says is = says_both (OfRequest request.NoMemory) refl (subst (λ (x : RequestError). says_nothing (OfRequest x) ≡ false) is says)
 
 -- a refusal of a catalogue that says something isn't out of memory
-catalog_means : (n : ℕ) (e : CatalogError) → says_nothing (OfCatalog n e) ≡ false → e ≡ catalog.NoMemory → ⊥
-catalog_means n e says is = says_both (OfCatalog n catalog.NoMemory) refl (subst (λ (x : CatalogError). says_nothing (OfCatalog n x) ≡ false) is says)
+catalog_means : (n : ℕ) (e : NestError) → says_nothing (OfCatalog n e) ≡ false → e ≡ nested.NoMemory → ⊥
+catalog_means n e says is = says_both (OfCatalog n nested.NoMemory) refl (subst (λ (x : NestError). says_nothing (OfCatalog n x) ≡ false) is says)
 
 -- what can't say something says nothing
 pub silent : (b : Bool) → (b ≡ false → ⊥) → b ≡ true
@@ -81,12 +81,12 @@ one_of_bytes l e f p q h k = ap OfLine (err_same (value_at l) e f (line_means (v
 
 -- a line says one catalogue
 pub one_said : InputLaws → (l : Line) (a b : Catalog) → SaysCatalog l a → SaysCatalog l b → a ≡ b
-one_said laws l a b h k = laws.reading k.value a b (subst (λ (d : Data). Reads d a) (one_value l h.value k.value h.json k.json) h.reads) k.reads
+one_said laws l a b h k = laws.reading k.value a b (subst (λ (d : Data). ReadsNested d a) (one_value l h.value k.value h.json k.json) h.reads) k.reads
 
 -- which isn't refused
-said_or_refused : InputLaws → (l : Line) (c : Catalog) (n m : ℕ) (e : CatalogError) → SaysCatalog l c → says_nothing (OfCatalog m e) ≡ false → RefusesCatalog l n e → ⊥
+said_or_refused : InputLaws → (l : Line) (c : Catalog) (n m : ℕ) (e : NestError) → SaysCatalog l c → says_nothing (OfCatalog m e) ≡ false → RefusesCatalog l n e → ⊥
 said_or_refused laws l c n m e says p h =
-    catalog_means m e p (laws.either says.value c e says.reads (subst (λ (d : Data). Refuses d e) (one_value l h.value says.value h.json says.json) h.refused))
+    catalog_means m e p (laws.either says.value c e says.reads (subst (λ (d : Data). RefusesNested d e) (one_value l h.value says.value h.json says.json) h.refused))
 
 -- a line that says a catalogue isn't refused
 pub first_is_fine : InputLaws → (l : Line) (c : Catalog) (e : InputError) → SaysCatalog l c → says_nothing e ≡ false → RefusesFirst l e → ⊥
@@ -96,10 +96,10 @@ first_is_fine laws l c NoCatalog says p h = h
 first_is_fine laws l c (OfRequest e) says p h = h
 
 -- two refusals of a catalogue are one
-one_of_catalog : InputLaws → (l : Line) (n m : ℕ) (e f : CatalogError) → says_nothing (OfCatalog n e) ≡ false → says_nothing (OfCatalog m f) ≡ false → RefusesCatalog l n e → RefusesCatalog l m f → OfCatalog n e ≡ OfCatalog m f
+one_of_catalog : InputLaws → (l : Line) (n m : ℕ) (e f : NestError) → says_nothing (OfCatalog n e) ≡ false → says_nothing (OfCatalog m f) ≡ false → RefusesCatalog l n e → RefusesCatalog l m f → OfCatalog n e ≡ OfCatalog m f
 one_of_catalog laws l n m e f p q h k =
     let here : n ≡ m = h.here ∙ sym k.here in
-    let same : e ≡ f = laws.refusal k.value e f (subst (λ (d : Data). Refuses d e) (one_value l h.value k.value h.json k.json) h.refused) k.refused (catalog_means n e p) (catalog_means m f q) in
+    let same : e ≡ f = laws.refusal k.value e f (subst (λ (d : Data). RefusesNested d e) (one_value l h.value k.value h.json k.json) h.refused) k.refused (catalog_means n e p) (catalog_means m f q) in
     cc
 
 -- the catalogue's line has one refusal

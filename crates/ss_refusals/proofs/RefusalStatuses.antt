@@ -2,7 +2,7 @@
 use Rattle.std.proofs.Common.{◌≡◌, ℕ, List, Option, inl, refl, sym, subst}
 use Rattle.ss_value.specs.FaultCounts.{Rose}
 use Rattle.ss_lines.specs.declared.line.LineError.TheVariants as cause
-use Rattle.ss_catalog.specs.declared.error.CatalogError.TheVariants as catalog
+use Rattle.ss_nest.specs.declared.error.NestError.TheVariants as nested
 use Rattle.ss_catalog_requests.specs.declared.request.RequestError.TheVariants as request
 use Rattle.ss_refusals.specs.declared.input.InputError.{InputError}
 use Rattle.ss_refusals.specs.declared.input.InputError.TheVariants.{Line as OfLine, NoCatalog, Catalog as OfCatalog, Request as OfRequest}
@@ -35,7 +35,7 @@ refusals_have (OfLine (cause.LineTooLong n)) = tt
 refusals_have (OfLine cause.InputTooLong) = tt
 refusals_have (OfLine (cause.NotJson n)) = tt
 refusals_have NoCatalog = tt
-refusals_have (OfCatalog n catalog.NoMemory) = tt
+refusals_have (OfCatalog n nested.NoMemory) = tt
 refusals_have (OfCatalog n e) = tt
 refusals_have (OfRequest request.NoMemory) = tt
 refusals_have (OfRequest e) = tt
@@ -54,7 +54,7 @@ memory_text_is (OfLine (cause.LineTooLong line)) is = cc
 memory_text_is (OfLine cause.InputTooLong) is = cc
 memory_text_is (OfLine (cause.NotJson line)) is = cc
 memory_text_is NoCatalog is = cc
-memory_text_is (OfCatalog line catalog.NoMemory) is = refl
+memory_text_is (OfCatalog line nested.NoMemory) is = refl
 memory_text_is (OfCatalog line e) is = cc
 memory_text_is (OfRequest request.NoMemory) is = refl
 memory_text_is (OfRequest e) is = cc
@@ -67,7 +67,7 @@ read_fault_text_is (OfLine (cause.LineTooLong line)) is = cc
 read_fault_text_is (OfLine cause.InputTooLong) is = cc
 read_fault_text_is (OfLine (cause.NotJson line)) is = cc
 read_fault_text_is NoCatalog is = cc
-read_fault_text_is (OfCatalog line catalog.NoMemory) is = cc
+read_fault_text_is (OfCatalog line nested.NoMemory) is = cc
 read_fault_text_is (OfCatalog line e) is = cc
 read_fault_text_is (OfRequest request.NoMemory) is = cc
 read_fault_text_is (OfRequest e) is = cc
@@ -86,7 +86,7 @@ fault_rose (OfLine (cause.LineTooLong line)) faults now before left leaves is = 
 fault_rose (OfLine cause.InputTooLong) faults now before left leaves is = let no : ⊥ = cc in absurd no
 fault_rose (OfLine (cause.NotJson line)) faults now before left leaves is = let no : ⊥ = cc in absurd no
 fault_rose NoCatalog faults now before left leaves is = let no : ⊥ = cc in absurd no
-fault_rose (OfCatalog line catalog.NoMemory) faults now before left leaves is = let no : ⊥ = cc in absurd no
+fault_rose (OfCatalog line nested.NoMemory) faults now before left leaves is = let no : ⊥ = cc in absurd no
 fault_rose (OfCatalog line e) faults now before left leaves is = let no : ⊥ = cc in absurd no
 fault_rose (OfRequest request.NoMemory) faults now before left leaves is = let no : ⊥ = cc in absurd no
 fault_rose (OfRequest e) faults now before left leaves is = let no : ⊥ = cc in absurd no

@@ -6,7 +6,7 @@ use Rattle.std.proofs.lemmas.Bool.{false≢true}
 use Rattle.std.proofs.lemmas.Option.{IfSome_then}
 use Rattle.ss_lines.specs.declared.line.LineError.TheVariants as cause
 use Rattle.ss_lines.specs.Lines.{max_input}
-use Rattle.ss_catalog.specs.declared.error.CatalogError.TheVariants as catalog
+use Rattle.ss_nest.specs.declared.error.NestError.TheVariants as nested
 use Rattle.ss_catalog_requests.specs.declared.request.RequestError.TheVariants as request
 use Rattle.ss_refusals.specs.declared.input.InputError.{InputError}
 use Rattle.ss_refusals.specs.declared.input.InputError.TheVariants.{Line as OfLine, NoCatalog, Catalog as OfCatalog, Request as OfRequest}
@@ -30,7 +30,7 @@ leaves_so (OfLine (cause.LineTooLong line)) faults now before left leaves = at_e
 leaves_so (OfLine cause.InputTooLong) faults now before left leaves = IfSome_then before leaves (λ input long short. absurd (omega (arith, long, short)))
 leaves_so (OfLine (cause.NotJson line)) faults now before left leaves = at_end before left leaves
 leaves_so NoCatalog faults now before left leaves = at_end before left leaves
-leaves_so (OfCatalog line catalog.NoMemory) faults now before left leaves = tt
+leaves_so (OfCatalog line nested.NoMemory) faults now before left leaves = tt
 leaves_so (OfCatalog line e) faults now before left leaves = at_end before left leaves
 leaves_so (OfRequest request.NoMemory) faults now before left leaves = tt
 leaves_so (OfRequest e) faults now before left leaves = at_end before left leaves
@@ -43,7 +43,7 @@ silent_ends (OfLine (cause.LineTooLong n)) faults now left rest says leaves stay
 silent_ends (OfLine cause.InputTooLong) faults now left rest says leaves stayed = absurd (false≢true says)
 silent_ends (OfLine (cause.NotJson n)) faults now left rest says leaves stayed = absurd (false≢true says)
 silent_ends NoCatalog faults now left rest says leaves stayed = absurd (false≢true says)
-silent_ends (OfCatalog n catalog.NoMemory) faults now left rest says leaves stayed = refl
+silent_ends (OfCatalog n nested.NoMemory) faults now left rest says leaves stayed = refl
 silent_ends (OfCatalog n e) faults now left rest says leaves stayed = absurd (false≢true says)
 silent_ends (OfRequest request.NoMemory) faults now left rest says leaves stayed = refl
 silent_ends (OfRequest e) faults now left rest says leaves stayed = absurd (false≢true says)

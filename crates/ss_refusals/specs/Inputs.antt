@@ -6,7 +6,7 @@ use Rattle.ss_lines.specs.declared.line.LineError.TheVariants as cause
 use Rattle.ss_value.specs.FaultCounts.{Rose}
 use Rattle.ss_model.specs.declared.catalog.Catalog.{Catalog}
 use Rattle.ss_model.specs.declared.entry.Request.{Request}
-use Rattle.ss_catalog.specs.declared.error.CatalogError.TheVariants as catalog
+use Rattle.ss_nest.specs.declared.error.NestError.TheVariants as nested
 use Rattle.ss_catalog_requests.specs.declared.request.RequestError.TheVariants as request
 use Rattle.ss_refusals.specs.declared.input.InputError.{InputError}
 use Rattle.ss_refusals.specs.declared.input.InputError.TheVariants.{Line as OfLine, Catalog as OfCatalog, Request as OfRequest}
@@ -20,7 +20,7 @@ use Rattle.ss_refusals.specs.Statuses.{refusal_status}
 abbrev pub says_nothing : InputError → Bool
 says_nothing (OfLine cause.NoMemory) = true
 says_nothing (OfLine cause.ReadFault) = true
-says_nothing (OfCatalog line catalog.NoMemory) = true
+says_nothing (OfCatalog line nested.NoMemory) = true
 says_nothing (OfRequest request.NoMemory) = true
 says_nothing _ = false
 

@@ -8,8 +8,8 @@ use Rattle.ss_lines.specs.Lines.{lines_of, max_input}
 use Rattle.ss_lines.specs.Refusals.{RefusesAs}
 use Rattle.ss_model.specs.declared.catalog.Catalog.{Catalog}
 use Rattle.ss_model.specs.declared.entry.Request.{Request}
-use Rattle.ss_catalog.specs.declared.error.CatalogError.{CatalogError}
-use Rattle.ss_catalog.specs.Reads.{Refuses}
+use Rattle.ss_nest.specs.declared.error.NestError.{NestError}
+use Rattle.ss_nest.specs.Reads.{RefusesNested}
 use Rattle.ss_catalog_requests.specs.declared.request.RequestError.{RequestError}
 use Rattle.ss_catalog_requests.specs.Answers.{RefusesRequest as RefusesValue}
 use Rattle.ss_refusals.specs.declared.input.InputError.{InputError}
@@ -19,11 +19,11 @@ use Rattle.ss_refusals.specs.Starts.{SaysCatalog, AskInOrder}
 -- ---- the catalogue's line
 
 -- the line's value is refused as a catalogue, by the line's number
-pub record RefusesCatalog (l : Line) (line : ℕ) (e : CatalogError) : Type 0 where
+pub record RefusesCatalog (l : Line) (line : ℕ) (e : NestError) : Type 0 where
   pub here : line ≡ l.number
   pub value : Data
   pub json : value_at l ≡ Ok value
-  pub refused : Refuses value e
+  pub refused : RefusesNested value e
 
 -- the catalogue's line is refused so: for its bytes, then for its value
 abbrev pub RefusesFirst : Line → InputError → Type 0

@@ -11,7 +11,7 @@ use Rattle.ss_model.specs.declared.entry.Request.{Request}
 use Rattle.ss_model.specs.Database.{fits_entry}
 use Rattle.ss_model.specs.Report.{asked_entries}
 use Rattle.ss_model.specs.SparesAside.{GoesOnWith, with_spares}
-use Rattle.ss_catalog.specs.Reads.{Reads}
+use Rattle.ss_nest.specs.Reads.{ReadsNested}
 use Rattle.ss_catalog_requests.specs.Answers.{Asks}
 use Rattle.ss_recover.specs.Recovering.{IsOwnCatalog}
 
@@ -19,7 +19,7 @@ use Rattle.ss_recover.specs.Recovering.{IsOwnCatalog}
 pub record SaysCatalog (l : Line) (catalog : Catalog) : Type 0 where
   pub value : Data
   pub json : value_at l ≡ Ok value
-  pub reads : Reads value catalog
+  pub reads : ReadsNested value catalog
 
 -- the line's value is this request of the catalogue
 pub record AsksFor (catalog : Catalog) (l : Line) (r : Request) : Type 0 where

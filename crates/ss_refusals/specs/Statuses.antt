@@ -14,6 +14,8 @@ use Rattle.ss_catalog.specs.declared.error.CatalogError.{CatalogError}
 use Rattle.ss_catalog.specs.declared.error.CatalogError.TheVariants as catalog
 use Rattle.ss_catalog_requests.specs.declared.request.RequestError.{RequestError}
 use Rattle.ss_catalog_requests.specs.declared.request.RequestError.TheVariants as request
+use Rattle.ss_nest.specs.declared.error.NestError.{NestError}
+use Rattle.ss_nest.specs.declared.error.NestError.TheVariants as nested
 use Rattle.ss_refusals.specs.declared.input.InputError.{InputError}
 use Rattle.ss_refusals.specs.declared.input.InputError.TheVariants.{Line as OfLine, NoCatalog, Catalog as OfCatalog, Request as OfRequest}
 use Rattle.ss_refusals.specs.declared.refusals.FaultIn.{FaultIn}
@@ -125,6 +127,17 @@ abbrev pub catalog_refusal : ℕ → CatalogError → FaultIn → List ℕ
 catalog_refusal line catalog.NoMemory fault_in.Catalog = no_memory_text
 catalog_refusal line e site = fault_text site line (catalog_fault e)
 
+-- the bytes of a refusal of the catalogue on this line, or of its nests
+abbrev pub nest_refusal : ℕ → NestError → List ℕ
+nest_refusal line nested.NoMemory = no_memory_text
+nest_refusal line (nested.Catalog e) = catalog_refusal line e fault_in.Catalog
+nest_refusal line (nested.Shape path) = input_text line (codes "N1") (string path ∷ [])
+nest_refusal line (nested.Unknown name) = input_text line (codes "N2") (string name ∷ [])
+nest_refusal line (nested.Twice name) = input_text line (codes "N3") (string name ∷ [])
+nest_refusal line (nested.NotClosed name) = input_text line (codes "N4") (string name ∷ [])
+nest_refusal line (nested.Touch name) = input_text line (codes "N5") (string name ∷ [])
+nest_refusal line (nested.Window name) = input_text line (codes "N6") (string name ∷ [])
+
 -- the bytes of a refusal of a request
 abbrev pub request_refusal : RequestError → List ℕ
 request_refusal request.NoMemory = no_memory_text
@@ -132,13 +145,14 @@ request_refusal (request.Shape line) = input_text line (codes "C11") []
 request_refusal (request.UnknownTarget line) = input_text line (codes "C12") []
 request_refusal (request.Arguments line) = input_text line (codes "C13") []
 request_refusal (request.TooManyRows line) = input_text line (codes "C14") []
+request_refusal (request.Nested line) = input_text line (codes "C16") []
 request_refusal (request.BadBody line e) = catalog_refusal line e fault_in.Body
 
 -- the bytes of a refusal; where there is no catalogue, that is refused as a whole, on line 1
 abbrev pub refusal_text : InputError → List ℕ
 refusal_text (OfLine e) = bytes_refusal e
 refusal_text NoCatalog = input_text 1 (codes "C1") (string (codes "$") ∷ [])
-refusal_text (OfCatalog line e) = catalog_refusal line e fault_in.Catalog
+refusal_text (OfCatalog line e) = nest_refusal line e
 refusal_text (OfRequest e) = request_refusal e
 
 -- ---- the statuses of refusals
@@ -149,9 +163,9 @@ bytes_status cause.NoMemory = NoMemory
 bytes_status cause.ReadFault = ReadFault
 bytes_status _ = Input
 
--- the status of a refusal of the catalogue
-abbrev pub catalog_status : CatalogError → Status
-catalog_status catalog.NoMemory = NoMemory
+-- the status of a refusal of the catalogue, or of its nests
+abbrev pub catalog_status : NestError → Status
+catalog_status nested.NoMemory = NoMemory
 catalog_status _ = Input
 
 -- the status of a refusal of a request

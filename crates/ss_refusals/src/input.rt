@@ -19,11 +19,11 @@ ghost use Rattle.ss_refusals.specs.Sinks.{LeavesOfRefusedSource, TellsReading};
 ghost use Rattle.ss_snapshot.specs.Bodies.{GrowsTo};
 
 use serde_json::Value as Json;
-use ss_catalog::{CatalogError, read_catalog};
 use ss_catalog_requests::{RequestError, a_request_has_one_answer, request_of};
 use ss_lines::{Line, LineError, Source, line_value, read_lines};
 use ss_model::{Catalog, Request};
 use ss_model_laws::spares_aside;
+use ss_nest::{NestError, read_nested};
 use ss_value::Seq;
 use std::alloc::Global;
 
@@ -38,7 +38,7 @@ pub enum InputError {
     Catalog {
         /// The line's number.
         line: u64,
-        error: CatalogError,
+        error: NestError,
     },
     /// The value of a later line isn't a request of the catalogue; or out of memory.
     Request(RequestError),
@@ -53,7 +53,7 @@ pub struct ParsedInput {
 }
 
 /// The catalogue of the first line, which has no bodies to be installed, or the line's first refusal. Costs what
-/// `read_catalog` costs.
+/// `read_nested` costs.
 pub fn catalog_at(alloc: Global, line: &Line) -> Result<Catalog, InputError>
     ensures ok { IfOk result (SaysCatalog line.now) }
     ensures own { IfOk result IsOwnCatalog }
@@ -64,7 +64,7 @@ pub fn catalog_at(alloc: Global, line: &Line) -> Result<Catalog, InputError>
         Ok(value) => value,
         Err(error) => return Err(InputError::Line(error)),
     };
-    read_catalog(alloc, &value).map_err(|error| InputError::Catalog {
+    read_nested(alloc, value).map_err(|error| InputError::Catalog {
         line: line.number,
         error,
     })
@@ -144,7 +144,7 @@ fn requests_at(
 /// catalogue or a request; nothing is said of a later line. The lines are there already, so neither a fault of the source
 /// nor an input that is too long is answered here.
 ///
-/// Costs what `read_catalog` and `request_of` cost, and time linear in the bytes of the lines.
+/// Costs what `read_nested` and `request_of` cost, and time linear in the bytes of the lines.
 fn parse_input(alloc: Global, lines: &[Line]) -> Result<ParsedInput, InputError>
     ensures ok { IfOk result (λ p. StartLines lines.now (with_spares p.catalog []) p.requests) }
     ensures bare { IfOk result (λ p. IsOwnCatalog (with_spares p.catalog [])) }
@@ -166,7 +166,7 @@ fn parse_input(alloc: Global, lines: &[Line]) -> Result<ParsedInput, InputError>
 ///
 /// The catalogue has the bodies that the requests install, each as the one of its text, so that all requests fit it; without
 /// them it is what the first line is read as. A fault of the source and an input that is too long come before anything is said of a line. The lines are freed when it
-/// returns, before the run. Takes their memory and that of the values. Costs what `read_catalog` and
+/// returns, before the run. Takes their memory and that of the values. Costs what `read_nested` and
 /// `request_of` cost, and time linear in the bytes.
 pub fn read_input<S: Source>(alloc: Global, source: &mut S) -> Result<ParsedInput, InputError>
     ensures taken { TakesAtMost (max_input + 1) (S.kind.left source.old) (S.kind.left source.new) }

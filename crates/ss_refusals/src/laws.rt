@@ -6,8 +6,8 @@
 
 ghost use Rattle.ss_refusals.specs.Inputs.{HasOneStart, StartsOrRefused, HasOneRefusal};
 
-use ss_catalog::a_value_has_one_answer;
 use ss_catalog_requests::a_request_has_one_answer;
+use ss_nest::a_nested_value_has_one_answer;
 
 /// An input starts with one catalogue and one list of requests, or it is refused and has one refusal; out of memory
 /// and a fault of the source say nothing of it.
@@ -16,6 +16,6 @@ pub fn an_input_has_one_answer()
     ensures either { StartsOrRefused }
     ensures refusal { HasOneRefusal }
 {
-    a_value_has_one_answer();
+    a_nested_value_has_one_answer();
     a_request_has_one_answer();
 }

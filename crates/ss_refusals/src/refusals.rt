@@ -3,7 +3,7 @@
 ghost use Rattle.std.specs.Prelude.{◌≡◌, ◌≤◌, [], ◌∷◌, IfOk, codes, string_bytes};
 ghost use Rattle.serde_json.specs.Data.{string};
 ghost use Rattle.ss_model.specs.ReportLines.{count};
-ghost use Rattle.ss_refusals.specs.Statuses.{input_text, fault_text, fault_code, counted_word, bytes_refusal, catalog_refusal, request_refusal, refusal_text, bytes_status, catalog_status, request_status, refusal_status};
+ghost use Rattle.ss_refusals.specs.Statuses.{input_text, fault_text, fault_code, counted_word, bytes_refusal, catalog_refusal, nest_refusal, request_refusal, refusal_text, bytes_status, catalog_status, request_status, refusal_status};
 ghost use Rattle.ss_refusals.specs.Sinks.{sink_of, Writes, ExitsRefused};
 
 use crate::input::InputError;
@@ -12,6 +12,7 @@ use crate::status::Status;
 use ss_catalog::{CatalogError, Counted, SqlFault};
 use ss_catalog_requests::RequestError;
 use ss_lines::{Field, LineError, Sink, write_all};
+use ss_nest::NestError;
 use std::alloc::{AllocError, Global};
 
 /// The text at status 1, of a faulty command line.
@@ -190,6 +191,23 @@ fn catalog_line(
     }
 }
 
+/// A line that is refused for its catalogue, or for the nests of it.
+fn nest_line(alloc: Global, line: u64, error: &NestError) -> Result<String, AllocError>
+    ensures { IfOk result (λ text. string_bytes text ≡ nest_refusal line error.now) }
+{
+    let site = FaultIn::Catalog;
+    match error {
+        NestError::NoMemory => String::from_str(alloc, NO_MEMORY),
+        NestError::Catalog(fault) => catalog_line(alloc, line, site, fault),
+        NestError::Shape(path) => word_line(alloc, line, site, "N1", path.as_str()),
+        NestError::Unknown(name) => word_line(alloc, line, site, "N2", name.as_str()),
+        NestError::Twice(name) => word_line(alloc, line, site, "N3", name.as_str()),
+        NestError::NotClosed(name) => word_line(alloc, line, site, "N4", name.as_str()),
+        NestError::Touch(name) => word_line(alloc, line, site, "N5", name.as_str()),
+        NestError::Window(name) => word_line(alloc, line, site, "N6", name.as_str()),
+    }
+}
+
 // ---- refusals
 
 fn bytes_line(alloc: Global, error: LineError) -> Result<String, AllocError>
@@ -213,6 +231,7 @@ fn request_line(alloc: Global, error: &RequestError) -> Result<String, AllocErro
         RequestError::UnknownTarget { line } => input_line(alloc, *line, "C12"),
         RequestError::Arguments { line } => input_line(alloc, *line, "C13"),
         RequestError::TooManyRows { line } => input_line(alloc, *line, "C14"),
+        RequestError::Nested { line } => input_line(alloc, *line, "C16"),
         RequestError::BadBody { line, fault } => catalog_line(alloc, *line, FaultIn::Body, fault),
     }
 }
@@ -224,7 +243,7 @@ fn refusal_line(alloc: Global, error: &InputError) -> Result<String, AllocError>
     match error {
         InputError::Line(error) => bytes_line(alloc, *error),
         InputError::NoCatalog => word_line(alloc, 1, FaultIn::Catalog, "C1", "$"),
-        InputError::Catalog { line, error } => catalog_line(alloc, *line, FaultIn::Catalog, error),
+        InputError::Catalog { line, error } => nest_line(alloc, *line, error),
         InputError::Request(error) => request_line(alloc, error),
     }
 }
@@ -241,11 +260,11 @@ fn bytes_status(error: LineError) -> Status
     }
 }
 
-fn catalog_status(error: &CatalogError) -> Status
+fn catalog_status(error: &NestError) -> Status
     ensures { result ≡ catalog_status error.now }
 {
     match error {
-        CatalogError::NoMemory => Status::NoMemory,
+        NestError::NoMemory => Status::NoMemory,
         _ => Status::Input,
     }
 }
@@ -259,6 +278,7 @@ fn request_status(error: &RequestError) -> Status
         RequestError::UnknownTarget { .. } => Status::Input,
         RequestError::Arguments { .. } => Status::Input,
         RequestError::TooManyRows { .. } => Status::Input,
+        RequestError::Nested { .. } => Status::Input,
         RequestError::BadBody { .. } => Status::Input,
     }
 }

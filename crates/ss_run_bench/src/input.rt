@@ -6,15 +6,15 @@ ghost use Rattle.ss_model.specs.AcceptedBodies.{OtherBodies};
 ghost use Rattle.ss_model.specs.Database.{fits_entry};
 ghost use Rattle.ss_model.specs.Report.{asked_entry};
 ghost use Rattle.ss_model.specs.SparesAside.{with_spares, GoesOnWith};
-ghost use Rattle.ss_catalog.specs.Bodies.{WasRead};
+ghost use Rattle.ss_nest.specs.Reads.{WasNested};
 ghost use Rattle.ss_run.specs.RunAnswers.{all_fit};
 
 use serde_json::Value as Json;
-use ss_catalog::read_catalog;
 use ss_catalog_requests::request_of;
 use ss_lines::{Line, Source, read_lines};
 use ss_model::{Catalog, Request};
 use ss_model_laws::spares_aside;
+use ss_nest::read_nested;
 use ss_value::Seq;
 use std::alloc::Global;
 use std::io;
@@ -34,15 +34,12 @@ fn refused() -> io::Error {
 /// The catalogue of a line.
 fn catalog_at(alloc: Global, line: &Line) -> io::Result<Catalog>
     ensures accepted { IfOk result Accepted }
-    ensures read { IfOk result WasRead }
+    ensures read { IfOk result WasNested }
 {
     let Ok(value) = Json::from_slice(alloc, line.bytes.as_slice()) else {
         return Err(refused());
     };
-    let catalog = read_catalog(alloc, &value);
-    // So it is let go by one call.
-    drop(value);
-    match catalog {
+    match read_nested(alloc, value) {
         Ok(catalog) => Ok(catalog),
         Err(_) => Err(refused()),
     }
@@ -50,12 +47,12 @@ fn catalog_at(alloc: Global, line: &Line) -> io::Result<Catalog>
 
 /// The request of a line. The body that it installs may then be installed.
 fn request_at(alloc: Global, catalog: &mut Catalog, line: &Line) -> io::Result<Request>
-    requires was_read { WasRead catalog.old }
+    requires was_read { WasNested catalog.old }
     requires spares { OtherBodies catalog.old }
     ensures fits { IfOk result (λ r. fits_entry catalog.new (asked_entry r.client 0 r.what) ≡ true) }
     ensures same { OnOk result (catalog.new ≡ with_spares catalog.old catalog.new.spares) }
     ensures goes_on { OnOk result (GoesOnWith catalog.old catalog.new.spares) }
-    ensures stays_read { OnOk result (WasRead catalog.new) }
+    ensures stays_read { OnOk result (WasNested catalog.new) }
     ensures stand { OnOk result (OtherBodies catalog.new) }
 {
     let Ok(value) = Json::from_slice(alloc, line.bytes.as_slice()) else {
@@ -67,7 +64,7 @@ fn request_at(alloc: Global, catalog: &mut Catalog, line: &Line) -> io::Result<R
 /// The requests of the lines behind the first. The bodies that they install may then be installed.
 fn requests_at(alloc: Global, catalog: &mut Catalog, lines: &[Line]) -> io::Result<Seq<Request>>
     requires accepted { Accepted catalog.old }
-    requires was_read { WasRead catalog.old }
+    requires was_read { WasNested catalog.old }
     ensures accepted { OnOk result (Accepted catalog.new) }
     ensures fit { IfOk result (λ requests. all_fit catalog.new requests ≡ true) }
 {

@@ -6,7 +6,7 @@ use Rattle.std.proofs.lemmas.List.{drop_more}
 use Rattle.std.specs.List.{list_any}
 use Rattle.ss_sql_trees.specs.declared.typed.Query.{Query}
 use Rattle.ss_model.specs.declared.catalog.Step.{Step}
-use Rattle.ss_model.specs.declared.catalog.Step.TheVariants.{Sql, AbortIf, ForEach, Emit, Return}
+use Rattle.ss_model.specs.declared.catalog.Step.TheVariants.{Sql, AbortIf, ForEach, Emit, Local, Return}
 use Rattle.ss_model.specs.Database.{emits_to}
 use Rattle.ss_lemmas.proofs.Bools.{either_so}
 
@@ -45,4 +45,5 @@ emits_nothing s (Emit t query) other = absurd (other t query refl)
 emits_nothing s (Sql statement) other = refl
 emits_nothing s (AbortIf test code) other = refl
 emits_nothing s (ForEach input body) other = refl
+emits_nothing s (Local t query) other = refl
 emits_nothing s (Return query) other = refl

@@ -11,7 +11,7 @@ use Rattle.ss_model.specs.Contents.{Table, Window}
 use Rattle.ss_model.specs.Database.{NextNumbers}
 use Rattle.ss_model.specs.Settling.{Kept}
 use Rattle.ss_cmdlog.specs.Reading.{◌>>>◌}
-use Rattle.ss_standing.specs.ImageForm.{bodies_of, counts_of, kept_in, sources_at, stream_of, table_of, window_of}
+use Rattle.ss_standing.specs.ImageForm.{bodies_of, counts_of, kept_in, sources_at, stream_at, table_of, window_of}
 use Rattle.ss_standing.specs.Readers.{Reader, each, followed}
 use Rattle.ss_shard.specs.Databases.{WindowIsSound}
 use Rattle.ss_snapshot.specs.declared.reading.fields.PartError.{PartError}
@@ -106,7 +106,7 @@ module _ (bodies : Bool) (catalog : Catalog) (most : ℕ) where
   all_counts streams = followed (counts_of catalog streams) (λ c. all_numbers)
 
   abbrev all_streams : Reader (Streamed × (List ℕ × (List NextNumbers × Texts)))
-  all_streams = followed (each (stream_of most) catalog.streams) all_counts
+  all_streams = followed (each (stream_at catalog most) (range_with_len 0 (length catalog.streams))) all_counts
 
   abbrev all_windows : Reader (List (ℕ × Window) × (Streamed × (List ℕ × (List NextNumbers × Texts))))
   all_windows = followed (each window_of catalog.windows) (λ w. all_streams)
@@ -118,7 +118,7 @@ module _ (bodies : Bool) (catalog : Catalog) (most : ℕ) where
   at_counts streams = one_in f1 (counts_of catalog streams) (λ c. all_numbers) (λ c. numbers_read) texts_read (λ c bytes. refl)
 
   at_streams : (bytes : List ℕ) → all_streams bytes ≡ joined (and_front (and_front f1)) (progress_of catalog most bytes) texts_read
-  at_streams = one_in (and_front f1) (each (stream_of most) catalog.streams) all_counts (counts_and_sources_of catalog) texts_read at_counts
+  at_streams = one_in (and_front f1) (each (stream_at catalog most) (range_with_len 0 (length catalog.streams))) all_counts (counts_and_sources_of catalog) texts_read at_counts
 
   at_windows : (bytes : List ℕ) → all_windows bytes ≡ joined (and_front (and_front (and_front f1))) (beside_of catalog most bytes) texts_read
   at_windows = one_in (and_front (and_front f1)) (each window_of catalog.windows) (λ w. all_streams) (λ w. progress_of catalog most) texts_read (λ w. at_streams)

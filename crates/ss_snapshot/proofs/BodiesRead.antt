@@ -14,9 +14,10 @@ use Rattle.ss_model.specs.Accepted.{Accepted}
 use Rattle.ss_model.specs.Database.{body_named, has_body, own_text, spare_bodies}
 use Rattle.ss_model.specs.Results.{map_indexed}
 use Rattle.ss_model.specs.SparesAside.{GoesOnWith, with_spares}
-use Rattle.ss_catalog.specs.Answers.{HasOneCatalog as ValueHasOneCatalog}
 use Rattle.ss_shard.specs.Bodies.{HasBodies, IsBodyNumber, text_numbered, texts_of}
-use Rattle.ss_catalog.specs.Bodies.{IsBodyIfAny, IsBodyOf, with_added, with_spare}
+use Rattle.ss_catalog.specs.Bodies.{with_added, with_spare}
+use Rattle.ss_nest.specs.Answers.{HasOneNested}
+use Rattle.ss_nest.specs.Bodies.{IsNestedBodyIfAny, IsNestedBodyOf}
 use Rattle.ss_cmdlog.specs.Reading.{◌>>>◌, bytes_at, whole}
 use Rattle.ss_standing.specs.ImageForm.{bodies_of, body_of, number_where}
 use Rattle.ss_standing.specs.Readers.{Reader, each, passing, with_front}
@@ -271,17 +272,17 @@ grown_by old new same own accepted on = record {
     by q text false h = any_is_found text (get_or new.spares q []) ∙ ap is_some (on.same q text h) ∙ sym (any_is_found text (spare_bodies old q)) ∙ h
 
 -- a text that a procedure has a spare body of is that of a body
-spare_of : (c : Catalog) (q : ℕ) (text : List ℕ) (xs : List Body) → AllByRecursion (λ (b : Body). IsBodyOf c q b.text b) xs → list_any (λ (b : Body). bytes_eq b.text text) xs ≡ true → (b : Body) × IsBodyOf c q text b
+spare_of : (c : Catalog) (q : ℕ) (text : List ℕ) (xs : List Body) → AllByRecursion (λ (b : Body). IsNestedBodyOf c q b.text b) xs → list_any (λ (b : Body). bytes_eq b.text text) xs ≡ true → (b : Body) × IsNestedBodyOf c q text b
 spare_of c q text [] all h = cc
 spare_of c q text (x ∷ xs) all h = by (bytes_eq x.text text) refl h (spare_of c q text xs all.1)
   where
     by : (t : Bool) → bytes_eq x.text text ≡ t → (t || list_any (λ (b : Body). bytes_eq b.text text) xs) ≡ true
-        → (list_any (λ (b : Body). bytes_eq b.text text) xs ≡ true → (b : Body) × IsBodyOf c q text b) → (b : Body) × IsBodyOf c q text b
+        → (list_any (λ (b : Body). bytes_eq b.text text) xs ≡ true → (b : Body) × IsNestedBodyOf c q text b) → (b : Body) × IsNestedBodyOf c q text b
     by true is k rest = (x, (all.0.0, (bytes_eq-Decides x.text text).0 is))
     by false is k rest = rest k
 
 module _ (c : Catalog) (q : ℕ) (text : List ℕ) (one : (other : Catalog) → IsReadFromItsText other → other.text ≡ c.text → SameButSpares c other) where
-  pub none_has : has_body c q text ≡ false → ((b : Body) → IsBodyOf c q text b → ⊥) → HasNoBody c q text
+  pub none_has : has_body c q text ≡ false → ((b : Body) → IsNestedBodyOf c q text b → ⊥) → HasNoBody c q text
   none_has not none other own is has = by (bytes_eq (own_text c q) text) not (ap (λ (k : Catalog). bytes_eq (own_text k q) text || list_any (λ (b : Body). bytes_eq b.text text) (spare_bodies other q)) (one other own is) ∙ has)
     where
       by : (t : Bool) → (t || list_any (λ (b : Body). bytes_eq b.text text) (spare_bodies c q)) ≡ false → (t || list_any (λ (b : Body). bytes_eq b.text text) (spare_bodies other q)) ≡ true → ⊥
@@ -304,19 +305,19 @@ all_with P (x ∷ xs) zero b all one (suc n) = all (suc n)
 all_with P (x ∷ xs) (suc q) b all one zero = all 0
 all_with P (x ∷ xs) (suc q) b all one (suc n) = all_with (λ n. P (suc n)) xs q b (λ n. all (suc n)) one n
 
-pub own_added : (c : Catalog) (q : ℕ) (text : List ℕ) (b : Body) → IsReadFromItsText c → IsBodyOf c q text b → IsReadFromItsText (with_added c q b)
+pub own_added : (c : Catalog) (q : ℕ) (text : List ℕ) (b : Body) → IsReadFromItsText c → IsNestedBodyOf c q text b → IsReadFromItsText (with_added c q b)
 own_added c q text b own is = by (has_body c q b.text)
   where
     by : (t : Bool) → IsReadFromItsText (cond t c (with_spares c (with_spare c.spares q b)))
     by true = own
     by false =
         let spares = with_spare c.spares q b in
-        let P = λ (n : ℕ) (x : Body). IsBodyOf (with_spares c spares) n x.text x in
+        let P = λ (n : ℕ) (x : Body). IsNestedBodyOf (with_spares c spares) n x.text x in
         record {
           utf8 = own.utf8;
           value = own.value;
           reads = own.reads;
-          spares = all_with P c.spares q b (λ n. all_so (λ (x : Body). IsBodyOf c n x.text x) (P n) (spare_bodies c n) (λ x h. body_more c spares n x.text x h) (own.spares n))
+          spares = all_with P c.spares q b (λ n. all_so (λ (x : Body). IsNestedBodyOf c n x.text x) (P n) (spare_bodies c n) (λ x h. body_more c spares n x.text x h) (own.spares n))
               (body_more c spares q b.text b (is.0, refl));
         }
 
@@ -366,11 +367,11 @@ if_refused P (Ok x) p = tt
 if_refused P (Err e) p = unless P e p
 
 -- what was found of a text
-pub found_none : (c : Catalog) (q : ℕ) (text : List ℕ) (o : Option Body) → o ≡ None → IsBodyIfAny c q text o → (b : Body) → IsBodyOf c q text b → ⊥
-found_none c q text o is found = subst (IsBodyIfAny c q text) is found
+pub found_none : (c : Catalog) (q : ℕ) (text : List ℕ) (o : Option Body) → o ≡ None → IsNestedBodyIfAny c q text o → (b : Body) → IsNestedBodyOf c q text b → ⊥
+found_none c q text o is found = subst (IsNestedBodyIfAny c q text) is found
 
-pub found_some : (c : Catalog) (q : ℕ) (text : List ℕ) (b : Body) (o : Option Body) → o ≡ Some b → IsBodyIfAny c q text o → IsBodyOf c q text b
-found_some c q text b o is found = subst (IsBodyIfAny c q text) is found
+pub found_some : (c : Catalog) (q : ℕ) (text : List ℕ) (b : Body) (o : Option Body) → o ≡ Some b → IsNestedBodyIfAny c q text o → IsNestedBodyOf c q text b
+found_some c q text b o is found = subst (IsNestedBodyIfAny c q text) is found
 
 -- so many of these bytes are read as these numbers, and the rest stands behind them
 pub record AreNumbers (c : Catalog) (i : ℕ) (numbers bytes rest : List ℕ) : Type 0 where
@@ -471,6 +472,6 @@ module _ (n : ℕ) (old now : Catalog) (i : ℕ) (bytes rest : List ℕ) (so_far
       so_far.far now (still now so_far.grown.own so_far.grown.accepted) (subst (λ (m : ℕ). Far now (range_with_len i m) rest) (sym none) (far_end now rest))
 
 -- the bodies are read no further than with what a catalogue grew to
-pub furthest_grown : ValueHasOneCatalog → (n : ℕ) (old now : Catalog) (bytes : List ℕ) → n ≡ length old.procedures → GrowsTo old now → Far now (range_with_len 0 n) bytes → IsFurthest true now bytes
+pub furthest_grown : HasOneNested → (n : ℕ) (old now : Catalog) (bytes : List ℕ) → n ≡ length old.procedures → GrowsTo old now → Far now (range_with_len 0 n) bytes → IsFurthest true now bytes
 furthest_grown one n old now bytes count grown far =
     furthest_of now n bytes (count ∙ ap (λ (k : Catalog). length k.procedures) (sym grown.same)) (λ other own is. of_one_text one now other grown.own own (sym is)) far

@@ -4,6 +4,7 @@ use Rattle.std.specs.List.{AllByRecursion, find, list_any}
 use Rattle.std.specs.Str.{bytes_eq}
 use Rattle.std.specs.Prelude.{cond}
 use Rattle.serde_json.specs.Data.{Data}
+use Rattle.serde_json.specs.Read.{read}
 use Rattle.ss_model.specs.declared.catalog.Body.{Body}
 use Rattle.ss_model.specs.declared.catalog.Catalog.{Catalog}
 use Rattle.ss_model.specs.Accepted.{Accepted}
@@ -12,8 +13,10 @@ use Rattle.ss_model.specs.Settling.{Kept, kept}
 use Rattle.ss_model.specs.Spares.{AcceptedBody}
 use Rattle.ss_model.specs.SparesAside.{GoesOnWith, SparesAside, with_spares}
 use Rattle.ss_model.specs.WholeDatabase.{WholeDatabase}
-use Rattle.ss_catalog.specs.Reads.{Reads}
-use Rattle.ss_catalog.specs.Bodies.{BodiesMayStand, BodyReads, IsBodyOf}
+use Rattle.ss_catalog.specs.Checks.{procedure_name}
+use Rattle.ss_nest.specs.Bodies.{number_named, IsNestedBodyOf, NestedBodiesMayStand, NestedBodyReads}
+use Rattle.ss_nest.specs.Reads.{IsNestedFrom, ReadsNested}
+use Rattle.ss_nest.proofs.CallerLemmas.{unspared}
 use Rattle.ss_standing.specs.FitsImage.{FitBodies, FitNumbers, FitsStream, FitsTable, FitsWindow}
 use Rattle.ss_standing.specs.Image.{image_bytes}
 use Rattle.ss_standing.specs.Standing.{IsImageAt}
@@ -76,10 +79,10 @@ pub none_there : (P : Body → Type 0) (q : ℕ) → AllByRecursion P (get_or []
 none_there P zero = tt
 none_there P (suc q) = tt
 
-pub no_spares : (d : Data) (catalog : Catalog) → Reads d catalog → HasReadSpares catalog
+pub no_spares : (d : Data) (catalog : Catalog) → ReadsNested d catalog → HasReadSpares catalog
 no_spares d catalog h = λ q.
-    let P = λ (x : Body). IsBodyOf catalog q x.text x in
-    subst (λ (spares : List (List Body)). AllByRecursion P (get_or spares q [])) (sym h.passes.0.0.0.0.0.1.spares) (none_there P q)
+    let P = λ (x : Body). IsNestedBodyOf catalog q x.text x in
+    subst (λ (spares : List (List Body)). AllByRecursion P (get_or spares q [])) (sym (unspared d catalog h)) (none_there P q)
 
 -- ---- a catalogue with bodies that have all texts that it had
 
@@ -96,6 +99,7 @@ module _ (catalog : Catalog) (spares : List (List Body)) where
     };
     next_count = k.next_count;
     batches = k.batches;
+    inner = k.inner;
     calls = k.calls;
     next_numbers = λ s source n is. let m = k.next_numbers s source n is in record { border = m.border; at_least = m.at_least; at_most = m.at_most };
     body_count = k.body_count;
@@ -131,21 +135,16 @@ module _ (catalog : Catalog) (spares : List (List Body)) where
   }
 
 -- a body of a text is one whatever bodies are to be installed
-pub body_more : (a : Catalog) (spares : List (List Body)) (q : ℕ) (text : List ℕ) (x : Body) → IsBodyOf a q text x → IsBodyOf (with_spares a spares) q text x
+pub body_more : (a : Catalog) (spares : List (List Body)) (q : ℕ) (text : List ℕ) (x : Body) → IsNestedBodyOf a q text x → IsNestedBodyOf (with_spares a spares) q text x
 body_more a spares q text x is = (
   (
     is.0.0,
     (let h = is.0.1 in record {
       whole = h.whole;
-      is_read_from = h.is_read_from;
-      outline = h.outline;
-      changed = h.changed;
-      passes = h.passes;
-      limits = h.limits;
-      steps = h.steps;
-      text = h.text;
-      utf8 = h.utf8;
-      reads_back = h.reads_back;
+      is_from = h.is_from;
+      number = h.number;
+      is_plain_one = h.is_plain_one;
+      reads = h.reads;
     }),
   ),
   is.1,
@@ -190,22 +189,27 @@ module _ (a b : Catalog) (same : SameButSpares a b) where
   pub behind_kept : (db : Model) → kept with_both db ≡ kept b db
   behind_kept db = ap (λ (c : Catalog). kept c db) from_other ∙ kept_with b spares_of_both db
 
+  -- what the one was read from, the other was
+  abbrev from_aside : (d : Data) → IsNestedFrom b d → IsNestedFrom a d
+  from_aside d h = record {
+    plain = h.plain;
+    nests = h.nests;
+    passes = h.passes;
+    joined = same ∙ h.joined;
+    reads_back = ap (λ (c : Catalog). read c.text) same ∙ h.reads_back;
+  }
+
   -- a body of a text is one whatever other bodies there are
-  pub body_aside : (q : ℕ) (text : List ℕ) (x : Body) → IsBodyOf b q text x → IsBodyOf a q text x
+  pub body_aside : (q : ℕ) (text : List ℕ) (x : Body) → IsNestedBodyOf b q text x → IsNestedBodyOf a q text x
   body_aside q text x is = ((is.0.0, by is.0.1), is.1)
     where
-      by : BodyReads b q is.0.0 x → BodyReads a q is.0.0 x
+      by : NestedBodyReads b q is.0.0 x → NestedBodyReads a q is.0.0 x
       by h = record {
         whole = h.whole;
-        is_read_from = subst (λ (c : Catalog). Reads h.whole c) (sym same) h.is_read_from;
-        outline = h.outline;
-        changed = h.changed;
-        passes = h.passes;
-        limits = h.limits;
-        steps = h.steps;
-        text = h.text;
-        utf8 = h.utf8;
-        reads_back = h.reads_back;
+        is_from = from_aside h.whole h.is_from;
+        number = h.number;
+        is_plain_one = ap (λ (c : Catalog). number_named h.is_from.plain (procedure_name c q)) same ∙ h.is_plain_one;
+        reads = h.reads;
       }
 
   module _ (own : IsReadFromItsText a) (other : IsReadFromItsText b) where
@@ -215,24 +219,24 @@ module _ (a b : Catalog) (same : SameButSpares a b) where
       value = own.value;
       reads = own.reads;
       spares = λ q.
-          let P = λ (x : Body). IsBodyOf with_both q x.text x in
+          let P = λ (x : Body). IsNestedBodyOf with_both q x.text x in
           subst (AllByRecursion P) (sym (both_at a.spares b.spares q))
           (all_of_both P (spare_bodies a q) (spare_bodies b q)
-          (all_so (λ (x : Body). IsBodyOf a q x.text x) P (spare_bodies a q) (λ x is. body_more a spares_of_both q x.text x is) (own.spares q))
-          (all_so (λ (x : Body). IsBodyOf b q x.text x) P (spare_bodies b q) (λ x is. body_more a spares_of_both q x.text x (body_aside q x.text x is)) (other.spares q)));
+          (all_so (λ (x : Body). IsNestedBodyOf a q x.text x) P (spare_bodies a q) (λ x is. body_more a spares_of_both q x.text x is) (own.spares q))
+          (all_so (λ (x : Body). IsNestedBodyOf b q x.text x) P (spare_bodies b q) (λ x is. body_more a spares_of_both q x.text x (body_aside q x.text x is)) (other.spares q)));
     }
 
-    goes_on : BodiesMayStand → Accepted a → GoesOnWith a spares_of_both
+    goes_on : NestedBodiesMayStand → Accepted a → GoesOnWith a spares_of_both
     goes_on stand accepted = record {
       accepted = λ q p is.
           let P = λ (x : Body). AcceptedBody a q p x.steps in
           subst (AllByRecursion P) (sym (both_at a.spares b.spares q))
           (all_of_both P (spare_bodies a q) (spare_bodies b q) (accepted.spares q p is)
-          (all_so (λ (x : Body). IsBodyOf b q x.text x) P (spare_bodies b q) (λ x h. stand a q (body_aside q x.text x h).0.0 x (body_aside q x.text x h).0.1 p is) (other.spares q)));
+          (all_so (λ (x : Body). IsNestedBodyOf b q x.text x) P (spare_bodies b q) (λ x h. stand a q (body_aside q x.text x h).0.0 x (body_aside q x.text x h).0.1 p is) (other.spares q)));
       same = λ q text h.
           let p = λ (x : Body). bytes_eq x.text text in
           ap (find p) (both_at a.spares b.spares q) ∙ found_front p (spare_bodies a q) (spare_bodies b q) h;
     }
 
-    pub both_accepted : SparesAside → BodiesMayStand → Accepted a → Accepted with_both
+    pub both_accepted : SparesAside → NestedBodiesMayStand → Accepted a → Accepted with_both
     both_accepted aside stand accepted = (aside a accepted spares_of_both (goes_on stand accepted)).accepted

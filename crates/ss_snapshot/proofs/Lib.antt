@@ -15,6 +15,7 @@ pub mod Units
 pub mod Chunks
 pub mod AllTables
 pub mod Eaches
+pub mod NumbersRead
 pub mod LeastCounts
 pub mod SourcesRead
 pub mod KeptTells

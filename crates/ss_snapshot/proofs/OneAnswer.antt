@@ -7,12 +7,12 @@ use Rattle.ss_model.specs.declared.catalog.Catalog.{Catalog}
 use Rattle.ss_model.specs.Database.{Database as Model}
 use Rattle.ss_model.specs.Settling.{kept}
 use Rattle.ss_model.specs.SparesAside.{SparesAside, with_spares}
-use Rattle.ss_catalog.specs.declared.error.CatalogError.{CatalogError}
-use Rattle.ss_catalog.specs.declared.error.CatalogError.TheVariants as catalog
-use Rattle.ss_catalog.specs.Reads.{Reads, Refuses as RefusesValue}
-use Rattle.ss_catalog.specs.Answers.{HasOneCatalog as ValueHasOneCatalog, IsReadOrRefused}
-use Rattle.ss_catalog.specs.Bodies.{BodiesMayStand}
 use Rattle.ss_catalog.proofs.CallerLemmas.{err_same, ok_or_err}
+use Rattle.ss_nest.specs.declared.error.NestError.{NestError}
+use Rattle.ss_nest.specs.declared.error.NestError.TheVariants as nested
+use Rattle.ss_nest.specs.Reads.{ReadsNested, RefusesNested}
+use Rattle.ss_nest.specs.Answers.{HasOneNested, IsNestedOrRefused}
+use Rattle.ss_nest.specs.Bodies.{NestedBodiesMayStand}
 use Rattle.ss_standing.specs.Checkpoints.{ImagesAreRead}
 use Rattle.ss_standing.specs.Image.{kept_bytes, text_bytes, BeginsWithText}
 use Rattle.ss_standing.specs.ImageForm.{kept_in, to_the_end}
@@ -40,30 +40,27 @@ said : (c : Catalog) (own : IsReadFromItsText c) (text : List ℕ) → c.text �
 said c own text is = subst (λ (t : List ℕ). read t ≡ Some own.value) is own.reads.reads_back
 
 -- a text whose value is refused is no catalogue's
-barred : IsReadOrRefused → (text : List ℕ) (d : Data) (e : CatalogError) → read text ≡ Some d → RefusesValue d e → (e ≡ catalog.NoMemory → ⊥) → IsNoCatalog text
+barred : IsNestedOrRefused → (text : List ℕ) (d : Data) (e : NestError) → read text ≡ Some d → RefusesNested d e → (e ≡ nested.NoMemory → ⊥) → IsNoCatalog text
 barred either text d e json refusal other c own is =
     let same = one_value text own.value d (said c own text is) json in
-    other (either d (with_spares c []) e (subst (λ (v : Data). Reads v (with_spares c [])) same own.reads) refusal)
+    other (either d (with_spares c []) e (subst (λ (v : Data). ReadsNested v (with_spares c [])) same own.reads) refusal)
 
 -- as it is told
-pub told : IsReadOrRefused → (text : List ℕ) (d : Data) (e : CatalogError) → read text ≡ Some d → RefusesValue d e → RefusesText text (text_refusal e)
-told either text d catalog.NoMemory json refusal = tt
-told either text d (catalog.Shape path) json refusal = (barred either text d (catalog.Shape path) json refusal (λ e. cc), refl)
-told either text d (catalog.Twice name) json refusal = (barred either text d (catalog.Twice name) json refusal (λ e. cc), refl)
-told either text d (catalog.Unknown name) json refusal = (barred either text d (catalog.Unknown name) json refusal (λ e. cc), refl)
-told either text d (catalog.SqlFault name step fault) json refusal = (barred either text d (catalog.SqlFault name step fault) json refusal (λ e. cc), refl)
-told either text d (catalog.WorkflowCycle name) json refusal = (barred either text d (catalog.WorkflowCycle name) json refusal (λ e. cc), refl)
-told either text d (catalog.TriggerCycle name) json refusal = (barred either text d (catalog.TriggerCycle name) json refusal (λ e. cc), refl)
-told either text d (catalog.LocalityBroken name step) json refusal = (barred either text d (catalog.LocalityBroken name step) json refusal (λ e. cc), refl)
-told either text d (catalog.StreamEnds name) json refusal = (barred either text d (catalog.StreamEnds name) json refusal (λ e. cc), refl)
-told either text d (catalog.WindowOwner name) json refusal = (barred either text d (catalog.WindowOwner name) json refusal (λ e. cc), refl)
-told either text d (catalog.Limit counted) json refusal = (barred either text d (catalog.Limit counted) json refusal (λ e. cc), refl)
+pub told : IsNestedOrRefused → (text : List ℕ) (d : Data) (e : NestError) → read text ≡ Some d → RefusesNested d e → RefusesText text (text_refusal e)
+told either text d nested.NoMemory json refusal = tt
+told either text d (nested.Catalog x) json refusal = (barred either text d (nested.Catalog x) json refusal (λ e. cc), refl)
+told either text d (nested.Shape path) json refusal = (barred either text d (nested.Shape path) json refusal (λ e. cc), refl)
+told either text d (nested.Unknown name) json refusal = (barred either text d (nested.Unknown name) json refusal (λ e. cc), refl)
+told either text d (nested.Twice name) json refusal = (barred either text d (nested.Twice name) json refusal (λ e. cc), refl)
+told either text d (nested.NotClosed name) json refusal = (barred either text d (nested.NotClosed name) json refusal (λ e. cc), refl)
+told either text d (nested.Touch name) json refusal = (barred either text d (nested.Touch name) json refusal (λ e. cc), refl)
+told either text d (nested.Window name) json refusal = (barred either text d (nested.Window name) json refusal (λ e. cc), refl)
 
 -- nor is one that isn't the text of the catalogue that its value reads as
-pub another_text : ValueHasOneCatalog → (text : List ℕ) (d : Data) (k : Catalog) → read text ≡ Some d → Reads d k → (k.text ≡ text → ⊥) → IsNoCatalog text
+pub another_text : HasOneNested → (text : List ℕ) (d : Data) (k : Catalog) → read text ≡ Some d → ReadsNested d k → (k.text ≡ text → ⊥) → IsNoCatalog text
 another_text one text d k json reads differs c own is =
     let same = one_value text own.value d (said c own text is) json in
-    let one' : with_spares c [] ≡ k = one d (with_spares c []) k (subst (λ (v : Data). Reads v (with_spares c [])) same own.reads) reads in
+    let one' : with_spares c [] ≡ k = one d (with_spares c []) k (subst (λ (v : Data). ReadsNested v (with_spares c [])) same own.reads) reads in
     differs (sym (ap (λ (x : Catalog). x.text) one') ∙ is)
 
 -- ---- images
@@ -80,12 +77,12 @@ begins bodies bytes first c db image = record {
 rest_begins : (bodies : Bool) (first : ℕ) (bytes : List ℕ) (at : ℕ) (rest : HasForeignRest bodies first bytes at) → BeginsWithText bytes rest.catalog.text
 rest_begins bodies first bytes at rest = record { short = rest.short; behind = rest.rest; spelled = rest.begins }
 
-module _ (one : ValueHasOneCatalog) where
+module _ (one : HasOneNested) where
   -- a text is one catalogue's, bodies to be installed aside
   pub of_one_text : (a b : Catalog) → IsReadFromItsText a → IsReadFromItsText b → a.text ≡ b.text → SameButSpares a b
   of_one_text a b own other is =
       let same = one_value b.text own.value other.value (said a own b.text is) other.reads.reads_back in
-      one other.value (with_spares a []) (with_spares b []) (subst (λ (v : Data). Reads v (with_spares a [])) same own.reads) other.reads
+      one other.value (with_spares a []) (with_spares b []) (subst (λ (v : Data). ReadsNested v (with_spares a [])) same own.reads) other.reads
 
   pub one_kept : ImageTellsKept → HasOneKept
   one_kept tells bodies bytes first a b x y h k =
@@ -98,7 +95,7 @@ module _ (one : ValueHasOneCatalog) where
             ∙ behind_kept a b same y,
       )
 
-  module _ (again : ImagesAreRead) (aside : SparesAside) (stand : BodiesMayStand) (bodies : Bool) where
+  module _ (again : ImagesAreRead) (aside : SparesAside) (stand : NestedBodiesMayStand) (bodies : Bool) where
     -- what is behind the text of an image is read to its end, with the bodies that it has
     not_refused : (bytes : List ℕ) (first : ℕ) (c : Catalog) (db : Model) (at : ℕ) (rest : HasForeignRest bodies first bytes at) → IsReadFromItsText c → SameButSpares rest.catalog c
         → IsImageAt c bodies first bytes db → ⊥
@@ -116,7 +113,7 @@ module _ (one : ValueHasOneCatalog) where
         let same = of_one_text rest.catalog c rest.own image.own (one_text bytes rest.catalog.text c.text (rest_begins bodies first bytes at rest) (begins bodies bytes first c db image)) in
         not_refused bytes first c db at rest image.own same image.image
 
-  pub image_or_foreign : ImagesAreRead → SparesAside → BodiesMayStand → IsImageOrForeign
+  pub image_or_foreign : ImagesAreRead → SparesAside → NestedBodiesMayStand → IsImageOrForeign
   image_or_foreign again aside stand bodies bytes first c db at image foreign = image_not_foreign again aside stand bodies bytes first c db at image foreign
 
 -- ---- one offset

@@ -8,14 +8,14 @@ use Rattle.ss_lemmas.proofs.Bools.{first_of_two}
 use Rattle.ss_value.specs.Rows.{Rows}
 use Rattle.ss_model.specs.Accepted.{Accepted}
 use Rattle.ss_model.specs.declared.catalog.Catalog.{Catalog}
-use Rattle.ss_model.specs.Database.{Database, batch_count, stream_batches}
+use Rattle.ss_model.specs.Database.{Database, batch_count, is_inner_stream, stream_batches}
 use Rattle.ss_model.specs.Orders.{procedure_takes}
 use Rattle.ss_model.specs.Settling.{kept, procedure_numbers}
 use Rattle.ss_model.specs.WholeDatabase.{HadAtMost, WholeDatabase}
 use Rattle.ss_stream.specs.declared.cursor.Cursor.{Cursor}
 use Rattle.ss_stream.specs.OfDatabase.{AreStreamsOf, consumer_cursors, consumers_of, kept_stream, kept_streams}
-use Rattle.ss_stream.specs.Pending.{CanResume, Pending, cursor_at, least_cursor, least_passed, resume}
-use Rattle.ss_stream.specs.Streams.{CanResumeAll, cursors_at, resumed_streams}
+use Rattle.ss_stream.specs.Pending.{CanResume, Pending, cursor_at, least_cursor, least_passed, pending_from, resume}
+use Rattle.ss_stream.specs.Streams.{CanResumeAll, cursors_at, no_stream, resumed_streams}
 use Rattle.ss_stream.proofs.Resumed.{least-of_some}
 use Rattle.ss_standing.specs.ImageForm.{takes_last}
 use Rattle.ss_standing.proofs.Formed.{last_taker}
@@ -37,6 +37,11 @@ one_left test (suc n) from q passes above below = by (test from) refl (one_left 
         (λ (later : from < q). rest (omega (arith, later)) (omega (arith, below)))
         (λ (le : q ≤ from). absurd (let same : q ≡ from = omega (arith, above, le) in let no = sym passes ∙ ap test same ∙ is in cc))
         (cases_lt from q)
+
+-- where none passes none is left
+none_left : (test : ℕ → Bool) (n from : ℕ) → ((q : ℕ) → test q ≡ false) → filter test (range_with_len from n) ≡ []
+none_left test zero from none = refl
+none_left test (suc n) from none = ap (λ (b : Bool). cond b (from ∷ filter test (range_with_len (from + 1) n)) (filter test (range_with_len (from + 1) n))) (none from) ∙ none_left test n (from + 1) none
 
 -- each cursor of those that pass is within a number that each count is within
 all_within : (test : ℕ → Bool) (count : ℕ → ℕ) (m : ℕ) → ((q : ℕ) → test q ≡ true → count q ≤ m) → (qs : List ℕ) → AllByRecursion (λ (c : Cursor). c.passed ≤ m) (map (λ q. cursor_at (count q) q) (filter test qs))
@@ -66,34 +71,68 @@ module _ (catalog : Catalog) (accepted : Accepted catalog) (d : Database) (whole
     abbrev least : ℕ
     least = least_passed (0 + length batches) cursors
 
-    some_cursor : 0 < length cursors
-    some_cursor =
-        let last = last_taker catalog accepted s there in
-        let left = one_left (λ q. procedure_takes catalog q s) (length catalog.procedures) 0 last.0 (taken last.0 last.2) (omega arith) (omega (arith, last.1)) in
-        omega (arith, left, length-map (consumers_of catalog s) (λ q. cursor_at (batch_count d q) q))
-      where
-        taken : (q : ℕ) → takes_last catalog q s ≡ true → procedure_takes catalog q s ≡ true
-        taken q last = first_of_two (procedure_takes catalog q s) (not (list_any (λ p. procedure_takes catalog p s) (range_with_len (q + 1) (length catalog.procedures - (q + 1))))) last
+    -- a stream that is inside of no nest has a consumer
+    module _ (outer : is_inner_stream catalog s ≡ false) where
+      some_cursor : 0 < length cursors
+      some_cursor =
+          let last = last_taker catalog accepted s there outer in
+          let left = one_left (λ q. procedure_takes catalog q s) (length catalog.procedures) 0 last.0 (taken last.0 last.2) (omega arith) (omega (arith, last.1)) in
+          omega (arith, left, length-map (consumers_of catalog s) (λ q. cursor_at (batch_count d q) q))
+        where
+          taken : (q : ℕ) → takes_last catalog q s ≡ true → procedure_takes catalog q s ≡ true
+          taken q last = first_of_two (procedure_takes catalog q s) (not (list_any (λ p. procedure_takes catalog p s) (range_with_len (q + 1) (length catalog.procedures - (q + 1))))) last
 
-    within_all : AllByRecursion (λ (c : Cursor). c.passed ≤ length batches) cursors
-    within_all = all_within (λ q. procedure_takes catalog q s) (λ q. batch_count d q) (length batches) (λ q takes. whole.in_step.within s q takes) (procedure_numbers catalog)
+      within_all : AllByRecursion (λ (c : Cursor). c.passed ≤ length batches) cursors
+      within_all = all_within (λ q. procedure_takes catalog q s) (λ q. batch_count d q) (length batches) (λ q takes. whole.in_step.within s q takes) (procedure_numbers catalog)
 
-    least_is : least ≡ least_cursor cursors
-    least_is = (let plain : length batches ≡ 0 + length batches = omega arith in
-        least-of_some (0 + length batches) cursors some_cursor (subst (λ (n : ℕ). AllByRecursion (λ (c : Cursor). c.passed ≤ n) cursors) plain within_all))
+      least_is : least ≡ least_cursor cursors
+      least_is = (let plain : length batches ≡ 0 + length batches = omega arith in
+          least-of_some (0 + length batches) cursors some_cursor (subst (λ (n : ℕ). AllByRecursion (λ (c : Cursor). c.passed ≤ n) cursors) plain within_all))
 
-    all_of_them : least_cursor cursors + length (kept_stream catalog d s).batches ≡ length batches
-    all_of_them = omega (arith, least_is, least_within (0 + length batches) cursors, length-drop (least - 0) batches)
+      all_of_them : least_cursor cursors + length (kept_stream catalog d s).batches ≡ length batches
+      all_of_them = omega (arith, least_is, least_within (0 + length batches) cursors, length-drop (least - 0) batches)
+
+      outer_can : CanResume (kept_stream catalog d s).batches cursors
+      outer_can = record {
+        some = λ kept. some_cursor;
+        within = subst (λ (n : ℕ). AllByRecursion (λ (c : Cursor). c.passed ≤ n) cursors) (sym all_of_them) within_all;
+        few = (let few = had.streams s in omega (arith, few, all_of_them));
+      }
+
+      outer_resumes : resume (kept_stream catalog d s).batches cursors ≡ kept_stream catalog d s
+      outer_resumes = λ k. record { first = sym least_is k; batches = (kept_stream catalog d s).batches; cursors = cursors }
+
+    -- one inside of a nest has none, and no batch
+    module _ (inner : is_inner_stream catalog s ≡ true) where
+      no_cursors : cursors ≡ []
+      no_cursors =
+          ap (map (λ q. cursor_at (batch_count d q) q))
+          (none_left (λ q. procedure_takes catalog q s) (length catalog.procedures) 0 (λ q. accepted.structure.streams.inner.not_taken q s inner))
+
+      nothing_kept : kept_stream catalog d s ≡ no_stream
+      nothing_kept = λ k. pending_from 0 (whole.inner s inner k) (no_cursors k)
+
+      inner_can : CanResume (kept_stream catalog d s).batches cursors
+      inner_can =
+          subst (λ (bs : List Rows). CanResume bs cursors) (sym (ap (λ (p : Pending). p.batches) nothing_kept))
+          (subst (CanResume []) (sym no_cursors) (record { some = λ kept. absurd (omega (arith, kept)); within = tt; few = omega arith }))
+
+      inner_resumes : resume (kept_stream catalog d s).batches cursors ≡ kept_stream catalog d s
+      inner_resumes = (λ k. resume (nothing_kept k).batches (no_cursors k)) ∙ sym nothing_kept
 
     can_resume : CanResume (kept_stream catalog d s).batches cursors
-    can_resume = record {
-      some = some_cursor;
-      within = subst (λ (n : ℕ). AllByRecursion (λ (c : Cursor). c.passed ≤ n) cursors) (sym all_of_them) within_all;
-      few = (let few = had.streams s in omega (arith, few, all_of_them));
-    }
+    can_resume = by (is_inner_stream catalog s) refl
+      where
+        by : (b : Bool) → is_inner_stream catalog s ≡ b → CanResume (kept_stream catalog d s).batches cursors
+        by true inner = inner_can inner
+        by false outer = outer_can outer
 
     resumes : resume (kept_stream catalog d s).batches cursors ≡ kept_stream catalog d s
-    resumes = λ k. record { first = sym least_is k; batches = (kept_stream catalog d s).batches; cursors = cursors }
+    resumes = by (is_inner_stream catalog s) refl
+      where
+        by : (b : Bool) → is_inner_stream catalog s ≡ b → resume (kept_stream catalog d s).batches cursors ≡ kept_stream catalog d s
+        by true inner = inner_resumes inner
+        by false outer = outer_resumes outer
 
   -- ---- all streams
 

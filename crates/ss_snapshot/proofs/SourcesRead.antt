@@ -1,6 +1,6 @@
 -- Sources that are read one by one and put into a map.
-use Rattle.std.proofs.Common.{◌≡◌, ◌∙◌, ℕ, zero, suc, ◌+◌, ◌-◌, ◌<◌, ◌≤◌, ◌^◌, ◌&&◌, nat_le, List, [], ◌∷◌, ◌++◌, length, map, Bool, true, false, cond, T, Option, Some, None, unwrap_or, Result, Ok, Err, refl, sym, ap, subst, arith}
-use Rattle.std.specs.List.{fold, range_with_len}
+use Rattle.std.proofs.Common.{◌≡◌, ◌∙◌, ℕ, zero, suc, ◌+◌, ◌-◌, ◌<◌, ◌≤◌, ◌^◌, ◌&&◌, nat_le, List, [], ◌∷◌, ◌++◌, map, Bool, true, false, cond, T, Option, Some, None, unwrap_or, Result, Ok, Err, refl, sym, ap, subst, arith}
+use Rattle.std.specs.List.{fold}
 use Rattle.std.specs.Option.{option_or}
 use Rattle.std.specs.Cmp.{Equal-is, IsTotalOrder}
 use Rattle.std.specs.Cmp.Lexicographic.{slice_cmp, nat_list_cmp_total}
@@ -13,16 +13,14 @@ use Rattle.std.specs.declared.cmp.Ordering.TheVariants.{Less, Equal, Greater}
 use Rattle.std.proofs.lemmas.Bool.{le-leb}
 use Rattle.std.proofs.lemmas.List.Sums.{fold-append}
 use Rattle.ss_lemmas.proofs.Bools.{and_left, and_right}
-use Rattle.ss_lemmas.proofs.Firsts.{range_done, range_on}
-use Rattle.ss_model.specs.declared.catalog.Catalog.{Catalog}
 use Rattle.ss_model.specs.Database.{NextNumbers}
 use Rattle.ss_cmdlog.specs.Reading.{◌>>>◌, as_field}
 use Rattle.ss_cmdlog.proofs.CallerLemmas.{bind_ok, ok_pair}
 use Rattle.ss_shard.specs.Sources.{number_of, positive}
 use Rattle.ss_record.specs.Records.{name_at}
-use Rattle.ss_standing.specs.ImageForm.{number_where, source_above, sources_at}
-use Rattle.ss_standing.specs.Readers.{Chained, Reader, each, is_above, many, made, passing, with_front}
-use Rattle.ss_standing.proofs.CallerLemmas.{for_refused, item_refused, next_for, next_item, no_more_for, no_more_items}
+use Rattle.ss_standing.specs.ImageForm.{number_where, source_above}
+use Rattle.ss_standing.specs.Readers.{Chained, Reader, is_above, many, made, passing, with_front}
+use Rattle.ss_standing.proofs.CallerLemmas.{item_refused, next_item, no_more_items}
 use Rattle.ss_standing.proofs.Rising.{rising_sorted}
 use Rattle.ss_snapshot.specs.declared.reading.fields.PartError.{PartError}
 use Rattle.ss_snapshot.specs.declared.reading.fields.PartError.TheVariants.{NoMemory, Foreign}
@@ -186,36 +184,3 @@ module _ (count done : ℕ) (built : NextNumbers) (last : Option (List ℕ)) (by
     one_refused (Foreign gone) refused =
         ap (λ (r : Result (List Source × List ℕ) ℕ). r >>> λ x. Ok (finmap.from_sorted {R = slice_cmp nat_cmp} x.0, x.1))
         (sym read_on ∙ item_refused next source_above are.front (count - (done + 1)) last rest gone refused)
-
--- ---- stream by stream
-
-map_more : (front : List NextNumbers) (m : NextNumbers) → map positive (front ++ m ∷ []) ≡ map positive front ++ positive m ∷ []
-map_more [] m = refl
-map_more (x ∷ front) m = ap (λ l. positive x ∷ l) (map_more front m)
-
-module _ (catalog : Catalog) where
-  -- the streams from this one on
-  abbrev pub streams_from : ℕ → List ℕ
-  streams_from s = range_with_len s (length catalog.streams - s)
-
-  pub streams_begin : (bytes : List ℕ) → with_front [] (each (sources_at catalog) (streams_from 0) bytes) ≡ each (sources_at catalog) (range_with_len 0 (length catalog.streams)) bytes
-  streams_begin bytes =
-      let all : length catalog.streams - 0 ≡ length catalog.streams = omega arith in
-      ap (λ n. with_front [] (each (sources_at catalog) (range_with_len 0 n) bytes)) all ∙ front_none (each (sources_at catalog) (range_with_len 0 (length catalog.streams)) bytes)
-
-  module _ (front : List NextNumbers) (s : ℕ) (bytes : List ℕ) (all : Result (List NextNumbers × List ℕ) ℕ) (so_far : with_front (map positive front) (each (sources_at catalog) (streams_from s) bytes) ≡ all) where
-    pub streams_end : length catalog.streams ≤ s → all ≡ Ok (map positive front, bytes)
-    streams_end end = sym so_far ∙ ap (λ ss. with_front (map positive front) (each (sources_at catalog) ss bytes)) (range_done (length catalog.streams) s end) ∙ no_more_for (sources_at catalog) (map positive front) bytes
-
-    module _ (there : s < length catalog.streams) where
-      this_on : with_front (map positive front) (each (sources_at catalog) (s ∷ streams_from (s + 1)) bytes) ≡ all
-      this_on = ap (λ ss. with_front (map positive front) (each (sources_at catalog) ss bytes)) (sym (range_on (length catalog.streams) s there)) ∙ so_far
-
-      pub one_stream : (m : NextNumbers) (rest : List ℕ) → sources_at catalog s bytes ≡ Ok (positive m, rest) → with_front (map positive (front ++ m ∷ [])) (each (sources_at catalog) (streams_from (s + 1)) rest) ≡ all
-      one_stream m rest is =
-          ap (λ l. with_front l (each (sources_at catalog) (streams_from (s + 1)) rest)) (map_more front m)
-          ∙ sym (next_for (sources_at catalog) (map positive front) s (streams_from (s + 1)) bytes (positive m) rest is) ∙ this_on
-
-      pub stream_refused : (e : PartError) → Refuses e (sources_at catalog s bytes) → Refuses e all
-      stream_refused NoMemory refused = tt
-      stream_refused (Foreign left) refused = sym this_on ∙ for_refused (sources_at catalog) (map positive front) s (streams_from (s + 1)) bytes left refused

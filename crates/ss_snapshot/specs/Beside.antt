@@ -9,7 +9,7 @@ use Rattle.ss_model.specs.Settling.{Kept}
 use Rattle.ss_shard.specs.ShardValue.{ShardValue}
 use Rattle.ss_shard.specs.Sources.{positive}
 use Rattle.ss_shard.specs.Windows.{kept_part}
-use Rattle.ss_standing.specs.ImageForm.{counts_of, sources_at, stream_of, table_of, window_of}
+use Rattle.ss_standing.specs.ImageForm.{counts_of, sources_at, stream_at, table_of, window_of}
 use Rattle.ss_standing.specs.Readers.{Reader, each, followed}
 use Rattle.ss_snapshot.specs.declared.reading.image.Beside.{Beside}
 use Rattle.ss_snapshot.specs.declared.reading.image.Progress.{Progress}
@@ -27,9 +27,9 @@ BesideTables = List (ℕ × Window) × Progressed
 abbrev pub counts_and_sources_of : Catalog → List (ℕ × (ℕ × List Rows)) → Reader (List ℕ × List NextNumbers)
 counts_and_sources_of catalog streams = followed (counts_of catalog streams) (λ counts. each (sources_at catalog) (range_with_len 0 (length catalog.streams)))
 
--- the streams, of which none has had more batches than so many, and what is behind them
+-- the streams, of which none has had more batches than so many and an inner one none, and what is behind them
 abbrev pub progress_of : Catalog → ℕ → Reader Progressed
-progress_of catalog most = followed (each (stream_of most) catalog.streams) (λ streams. counts_and_sources_of catalog streams)
+progress_of catalog most = followed (each (stream_at catalog most) (range_with_len 0 (length catalog.streams))) (λ streams. counts_and_sources_of catalog streams)
 
 -- the windows, and what is behind them
 abbrev pub beside_of : Catalog → ℕ → Reader BesideTables

@@ -3,8 +3,8 @@ use Rattle.std.specs.Prelude.{◌≡◌, ◌-◌, ℕ, List, length}
 use Rattle.ss_value.specs.declared.text.ValueError.{ValueError}
 use Rattle.ss_value.specs.declared.text.ValueError.TheVariants as value
 use Rattle.ss_model.specs.declared.catalog.Catalog.{Catalog}
-use Rattle.ss_catalog.specs.declared.error.CatalogError.{CatalogError}
-use Rattle.ss_catalog.specs.declared.error.CatalogError.TheVariants as catalog
+use Rattle.ss_nest.specs.declared.error.NestError.{NestError}
+use Rattle.ss_nest.specs.declared.error.NestError.TheVariants as nested
 use Rattle.ss_snapshot.specs.declared.error.ImageError.{ImageError}
 use Rattle.ss_snapshot.specs.declared.error.ImageError.TheVariants.{NoMemory, Foreign}
 use Rattle.ss_snapshot.specs.declared.reading.fields.PartError.{PartError}
@@ -46,8 +46,8 @@ RefusesText text NoMemory = Unit {0}
 RefusesText text (Foreign at) = IsNoCatalog text × (at ≡ 4)
 
 -- why its value is no catalogue
-abbrev pub text_refusal : CatalogError → ImageError
-text_refusal catalog.NoMemory = NoMemory
+abbrev pub text_refusal : NestError → ImageError
+text_refusal nested.NoMemory = NoMemory
 text_refusal _ = Foreign 4
 
 -- of what is behind the text, of which so many bytes are left from the first that can't be

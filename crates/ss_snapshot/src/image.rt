@@ -91,12 +91,12 @@ fn catalog_and_database_in(
 /// and to a database that stands for whatever the written one stood for. What is read is accepted, and whole.
 ///
 /// `Foreign` tells the end of bytes that end inside the text or its length, which has four bytes; the text's first byte
-/// where it isn't UTF-8 or JSON, where `read_catalog` refuses it, or where it isn't the compact text of its value; the
-/// first byte of a body's text that is no body's (`body_of`); and else the first byte of the first field that can't be,
+/// where it isn't UTF-8 or JSON, where `read_nested` refuses it, or where it isn't the compact text of its value; the
+/// first byte of a body's text that is no body's (`nested_body_of`); and else the first byte of the first field that can't be,
 /// with the bounds that follow from the catalogue, from the fields before it and from the place, which no stream has had
-/// more batches than.
+/// more batches than; a stream inside of a nest has had none.
 ///
-/// Costs what `read_catalog` costs, and that again for each body that isn't the procedure's own, and an insert for each
+/// Costs what `read_nested` costs, and that again for each body that isn't the procedure's own, and an insert for each
 /// row. There are two copies of the text, of which the catalogue keeps one.
 pub fn read_image(
     alloc: Global,

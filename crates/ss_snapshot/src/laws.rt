@@ -7,8 +7,8 @@
 ghost use Rattle.ss_snapshot.specs.Held.{HeldTellsKept, KeptTellsHeld};
 ghost use Rattle.ss_snapshot.specs.Images.{HasOneKept, IsImageOrForeign, HasOneOffset};
 
-use ss_catalog::{a_body_has_one_answer, a_value_has_one_answer};
 use ss_model_laws::spares_aside;
+use ss_nest::{a_nested_body_has_one_answer, a_nested_value_has_one_answer};
 use ss_standing::{an_image_tells_what_is_kept, images_are_exact};
 
 /// Bytes are the image of databases of one catalogue at most, bodies to be installed aside, of which the same is kept; those that are one have no first
@@ -18,8 +18,8 @@ pub fn bytes_have_one_answer()
     ensures either { IsImageOrForeign }
     ensures offset { HasOneOffset }
 {
-    a_value_has_one_answer();
-    a_body_has_one_answer();
+    a_nested_value_has_one_answer();
+    a_nested_body_has_one_answer();
     spares_aside();
     an_image_tells_what_is_kept();
     images_are_exact();

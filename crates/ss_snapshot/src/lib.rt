@@ -35,6 +35,8 @@
 //! - A catalogue's text doesn't tell which bodies may be installed. So an image is one of any catalogue of its text whose
 //!   bodies to be installed are read from their texts (`IsReadFromItsText`), and two such catalogues are the same, these
 //!   aside (`SameButSpares`).
+//! - A stream inside of a nest is spelled as one without batches, instead of being left out, because then an image has each
+//!   stream of the catalogue in its turn. Another number of batches than 0 is told there.
 //! - The first byte that can't be is the furthest to which the bytes are read with whatever bodies to be installed
 //!   (`NoneGetsFurther`), instead of being told by a reader that knows which texts are bodies: which they are is a relation.
 #![tactic(auto)]

@@ -11,8 +11,8 @@ ghost use Rattle.ss_snapshot.specs.Foreign.{RefusesCut, RefusesText, length_refu
 
 use crate::error::ImageError;
 use serde_json::Value;
-use ss_catalog::{CatalogError, a_value_has_one_answer, read_catalog};
 use ss_model::Catalog;
+use ss_nest::{NestError, a_nested_value_has_one_answer, read_nested};
 use ss_record::{push_u32, u32_of};
 use ss_value::{NoMemory, ValueError};
 use std::alloc::Global;
@@ -89,18 +89,18 @@ fn value_of(alloc: Global, text: &[u8]) -> Result<Value, ImageError>
 }
 
 /// The refusal of a text whose value is refused.
-fn refusal(refused: &CatalogError) -> ImageError
+fn refusal(refused: &NestError) -> ImageError
     ensures { result ≡ text_refusal refused.now }
 {
     match refused {
-        CatalogError::NoMemory => ImageError::NoMemory,
+        NestError::NoMemory => ImageError::NoMemory,
         _ => ImageError::Foreign { at: TEXT_AT },
     }
 }
 
 /// The catalogue that is read from a text, as one is read from the first line of an input; the text has to be its own.
 ///
-/// That it is UTF-8 is a part of that beside what `Reads` says (`IsReadFromItsText`), since what JSON a text is doesn't
+/// That it is UTF-8 is a part of that beside what `ReadsNested` says (`IsReadFromItsText`), since what JSON a text is doesn't
 /// depend on it, and bytes that aren't UTF-8 are refused before they are read.
 pub(crate) fn catalog_of(alloc: Global, text: &[u8]) -> Result<Catalog, ImageError>
     ensures own { IfOk result IsReadFromItsText }
@@ -108,9 +108,9 @@ pub(crate) fn catalog_of(alloc: Global, text: &[u8]) -> Result<Catalog, ImageErr
     ensures accepted { IfOk result Accepted }
     ensures refused { IfErr result (RefusesText text.now) }
 {
-    a_value_has_one_answer();
+    a_nested_value_has_one_answer();
     let value = value_of(alloc, text)?;
-    let catalog = match read_catalog(alloc, &value) {
+    let catalog = match read_nested(alloc, value) {
         Ok(catalog) => catalog,
         Err(refused) => return Err(refusal(&refused)),
     };

@@ -24,7 +24,7 @@ use Rattle.ss_model.specs.declared.catalog.WindowDef.{WindowDef}
 use Rattle.ss_model.specs.Accepted.{Accepted}
 use Rattle.ss_model.specs.CatalogForm.{counts_within_limits, has_window_sizes}
 use Rattle.ss_model.specs.Contents.{Window, default_window, first_kept, kept_units, table_at, window_def, window_units}
-use Rattle.ss_model.specs.Database.{Database, batch_count, is_call, stream_batches, stream_schema}
+use Rattle.ss_model.specs.Database.{Database, batch_count, is_call, is_inner_stream, stream_batches, stream_schema}
 use Rattle.ss_model.specs.Orders.{procedure_takes}
 use Rattle.ss_model.specs.Settling.{kept, least_count}
 use Rattle.ss_model.specs.WholeDatabase.{WholeDatabase, WholeWindow, HadAtMost, batch_fits, has_unit_size, unit_fits}
@@ -33,10 +33,11 @@ use Rattle.ss_model_kept.proofs.CallerLemmas.{get_or-map_index, length-map_index
 use Rattle.ss_model_laws.proofs.CallerLemmas.{named, of_entries}
 use Rattle.ss_record.specs.Bounds.{IsShort, IsTypedRow}
 use Rattle.ss_standing.specs.FitsImage.{FitsWindow, FitsStream, FitBodies, FitsImage}
-use Rattle.ss_standing.specs.ImageForm.{is_unit, least_of, no_batches}
+use Rattle.ss_standing.specs.ImageForm.{is_unit, least_of, most_of, no_batches}
 use Rattle.ss_standing.proofs.ImageTells.{none_there}
 use Rattle.ss_standing.proofs.Chains.{are_for}
-use Rattle.ss_standing.proofs.ImageParts.{AreRowsOf, IsTableOf, IsWindowOf, IsStreamOf, IsNext, IsBodyOf, all_values, of_look_ups}
+use Rattle.ss_standing.proofs.Places.{least_within}
+use Rattle.ss_standing.proofs.ImageParts.{AreRowsOf, IsTableOf, IsWindowOf, IsStreamAt, IsNext, IsBodyOf, all_values, of_look_ups}
 use Rattle.ss_standing.proofs.KeptExact.{IsSourcesAt, AreBodies, HasForm}
 use Rattle.ss_standing.proofs.Counted.{AllGoTogether, counts_together}
 use Rattle.ss_standing.proofs.Formed.{unit_size}
@@ -76,19 +77,6 @@ few_kept d k moves within small = by (nat_lt k d.size) refl
         let rest = mod_below (k - d.size) d.slide (omega (arith, moves)) in
         let whole = div-add-mod' (k - d.size) d.slide in
         omega (arith, rest, whole, within, small)
-
--- ---- the least count
-
-least_within : (test : ℕ → Bool) (count : ℕ → ℕ) (a : ℕ) (qs : List ℕ) → fold (λ least q. cond (test q) (min least (count q)) least) a qs ≤ a
-least_within test count a [] = omega arith
-least_within test count a (q ∷ qs) =
-    let rest = least_within test count (cond (test q) (min a (count q)) a) qs in
-    let here = by (test q) in
-    omega (arith, rest, here)
-  where
-    by : (b : Bool) → cond b (min a (count q)) a ≤ a
-    by true = omega arith
-    by false = omega arith
 
 module _ (catalog : Catalog) (accepted : Accepted catalog) where
   counts : counts_within_limits catalog ≡ true
@@ -162,27 +150,44 @@ module _ (catalog : Catalog) (accepted : Accepted catalog) where
     unfolding kept
     stream_at s there = get_or-map_index kept_stream db.streams s [] no_batches (omega (arith, there, many_streams))
 
-    stream_is : (s : ℕ) (d : StreamDef) → slice_get catalog.streams s ≡ Some d → IsStreamOf most d (get_or (kept catalog db).streams s no_batches)
+    had_at : (s : ℕ) → length (stream_batches db s) ≤ most_of catalog most s
+    had_at s = by (is_inner_stream catalog s) refl
+      where
+        by : (inner : Bool) → is_inner_stream catalog s ≡ inner → length (stream_batches db s) ≤ cond inner 0 most
+        by true inner = omega (arith, ap (λ (l : List Rows). length l) (whole.inner s inner))
+        by false outer = had.streams s
+
+    stream_there : (s : ℕ) (d : StreamDef) → slice_get catalog.streams s ≡ Some d → IsStreamAt catalog most s (get_or (kept catalog db).streams s no_batches)
     unfolding kept
-    stream_is s d is =
+    stream_there s d is =
         let there = slice_get_within catalog.streams s d is in
         let bs = stream_batches db s in
+        let cs = stream_schema catalog s in
         let least = least_count catalog db s in
         let item = stream_at s there in
         let room : FitsStream (kept_stream s bs) = subst FitsStream item (fits.streams s no_batches (omega (arith, there, many_streams, length-map_index kept_stream db.streams))) in
-        let schema : stream_schema catalog s ≡ d.schema = ap (λ o. unwrap_or (option_map (λ (d : StreamDef). d.schema) o) []) is in
-        let batches = all_listed (batch_fits d.schema) (drop least bs) (sym (ap (λ (cs : List Column). list_all (batch_fits cs) (drop least bs)) schema) ∙ whole.batches s) in
-        subst (IsStreamOf most d) (sym item) (record {
-          had = had.streams s;
+        let schema : d.schema ≡ cs = sym (ap (λ o. unwrap_or (option_map (λ (d : StreamDef). d.schema) o) []) is) in
+        let few : length cs ≤ 16 = subst (λ (z : List Column). length z ≤ 16) schema (stream_columns s d is) in
+        let batches = all_listed (batch_fits cs) (drop least bs) (whole.batches s) in
+        subst (IsStreamAt catalog most s) (sym item) (record {
+          had = had_at s;
           long = room.0;
           first = least_within (λ q. procedure_takes catalog q s) (λ q. batch_count db q) (length bs) (range_with_len 0 (length catalog.procedures));
           kept = length-drop least bs;
           batches = λ i x lt.
               (let batch = get_or (drop least bs) i x in
-              let parts = and_parts (nat_le (length batch) 1024) (list_all (fits_schema d.schema) batch) (batches i x lt) in
+              let parts = and_parts (nat_le (length batch) 1024) (list_all (fits_schema cs) batch) (batches i x lt) in
               let fit = room.2 i x lt in
-              are_rows 2 (λ n. nat_le n 1024) d.schema batch (stream_columns s d is) fit.0 parts.0 parts.1 fit.1);
+              are_rows 2 (λ n. nat_le n 1024) cs batch few fit.0 parts.0 parts.1 fit.1);
         })
+
+    stream_is : (i s : ℕ) → slice_get (range_with_len 0 (length catalog.streams)) i ≡ Some s → IsStreamAt catalog most s (get_or (kept catalog db).streams i no_batches)
+    stream_is i s is =
+        let there : i < length catalog.streams = omega (arith, slice_get_within (range_with_len 0 (length catalog.streams)) i s is, length-range_with_len 0 (length catalog.streams)) in
+        let plain : 0 + i ≡ i = omega arith in
+        let same : i ≡ s = sym (sym (get_or_from_slice_get (range_with_len 0 (length catalog.streams)) i s 0 is) ∙ get_or-range_with_len 0 (length catalog.streams) i 0 there ∙ plain) in
+        subst (λ s. IsStreamAt catalog most s (get_or (kept catalog db).streams i no_batches)) same
+        (⊎_elim (λ found. stream_there i found.0 found.2) (λ gone. absurd (omega (arith, gone.0, there))) (slice_get_cases catalog.streams i).1)
 
     together : AllGoTogether catalog (kept catalog db).streams db.counts
     unfolding kept
@@ -237,7 +242,7 @@ module _ (catalog : Catalog) (accepted : Accepted catalog) where
     form_of = record {
       tables = are_for IsTableOf catalog.tables db.contents.tables finmap.empty whole.contents.table_count table_is;
       windows = are_for IsWindowOf catalog.windows (kept catalog db).windows (0, []) (length-map_index kept_window db.contents.windows ∙ whole.contents.window_count) window_is;
-      streams = are_for (IsStreamOf most) catalog.streams (kept catalog db).streams no_batches (length-map_index kept_stream db.streams ∙ many_streams) stream_is;
+      streams = are_for (IsStreamAt catalog most) (range_with_len 0 (length catalog.streams)) (kept catalog db).streams no_batches (length-map_index kept_stream db.streams ∙ many_streams ∙ sym (length-range_with_len 0 (length catalog.streams))) stream_is;
       counts = counts_together catalog (kept catalog db).streams db.counts together;
       sources = are_for (IsSourcesAt catalog) (range_with_len 0 (length catalog.streams)) db.next_numbers finmap.empty (whole.next_count ∙ sym (length-range_with_len 0 (length catalog.streams))) source_is;
       texts = texts_are bodies fits.texts;

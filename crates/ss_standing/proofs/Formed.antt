@@ -1,17 +1,16 @@
 -- What has the form of an image is kept of a whole database.
-use Rattle.std.proofs.Common.{◌≡◌, ◌∙◌, ⊎_elim, ℕ, suc, ◌+◌, ◌-◌, ◌^◌, ◌<◌, ◌≤◌, ◌==◌, ◌&&◌, ◌||◌, nat_le, nat_lt, min, List, [], ◌∷◌, ◌++◌, length, map, get_or, drop, replicate, slice_get, Bool, true, false, cond, refl, sym, ap, subst, arith, All, Some, None, length-append}
+use Rattle.std.proofs.Common.{◌≡◌, ◌∙◌, ⊎_elim, ℕ, suc, ◌+◌, ◌-◌, ◌^◌, ◌<◌, ◌≤◌, ◌==◌, ◌&&◌, ◌||◌, nat_le, min, List, [], ◌∷◌, ◌++◌, length, map, get_or, drop, replicate, slice_get, Bool, true, false, cond, refl, sym, ap, subst, arith, All, Some, None, length-append}
 use Rattle.std.proofs.Common.{drop_at}
 use Rattle.std.specs.List.{fold, list_all, list_any, range_with_len}
 use Rattle.std.specs.Ordering.{nat_cmp}
 use Rattle.std.specs.Cmp.Lexicographic.{slice_cmp}
 use Rattle.std.specs.FinMap as finmap
 use Rattle.std.specs.FinMap.{get-empty, nat_cmp-IsAntisymmetric, slice_cmp-IsAntisymmetric}
-use Rattle.std.proofs.lemmas.Bool.{and_from, cases_lt, ltb-true, eqb-true}
+use Rattle.std.proofs.lemmas.Bool.{and_from, cases_lt}
 use Rattle.std.proofs.lemmas.List.{get_or-map, get_or_past, length-map, length-replicate}
 use Rattle.std.proofs.lemmas.List.Elements.{All-head, All-tail}
 use Rattle.std.proofs.lemmas.List.FromFn.{length-range_with_len, get_or-range_with_len}
 use Rattle.std.proofs.lemmas.Option.{slice_get_cases, slice_get-get_or, slice_get_within, get_or_from_slice_get}
-use Rattle.std.specs.Prelude.{option_map, unwrap_or}
 use Rattle.std.proofs.Math.Seq.{drop-nil}
 use Rattle.ss_lemmas.proofs.Bools.{at_index, first_of_two, second_of_two}
 use Rattle.ss_lemmas.proofs.Numbers.{eqb_self}
@@ -24,26 +23,25 @@ use Rattle.ss_model.specs.declared.catalog.Catalog.{Catalog}
 use Rattle.ss_model.specs.declared.catalog.ProcedureKind.{ProcedureKind}
 use Rattle.ss_model.specs.declared.catalog.ProcedureKind.TheVariants.{Call as CallKind, Border, Interior}
 use Rattle.ss_model.specs.declared.catalog.Procedure.{Procedure}
-use Rattle.ss_model.specs.declared.catalog.StreamDef.{StreamDef}
 use Rattle.ss_model.specs.declared.catalog.TableDef.{TableDef}
 use Rattle.ss_model.specs.declared.catalog.WindowDef.{WindowDef}
-use Rattle.ss_model.specs.CatalogForm.{inputs_of_kind, is_of_kind, touch_in_range}
+use Rattle.ss_model.specs.CatalogForm.{inputs_of_kind, is_of_kind}
 use Rattle.ss_model.specs.Accepted.{Accepted}
 use Rattle.ss_model.specs.Results.{map_indexed}
 use Rattle.ss_model.specs.Contents.{Window, default_window, first_kept, kept_units, table_at, window_def, window_units}
-use Rattle.ss_model.specs.Database.{Database, NextNumbers, batch_count, has_body, is_border, is_border_stream, is_call, stream_batches, stream_schema, takes_stream}
+use Rattle.ss_model.specs.Database.{Database, NextNumbers, batch_count, has_body, is_border, is_border_stream, is_inner_stream, is_call, stream_batches, stream_schema, takes_stream}
 use Rattle.ss_model.specs.InStep.{IsInStep}
 use Rattle.ss_model.specs.Orders.{procedure_has, procedure_takes}
 use Rattle.ss_model.specs.Settling.{Kept, kept, least_count}
 use Rattle.ss_model.specs.WholeDatabase.{WholeDatabase, WholeContents, WholeTable, WholeWindow, NextNumberFits, HadAtMost, batch_fits, has_unit_size, unit_fits}
 use Rattle.ss_record.specs.Bounds.{IsTypedRow}
-use Rattle.ss_model.proofs.CallerLemmas.{emitter_there, taker_there, numbers_of}
-use Rattle.ss_model_laws.proofs.CallerLemmas.{named, empty_whole}
+use Rattle.ss_model.proofs.CallerLemmas.{emitter_there, taker_there}
+use Rattle.ss_model_laws.proofs.CallerLemmas.{empty_whole, within_streams}
 use Rattle.ss_standing.specs.FitsImage.{FitsTable, FitsWindow, FitsStream, FitNumbers, FitBodies, FitsImage}
-use Rattle.ss_standing.specs.ImageForm.{IsKeptOf, is_unit, may_have_taken, no_batches, takes_last}
+use Rattle.ss_standing.specs.ImageForm.{IsKeptOf, is_unit, may_have_taken, most_of, no_batches, takes_last}
 use Rattle.ss_standing.proofs.Chains.{as_many, for_each_one, are_all, chained_all, chained_so}
-use Rattle.ss_standing.proofs.Places.{made_again, some_last}
-use Rattle.ss_standing.proofs.ImageParts.{AreRowsOf, IsTableOf, IsUnitOf, IsWindowOf, IsBatchOf, IsStreamOf, IsNext, IsBodyOf, all_recursion, in_map}
+use Rattle.ss_standing.proofs.Places.{least_within, made_again, some_last}
+use Rattle.ss_standing.proofs.ImageParts.{AreRowsOf, IsTableOf, IsUnitOf, IsWindowOf, IsBatchOf, IsStreamOf, IsStreamAt, IsNext, IsBodyOf, all_recursion, in_map}
 use Rattle.ss_standing.proofs.KeptExact.{IsSourcesAt, no_sources_are, AreBodies, HasForm}
 use Rattle.ss_standing.proofs.Counted.{AllGoTogether, all_together}
 
@@ -72,8 +70,21 @@ units_again d w is =
     let first : first_kept d (length (all_units w)) ≡ w.0 - length w.1 = ap (first_kept d) long ∙ (let le = is.kept in omega (arith, le)) in
     λ k. (long k, (ap (λ n. drop n (all_units w)) first ∙ drop-behind_blanks (w.0 - length w.1) w.1) k)
 
-length-all_batches : (most : ℕ) (d : StreamDef) (s : ℕ × (ℕ × List Rows)) → IsStreamOf most d s → length (all_batches s) ≡ s.0
-length-all_batches most d s is = length-behind_blanks s.1.0 s.1.1 ∙ (let first = is.first in let kept = is.kept in omega (arith, first, kept))
+length-all_batches : (most : ℕ) (schema : List Column) (s : ℕ × (ℕ × List Rows)) → IsStreamOf most schema s → length (all_batches s) ≡ s.0
+length-all_batches most schema s is = length-behind_blanks s.1.0 s.1.1 ∙ (let first = is.first in let kept = is.kept in omega (arith, first, kept))
+
+-- a list without a batch
+no_batch : (bs : List Rows) → length bs ≡ 0 → bs ≡ []
+no_batch [] none = refl
+no_batch (b ∷ bs) none = absurd (omega (arith, none))
+
+-- no stream has had more batches than one may have had
+most_within : (catalog : Catalog) (most s : ℕ) → most_of catalog most s ≤ most
+most_within catalog most s = by (is_inner_stream catalog s)
+  where
+    by : (inner : Bool) → cond inner 0 most ≤ most
+    by true = omega arith
+    by false = omega arith
 
 -- ---- rows
 
@@ -91,8 +102,8 @@ rows_fit size test schema rows are = list_all_from (fits_schema schema) rows (λ
 unit_is_fit : (d : WindowDef) (unit : Rows) → IsUnitOf d unit → unit_fits d unit ≡ true
 unit_is_fit d unit is = and_from (has_unit_size d.unit unit) (list_all (fits_schema d.schema) unit) (sym (unit_size d.unit unit) ∙ is.may) (rows_fit 8 (is_unit d.unit) d.schema unit is)
 
-batch_is_fit : (d : StreamDef) (batch : Rows) → IsBatchOf d batch → batch_fits d.schema batch ≡ true
-batch_is_fit d batch is = and_from (nat_le (length batch) 1024) (list_all (fits_schema d.schema) batch) is.may (rows_fit 2 (λ n. nat_le n 1024) d.schema batch is)
+batch_is_fit : (schema : List Column) (batch : Rows) → IsBatchOf schema batch → batch_fits schema batch ≡ true
+batch_is_fit schema batch is = and_from (nat_le (length batch) 1024) (list_all (fits_schema schema) batch) is.may (rows_fit 2 (λ n. nat_le n 1024) schema batch is)
 
 -- ---- what takes a stream
 
@@ -116,28 +127,19 @@ module _ (catalog : Catalog) (accepted : Accepted catalog) where
   takes_by : (q s : ℕ) (p : Procedure) → slice_get catalog.procedures q ≡ Some p → takes_stream s p ≡ true → procedure_takes catalog q s ≡ true
   takes_by q s p is takes = ap (procedure_has (takes_stream s)) is ∙ takes
 
-  -- each stream has a procedure that takes it
-  taker : (s : ℕ) → s < length catalog.streams → (q : ℕ) × (procedure_takes catalog q s ≡ true)
-  taker s there = ⊎_elim
+  -- each stream that is no inner one has a procedure that takes it
+  taker : (s : ℕ) → s < length catalog.streams → is_inner_stream catalog s ≡ false → (q : ℕ) × (procedure_takes catalog q s ≡ true)
+  taker s there outer = ⊎_elim
       (λ (border : is_border_stream catalog s ≡ true).
       (let found = some_index (λ p. is_border p.kind && takes_stream s p) catalog.procedures border in
       (found.0, takes_by found.0 s found.1 found.2 (second_of_two (is_border found.1.kind) (takes_stream s found.1) found.3))))
       (λ emitter. accepted.structure.streams.taken emitter.0 s emitter.1)
-      (accepted.structure.streams.fed s there)
+      (accepted.structure.streams.fed s there outer)
 
-  pub last_taker : (s : ℕ) → s < length catalog.streams → (q : ℕ) × (q < length catalog.procedures) × (takes_last catalog q s ≡ true)
-  last_taker s there =
-      let some = taker s there in
+  pub last_taker : (s : ℕ) → s < length catalog.streams → is_inner_stream catalog s ≡ false → (q : ℕ) × (q < length catalog.procedures) × (takes_last catalog q s ≡ true)
+  last_taker s there outer =
+      let some = taker s there outer in
       some_last (λ p. procedure_takes catalog p s) (length catalog.procedures) some.0 (taker_there catalog some.0 s some.1) some.1
-
-  -- a stream that is taken is there
-  pub taken_there : (q s : ℕ) → procedure_takes catalog q s ≡ true → s < length catalog.streams
-  taken_there q s takes =
-      let found = named (takes_stream s) (slice_get catalog.procedures q) takes in
-      let inputs = first_of_two _ _ (at_index (λ (p : Procedure). list_all (λ s. nat_lt s (length catalog.streams)) p.inputs && touch_in_range p.args p.touch) catalog.procedures (second_of_two _ _ (numbers_of catalog accepted.form)) q found.0 found.1) in
-      let input = some_index (λ i. i == s) found.0.inputs found.2 in
-      let below = ltb-true input.1 (length catalog.streams) (at_index (λ s. nat_lt s (length catalog.streams)) found.0.inputs inputs input.0 input.1 input.2) in
-      subst (λ i. i < length catalog.streams) (eqb-true input.1 s input.3) below
 
   -- a procedure that is no call one takes a stream
   pub taken_by : (q : ℕ) (p : Procedure) → slice_get catalog.procedures q ≡ Some p → is_call p.kind ≡ false → (s : ℕ) × (procedure_takes catalog q s ≡ true)
@@ -181,31 +183,50 @@ module _ (catalog : Catalog) (accepted : Accepted catalog) where
     abbrev stream : ℕ → ℕ × (ℕ × List Rows)
     stream s = get_or k.streams s no_batches
 
-    many_streams : length k.streams ≡ length catalog.streams
-    many_streams = as_many (IsStreamOf most) catalog.streams k.streams form.streams
+    abbrev streams : List ℕ
+    streams = range_with_len 0 (length catalog.streams)
 
-    stream_is : (s : ℕ) → s < length catalog.streams → (d : StreamDef) × (slice_get catalog.streams s ≡ Some d) × IsStreamOf most d (stream s)
-    stream_is s there = ⊎_elim
-        (λ found. (found.0, found.2, for_each_one (IsStreamOf most) catalog.streams k.streams s found.0 no_batches form.streams found.2))
-        (λ past. absurd (omega (arith, past.0, there)))
-        (slice_get_cases catalog.streams s).1
+    stream_number : (s : ℕ) → s < length catalog.streams → slice_get streams s ≡ Some s
+    stream_number s there =
+        let same : 0 + s ≡ s = omega arith in
+        slice_get-get_or streams s 0 (omega (arith, there, length-range_with_len 0 (length catalog.streams))) ∙ ap Some (get_or-range_with_len 0 (length catalog.streams) s 0 there ∙ same)
+
+    many_streams : length k.streams ≡ length catalog.streams
+    many_streams = as_many (IsStreamAt catalog most) streams k.streams form.streams ∙ length-range_with_len 0 (length catalog.streams)
+
+    stream_is : (s : ℕ) → s < length catalog.streams → IsStreamAt catalog most s (stream s)
+    stream_is s there = for_each_one (IsStreamAt catalog most) streams k.streams s s no_batches form.streams (stream_number s there)
+
+    -- an inner stream has had no batch
+    inner_none : (s : ℕ) (there : s < length catalog.streams) → is_inner_stream catalog s ≡ true → (stream s).0 ≡ 0
+    inner_none s there inner = let had : (stream s).0 ≤ 0 = subst (λ (b : Bool). (stream s).0 ≤ cond b 0 most) inner (stream_is s there).had in omega (arith, had)
 
     batches_at : (s : ℕ) → s < length catalog.streams → stream_batches db s ≡ all_batches (stream s)
     batches_at s there = get_or-map all_batches k.streams s no_batches [] (omega (arith, there, many_streams))
 
     length_at : (s : ℕ) → s < length catalog.streams → length (stream_batches db s) ≡ (stream s).0
-    length_at s there = let is = stream_is s there in ap (λ (l : List Rows). length l) (batches_at s there) ∙ length-all_batches most is.0 (stream s) is.2
+    length_at s there = ap (λ (l : List Rows). length l) (batches_at s there) ∙ length-all_batches (most_of catalog most s) (stream_schema catalog s) (stream s) (stream_is s there)
 
     none_past : (s : ℕ) → length catalog.streams ≤ s → stream_batches db s ≡ []
     none_past s past = get_or_past (map all_batches k.streams) s [] (omega (arith, past, many_streams, length-map k.streams all_batches))
 
     least_is : (s : ℕ) → s < length catalog.streams → least_count catalog db s ≡ (stream s).1.0
-    least_is s there =
-        let step : ℕ → ℕ → ℕ = λ least q. cond (procedure_takes catalog q s) (min least (get_or k.counts q 0)) least in
-        let last = last_taker s there in
-        ap (λ n. fold step n (range_with_len 0 (length catalog.procedures))) (length_at s there)
-        ∙ ap (λ n. fold step (stream s).0 (range_with_len 0 n)) (sym go.many)
-        ∙ sym ((go.each last.0 s last.1 there).last last.2)
+    least_is s there = by (is_inner_stream catalog s) refl
+      where
+        step : ℕ → ℕ → ℕ
+        step least q = cond (procedure_takes catalog q s) (min least (get_or k.counts q 0)) least
+
+        by : (inner : Bool) → is_inner_stream catalog s ≡ inner → least_count catalog db s ≡ (stream s).1.0
+        by true inner =
+            let none = inner_none s there inner in
+            let least : least_count catalog db s ≤ length (stream_batches db s) = least_within (λ q. procedure_takes catalog q s) (λ q. get_or k.counts q 0) (length (stream_batches db s)) (range_with_len 0 (length catalog.procedures)) in
+            let first = (stream_is s there).first in
+            omega (arith, none, least, first, length_at s there)
+        by false outer =
+            let last = last_taker s there outer in
+            ap (λ n. fold step n (range_with_len 0 (length catalog.procedures))) (length_at s there)
+            ∙ ap (λ n. fold step (stream s).0 (range_with_len 0 n)) (sym go.many)
+            ∙ sym ((go.each last.0 s last.1 there).last last.2)
 
     window_is : (w : ℕ) → w < length catalog.windows → (d : WindowDef) × (slice_get catalog.windows w ≡ Some d) × IsWindowOf d (get_or k.windows w (0, []))
     window_is w there = ⊎_elim
@@ -225,9 +246,8 @@ module _ (catalog : Catalog) (accepted : Accepted catalog) where
     streams_kept : map_indexed (λ s bs. (length bs, (least_count catalog db s, drop (least_count catalog db s) bs))) (map all_batches k.streams) ≡ k.streams
     streams_kept = made_again (λ s bs. (length bs, (least_count catalog db s, drop (least_count catalog db s) bs))) all_batches k.streams no_batches
         (λ s lt. (let there : s < length catalog.streams = omega (arith, lt, many_streams) in
-        let is = stream_is s there in
         let least = least_is s there in
-        λ j. (length-all_batches most is.0 (stream s) is.2 j, (least j, (ap (λ n. drop n (all_batches (stream s))) least ∙ drop-behind_blanks (stream s).1.0 (stream s).1.1) j))))
+        λ j. (length-all_batches (most_of catalog most s) (stream_schema catalog s) (stream s) (stream_is s there) j, (least j, (ap (λ n. drop n (all_batches (stream s))) least ∙ drop-behind_blanks (stream s).1.0 (stream s).1.1) j))))
 
     kept_is : k ≡ kept catalog db
     unfolding kept
@@ -274,7 +294,7 @@ module _ (catalog : Catalog) (accepted : Accepted catalog) where
             length_at s there ∙ (go.each p s (emitter_there catalog p s emits) there).emits emits);
       };
       within = λ s q takes.
-          (let there = taken_there q s takes in
+          (let there = within_streams catalog accepted q s takes in
           let le = (go.each q s (taker_there catalog q s takes) there).takes takes in
           omega (arith, le, length_at s there));
     }
@@ -282,10 +302,8 @@ module _ (catalog : Catalog) (accepted : Accepted catalog) where
     batches_whole : (s : ℕ) → list_all (batch_fits (stream_schema catalog s)) (drop (least_count catalog db s) (stream_batches db s)) ≡ true
     batches_whole s = ⊎_elim
         (λ (there : s < length catalog.streams).
-        (let is = stream_is s there in
-        let rest : drop (least_count catalog db s) (stream_batches db s) ≡ (stream s).1.1 = (λ j. drop (least_is s there j) (batches_at s there j)) ∙ drop-behind_blanks (stream s).1.0 (stream s).1.1 in
-        let schema : stream_schema catalog s ≡ is.0.schema = ap (λ o. unwrap_or (option_map (λ (d : StreamDef). d.schema) o) []) is.1 in
-        (λ j. list_all (batch_fits (schema j)) (rest j)) ∙ list_all_from (batch_fits is.0.schema) (stream s).1.1 (λ i x lt. batch_is_fit is.0 (get_or (stream s).1.1 i x) (is.2.batches i x lt))))
+        (let rest : drop (least_count catalog db s) (stream_batches db s) ≡ (stream s).1.1 = (λ j. drop (least_is s there j) (batches_at s there j)) ∙ drop-behind_blanks (stream s).1.0 (stream s).1.1 in
+        ap (list_all (batch_fits (stream_schema catalog s))) rest ∙ list_all_from (batch_fits (stream_schema catalog s)) (stream s).1.1 (λ i x lt. batch_is_fit (stream_schema catalog s) (get_or (stream s).1.1 i x) ((stream_is s there).batches i x lt))))
         (λ (past : length catalog.streams ≤ s).
         ap (λ (l : List Rows). list_all (batch_fits (stream_schema catalog s)) (drop (least_count catalog db s) l)) (none_past s past)
         ∙ ap (list_all (batch_fits (stream_schema catalog s))) (drop-nil {A = Rows} (least_count catalog db s)))
@@ -294,16 +312,8 @@ module _ (catalog : Catalog) (accepted : Accepted catalog) where
     calls_none : (q : ℕ) (p : Procedure) → slice_get catalog.procedures q ≡ Some p → is_call p.kind ≡ true → batch_count db q ≡ 0
     calls_none q p is call = go.calls q (slice_get_within catalog.procedures q p is) (ap (procedure_has (λ p. is_call p.kind)) is ∙ call)
 
-    abbrev streams : List ℕ
-    streams = range_with_len 0 (length catalog.streams)
-
     many_sources : length k.next_numbers ≡ length catalog.streams
     many_sources = as_many (IsSourcesAt catalog) streams k.next_numbers form.sources ∙ length-range_with_len 0 (length catalog.streams)
-
-    stream_number : (s : ℕ) → s < length catalog.streams → slice_get streams s ≡ Some s
-    stream_number s there =
-        let same : 0 + s ≡ s = omega arith in
-        slice_get-get_or streams s 0 (omega (arith, there, length-range_with_len 0 (length catalog.streams))) ∙ ap Some (get_or-range_with_len 0 (length catalog.streams) s 0 there ∙ same)
 
     sources_are : (s : ℕ) → IsSourcesAt catalog s (get_or k.next_numbers s finmap.empty)
     sources_are s = ⊎_elim
@@ -323,10 +333,17 @@ module _ (catalog : Catalog) (accepted : Accepted catalog) where
         by false other =
             let none : Some n ≡ None = sym is ∙ ap (λ (m : NextNumbers). finmap.get m source) ((sources_are s).none other) ∙ get-empty (slice_cmp nat_cmp) source in cc
 
+    none_inner : (s : ℕ) → is_inner_stream catalog s ≡ true → stream_batches db s ≡ []
+    none_inner s inner = ⊎_elim
+        (λ (there : s < length catalog.streams). no_batch (stream_batches db s) (length_at s there ∙ inner_none s there inner))
+        (λ (past : length catalog.streams ≤ s). none_past s past)
+        (cases_lt s (length catalog.streams))
+
     whole : WholeDatabase catalog db
     whole = record {
       contents = contents_whole;
       in_step = in_step;
+      inner = none_inner;
       next_count = many_sources;
       batches = batches_whole;
       calls = calls_none;
@@ -341,15 +358,15 @@ module _ (catalog : Catalog) (accepted : Accepted catalog) where
     count_at_most q p is true call = omega (arith, calls_none q p is call)
     count_at_most q p is false other =
         let takes = taken_by q p is other in
-        let there = taken_there q takes.0 takes.1 in
+        let there = within_streams catalog accepted q takes.0 takes.1 in
         let le = (go.each q takes.0 (slice_get_within catalog.procedures q p is) there).takes takes.1 in
-        let had = (stream_is takes.0 there).2.had in
-        omega (arith, le, had)
+        let had = (stream_is takes.0 there).had in
+        omega (arith, le, had, most_within catalog most takes.0)
 
     had : HadAtMost most db
     had = record {
       streams = λ s. ⊎_elim
-          (λ (there : s < length catalog.streams). (let most_had = (stream_is s there).2.had in omega (arith, length_at s there, most_had)))
+          (λ (there : s < length catalog.streams). (let most_had = (stream_is s there).had in omega (arith, length_at s there, most_had, most_within catalog most s)))
           (λ (past : length catalog.streams ≤ s). omega (arith, ap (λ (l : List Rows). length l) (none_past s past)))
           (cases_lt s (length catalog.streams));
       counts = λ q. ⊎_elim
@@ -367,18 +384,18 @@ module _ (catalog : Catalog) (accepted : Accepted catalog) where
       λ i x lt. ((is.units i x lt).long, typed 8 (is_unit d.unit) d.schema (get_or w.1 i x) (is.units i x lt)),
     )
 
-    stream_fits : (d : StreamDef) (s : ℕ × (ℕ × List Rows)) → IsStreamOf most d s → FitsStream s
-    stream_fits d s is = (
+    stream_fits : (n : ℕ) (s : ℕ × (ℕ × List Rows)) → IsStreamAt catalog most n s → FitsStream s
+    stream_fits n s is = (
       is.long,
       (let first = is.first in let long = is.long in omega (arith, first, long)),
-      λ i x lt. ((is.batches i x lt).long, typed 2 (λ n. nat_le n 1024) d.schema (get_or s.1.1 i x) (is.batches i x lt)),
+      λ i x lt. ((is.batches i x lt).long, typed 2 (λ n. nat_le n 1024) (stream_schema catalog n) (get_or s.1.1 i x) (is.batches i x lt)),
     )
 
     fits : FitsImage bodies catalog k
     fits = record {
       tables = are_all IsTableOf FitsTable (λ d m is. is.fits) catalog.tables k.tables form.tables;
       windows = are_all IsWindowOf FitsWindow window_fits catalog.windows k.windows form.windows;
-      streams = are_all (IsStreamOf most) FitsStream stream_fits catalog.streams k.streams form.streams;
+      streams = are_all (IsStreamAt catalog most) FitsStream stream_fits streams k.streams form.streams;
       counts = chained_all (λ before n. before ++ n ∷ []) (λ (n : ℕ). n < 2 ^ 64) [] k.counts
           (chained_so (λ before n. before ++ n ∷ []) (λ before n. (n < 256 ^ 8) × (may_have_taken catalog k.streams before n ≡ true)) (λ before n. n < 2 ^ 64) (λ before n has. (let small = has.0 in omega (arith, small))) [] k.counts form.counts.each);
       next_numbers = are_all (IsSourcesAt catalog) FitNumbers (λ s m is. is.sources.fits) streams k.next_numbers form.sources;

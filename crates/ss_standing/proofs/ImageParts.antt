@@ -26,11 +26,10 @@ use Rattle.ss_value.specs.Words.{is_name}
 use Rattle.ss_model.specs.declared.catalog.Catalog.{Catalog}
 use Rattle.ss_model.specs.declared.catalog.Placement.{Placement}
 use Rattle.ss_model.specs.declared.catalog.Placement.TheVariants.{Part, By}
-use Rattle.ss_model.specs.declared.catalog.StreamDef.{StreamDef}
 use Rattle.ss_model.specs.declared.catalog.TableDef.{TableDef}
 use Rattle.ss_model.specs.declared.catalog.WindowDef.{WindowDef}
 use Rattle.ss_model.specs.Contents.{Table, Window, first_kept}
-use Rattle.ss_model.specs.Database.{NextNumbers, has_body}
+use Rattle.ss_model.specs.Database.{NextNumbers, has_body, stream_schema}
 use Rattle.ss_model.specs.WholeDatabase.{WholeTable, is_within_limit}
 use Rattle.ss_model_laws.proofs.CallerLemmas.{of_entries}
 use Rattle.ss_record.specs.Numbers.{IsBytes, number_bytes}
@@ -44,7 +43,7 @@ use Rattle.ss_cmdlog.proofs.CallerLemmas.{as_field_ok, bytes_again, bytes_takes,
 use Rattle.ss_standing.specs.FitsImage.{FitsTable, FitNumbers}
 use Rattle.ss_standing.specs.Image.{text_bytes, counted_rows, table_bytes, window_bytes, stream_bytes, source_bytes, sources_bytes}
 use Rattle.ss_standing.specs.Readers.{Reader, IsExact, Chained, followed, is_above, many, passing}
-use Rattle.ss_standing.specs.ImageForm.{number_where, as_row, row_of, counted, rows_of, may_have, table_with, row_above, table_of, is_unit, window_of, stream_of, counts_of, may_have_taken, source_above, sources_of, body_of}
+use Rattle.ss_standing.specs.ImageForm.{number_where, as_row, row_of, counted, rows_of, may_have, table_with, row_above, table_of, is_unit, window_of, stream_of, most_of, stream_at, counts_of, may_have_taken, source_above, sources_of, body_of}
 use Rattle.ss_standing.proofs.Exact.{passing_exact, followed_exact, made_exact, exact_so, many_exact}
 use Rattle.ss_standing.proofs.Chains.{chained_so, chained_all, all_chained, chained_both, chained_map, map_chained}
 use Rattle.ss_standing.proofs.Rising.{is_true, rising_sorted, entries_rise, of_own_entries}
@@ -308,26 +307,26 @@ module _ (d : WindowDef) where
 
 -- ---- streams
 
-abbrev pub IsBatchOf : StreamDef → Rows → Type 0
-IsBatchOf d batch = AreRowsOf 2 (λ n. nat_le n 1024) d.schema batch
+abbrev pub IsBatchOf : List Column → Rows → Type 0
+IsBatchOf schema batch = AreRowsOf 2 (λ n. nat_le n 1024) schema batch
 
 -- so many batches, at most as many as given, of which those are kept from a first one on
-pub record IsStreamOf (most : ℕ) (d : StreamDef) (s : ℕ × (ℕ × List Rows)) : Type 0 where
+pub record IsStreamOf (most : ℕ) (schema : List Column) (s : ℕ × (ℕ × List Rows)) : Type 0 where
   pub had : s.0 ≤ most
   pub long : s.0 < 2 ^ 64
   pub first : s.1.0 ≤ s.0
   pub kept : length s.1.1 ≡ s.0 - s.1.0
-  pub batches : All (IsBatchOf d) s.1.1
+  pub batches : All (IsBatchOf schema) s.1.1
 
-module _ (most : ℕ) (d : StreamDef) where
+module _ (most : ℕ) (schema : List Column) where
   abbrev next_batch : Unit {0} → Rows → Unit {0}
   next_batch s batch = s
 
   abbrev batches_of : ℕ → ℕ → Reader (List Rows)
-  batches_of had first = many next_batch (λ (s : Unit {0}). rows_of 2 (λ n. nat_le n 1024) d.schema) (had - first) tt
+  batches_of had first = many next_batch (λ (s : Unit {0}). rows_of 2 (λ n. nat_le n 1024) schema) (had - first) tt
 
   abbrev AreBatches : ℕ → ℕ → List Rows → Type 0
-  AreBatches had first batches = (length batches ≡ had - first) × Chained next_batch (λ s batch. IsBatchOf d batch) tt batches
+  AreBatches had first batches = (length batches ≡ had - first) × Chained next_batch (λ s batch. IsBatchOf schema batch) tt batches
 
   abbrev rest_of : ℕ → Reader (ℕ × List Rows)
   rest_of had = followed (number_where 8 (λ first. nat_le first had)) (batches_of had)
@@ -339,14 +338,14 @@ module _ (most : ℕ) (d : StreamDef) where
   rest_exact had =
       followed_exact (number_where 8 (λ first. nat_le first had)) (batches_of had) (number_bytes 8) (λ first. flat_map (counted_rows 2)) (λ first. (first < 256 ^ 8) × (nat_le first had ≡ true)) (AreBatches had)
       (number_where_exact 8 respelled_8 (λ first. nat_le first had))
-      (λ first has. many_exact next_batch (λ (s : Unit {0}). rows_of 2 (λ n. nat_le n 1024) d.schema) (counted_rows 2) (λ s batch. IsBatchOf d batch) (λ s. rows_of_exact 2 respelled_2 (λ n. nat_le n 1024) d.schema) (had - first) tt)
+      (λ first has. many_exact next_batch (λ (s : Unit {0}). rows_of 2 (λ n. nat_le n 1024) schema) (counted_rows 2) (λ s batch. IsBatchOf schema batch) (λ s. rows_of_exact 2 respelled_2 (λ n. nat_le n 1024) schema) (had - first) tt)
 
   abbrev IsReadStream : ℕ × (ℕ × List Rows) → Type 0
   IsReadStream s = ((s.0 < 256 ^ 8) × (nat_le s.0 most ≡ true)) × IsRest s.0 s.1
 
-  pub stream_exact : IsExact (stream_of most d) stream_bytes (IsStreamOf most d)
+  pub stream_exact : IsExact (stream_of most schema) stream_bytes (IsStreamOf most schema)
   stream_exact =
-      exact_so (stream_of most d) (λ (s : ℕ × (ℕ × List Rows)). number_bytes 8 s.0 ++ (number_bytes 8 s.1.0 ++ flat_map (counted_rows 2) s.1.1)) stream_bytes IsReadStream (IsStreamOf most d)
+      exact_so (stream_of most schema) (λ (s : ℕ × (ℕ × List Rows)). number_bytes 8 s.0 ++ (number_bytes 8 s.1.0 ++ flat_map (counted_rows 2) s.1.1)) stream_bytes IsReadStream (IsStreamOf most schema)
       (followed_exact (number_where 8 (λ n. nat_le n most)) rest_of (number_bytes 8) (λ had (r : ℕ × List Rows). number_bytes 8 r.0 ++ flat_map (counted_rows 2) r.1)
       (λ n. (n < 256 ^ 8) × (nat_le n most ≡ true)) IsRest (number_where_exact 8 respelled_8 (λ n. nat_le n most)) (λ had has. rest_exact had))
       (λ s has. (
@@ -356,10 +355,17 @@ module _ (most : ℕ) (d : StreamDef) where
           long = omega (arith, has.0.0);
           first = leb-true s.1.0 s.0 has.1.0.1;
           kept = has.1.1.0;
-          batches = chained_all next_batch (IsBatchOf d) tt s.1.1 has.1.1.1;
+          batches = chained_all next_batch (IsBatchOf schema) tt s.1.1 has.1.1.1;
         },
       ))
-      (λ s is. ((omega (arith, is.long), le-leb s.0 most is.had), ((omega (arith, is.long, is.first), le-leb s.1.0 s.0 is.first), (is.kept, all_chained next_batch (IsBatchOf d) tt s.1.1 is.batches))))
+      (λ s is. ((omega (arith, is.long), le-leb s.0 most is.had), ((omega (arith, is.long, is.first), le-leb s.1.0 s.0 is.first), (is.kept, all_chained next_batch (IsBatchOf schema) tt s.1.1 is.batches))))
+
+-- the stream of this number
+abbrev pub IsStreamAt : Catalog → ℕ → ℕ → ℕ × (ℕ × List Rows) → Type 0
+IsStreamAt catalog most s = IsStreamOf (most_of catalog most s) (stream_schema catalog s)
+
+pub stream_at_exact : (catalog : Catalog) (most s : ℕ) → IsExact (stream_at catalog most s) stream_bytes (IsStreamAt catalog most s)
+stream_at_exact catalog most s = stream_exact (most_of catalog most s) (stream_schema catalog s)
 
 -- ---- counts
 

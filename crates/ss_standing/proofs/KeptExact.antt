@@ -14,12 +14,12 @@ use Rattle.ss_model.specs.Settling.{Kept}
 use Rattle.ss_record.specs.Numbers.{number_bytes}
 use Rattle.ss_standing.specs.Image.{text_bytes, table_bytes, window_bytes, stream_bytes, sources_bytes, all_sources, bodies_bytes, kept_bytes}
 use Rattle.ss_standing.specs.Readers.{Reader, IsExact, AreFor, spelled_for, each, followed, made, nothing}
-use Rattle.ss_standing.specs.ImageForm.{table_of, window_of, stream_of, counts_of, sources_of, sources_at, body_of, bodies_of, kept_in}
+use Rattle.ss_standing.specs.ImageForm.{table_of, window_of, stream_at, counts_of, sources_of, sources_at, body_of, bodies_of, kept_in}
 use Rattle.ss_standing.proofs.EmptyKept.{no_entries}
 use Rattle.ss_standing.proofs.ImageTells.{no_numbers_fit}
 use Rattle.ss_standing.proofs.Exact.{nothing_exact, followed_exact, made_exact, exact_so, each_exact, spelled_alike}
 use Rattle.ss_standing.proofs.Chains.{as_many}
-use Rattle.ss_standing.proofs.ImageParts.{IsTableOf, table_exact, IsWindowOf, window_exact, IsStreamOf, stream_exact, AreCountsOf, counts_exact, IsNext, AreSources, sources_exact, IsBodyOf, body_exact}
+use Rattle.ss_standing.proofs.ImageParts.{IsTableOf, table_exact, IsWindowOf, window_exact, IsStreamAt, stream_at_exact, AreCountsOf, counts_exact, IsNext, AreSources, sources_exact, IsBodyOf, body_exact}
 
 -- ---- sources by stream
 
@@ -96,7 +96,7 @@ bodies_exact false catalog = nothing_exact (own_bodies catalog)
 pub record HasForm (bodies : Bool) (catalog : Catalog) (most : ℕ) (k : Kept) : Type 0 where
   pub tables : AreFor IsTableOf catalog.tables k.tables
   pub windows : AreFor IsWindowOf catalog.windows k.windows
-  pub streams : AreFor (IsStreamOf most) catalog.streams k.streams
+  pub streams : AreFor (IsStreamAt catalog most) (range_with_len 0 (length catalog.streams)) k.streams
   pub counts : AreCountsOf catalog k.streams k.counts
   pub sources : AreFor (IsSourcesAt catalog) (range_with_len 0 (length catalog.streams)) k.next_numbers
   pub texts : AreBodies bodies catalog k.bodies
@@ -135,25 +135,25 @@ module _ (bodies : Bool) (catalog : Catalog) (most : ℕ) where
       (AreCountsOf catalog ss) (λ counts (p : List NextNumbers × List (List ℕ)). AreFor (IsSourcesAt catalog) streams p.0 × AreBodies bodies catalog p.1)
       (counts_exact catalog ss) (λ counts has. last_exact)
 
-  streams_exact_then : IsExact (followed (each (stream_of most) catalog.streams) (λ ss. followed (counts_of catalog ss) (λ counts. read_last)))
+  streams_exact_then : IsExact (followed (each (stream_at catalog most) streams) (λ ss. followed (counts_of catalog ss) (λ counts. read_last)))
       (λ (p : Streams × Tail). flat_map stream_bytes p.0 ++ spell_tail p.1)
-      (λ (p : Streams × Tail). AreFor (IsStreamOf most) catalog.streams p.0 × IsTail p.0 p.1)
+      (λ (p : Streams × Tail). AreFor (IsStreamAt catalog most) streams p.0 × IsTail p.0 p.1)
   streams_exact_then =
-      followed_exact (each (stream_of most) catalog.streams) (λ ss. followed (counts_of catalog ss) (λ counts. read_last)) (flat_map stream_bytes) (λ ss. spell_tail)
-      (AreFor (IsStreamOf most) catalog.streams) IsTail
-      (alike_exact (stream_of most) stream_bytes (IsStreamOf most) (stream_exact most) catalog.streams) (λ ss has. counts_exact_then ss)
+      followed_exact (each (stream_at catalog most) streams) (λ ss. followed (counts_of catalog ss) (λ counts. read_last)) (flat_map stream_bytes) (λ ss. spell_tail)
+      (AreFor (IsStreamAt catalog most) streams) IsTail
+      (alike_exact (stream_at catalog most) stream_bytes (IsStreamAt catalog most) (stream_at_exact catalog most) streams) (λ ss has. counts_exact_then ss)
 
   abbrev Rest : Type 0
   Rest = Streams × Tail
 
   abbrev read_rest : Reader Rest
-  read_rest = followed (each (stream_of most) catalog.streams) (λ ss. followed (counts_of catalog ss) (λ counts. read_last))
+  read_rest = followed (each (stream_at catalog most) streams) (λ ss. followed (counts_of catalog ss) (λ counts. read_last))
 
   abbrev spell_rest : Rest → List ℕ
   spell_rest p = flat_map stream_bytes p.0 ++ spell_tail p.1
 
   abbrev IsRest : Rest → Type 0
-  IsRest p = AreFor (IsStreamOf most) catalog.streams p.0 × IsTail p.0 p.1
+  IsRest p = AreFor (IsStreamAt catalog most) streams p.0 × IsTail p.0 p.1
 
   windows_exact_then : IsExact (followed (each window_of catalog.windows) (λ ws. read_rest)) (λ (p : List (ℕ × Window) × Rest). flat_map window_bytes p.0 ++ spell_rest p.1)
       (λ (p : List (ℕ × Window) × Rest). AreFor IsWindowOf catalog.windows p.0 × IsRest p.1)

@@ -1,5 +1,5 @@
 -- Lists by place, and the last place that passes a test.
-use Rattle.std.proofs.Common.{◌≡◌, ◌∙◌, ⊎_elim, ℕ, zero, suc, ◌+◌, ◌-◌, ◌<◌, ◌≤◌, List, [], ◌∷◌, ◌++◌, length, map, get_or, Bool, true, false, not, ◌&&◌, ◌||◌, refl, sym, ap, subst, arith}
+use Rattle.std.proofs.Common.{◌≡◌, ◌∙◌, ⊎_elim, ℕ, zero, suc, ◌+◌, ◌-◌, ◌<◌, ◌≤◌, min, cond, List, [], ◌∷◌, ◌++◌, length, map, get_or, Bool, true, false, not, ◌&&◌, ◌||◌, refl, sym, ap, subst, arith}
 use Rattle.std.specs.List.{fold, range_with_len, list_any}
 use Rattle.std.proofs.lemmas.Bool.{cases_lt, and_parts}
 use Rattle.ss_model.specs.Results.{map_indexed}
@@ -93,3 +93,17 @@ some_last p n q there passes =
     let is = latest p n q there passes in
     let none : list_any p (range_with_len (is.0 + 1) (n - (is.0 + 1))) ≡ false = in_none p (n - (is.0 + 1)) (is.0 + 1) (λ q above below. is.1.2 q (omega arith) (omega (arith, below))) in
     (is.0, is.1.0, (λ k. is.1.1 k && not (none k)))
+
+-- ---- the least count
+
+-- is no more than that with which it begins
+pub least_within : (test : ℕ → Bool) (count : ℕ → ℕ) (a : ℕ) (qs : List ℕ) → fold (λ least q. cond (test q) (min least (count q)) least) a qs ≤ a
+least_within test count a [] = omega arith
+least_within test count a (q ∷ qs) =
+    let rest = least_within test count (cond (test q) (min a (count q)) a) qs in
+    let here = by (test q) in
+    omega (arith, rest, here)
+  where
+    by : (b : Bool) → cond b (min a (count q)) a ≤ a
+    by true = omega arith
+    by false = omega arith

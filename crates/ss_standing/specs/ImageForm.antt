@@ -15,11 +15,10 @@ use Rattle.ss_value.specs.Rows.{Row, Rows, column_values}
 use Rattle.ss_model.specs.declared.catalog.Catalog.{Catalog}
 use Rattle.ss_model.specs.declared.catalog.Placement.{Placement}
 use Rattle.ss_model.specs.declared.catalog.Placement.TheVariants.{Part, By}
-use Rattle.ss_model.specs.declared.catalog.StreamDef.{StreamDef}
 use Rattle.ss_model.specs.declared.catalog.TableDef.{TableDef}
 use Rattle.ss_model.specs.declared.catalog.WindowDef.{WindowDef}
 use Rattle.ss_model.specs.Contents.{Table, Window, first_kept}
-use Rattle.ss_model.specs.Database.{Database, NextNumbers, has_body, is_border_stream, is_call, own_bodies}
+use Rattle.ss_model.specs.Database.{Database, NextNumbers, has_body, is_border_stream, is_inner_stream, is_call, own_bodies, stream_schema}
 use Rattle.ss_model.specs.Orders.{procedure_emits, procedure_has, procedure_takes}
 use Rattle.ss_model.specs.Settling.{Kept, kept}
 use Rattle.ss_model.specs.WholeDatabase.{WholeDatabase, HadAtMost}
@@ -95,12 +94,20 @@ window_of d =
 
 -- ---- streams
 
--- a stream: how many batches it has had, at most so many, which of them is the first kept one, and those from that one on
-abbrev pub stream_of : ℕ → StreamDef → Reader (ℕ × (ℕ × List Rows))
-stream_of most d =
+-- a stream of these columns: how many batches it has had, at most so many, which of them is the first kept one, and those from that one on
+abbrev pub stream_of : ℕ → List Column → Reader (ℕ × (ℕ × List Rows))
+stream_of most schema =
     followed (number_where 8 (λ n. nat_le n most))
     (λ had. followed (number_where 8 (λ first. nat_le first had))
-    (λ first. many (λ s batch. s) (λ (s : Unit {0}). rows_of 2 (λ n. nat_le n 1024) d.schema) (had - first) tt))
+    (λ first. many (λ s batch. s) (λ (s : Unit {0}). rows_of 2 (λ n. nat_le n 1024) schema) (had - first) tt))
+
+-- the most batches that a stream may have had, where one may have had so many: an inner stream has none
+abbrev pub most_of : Catalog → ℕ → ℕ → ℕ
+most_of catalog most s = cond (is_inner_stream catalog s) 0 most
+
+-- the stream of this number
+abbrev pub stream_at : Catalog → ℕ → ℕ → Reader (ℕ × (ℕ × List Rows))
+stream_at catalog most s = stream_of (most_of catalog most s) (stream_schema catalog s)
 
 -- what stands for a stream past the end
 abbrev pub no_batches : ℕ × (ℕ × List Rows)
@@ -177,7 +184,7 @@ unfoldable pub kept_in : Bool → Catalog → ℕ → Reader Kept
 kept_in bodies catalog most =
     made (λ k. record { tables = k.0; windows = k.1.0; streams = k.1.1.0; counts = k.1.1.1.0; next_numbers = k.1.1.1.1.0; bodies = k.1.1.1.1.1 })
     (followed (each table_of catalog.tables) (λ tables. followed (each window_of catalog.windows) (λ windows.
-    followed (each (stream_of most) catalog.streams) (λ streams. followed (counts_of catalog streams) (λ counts.
+    followed (each (stream_at catalog most) (range_with_len 0 (length catalog.streams))) (λ streams. followed (counts_of catalog streams) (λ counts.
     followed (each (sources_at catalog) (range_with_len 0 (length catalog.streams))) (λ numbers. bodies_of bodies catalog))))))
 
 -- the bytes to their end; those behind the last part are told at the first of them

@@ -18,7 +18,7 @@ abbrev kept : List (List Rows)
 kept = ([] ∷ [] ∷ []) ∷ []
 
 each : (s : ℕ) → s < 1 → CanResume (get_or kept s []) (cursors_at counts (get_or consumers s []))
-each zero lt = record { some = omega arith; within = (omega arith, (omega arith, tt)); few = omega arith }
+each zero lt = record { some = λ kept. omega arith; within = (omega arith, (omega arith, tt)); few = omega arith }
 each (suc s) lt = absurd (omega arith)
 
 can_resume : CanResumeAll counts consumers kept

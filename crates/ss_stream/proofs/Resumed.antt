@@ -1,5 +1,5 @@
 -- Streams that are made again from what is kept of them.
-use Rattle.std.proofs.Common.{◌≡◌, ◌≤◌, ◌<◌, ◌+◌, ◌^◌, ◌∙◌, ℕ, zero, suc, min, List, [], ◌∷◌, ◌++◌, Some, map, length, get_or, set, slice_get, arith, ap, sym, subst, refl}
+use Rattle.std.proofs.Common.{◌≡◌, ◌≤◌, ◌<◌, ◌+◌, ◌^◌, ◌∙◌, ℕ, zero, suc, min, List, [], ◌∷◌, ◌++◌, None, Some, map, length, get_or, set, slice_get, arith, ap, sym, subst, refl}
 use Rattle.std.proofs.lemmas.List.{get_or-set_other, length-map, map-append}
 use Rattle.std.proofs.lemmas.List.FromFn.{map-range_with_len_more}
 use Rattle.std.proofs.lemmas.Option.{get_or_from_slice_get}
@@ -8,7 +8,7 @@ use Rattle.ss_value.specs.Rows.{Rows}
 use Rattle.ss_stream.specs.declared.cursor.Cursor.{Cursor}
 use Rattle.ss_stream.specs.Pending.{CanResume, IsPending, Pending, ReservedStream, least_cursor, least_passed, resume}
 use Rattle.ss_stream.specs.Streams.{CanResumeAll, cursors_at, resumed_streams}
-use Rattle.ss_stream.proofs.Least.{least-min, within-more}
+use Rattle.ss_stream.proofs.Least.{least-at_most, least-min}
 use Rattle.ss_stream.proofs.Opening.{same_maps}
 
 -- the least of some cursors, counted from a number that none is above
@@ -19,15 +19,31 @@ least-of_some n (c ∷ cs) some within =
     let e : min n c.passed ≡ c.passed = omega arith in
     sym (least-min n c.passed cs) ∙ ap (λ k. least_passed k cs) e
 
+-- where batches are kept for a cursor, the least cursor is the least of those counts that none is above
+least-of_kept : (batches : List Rows) (cursors : List Cursor) → CanResume batches cursors → least_passed (least_cursor cursors + length batches) cursors ≡ least_cursor cursors
+least-of_kept [] [] ok = refl
+least-of_kept (b ∷ bs) [] ok = let some : 0 < length {A = Cursor} [] = ok.some (omega arith) in absurd (omega arith)
+least-of_kept batches (c ∷ cs) ok = least-of_some (least_cursor (c ∷ cs) + length batches) (c ∷ cs) (omega arith) ok.within
+
 pub resumed-pending : (batches : List Rows) (cursors : List Cursor) → CanResume batches cursors → IsPending (resume batches cursors)
 resumed-pending batches cursors ok = record {
   within = ok.within;
-  least = sym (least-of_some (least_cursor cursors + length batches) cursors ok.some ok.within);
+  least = sym (least-of_kept batches cursors ok);
   small = ok.few;
 }
 
-pub least-from_far : (n : ℕ) (batches : List Rows) (cursors : List Cursor) → CanResume batches cursors → 2 ^ 62 ≤ n → least_passed n cursors ≡ least_cursor cursors
-least-from_far n batches cursors ok far = least-of_some n cursors ok.some (within-more (least_cursor cursors + length batches) n cursors (let h = ok.few in omega arith) ok.within)
+-- the least cursor, counted from the first
+pub least-from_first : (c : Cursor) (cs : List Cursor) → slice_get cs 0 ≡ Some c → least_passed c.passed cs ≡ least_cursor cs
+least-from_first c [] is = cc
+least-from_first c (d ∷ cs) is =
+    let same : d ≡ c = cc in
+    let most : least_passed d.passed cs ≤ d.passed = least-at_most d.passed cs in
+    let first : least_passed d.passed (d ∷ cs) ≡ least_cursor (d ∷ cs) = omega arith in
+    ap (λ (x : Cursor). least_passed x.passed (d ∷ cs)) (sym same) ∙ first
+
+pub least-of_none : (cs : List Cursor) → slice_get cs 0 ≡ None → least_cursor cs ≡ 0
+least-of_none [] is = refl
+least-of_none (d ∷ cs) is = cc
 
 -- ---- all streams
 

@@ -81,9 +81,9 @@ least_cursor (c ∷ cs) = least_passed c.passed cs
 abbrev pub resume : List Rows → List Cursor → Pending
 resume batches cursors = record { first = least_cursor cursors; batches = batches; cursors = cursors }
 
--- a stream of these has a consumer, no cursor is past the kept batches, and at most 2^62 batches were ever emitted
+-- batches are kept for a consumer, no cursor is past the kept batches, and at most 2^62 batches were ever emitted
 pub record CanResume (batches : List Rows) (cursors : List Cursor) : Type 0 where
-  pub some : 0 < length cursors
+  pub some : 0 < length batches → 0 < length cursors
   pub within : AllByRecursion (λ c. c.passed ≤ least_cursor cursors + length batches) cursors
   pub few : least_cursor cursors + length batches ≤ 2 ^ 62
 

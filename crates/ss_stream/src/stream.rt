@@ -4,7 +4,7 @@ ghost use Rattle.std.specs.Prelude.{◌≡◌, ◌≤◌, ◌<◌, ◌+◌, ◌-
 ghost use Rattle.std.specs.Option.{option_copied};
 ghost use Rattle.std.specs.List.{AllByRecursion};
 ghost use Rattle.std.specs.VecDeque.{deque_capacity};
-ghost use Rattle.ss_stream.specs.Pending.{emitted_count, least_passed, pending_at_first, pending_from, with_batch, moved_cursor, passed_by, pending_batch, HasNext, CanResume, resume};
+ghost use Rattle.ss_stream.specs.Pending.{emitted_count, least_cursor, least_passed, pending_at_first, pending_from, with_batch, moved_cursor, passed_by, pending_batch, HasNext, CanResume, resume};
 
 use crate::cursor::Cursor;
 use ss_value::{Copies, NoMemory, Rows, Seq};
@@ -48,6 +48,16 @@ fn least_passed(ever: u64, cursors: &[Cursor]) -> u64
         least = least.min(cursor.passed);
     }
     least
+}
+
+/// The least of these cursors, and 0 where there is none.
+fn least_cursor(cursors: &[Cursor]) -> u64
+    ensures { result ≡ least_cursor cursors.now }
+{
+    match cursors.first() {
+        Some(cursor) => least_passed(cursor.passed, cursors),
+        None => 0,
+    }
 }
 
 /// A cursor, one batch further if it is this consumer's.
@@ -115,15 +125,14 @@ impl Stream {
         }
     }
 
-    /// The stream with these cursors and these batches, whose first is the one that the least cursor has still to pass. Both
-    /// are moved. Takes no memory.
+    /// The stream with these cursors and these batches, whose first is the one that the least cursor has still to pass; without a
+    /// cursor there is no batch, and none was ever emitted. Both are moved. Takes no memory.
     pub fn resume(cursors: Seq<Cursor>, kept: Seq<Rows>) -> Stream
         requires { CanResume kept cursors }
         ensures { result.pending ≡ resume kept cursors }
     {
         Stream {
-            // There is a cursor, so the least one decides, and not this greatest number.
-            first: least_passed(u64::MAX, cursors.as_slice()),
+            first: least_cursor(cursors.as_slice()),
             batches: VecDeque::from(kept.into_vec()),
             cursors: cursors.into_vec(),
         }

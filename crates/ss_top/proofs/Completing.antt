@@ -19,8 +19,8 @@ use Rattle.ss_top.specs.declared.session.Printing.{Printing}
 use Rattle.ss_top.specs.declared.session.Printing.TheVariants.{InFull, Summary}
 use Rattle.ss_model.specs.declared.catalog.Body.{Body}
 use Rattle.ss_top.specs.Complete.{HasRoom, IsDoneOrShort, IsStoreWith}
-use Rattle.ss_catalog.specs.Answers.{HasOneCatalog}
-use Rattle.ss_catalog.specs.Reads.{Reads}
+use Rattle.ss_nest.specs.Answers.{HasOneNested}
+use Rattle.ss_nest.specs.Reads.{ReadsNested}
 use Rattle.ss_words.specs.declared.names.Show.{Show}
 use Rattle.ss_top.specs.Shows.{IsCompleteShow, RanShow, ShowEnds, show_requests}
 use Rattle.ss_top.specs.Stores.{CameTo, RecoveredTo}
@@ -120,13 +120,13 @@ module _ {D : Type 0} (kind : DiskKind D) (old new : D) (mode : Mode) (limit res
   over_complete every printing catalog spares own requests ended (inr over) cause room = let some = over.3.some in let rose = over.3.rose in absurd (still (omega (arith, some, rose)))
 
   -- a show that has room for all that it owes
-  pub show_complete : (every : Option ℕ) → HasOneCatalog → (show : Show) (ended : Status) → ShowEnds kind mode every limit restarts show ended w old new → HasServedCause restarts ended w (disk_of kind old new) → IsCompleteShow mode limit show (disk_of kind old new) ended
+  pub show_complete : (every : Option ℕ) → HasOneNested → (show : Show) (ended : Status) → ShowEnds kind mode every limit restarts show ended w old new → HasServedCause restarts ended w (disk_of kind old new) → IsCompleteShow mode limit show (disk_of kind old new) ended
   show_complete every one show ended ends cause catalog voter room = by ended ends cause
     where
       ran : (status : Status) → RanShow kind mode every limit restarts show status w old new → HasServedCause restarts status w (disk_of kind old new) → IsDoneOrShort status
       ran status r cause =
           let value : r.voter.value ≡ voter.value = (let same : Some r.voter.value ≡ Some voter.value = sym r.voter.json ∙ voter.json in cc) in
-          let same : r.catalog ≡ catalog = one voter.value r.catalog catalog (subst (λ d. Reads d r.catalog) value r.voter.reads) voter.reads in
+          let same : r.catalog ≡ catalog = one voter.value r.catalog catalog (subst (λ d. ReadsNested d r.catalog) value r.voter.reads) voter.reads in
           over_complete every (Summary show.votes) r.catalog r.bodies.spares r.bodies.own (show_requests show) status r.came cause (subst (λ c. HasRoom mode limit c (show_requests show) (disk_of kind old new)) (sym same) room)
 
       by : (status : Status) → ShowEnds kind mode every limit restarts show status w old new → HasServedCause restarts status w (disk_of kind old new) → IsDoneOrShort status

@@ -12,7 +12,7 @@ use Rattle.ss_model.specs.declared.entry.Mode.{Mode}
 use Rattle.ss_model.specs.declared.entry.Request.{Request}
 use Rattle.ss_model.specs.Accepted.{Accepted}
 use Rattle.ss_model.specs.SparesAside.{with_spares}
-use Rattle.ss_catalog.specs.Answers.{HasOneCatalog}
+use Rattle.ss_nest.specs.Answers.{HasOneNested}
 use Rattle.ss_audit_input.specs.Told.{AuditComes, AuditEnds, HasAuditCause, TellsAuditFaults}
 use Rattle.ss_words.specs.declared.names.Command.{Command}
 use Rattle.ss_words.specs.declared.names.Command.TheVariants.{Run, Recover, Audit, Voter}
@@ -498,7 +498,7 @@ module _ {D : Type 0} (kind : DiskKind D) (old new : D) (limit : ℕ) (words : L
     served_cause restarts Input may cause = absurd may
     served_cause restarts ReadFault may cause = absurd may
 
-    pub ends_voter : HasOneCatalog → EmptyHasNoFault → StoreHasNoFault → StoreIsOne → (show : Show) → AsksFor (words_of words) (record { command = Voter show; options = what })
+    pub ends_voter : HasOneNested → EmptyHasNoFault → StoreHasNoFault → StoreIsOne → (show : Show) → AsksFor (words_of words) (record { command = Voter show; options = what })
         → s.now ≡ s.before → s.faults_now ≡ s.faults_before → (ended : Status) → ComesToShow kind what.mode what.every limit what.restarts show ended w old new → Ends kind old new limit words s w ended
     ends_voter one no_fault store_has_none one_store show asks same unmoved ended so =
         let came = so.came in

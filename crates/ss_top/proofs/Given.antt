@@ -1,6 +1,6 @@
 -- A catalogue that was given with bodies to be installed, and what it went on as: it has bodies for the same requests.
 use Rattle.std.proofs.Common.{◌≡◌, ◌&&◌, ℕ, zero, suc, true, List, [], ◌∷◌, length, get_or, Option, refl, subst}
-use Rattle.std.specs.Prelude.{nat_lt, nat_le}
+use Rattle.std.specs.Prelude.{nat_lt, nat_le, slice_get}
 use Rattle.std.specs.List.{list_all}
 use Rattle.std.proofs.lemmas.Bool.{and_parts, and_from}
 use Rattle.ss_lemmas.proofs.EachOf.{all_with}
@@ -11,7 +11,7 @@ use Rattle.ss_model.specs.declared.entry.Entry.TheVariants.{Call, Push, Step, In
 use Rattle.ss_model.specs.declared.entry.Mode.{Mode}
 use Rattle.ss_model.specs.declared.entry.Request.{Request}
 use Rattle.ss_model.specs.Accepted.{Accepted}
-use Rattle.ss_model.specs.Database.{fits_entry, has_body, has_spare}
+use Rattle.ss_model.specs.Database.{fits_entry, has_body, has_spare, takes_bodies}
 use Rattle.ss_model.specs.Report.{asked_entries}
 use Rattle.ss_model.specs.Spares.{AcceptedBody}
 use Rattle.ss_model.specs.SparesAside.{GoesOnWith, with_spares}
@@ -31,8 +31,8 @@ fits_grown old new grows (Call client index n args) h = h
 fits_grown old new grows (Push client index s source seq rows) h = h
 fits_grown old new grows (Step n r) h = h
 fits_grown old new grows (Install client index q text) h =
-    let parts = and_parts (nat_lt client 8 && nat_lt q (length old.procedures) && nat_le (length text) 1048576) (has_body old q text) h in
-    and_from (nat_lt client 8 && nat_lt q (length old.procedures) && nat_le (length text) 1048576) (has_body (with_spares old new.spares) q text) parts.0
+    let parts = and_parts (nat_lt client 8 && takes_bodies (slice_get old.procedures q) && nat_le (length text) 1048576) (has_body old q text) h in
+    and_from (nat_lt client 8 && takes_bodies (slice_get old.procedures q) && nat_le (length text) 1048576) (has_body (with_spares old new.spares) q text) parts.0
     (subst (λ (c : Catalog). has_body c q text ≡ true) grows.same (grows.has q text parts.1))
 
 pub fit_grown : (old new : Catalog) → GrowsTo old new → (es : List Entry) → list_all (fits_entry old) es ≡ true → list_all (fits_entry (with_spares old new.spares)) es ≡ true

@@ -1,6 +1,6 @@
 -- What holds of a catalogue holds of one with more bodies to be installed.
 use Rattle.std.proofs.Common.{◌≡◌, ◌∙◌, ◌⊎◌, ◌+◌, ◌<◌, ◌^◌, true, inl, inr, ℕ, zero, suc, List, [], ◌∷◌, length, take, Some, None, refl, sym, ap, subst, unwrap_or, arith}
-use Rattle.std.specs.Prelude.{Option, option_map, ◌&&◌, nat_le, nat_lt}
+use Rattle.std.specs.Prelude.{Option, option_map, ◌&&◌, nat_le, nat_lt, slice_get}
 use Rattle.std.specs.List.{list_all}
 use Rattle.std.proofs.lemmas.Bool.{and_from}
 use Rattle.ss_lemmas.proofs.Bools.{first_of_two, second_of_two}
@@ -12,7 +12,7 @@ use Rattle.ss_model.specs.declared.entry.Listed.{Listed}
 use Rattle.ss_model.specs.declared.entry.Mode.TheVariants as modes
 use Rattle.ss_model.specs.declared.entry.Outcome.TheVariants.{Done}
 use Rattle.ss_model.specs.declared.entry.Request.{Request}
-use Rattle.ss_model.specs.Database.{Applied, Database as Model, apply, body_text, empty_database, fits_entry, has_body}
+use Rattle.ss_model.specs.Database.{Applied, Database as Model, apply, body_text, empty_database, fits_entry, has_body, takes_bodies}
 use Rattle.ss_model.specs.Orders.{Orders}
 use Rattle.ss_model.specs.Recovery.{Strong}
 use Rattle.ss_model.specs.Replays.{Replays, after, database_after}
@@ -32,7 +32,7 @@ use Rattle.ss_headline.specs.Disks.{disk_of}
 use Rattle.ss_headline.specs.Layers.{Closed, Opened, Receipted}
 use Rattle.ss_headline.specs.Sentences.{ReceiptsStay}
 use Rattle.ss_engine.specs.Clients.{AllFit}
-use Rattle.ss_catalog.specs.Bodies.{BodiesMayStand, HasOneBody}
+use Rattle.ss_nest.specs.Bodies.{HasOneNestedBody, NestedBodiesMayStand}
 use Rattle.ss_snapshot.specs.Bodies.{GrowsTo}
 use Rattle.ss_snapshot.specs.Own.{SameButSpares}
 use Rattle.ss_snapshot.proofs.BothSpares.{both}
@@ -51,7 +51,7 @@ module _ (catalog : Catalog) (spares : List (List Body)) (has : (q : ℕ) (text 
   entry_fits (Push client index s source seq rows) h = h
   entry_fits (StepEntry n r) h = h
   entry_fits (Install client index q text) h =
-      and_from (nat_lt client 8 && nat_lt q (length catalog.procedures) && nat_le (length text) 1048576) (has_body (with_spares catalog spares) q text) (first_of_two _ _ h) (has q text (second_of_two _ _ h))
+      and_from (nat_lt client 8 && takes_bodies (slice_get catalog.procedures q) && nat_le (length text) 1048576) (has_body (with_spares catalog spares) q text) (first_of_two _ _ h) (has q text (second_of_two _ _ h))
 
   entries_fit : (es : List Entry) → list_all (fits_entry catalog) es ≡ true → list_all (fits_entry (with_spares catalog spares)) es ≡ true
   entries_fit [] h = refl
@@ -67,8 +67,8 @@ fits_more a b requests grows fit =
 -- the laws from which it follows
 pub record GrowthLaws : Type 0 where
   pub aside : SparesAside
-  pub stand : BodiesMayStand
-  pub body : HasOneBody
+  pub stand : NestedBodiesMayStand
+  pub body : HasOneNestedBody
   pub one : StandsForOne
 
 -- a whole database is one with more bodies
@@ -82,6 +82,7 @@ whole_with catalog spares db has k = record {
   };
   next_count = k.next_count;
   batches = k.batches;
+  inner = k.inner;
   calls = k.calls;
   next_numbers = λ s source n is. let m = k.next_numbers s source n is in record { border = m.border; at_least = m.at_least; at_most = m.at_most };
   body_count = k.body_count;

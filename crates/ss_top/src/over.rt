@@ -13,13 +13,13 @@ ghost use Rattle.ss_top.specs.Over.{MayRestart};
 ghost use Rattle.ss_top.specs.Turns.{MayGoOn, MayGoOnFrom, catalog_for, GoesOnOnce, ServesFirst, ServesAgain, ClosesEach, ComesFrom, ToldFrom, ComesAtLast, IsOver, LeavesToGoOn, HasServed, HasTurnTexts, LeavesPast, LeavesUnopened, is_fault};
 
 use crate::session::{Printing, Reported, has_failed, report_past, report_session, run_recovered};
-use ss_catalog::a_body_has_one_answer;
 use ss_cmdlog::what_is_spelled_is_read;
 use ss_disk::Disk;
 use ss_engine::{Closed, Finished, Gate};
 use ss_incarnations::{incarnations_go_on, opened_at_last, runs_over_restarts};
 use ss_model::{Catalog, Mode, Request, copy_catalog};
 use ss_model_laws::{spares_aside, wholeness_stays};
+use ss_nest::a_nested_body_has_one_answer;
 use ss_proc::PlainRunner;
 use ss_recover::{RecoverError, Recovered, recover};
 use ss_report_laws::answers_resume;
@@ -106,7 +106,7 @@ pub(crate) fn serve_new<D: Disk + Drop + Send, G: Gate + Drop + Sync, R: Threads
     // bodies to be installed.
     incarnations_go_on::<D>();
     spares_aside();
-    a_body_has_one_answer();
+    a_nested_body_has_one_answer();
     stands_for_one();
     let first = recovered.first;
     match run_recovered(
@@ -153,7 +153,7 @@ fn close_again<D: Disk + Drop>(
     incarnations_go_on::<D>();
     runs_over_restarts::<D>();
     spares_aside();
-    a_body_has_one_answer();
+    a_nested_body_has_one_answer();
     stands_for_one();
     let Finished {
         closed,
@@ -325,7 +325,7 @@ fn incarnate<D: Disk + Drop + Send, G: Gate + Drop + Sync, R: Threads + Wait + S
     incarnations_go_on::<D>();
     runs_over_restarts::<D>();
     spares_aside();
-    a_body_has_one_answer();
+    a_nested_body_has_one_answer();
     stands_for_one();
     wholeness_stays();
     what_is_spelled_is_read();

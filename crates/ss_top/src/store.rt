@@ -12,12 +12,12 @@ ghost use Rattle.ss_top.specs.Turns.{HasTurnTexts, IsOver, TellsTurn, disk_left}
 
 use crate::over::{Turn, run_over, serve_new};
 use crate::session::{Printing, Reported};
-use ss_catalog::a_body_has_one_answer;
 use ss_disk::Disk;
 use ss_engine::Gate;
 use ss_lines::{Sink, write_all};
 use ss_model::{Catalog, Mode, Request};
 use ss_model_laws::spares_aside;
+use ss_nest::a_nested_body_has_one_answer;
 use ss_proc::PlainRunner;
 use ss_recover::recover;
 use ss_refusals::{NO_MEMORY, Status, refuse_store, write_line, write_whole};
@@ -125,7 +125,7 @@ pub(crate) fn recover_store<
 {
     // Do nothing: they state the laws by which a store of a catalogue is one with more bodies to be installed.
     spares_aside();
-    a_body_has_one_answer();
+    a_nested_body_has_one_answer();
     stands_for_one();
     let requests = Seq::new(alloc);
     match recover(alloc, &PlainRunner, disk, None, mode, partitions) {

@@ -13,11 +13,11 @@ use crate::session::Printing;
 use crate::store::{recover_store, run_on_store};
 use crate::voter::show_input;
 use ss_audit_input::audit_input;
-use ss_catalog::a_value_has_one_answer;
 use ss_disk::Disk;
 use ss_engine::Gate;
 use ss_lines::{Sink, Source};
 use ss_model::Mode;
+use ss_nest::a_nested_value_has_one_answer;
 use ss_recover::a_disk_has_one_fault;
 use ss_refusals::{
     NO_MEMORY, ParsedInput, Status, USAGE, an_input_has_one_answer, read_input, refuse, write_line,
@@ -143,7 +143,7 @@ pub fn sstore_limited<
 {
     // Do nothing: they state the laws by which a store has room for what is owed.
     a_disk_has_one_fault();
-    a_value_has_one_answer();
+    a_nested_value_has_one_answer();
     let Some(CommandLine { command, options }) = command_line(words) else {
         write_line(sink, USAGE);
         return (Status::Usage, disk);

@@ -7,8 +7,8 @@ ghost use Rattle.ss_voter.specs.VoterCatalog.{IsVoter};
 ghost use Rattle.ss_top.specs.Shows.{show_requests};
 
 use serde_json::Value;
-use ss_catalog::read_catalog;
 use ss_model::Catalog;
+use ss_nest::read_nested;
 use ss_refusals::ParsedInput;
 use ss_value::NoMemory;
 use ss_voter::{voter_catalog, votes};
@@ -27,7 +27,7 @@ fn read_voter(alloc: Global) -> Result<Catalog, NoMemory>
         return Err(NoMemory);
     };
     // Its text is accepted, as the cases show, so that there is no other refusal.
-    read_catalog(alloc, &value).map_err(|_| NoMemory)
+    read_nested(alloc, value).map_err(|_| NoMemory)
 }
 
 /// The catalogue and the requests of a show. Linear in its votes.

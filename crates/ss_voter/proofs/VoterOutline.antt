@@ -1,5 +1,5 @@
 -- What the text of the voting show's catalogue is read as.
-use Rattle.std.proofs.Common.{◌≡◌, ◌&&◌, ◌==◌, Bool, true, false, List, [], ◌∷◌, length, slice_get, Option, Some, None, IfOk, IfSome, refl}
+use Rattle.std.proofs.Common.{◌≡◌, ◌&&◌, ◌==◌, Bool, true, false, List, [], ◌∷◌, length, slice_get, Option, Some, None, Ok, IfOk, IfSome, refl}
 use Rattle.std.specs.Float.Numeral.{scan_numeral}
 use Rattle.std.specs.List.{list_all, zip}
 use Rattle.json.specs.Json.{items, members, value}
@@ -17,6 +17,7 @@ use Rattle.ss_model.specs.Database.{is_border_stream, is_call}
 use Rattle.ss_catalog_outline.specs.declared.types.Outline.{Outline}
 use Rattle.ss_catalog_outline.specs.Outlines.{read_outline}
 use Rattle.ss_catalog_resolve.specs.Steps.{is_same_kind}
+use Rattle.ss_nest.specs.Outlines.{plain_value, read_nests}
 use Rattle.ss_voter.specs.VoterCatalog.{HasNumbers, add_number, begin_show_number, voter_text, votes_in_number}
 use Rattle.ss_voter.proofs.Bodiless.{bodiless}
 
@@ -46,10 +47,13 @@ pub record HasScript (o : Outline) : Type 0 where
   pub targets : HasTargets (bodiless o)
   pub numbers : HasNumbers (bodiless o)
 
--- the text is JSON, and what it says is an outline that has it: computed
-pub voter_read : IfSome (read voter_text) (λ d. IfOk (read_outline d) HasScript)
+-- the text is JSON, and what it says is an outline that has it, and no nests: computed
+pub voter_read : IfSome (read voter_text) (λ d. IfOk (read_outline (plain_value d)) HasScript × (read_nests d ≡ Ok []))
 unfolding lex punctuate content word after_number items members value number_of scan_numeral
-voter_read = record {
-  targets = record { begin_show = refl; add = refl; votes_in = refl; border = refl };
-  numbers = record { begin_show = refl; add = refl; votes_in = refl };
-}
+voter_read = (
+  record {
+    targets = record { begin_show = refl; add = refl; votes_in = refl; border = refl };
+    numbers = record { begin_show = refl; add = refl; votes_in = refl };
+  },
+  refl,
+)

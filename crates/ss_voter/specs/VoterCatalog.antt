@@ -3,8 +3,8 @@ use Rattle.std.specs.Prelude.{◌≡◌, ℕ, List, Some, codes}
 use Rattle.serde_json.specs.Data.{Data}
 use Rattle.serde_json.specs.Read.{read}
 use Rattle.ss_model.specs.declared.catalog.Catalog.{Catalog}
-use Rattle.ss_catalog.specs.Reads.{Reads}
 use Rattle.ss_catalog_requests.specs.Targets.{call_named, border_stream_named}
+use Rattle.ss_nest.specs.Reads.{ReadsNested}
 use Rattle.ss_voter.specs.declared.catalog.TheConstants.{VOTER}
 
 -- its text: the first line of an input
@@ -15,7 +15,7 @@ voter_text = VOTER.now
 pub record IsVoter (catalog : Catalog) : Type 0 where
   pub value : Data
   pub json : read voter_text ≡ Some value
-  pub reads : Reads value catalog
+  pub reads : ReadsNested value catalog
 
 -- ---- what the script names
 

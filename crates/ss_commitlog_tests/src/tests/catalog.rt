@@ -34,6 +34,7 @@ fn taking(alloc: Global) -> Option<Procedure>
         kind: ProcedureKind::Border,
         args: Seq::new(alloc),
         inputs,
+        inner: Seq::new(alloc),
         touch: Touch::Part(0),
         body: Seq::new(alloc),
     })
@@ -47,6 +48,7 @@ fn noting(alloc: Global) -> Option<Procedure>
         kind: ProcedureKind::Call,
         args: Seq::new(alloc),
         inputs: Seq::new(alloc),
+        inner: Seq::new(alloc),
         touch: Touch::Part(1),
         body: Seq::new(alloc),
     })

@@ -105,16 +105,18 @@ fn run_limited<'a>(
     body: &'a Seq<Step>,
     args: &'a Row,
     batches: &'a Seq<Rows>,
+    inner: &'a Seq<u16>,
     split_value: Option<&'a Value>,
     contents: &'a Contents,
 ) -> Result<BodyResult, NoMemory>
-    ensures { IfOk result (BodyLeaves catalog.now number body.now args.now batches.now (option_copied split_value.entry) contents.now) }
+    ensures { IfOk result (BodyLeaves catalog.now number body.now args.now batches.now inner.now (option_copied split_value.entry) contents.now) }
 {
     let context = Context {
         catalog,
         procedure: number,
         args,
         batches,
+        inner,
         split_value,
     };
     match run_body(alloc, &context, body, contents.copy(alloc)?) {
@@ -149,6 +151,7 @@ pub fn run_procedure(
         body,
         args,
         batches,
+        &procedure.inner,
         split_value.as_ref(),
         contents,
     )

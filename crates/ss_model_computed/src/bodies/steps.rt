@@ -2,7 +2,7 @@
 
 ghost use Rattle.std.specs.Prelude.{◌≡◌, OnOk, IfOk, IfErr, Ok};
 ghost use Rattle.ss_model.specs.Results.{try_fold};
-ghost use Rattle.ss_model.specs.Bodies.{execute_inner, execute_step};
+ghost use Rattle.ss_model.specs.Bodies.{batches_so_far, execute_inner, execute_step, step_on};
 ghost use Rattle.ss_model.specs.Stops.{StopsAs};
 ghost use Rattle.ss_model_computed.specs.State.{context_of, execution_of};
 ghost use Rattle.ss_model_computed.specs.Steps.{reply_rows};
@@ -17,7 +17,7 @@ use crate::lists::{add_rows, copy_at};
 use crate::statements::{context_query, execute_statement};
 use ss_model::{Inner, Reason, RunError, Step};
 use ss_sql_trees::Query;
-use ss_value::{Row, Rows, Seq};
+use ss_value::{Copies, NoMemory, Row, Rows, Seq};
 use std::alloc::Global;
 
 /// Runs a step of a `for_each` on the current row, whose columns are the parameters.
@@ -109,15 +109,15 @@ fn body_query(
     )
 }
 
-/// Runs a step of a body.
-pub fn execute_step(
+/// Runs a step of a body, on the context's batches.
+fn step_on(
     alloc: Global,
     context: &Context,
     step: &Step,
     execution: &mut Execution,
 ) -> Result<(), RunError>
-    ensures ok { OnOk result (execute_step (context_of context.now) step.now (execution_of execution.old) ≡ Ok (execution_of execution.new)) }
-    ensures stops { IfErr result (StopsAs (execute_step (context_of context.now) step.now (execution_of execution.old))) }
+    ensures ok { OnOk result (step_on (context_of context.now) step.now (execution_of execution.old) ≡ Ok (execution_of execution.new)) }
+    ensures stops { IfErr result (StopsAs (step_on (context_of context.now) step.now (execution_of execution.old))) }
 {
     match step {
         Step::Sql(statement) => {
@@ -135,11 +135,54 @@ pub fn execute_step(
             let rows = body_query(alloc, context, query, execution)?;
             emit_rows(alloc, context, *stream, &rows, execution)
         }
+        Step::Local { stream, query } => {
+            let rows = body_query(alloc, context, query, execution)?;
+            emit_rows(alloc, context, *stream, &rows, execution)
+        }
         Step::Return(query) => {
             let rows = body_query(alloc, context, query, execution)?;
             reply_rows(alloc, &rows, execution)
         }
     }
+}
+
+/// Copies of the batches that the steps of a procedure read: those of its inputs, and behind them those of its inner
+/// streams, so far.
+fn batches_so_far(
+    alloc: Global,
+    context: &Context,
+    execution: &Execution,
+) -> Result<Seq<Rows>, NoMemory>
+    ensures { IfOk result (λ batches. batches ≡ batches_so_far (context_of context.now) (execution_of execution.now)) }
+{
+    let mut batches = context.batches.duplicate(alloc)?;
+    for stream in context.inner.as_slice() {
+        let rows = copy_at(alloc, &execution.emitted, usize::from(*stream))?;
+        batches.push(rows)?;
+    }
+    Ok(batches)
+}
+
+/// Runs a step of a body. Linear in the batches that it may read, beside what the step costs.
+pub fn execute_step(
+    alloc: Global,
+    context: &Context,
+    step: &Step,
+    execution: &mut Execution,
+) -> Result<(), RunError>
+    ensures ok { OnOk result (execute_step (context_of context.now) step.now (execution_of execution.old) ≡ Ok (execution_of execution.new)) }
+    ensures stops { IfErr result (StopsAs (execute_step (context_of context.now) step.now (execution_of execution.old))) }
+{
+    let batches = batches_so_far(alloc, context, execution)?;
+    let seen = Context {
+        catalog: context.catalog,
+        procedure: context.procedure,
+        args: context.args,
+        batches: &batches,
+        inner: context.inner,
+        split_value: context.split_value,
+    };
+    step_on(alloc, &seen, step, execution)
 }
 
 /// Runs the steps of a body in order, up to the first abort.

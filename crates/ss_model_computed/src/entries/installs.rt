@@ -30,12 +30,12 @@ pub fn present_steps<'a>(
     }
 }
 
-/// Whether an install has a client below 8, and the text of a body that the procedure may have.
+/// Whether an install has a client below 8, a procedure that is no nest, and the text of a body that it may have.
 fn install_fits(catalog: &Catalog, client: u8, number: u16, text: &Seq<u8>) -> bool
     ensures { result ≡ install_fits catalog.now client number text.now }
 {
     client < CLIENT_LIMIT
-        && usize::from(number) < catalog.procedures.len()
+        && catalog.takes_bodies(usize::from(number))
         && text.len() <= TEXT_LIMIT
         && catalog.has_body(usize::from(number), text.as_slice())
 }

@@ -62,6 +62,7 @@ may_open p is = subst (λ z. AcceptedBody accounts.accounts 0 z opens_empty) (so
   local = λ args. record { steps = ((refl, tt), tt); owned = λ w o. o; triggers = λ w o. cc };
   limited = (tt, tt);
   emits = λ s. refl;
+  adds = λ s. refl;
 })
 
 goes_on : GoesOnWith accounts.accounts spares

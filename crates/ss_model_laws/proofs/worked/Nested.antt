@@ -48,7 +48,7 @@ abbrev of_four : TriggerDef
 of_four = record { name = codes "four"; on = OnWindow 1; statements = InsertQuery (IntoTable 0) (all_of (FromWindow 1)) ∷ [] }
 
 abbrev fills : Procedure
-fills = record { name = codes "b"; kind = Border; args = []; inputs = 0 ∷ []; touch = Part 0; body = Sql (InsertQuery (IntoWindow 0) (all_of (FromBatch 0))) ∷ [] }
+fills = record { name = codes "b"; kind = Border; args = []; inputs = 0 ∷ []; inner = []; touch = Part 0; body = Sql (InsertQuery (IntoWindow 0) (all_of (FromBatch 0))) ∷ [] }
 
 abbrev pub nested : Catalog
 nested = record {

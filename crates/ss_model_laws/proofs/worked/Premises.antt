@@ -19,7 +19,8 @@ use Rattle.ss_model.specs.declared.entry.Listed.{Listed}
 use Rattle.ss_model.specs.declared.entry.Outcome.TheVariants.{Aborted}
 use Rattle.ss_model.specs.declared.entry.Reason.TheVariants.{KeyTaken}
 use Rattle.ss_model.specs.Statements.{Context, cascade_to_depth, trigger_cascade}
-use Rattle.ss_model.specs.Database.{Database, Applied, apply, empty_database, fits_entry, run_procedure, stream_batches, emits_to}
+use Rattle.ss_model.specs.Database.{Database, Applied, apply, empty_database, fits_entry, run_procedure, stream_batches, emits_to, adds_to}
+use Rattle.ss_model.specs.CatalogForm.{body_within_limit}
 use Rattle.ss_model.specs.Replays.{after, GoesOn}
 use Rattle.ss_model.specs.Orders.{Orders, MatchesCounts, procedure_has}
 use Rattle.ss_model.specs.Partitions.{touches}
@@ -151,14 +152,14 @@ same_kept e = kept_is_enough sliding.sliding_seen _ _ equal_kept e
 
 -- one trigger deep is deep enough for one window
 abbrev context : Context
-context = record { catalog = sliding.sliding_seen; procedure = 0; args = []; batches = []; split_value = None }
+context = record { catalog = sliding.sliding_seen; procedure = 0; args = []; batches = []; inner = []; split_value = None }
 
 deep_enough : cascade_to_depth 3 context 0 ≡ trigger_cascade context 0
 deep_enough = windows_are_enough sliding.sliding_seen sliding.accepted context refl 0 3 (omega arith) (omega arith)
 
 -- and two deep for two that feed one another
 abbrev nested_context : Context
-nested_context = record { catalog = nested.nested; procedure = 0; args = []; batches = []; split_value = None }
+nested_context = record { catalog = nested.nested; procedure = 0; args = []; batches = []; inner = []; split_value = None }
 
 nested_enough : cascade_to_depth 5 nested_context 0 ≡ trigger_cascade nested_context 0
 nested_enough = windows_are_enough nested.nested nested.accepted nested_context refl 0 5 (omega arith) (omega arith)
@@ -280,22 +281,33 @@ parts_of_accepted = (in_parts flow.workflow).0 flow.accepted
 nothing : ℕ → List Step
 nothing q = []
 
+-- no steps are few, in a nest too
+short : (inner : List ℕ) → body_within_limit inner [] ≡ true
+short [] = refl
+short (s ∷ inner) = refl
+
 emptied : AcceptedBodies accounts.accounts nothing
 unfolding nothing
 emptied q p is = record {
   kind = refl;
-  size = refl;
+  size = short p.inner;
   typed = refl;
   in_scope = refl;
   local = λ args. let own = (accounts.accepted.uses q p is).local args in record { steps = tt; owned = own.owned; triggers = own.triggers };
   limited = tt;
   emits = by q is;
+  adds = none q is;
 }
   where
     by : (q : ℕ) → slice_get accounts.accounts.procedures q ≡ Some p → (s : ℕ) → false ≡ list_any (emits_to s) p.body
     by zero e s = ap (procedure_has (λ d. list_any (emits_to s) d.body)) e
     by (suc zero) e s = ap (procedure_has (λ d. list_any (emits_to s) d.body)) e
     by (suc (suc n)) e s = cc
+
+    none : (q : ℕ) → slice_get accounts.accounts.procedures q ≡ Some p → (s : ℕ) → false ≡ list_any (adds_to s) p.body
+    none zero e s = ap (procedure_has (λ d. list_any (adds_to s) d.body)) e
+    none (suc zero) e s = ap (procedure_has (λ d. list_any (adds_to s) d.body)) e
+    none (suc (suc n)) e s = cc
 
 still_accepted : BodiesMayChange accounts.accounts nothing
 still_accepted = may_change accounts.accounts nothing emptied accounts.accepted
@@ -326,6 +338,7 @@ untested_accepted = record {
   local = λ args. record { steps = (((tt, tt), tt), tt); owned = λ w o. o; triggers = λ w o. cc };
   limited = (tt, tt);
   emits = λ s. refl;
+  adds = λ s. refl;
 }
 
 others_accepted : AcceptedBodies flow.workflow other_bodies
@@ -378,6 +391,7 @@ whole_units =
       batches = e.batches;
       calls = e.calls;
       next_numbers = e.next_numbers;
+      inner = e.inner;
       body_count = refl;
       bodies = e.bodies;
     }
@@ -391,7 +405,7 @@ whole_with_blanks = kept_is_whole sliding.sliding_seen (of_units five_units) (of
 
 -- a run of the accounts leaves whole contents
 whole_run : WholeResult accounts.accounts (run_procedure accounts.accounts 1 accounts.returns [] [] (empty_database accounts.accounts).contents)
-whole_run = run_whole accounts.accounts accounts.accepted.typed accounts.accepted.in_scope 1 accounts.returns [] [] (empty_database accounts.accounts).contents refl refl (λ i. tt) (empty_whole accounts.accounts accounts.accepted).contents
+whole_run = run_whole accounts.accounts accounts.accepted.typed accounts.accepted.in_scope 1 accounts.returns [] [] (empty_database accounts.accounts).contents refl refl refl (λ i. tt) (empty_whole accounts.accounts accounts.accepted).contents
 
 -- a run of the window's procedure on five units, and on blanks in place of the first two
 alike : SameKept sliding.sliding_seen (of_units five_units).contents (of_units ([] ∷ [] ∷ unit 3 ∷ unit 4 ∷ unit 5 ∷ [])).contents

@@ -28,6 +28,7 @@ puts = record {
   kind = CallKind;
   args = int_column (codes "k") ∷ int_column (codes "v") ∷ [];
   inputs = [];
+  inner = [];
   touch = Part 0;
   body = Sql (InsertValues (IntoTable 0) (Param 0 ∷ Param 1 ∷ [])) ∷ [];
 }
@@ -38,6 +39,7 @@ tries = record {
   kind = CallKind;
   args = int_column (codes "a") ∷ [];
   inputs = [];
+  inner = [];
   touch = Part 0;
   body =
       Sql (InsertValues (IntoTable 0) (Param 0 ∷ number 1 ∷ []))
@@ -53,6 +55,7 @@ totals = record {
   kind = CallKind;
   args = [];
   inputs = [];
+  inner = [];
   touch = Part 0;
   body = Return (select (Sum (column 1) ∷ []) (FromTable 0) None) ∷ [];
 }

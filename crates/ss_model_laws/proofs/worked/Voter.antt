@@ -123,6 +123,7 @@ begins_show = record {
   kind = CallKind;
   args = int_column (codes "every") ∷ [];
   inputs = [];
+  inner = [];
   touch = Part 0;
   body = Sql (InsertValues (IntoTable 2) (number 1 ∷ Param 0 ∷ number 0 ∷ number 0 ∷ number 1 ∷ [])) ∷ [];
 }
@@ -133,6 +134,7 @@ adds = record {
   kind = CallKind;
   args = int_column (codes "id") ∷ text_column (codes "name") ∷ [];
   inputs = [];
+  inner = [];
   touch = Part 0;
   body =
       Sql (InsertValues (IntoTable 0) (Param 0 ∷ number 1 ∷ Param 1 ∷ number 0 ∷ []))
@@ -146,6 +148,7 @@ validates = record {
   kind = Border;
   args = [];
   inputs = 0 ∷ [];
+  inner = [];
   touch = Part 0;
   body =
       ForEach 0 (
@@ -164,6 +167,7 @@ leads = record {
   kind = Interior;
   args = [];
   inputs = 1 ∷ [];
+  inner = [];
   touch = Part 0;
   body =
       Sql (Update 2 (set_to 4 (number 1) ∷ []) None)
@@ -182,6 +186,7 @@ removes = record {
   kind = Interior;
   args = [];
   inputs = 2 ∷ [];
+  inner = [];
   touch = Part 0;
   body =
       ForEach 0 (

@@ -73,7 +73,7 @@ carries list = kept_carries voter _ _ equal_kept list
 -- ---- the leaderboard's trigger, and the three of most votes
 
 abbrev context : Context
-context = record { catalog = voter; procedure = 3; args = []; batches = []; split_value = None }
+context = record { catalog = voter; procedure = 3; args = []; batches = []; inner = []; split_value = None }
 
 deep_enough : cascade_to_depth 4 context 0 ≡ trigger_cascade context 0
 deep_enough = windows_are_enough voter accepted context refl 0 4 (omega arith) (omega arith)
@@ -109,7 +109,7 @@ votes_fit zero = (refl, tt)
 votes_fit (suc i) = tt
 
 whole_run : WholeResult voter (run_procedure voter 2 validates [] (run.votes ∷ []) voted.contents)
-whole_run = run_whole voter accepted.typed accepted.in_scope 2 validates [] (run.votes ∷ []) voted.contents refl refl votes_fit whole_voted.contents
+whole_run = run_whole voter accepted.typed accepted.in_scope 2 validates [] (run.votes ∷ []) voted.contents refl refl refl votes_fit whole_voted.contents
 
 -- ---- the vote's step brings the leaderboard a batch, and wakes it
 

@@ -32,6 +32,7 @@ splits = record {
   kind = Border;
   args = [];
   inputs = 0 ∷ [];
+  inner = [];
   touch = Part 0;
   body =
       Emit 1 (select (Plain (column 0) ∷ []) (FromBatch 0) None)
@@ -46,6 +47,7 @@ adds_ten = record {
   kind = Interior;
   args = [];
   inputs = 1 ∷ [];
+  inner = [];
   touch = Part 0;
   body =
       AbortIf (count_is (FromBatch 0) (Some (compares (column 0) Eq (number 7))) Gt 0) (pos 3)
@@ -60,6 +62,7 @@ adds_twenty = record {
   kind = Interior;
   args = [];
   inputs = 2 ∷ [];
+  inner = [];
   touch = Part 0;
   body = Emit 4 (select (Plain (Binary Add (column 0) (number 20)) ∷ []) (FromBatch 0) None) ∷ [];
 }
@@ -71,6 +74,7 @@ joins = record {
   kind = Interior;
   args = [];
   inputs = 3 ∷ 4 ∷ [];
+  inner = [];
   touch = Part 0;
   body =
       Sql (InsertQuery (IntoTable 0) (select (Plain (column 0) ∷ Plain (number 1) ∷ []) (FromBatch 0) None))

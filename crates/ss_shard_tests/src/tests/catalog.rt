@@ -4,8 +4,8 @@ ghost use Rattle.std.specs.Prelude.{IfSome};
 ghost use Rattle.ss_model.specs.Accepted.{Accepted};
 
 use serde_json::Value as Json;
-use ss_catalog::read_catalog;
 use ss_model::Catalog;
+use ss_nest::read_nested;
 use std::alloc::Global;
 
 /// A table that is split by its key, with an index; one that is on one part; a stream with a window behind it, on another; and
@@ -18,5 +18,5 @@ pub(crate) fn catalog(alloc: Global) -> Option<Catalog>
     ensures { IfSome result Accepted }
 {
     let value = Json::from_str(alloc, TEXT).ok()?;
-    read_catalog(alloc, &value).ok()
+    read_nested(alloc, value).ok()
 }

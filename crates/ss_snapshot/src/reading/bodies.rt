@@ -14,9 +14,10 @@ ghost use Rattle.ss_snapshot.specs.Own.{IsReadFromItsText};
 ghost use Rattle.ss_snapshot.specs.Parts.{Reads};
 
 use crate::reading::fields::{PartError, u32_in};
-use ss_catalog::{a_value_has_one_answer, add_spare, body_of};
+use ss_catalog::add_spare;
 use ss_model::Catalog;
 use ss_model_laws::spares_aside;
+use ss_nest::{a_nested_value_has_one_answer, nested_body_of};
 use ss_shard::body_number;
 use ss_value::{NoMemory, Seq};
 use std::alloc::Global;
@@ -55,12 +56,12 @@ fn learn_body(
     ensures none { IfOk result (λ has. has ≡ false → HasNoBody catalog.new procedure text.now) }
 {
     // Laws: a text is one catalogue's, and with a body more a catalogue stays accepted.
-    a_value_has_one_answer();
+    a_nested_value_has_one_answer();
     spares_aside();
     if catalog.has_body(usize::from(procedure), text) {
         return Ok(true);
     }
-    match body_of(alloc, catalog, procedure, text)? {
+    match nested_body_of(alloc, catalog, procedure, text)? {
         None => Ok(false),
         Some(body) => {
             add_spare(alloc, catalog, procedure, body)?;
@@ -80,7 +81,7 @@ fn learn_bodies(alloc: Global, bytes: &[u8], catalog: &mut Catalog) -> Result<()
     ensures furthest { OnOk result (IsFurthest true catalog.new bytes.now) }
 {
     // A law: a text is one catalogue's.
-    a_value_has_one_answer();
+    a_nested_value_has_one_answer();
     let Ok(count) = u16::try_from(catalog.procedures.len()) else {
         return Err(NoMemory);
     };
@@ -174,7 +175,7 @@ pub(crate) fn bodies_in<'a>(
     ensures no_further { IfErr result (λ e. UnlessMemory e (IsFurthest bodies catalog.new bytes.now)) }
 {
     // A law: a text is one catalogue's.
-    a_value_has_one_answer();
+    a_nested_value_has_one_answer();
     if !bodies {
         return Ok((own_numbers(alloc, catalog)?, bytes));
     }

@@ -22,8 +22,8 @@ use crate::reading::bodies::bodies_in;
 use crate::reading::fields::PartError;
 use crate::reading::image::{Beside, Progress, but_bodies_in};
 use crate::reading::resumed::resumed_streams;
-use ss_catalog::a_value_has_one_answer;
 use ss_model::Catalog;
+use ss_nest::a_nested_value_has_one_answer;
 use ss_shard::{Database, Shard, opening};
 use ss_standing::images_are_exact;
 use ss_value::Seq;
@@ -140,7 +140,7 @@ pub(crate) fn database_in(
     ensures refused { IfErr result (λ e. RefusesRest bodies catalog.new first bytes.now e) }
 {
     // Laws: a text is one catalogue's, and what is read to the end is kept of a whole database.
-    a_value_has_one_answer();
+    a_nested_value_has_one_answer();
     images_are_exact();
     let (parts, rest) = shard_and_beside_in(alloc, bytes, catalog, first, partitions)?;
     let (whole, beside) = parts;

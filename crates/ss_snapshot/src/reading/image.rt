@@ -60,7 +60,8 @@ fn counts_and_sources_in<'a>(
     Ok(((counts, sources), rest))
 }
 
-/// The streams, the counts that go with them, and the sources. No stream has had more than `most` batches.
+/// The streams, the counts that go with them, and the sources. No stream has had more than `most` batches, and one inside of a
+/// nest none.
 fn progress_in<'a>(
     alloc: Global,
     bytes: &'a [u8],
@@ -69,7 +70,7 @@ fn progress_in<'a>(
 ) -> Result<(Progress, &'a [u8]), PartError>
     ensures { Reads (λ x. (as_progress x.0, x.1.now)) result (progress_of catalog.now most bytes.now) }
 {
-    let (streams, rest) = streams_in(alloc, bytes, catalog.streams.as_slice(), most)?;
+    let (streams, rest) = streams_in(alloc, bytes, catalog, most)?;
     let (behind, rest) = counts_and_sources_in(alloc, rest, catalog, streams.as_slice())?;
     let (counts, sources) = behind;
     let progress = Progress {

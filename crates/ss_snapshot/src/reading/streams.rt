@@ -1,7 +1,8 @@
 //! Streams of an image from bytes.
 
-ghost use Rattle.std.specs.Prelude.{◌≤◌, map, nat_le, IfOk};
-ghost use Rattle.ss_standing.specs.ImageForm.{number_where, rows_of, stream_of};
+ghost use Rattle.std.specs.Prelude.{◌≡◌, ◌≤◌, length, map, nat_le, IfOk};
+ghost use Rattle.std.specs.List.{range_with_len};
+ghost use Rattle.ss_standing.specs.ImageForm.{most_of, number_where, rows_of, stream_at, stream_of};
 ghost use Rattle.ss_standing.specs.Readers.{each};
 ghost use Rattle.ss_snapshot.specs.ImageParts.{many_batches};
 ghost use Rattle.ss_snapshot.specs.Parts.{Reads};
@@ -9,7 +10,7 @@ ghost use Rattle.ss_snapshot.specs.Streams.{as_kept};
 
 use crate::reading::fields::{PartError, u16_in, u64_in};
 use crate::reading::rows::rows_in;
-use ss_model::StreamDef;
+use ss_model::Catalog;
 use ss_value::{Rows, Schema, Seq};
 use std::alloc::Global;
 
@@ -87,14 +88,14 @@ fn number_to(bytes: &[u8], most: u64) -> Result<(u64, &[u8]), PartError>
 fn stream_in<'a>(
     alloc: Global,
     bytes: &'a [u8],
-    stream: &StreamDef,
+    schema: &Schema,
     most: u64,
 ) -> Result<(KeptStream, &'a [u8]), PartError>
-    ensures { Reads (λ x. (as_kept x.0, x.1.now)) result (stream_of most stream.now bytes.now) }
+    ensures { Reads (λ x. (as_kept x.0, x.1.now)) result (stream_of most schema.now bytes.now) }
 {
     let (had, rest) = number_to(bytes, most)?;
     let (first, rest) = number_to(rest, had)?;
-    let (batches, rest) = batches_in(alloc, rest, &stream.schema, had - first)?;
+    let (batches, rest) = batches_in(alloc, rest, schema, had - first)?;
     let read = KeptStream {
         had,
         first,
@@ -103,19 +104,52 @@ fn stream_in<'a>(
     Ok((read, rest))
 }
 
-/// The streams of these definitions, each of which has had so many batches at most. Linear in their bytes.
+/// The most batches that a stream may have had, where one may have had so many: one inside of a nest has had none. Linear in
+/// the inner streams of all procedures.
+fn most_of(catalog: &Catalog, stream: usize, most: u64) -> u64
+    ensures { result ≡ most_of catalog.now most stream }
+{
+    if catalog.is_inner_stream(stream) {
+        0
+    } else {
+        most
+    }
+}
+
+/// The stream of this number, without columns past the end. Linear in its bytes and in the inner streams of all procedures.
+fn stream_at_in<'a>(
+    alloc: Global,
+    bytes: &'a [u8],
+    catalog: &Catalog,
+    stream: usize,
+    most: u64,
+) -> Result<(KeptStream, &'a [u8]), PartError>
+    ensures { Reads (λ x. (as_kept x.0, x.1.now)) result (stream_at catalog.now most stream bytes.now) }
+{
+    let most = most_of(catalog, stream, most);
+    match catalog.streams.get(stream) {
+        Some(def) => stream_in(alloc, bytes, &def.schema, most),
+        None => {
+            let none = Seq::new(alloc);
+            stream_in(alloc, bytes, &none, most)
+        }
+    }
+}
+
+/// The streams of a catalogue, each of which has had so many batches at most, and none where it is inside of a nest. Linear in
+/// their bytes, and for each stream in the inner streams of all procedures.
 pub(crate) fn streams_in<'a>(
     alloc: Global,
     bytes: &'a [u8],
-    streams: &[StreamDef],
+    catalog: &Catalog,
     most: u64,
 ) -> Result<(Seq<KeptStream>, &'a [u8]), PartError>
-    ensures { Reads (λ x. (map as_kept x.0, x.1.now)) result (each (stream_of most) streams.now bytes.now) }
+    ensures { Reads (λ x. (map as_kept x.0, x.1.now)) result (each (stream_at catalog.now most) (range_with_len 0 (length catalog.now.streams)) bytes.now) }
 {
     let mut read = Seq::new(alloc);
     let mut rest = bytes;
-    for stream in streams {
-        let (kept, behind) = stream_in(alloc, rest, stream, most)?;
+    for stream in 0..catalog.streams.len() {
+        let (kept, behind) = stream_at_in(alloc, rest, catalog, stream, most)?;
         if read.push(kept).is_err() {
             return Err(PartError::NoMemory);
         }

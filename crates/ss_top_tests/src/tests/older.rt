@@ -217,9 +217,10 @@ fn lost_on_older<R: Threads + Wait + Sync>(
     Ok(first_lost(rt, alloc, script, disk)?)
 }
 
+// The scripts with a nest are left out: where the older forms were written there were no nests.
 #[test]
 fn bodies_are_installed_on_older_stores(rt: HostRuntime) -> Result<(), Fail> {
-    for (number, script) in SCRIPTS.iter().enumerate().skip(6) {
+    for (number, script) in SCRIPTS.iter().enumerate().skip(6).take(4) {
         let letter = if number < 8 { b'1' } else { b'W' };
         let lost = lost_on_older(&rt, rt.alloc(), script, letter)?;
         assert!(rt; lost.is_none(), "script {number}: {lost:?}");

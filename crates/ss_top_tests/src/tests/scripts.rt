@@ -62,14 +62,18 @@ pub(super) const CALLS: &str =
 const SPREAD: &str =
     r#"{"tables":[{"name":"acct","columns":[["id","int"],["side","int"]],"key":["id","side"],"by":"id"},{"name":"joined","columns":[["x","int"],["side","int"]],"key":["x"],"part":7}],"streams":[{"name":"s","columns":[["x","int"]]},{"name":"l","columns":[["x","int"]]},{"name":"r","columns":[["x","int"]]},{"name":"pl","columns":[["x","int"]]},{"name":"qr","columns":[["x","int"]]}],"procedures":[{"name":"put","kind":"call","args":[["id","int"]],"touch":{"arg":"id"},"body":[{"insert":"acct","values":[{"arg":"id"},1]},{"insert":"acct","values":[{"arg":"id"},2]}]},{"name":"a","kind":"border","inputs":["s"],"touch":{"part":0},"body":[{"emit":"l","sql":"SELECT x FROM s"},{"emit":"r","sql":"SELECT x FROM s"}]},{"name":"p","kind":"interior","inputs":["l"],"touch":{"part":3},"body":[{"emit":"pl","sql":"SELECT x + 10 FROM l"}]},{"name":"q","kind":"interior","inputs":["r"],"touch":{"part":5},"body":[{"emit":"qr","sql":"SELECT x + 20 FROM r"}]},{"name":"j","kind":"interior","inputs":["pl","qr"],"touch":{"part":7},"body":[{"sql":"INSERT INTO joined SELECT x, 1 FROM pl"},{"sql":"INSERT INTO joined SELECT x, 2 FROM qr"}]}]}"#;
 
+/// The workflow that parts and meets again, in which all but `j` are one nest: its streams `l` and `r` are inside of it.
+pub(super) const NESTED: &str =
+    r#"{"tables":[{"name":"joined","columns":[["x","int"],["side","int"]],"key":["x"],"part":0}],"streams":[{"name":"s","columns":[["x","int"]]},{"name":"l","columns":[["x","int"]]},{"name":"r","columns":[["x","int"]]},{"name":"pl","columns":[["x","int"]]},{"name":"qr","columns":[["x","int"]]}],"procedures":[{"name":"a","kind":"border","inputs":["s"],"touch":{"part":0},"body":[{"emit":"l","sql":"SELECT x FROM s"},{"emit":"r","sql":"SELECT x FROM s"}]},{"name":"p","kind":"interior","inputs":["l"],"touch":{"part":0},"body":[{"abort_if":"(SELECT COUNT(*) FROM l WHERE x = 7) > 0","code":3},{"emit":"pl","sql":"SELECT x + 10 FROM l"}]},{"name":"q","kind":"interior","inputs":["r"],"touch":{"part":0},"body":[{"emit":"qr","sql":"SELECT x + 20 FROM r"}]},{"name":"j","kind":"interior","inputs":["pl","qr"],"touch":{"part":0},"body":[{"sql":"INSERT INTO joined SELECT x, 1 FROM pl"},{"sql":"INSERT INTO joined SELECT x, 2 FROM qr"}]},{"name":"peek","kind":"call","touch":{"part":0},"body":[{"return_all":"joined"}]}],"nests":[{"name":"first","procedures":["a","p","q"]}]}"#;
+
 /// A push and a call of each of eight clients.
 const OF_EIGHT: &str =
     "{\"push\":\"s\",\"source\":\"a\",\"seq\":0,\"rows\":[[1]]}\n{\"client\":1,\"push\":\"s\",\"source\":\"b\",\"seq\":0,\"rows\":[[3]]}\n{\"client\":2,\"push\":\"s\",\"source\":\"c\",\"seq\":0,\"rows\":[[4]]}\n{\"client\":3,\"push\":\"s\",\"source\":\"d\",\"seq\":0,\"rows\":[[5]]}\n{\"client\":4,\"push\":\"s\",\"source\":\"e\",\"seq\":0,\"rows\":[[6]]}\n{\"client\":5,\"push\":\"s\",\"source\":\"f\",\"seq\":0,\"rows\":[[7]]}\n{\"client\":6,\"push\":\"s\",\"source\":\"g\",\"seq\":0,\"rows\":[[8]]}\n{\"client\":7,\"push\":\"s\",\"source\":\"h\",\"seq\":0,\"rows\":[[9]]}\n{\"call\":\"put\",\"args\":[0]}\n{\"client\":1,\"call\":\"put\",\"args\":[1]}\n{\"client\":2,\"call\":\"put\",\"args\":[2]}\n{\"client\":3,\"call\":\"put\",\"args\":[3]}\n{\"client\":4,\"call\":\"put\",\"args\":[4]}\n{\"client\":5,\"call\":\"put\",\"args\":[5]}\n{\"client\":6,\"call\":\"put\",\"args\":[6]}\n{\"client\":7,\"call\":\"put\",\"args\":[7]}\n";
 
 /// One client, the same with a checkpoint due behind each entry, and eight clients on as many partitions; then the three again with a
 /// store of which what clients ask for alone is logged. Then a body is installed on stores of each mode, without checkpoints and with
-/// them.
-pub(super) const SCRIPTS: [Script; 10] = [
+/// them; and both with a nest.
+pub(super) const SCRIPTS: [Script; 14] = [
     Script {
         words: ["run", "--partitions=1", "--restarts=0"],
         catalog: DIAMOND,
@@ -138,6 +142,34 @@ pub(super) const SCRIPTS: [Script; 10] = [
         catalog: DIAMOND,
         requests: INSTALLS,
         last: "[\"done\",12]\n",
+        empty: "[\"table\",\"joined\",0]\n[\"done\",0]\n",
+    },
+    Script {
+        words: ["run", "--partitions=1", "--recovery=strong"],
+        catalog: NESTED,
+        requests: PUSHES,
+        last: "[\"done\",8]\n",
+        empty: "[\"table\",\"joined\",0]\n[\"done\",0]\n",
+    },
+    Script {
+        words: ["run", "--checkpoint=1", "--recovery=strong"],
+        catalog: NESTED,
+        requests: PUSHES,
+        last: "[\"done\",8]\n",
+        empty: "[\"table\",\"joined\",0]\n[\"done\",0]\n",
+    },
+    Script {
+        words: ["run", "--partitions=1", "--recovery=weak"],
+        catalog: NESTED,
+        requests: INSTALLS,
+        last: "[\"done\",8]\n",
+        empty: "[\"table\",\"joined\",0]\n[\"done\",0]\n",
+    },
+    Script {
+        words: ["run", "--checkpoint=1", "--recovery=weak"],
+        catalog: NESTED,
+        requests: INSTALLS,
+        last: "[\"done\",8]\n",
         empty: "[\"table\",\"joined\",0]\n[\"done\",0]\n",
     },
 ];

@@ -3,7 +3,7 @@
 ghost use Rattle.std.specs.Prelude.{◌<◌};
 ghost use Rattle.ss_disk.specs.Calls.{memory_calls};
 
-use super::scripts::{ROOM, SCRIPTS, Script, is_prefix, recover, recover_as, run_script};
+use super::scripts::{NESTED, ROOM, SCRIPTS, Script, is_prefix, recover, recover_as, run_script};
 use super::{ACCOUNTS, DIAMOND, Left, PUTS, Streams, empty_disk, with_requests};
 use ss_disk::{Disk, FileNo, MemoryDisk, Torn};
 use ss_top::Status;
@@ -220,14 +220,19 @@ fn a_crash_in_each_call(rt: HostRuntime) -> Result<(), Fail> {
     Ok(())
 }
 
+/// The file of the generation that counts, and its number.
+fn counting_file(disk: &mut MemoryDisk) -> Result<(FileNo, u8), Failed> {
+    let selector = byte_at(disk, FileNo::Selector, 0)?;
+    if selector % 2 == 0 {
+        Ok((FileNo::First, 1))
+    } else {
+        Ok((FileNo::Second, 2))
+    }
+}
+
 /// The least byte of the place at which the generation that counts begins.
 fn first_place(disk: &mut MemoryDisk) -> Result<u8, Failed> {
-    let selector = byte_at(disk, FileNo::Selector, 0)?;
-    let which = if selector % 2 == 0 {
-        FileNo::First
-    } else {
-        FileNo::Second
-    };
+    let (which, _) = counting_file(disk)?;
     byte_at(disk, which, 16)
 }
 
@@ -239,5 +244,28 @@ fn a_log_begins_anew(rt: HostRuntime) -> Result<(), Fail> {
     assert!(rt; first_place(&mut disk) == Ok(12));
     let recovered = recover(&rt, rt.alloc(), disk)?;
     assert!(rt; recovered.ended.is(Status::Done, BOTH_RAN));
+    Ok(())
+}
+
+/// Where the number of batches begins that `l` has had, in an image of the workflow with a nest and four rows: behind 25 bytes of the
+/// generation, four for the length of the catalogue's text, the text, eight for the number of rows, 19 for each row, and 16 for `s`.
+fn inside() -> u64 {
+    129u64.saturating_add(NESTED.len() as u64)
+}
+
+// The place of the image would let a stream have had eight batches.
+#[test]
+fn a_stream_inside_of_a_nest_has_no_batch(rt: HostRuntime) -> Result<(), Fail> {
+    let left = run_script(&rt, rt.alloc(), &SCRIPTS[11], empty_disk(rt.alloc()))?;
+    let mut disk = left.into_disk();
+    assert!(rt; first_place(&mut disk) == Ok(8));
+    let Ok((which, file)) = counting_file(&mut disk) else {
+        return Err("no selector".into());
+    };
+    let at = inside();
+    let damaged = with_byte(disk, which, at.saturating_add(7), 1)?;
+    let refused = recover(&rt, rt.alloc(), damaged)?;
+    let line = format!(in rt.alloc(); "[\"foreign\",{file},{at}]\n")?;
+    assert!(rt; refused.ended.is(Status::Foreign, &line));
     Ok(())
 }

@@ -7,7 +7,7 @@ returns-in-Ok-clause-comes g c = verdict_comes _ _ c.in-Ok.verdict c.in-Ok.ensur
 
 pub returns-in-Err-clause-comes : goal.returns-in-Err-clause-comes
 returns-in-Err-clause-comes g c =
-    let said = c.a_value_has_one_answer.ensures in
+    let said = c.a_nested_value_has_one_answer.ensures in
     let asked = c.a_request_has_one_answer.ensures in
     let laws : InputLaws = record {
       asking = record { request = asked.request; either = asked.either; refusal = asked.refusal };

@@ -1,6 +1,6 @@
 use Rattle.serde_json.specs.View.{view}
-use Rattle.ss_catalog.proofs.CallerLemmas.{read_from}
+use Rattle.ss_nest.proofs.CallerLemmas.{nested_from}
 use Rattle.ss_case_lists.proofs.catalogs.read_base.Goals as goal
 
-pub returns-in-Ok-catalog-clause-read : goal.returns-in-Ok-catalog-clause-read
-returns-in-Ok-catalog-clause-read c = (view c.in-Ok.value, read_from (view c.in-Ok.value) c.in-Ok-catalog.catalog c.in-Ok-catalog.ensures.ok)
+pub returns-in-Ok-read_nested-clause-read : goal.returns-in-Ok-read_nested-clause-read
+returns-in-Ok-read_nested-clause-read c = (view c.in-Ok.value, nested_from (view c.in-Ok.value) c.in-Ok-read_nested.catalog c.in-Ok-read_nested.ensures.ok)

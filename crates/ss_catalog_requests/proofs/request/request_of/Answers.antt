@@ -23,8 +23,8 @@ use Rattle.ss_catalog_requests.proofs.request.request_of.Goals as goal
 installs : (catalog : Catalog) (line : ℕ) (d : Data) (said : SaidRequest) (q : ℕ) → said_of catalog line d ≡ Ok said → said.what ≡ SaidBody q → Installs catalog line d q
 installs catalog line d said q is body = (said.client, is ∙ ap (λ (w : Said). Ok (record { client = said.client; what = w })) body)
 
-pub install-requires-clause-within : goal.install-requires-clause-within
-install-requires-clause-within c = subst (FittingSaid c.args.catalog.now c.in_ok-said.said.client) c.in-Body.is (said_fits c.args.catalog.now c.args.line (view c.args.value.now) c.in_ok-said.said c.in_ok-said.ensures.ok).1
+pub install-requires-clause-takes : goal.install-requires-clause-takes
+install-requires-clause-takes c = subst (FittingSaid c.args.catalog.now c.in_ok-said.said.client) c.in-Body.is (said_fits c.args.catalog.now c.args.line (view c.args.value.now) c.in_ok-said.said c.in_ok-said.ensures.ok).1
 
 pub returns-in_err-what-in-Body-clause-refused : goal.returns-in_err-what-in-Body-clause-refused
 returns-in_err-what-in-Body-clause-refused c =

@@ -15,5 +15,5 @@ returns-clause-bodies c =
     let own = subst (λ (o : Option Catalog). IfSome o IsReadFromItsText) c.in-Some.is c.requires.given in
     ok_both (HasMore old new) (AreSpares new c.as_slice-3.result.now) (HasGivenBodies new c.args.given.now) c.fill_spares.result
     (λ more are. subst (HasGivenBodies new) (sym c.in-Some.is) (λ text_is.
-    has_all_given new given own text_is (of_one_text c.a_value_has_one_answer.ensures.catalog given new own more.grows.own text_is) (subst (AreSpares new) c.as_slice-3.ensures are)))
+    has_all_given new given own text_is (of_one_text c.a_nested_value_has_one_answer.ensures.catalog given new own more.grows.own text_is) (subst (AreSpares new) c.as_slice-3.ensures are)))
     c.fill_spares.ensures.more c.fill_spares.ensures.named

@@ -3,7 +3,7 @@ use Rattle.ss_recover.proofs.laws.none_gets_further.Goals as goal
 
 pub returns-clause-entry : goal.returns-clause-entry
 returns-clause-entry c =
-    let bodies = c.a_body_has_one_answer.ensures in
+    let bodies = c.a_nested_body_has_one_answer.ensures in
     none_stops_later
     (record {
       aside = c.spares_aside.ensures;
@@ -18,7 +18,7 @@ returns-clause-entry c =
 
 pub returns-clause-settling : goal.returns-clause-settling
 returns-clause-settling c =
-    let bodies = c.a_body_has_one_answer.ensures in
+    let bodies = c.a_nested_body_has_one_answer.ensures in
     pass_in_all
     (record {
       aside = c.spares_aside.ensures;

@@ -63,7 +63,7 @@ returns-in-Ok-agreed-clause-recovered g c =
     let as_stored : s.bodies ≡ r.bodies = sym (is.form ∙ is_loaded.bodies) in
     was_recovered g.D.Disk.kind g.met.D.Disk.honest_tells c.args.mode c.args.disk c.in-Ok.opened.0 c.in-Ok.opened.1 s read is_open is_loaded (record { same = c.in-Ok.ensures.same; moments = c.in-Ok.ensures.moments; fewer = c.in-Ok.ensures.fewer })
     c.args.given c.args.partitions r is c.images_are_exact.ensures.again c.wholeness_stays.ensures c.kept_carries_weak.ensures c.weak_lists_hold_asked.ensures stood of_mode
-    c.spares_aside.ensures c.checkpoints_hold.ensures c.weakly_stands_for_one.ensures c.held_fronts_stand.ensures c.checkpoints_keep_fronts.ensures c.a_value_has_one_answer.ensures.catalog
+    c.spares_aside.ensures c.checkpoints_hold.ensures c.weakly_stands_for_one.ensures c.held_fronts_stand.ensures c.checkpoints_keep_fronts.ensures c.a_nested_value_has_one_answer.ensures.catalog
     c.requires.own same c.renewed.result (c.renewed.ensures.goes_on s is_open as_stored) (λ true'. c.renewed.ensures.leaves true' s is_open as_stored) c.renewed.ensures.only
 
 pub returns-in-Ok-agreed-clause-refused : goal.returns-in-Ok-agreed-clause-refused
@@ -77,7 +77,7 @@ returns-in-Ok-agreed-clause-refused g c =
     let as_stored : s.bodies ≡ r.bodies = sym (is.form ∙ is_loaded.bodies) in
     was_refused g.D.Disk.kind g.met.D.Disk.honest_tells c.args.mode c.args.disk c.in-Ok.opened.0 c.in-Ok.opened.1 s read is_open is_loaded (record { same = c.in-Ok.ensures.same; moments = c.in-Ok.ensures.moments; fewer = c.in-Ok.ensures.fewer })
     c.args.given c.args.partitions r is c.images_are_exact.ensures.again c.wholeness_stays.ensures c.kept_carries_weak.ensures c.weak_lists_hold_asked.ensures stood of_mode
-    c.spares_aside.ensures c.checkpoints_hold.ensures c.weakly_stands_for_one.ensures c.held_fronts_stand.ensures c.checkpoints_keep_fronts.ensures c.a_value_has_one_answer.ensures.catalog
+    c.spares_aside.ensures c.checkpoints_hold.ensures c.weakly_stands_for_one.ensures c.held_fronts_stand.ensures c.checkpoints_keep_fronts.ensures c.a_nested_value_has_one_answer.ensures.catalog
     c.requires.own same c.renewed.result (λ true'. c.renewed.ensures.leaves true' s is_open as_stored) c.renewed.ensures.only c.renewed.ensures.room g.met.D.Disk.sees_an_image c.in-Ok.ensures.still c.renewed.ensures.cause
 
 pub returns-in-Ok-agreed-clause-later : goal.returns-in-Ok-agreed-clause-later

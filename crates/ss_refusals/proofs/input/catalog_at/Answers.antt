@@ -5,11 +5,11 @@ use Rattle.ss_refusals.proofs.Growing.{own_read}
 use Rattle.ss_refusals.proofs.InputDepth.{value_depth}
 use Rattle.ss_refusals.proofs.input.catalog_at.Goals as goal
 
-pub read_catalog-requires : goal.read_catalog-requires
-read_catalog-requires c = value_depth c.args.line.now (view c.in-Ok.value) c.in-Ok.ensures.ok
+pub read_nested-requires : goal.read_nested-requires
+read_nested-requires c = value_depth c.args.line.now (view c.in-Ok.value) c.in-Ok.ensures.ok
 
 pub returns-clause-own : goal.returns-clause-own
 returns-clause-own c =
-    let read = c.read_catalog.ensures in
-    let own : IfOk c.read_catalog.result IsOwnCatalog = own_read (view c.in-Ok.value) c.read_catalog.result read.ok read.accepted read.utf8 in
+    let read = c.read_nested.ensures in
+    let own : IfOk c.read_nested.result IsOwnCatalog = own_read (view c.in-Ok.value) c.read_nested.result read.ok read.accepted read.utf8 in
     search rules

@@ -4,7 +4,7 @@ use Rattle.ss_refusals.proofs.laws.an_input_has_one_answer.Goals as goal
 -- what the calls say
 laws : goal.After-a_request_has_one_answer → InputLaws
 laws c =
-    let said = c.a_value_has_one_answer.ensures in
+    let said = c.a_nested_value_has_one_answer.ensures in
     let asked = c.a_request_has_one_answer.ensures in
     record {
       asking = record { request = asked.request; either = asked.either; refusal = asked.refusal };

@@ -21,7 +21,7 @@ returns-then-has_failed-clause-closes g c = λ every limit catalog.
     (sym c.into_disk-then-has_failed.ensures)
     (failed_closed g.D.Disk.kind every limit c.args.printing catalog c.args.requests.now c.args.last c.args.past c.args.place c.args.finished c.requires.place.0 c.requires.place.1
     c.answers_resume.ensures.resume c.answers_resume.ensures.stay c.incarnations_go_on.ensures.more c.runs_over_restarts.ensures c.in-Ok.past c.in-Ok.ensures
-    (record { aside = c.spares_aside.ensures; stand = c.a_body_has_one_answer.ensures.stands; body = c.a_body_has_one_answer.ensures.body; one = c.stands_for_one.ensures }) (sym c.has_failed.ensures.failed ∙ c.if-has_failed.true) c.has_failed.ensures.small)
+    (record { aside = c.spares_aside.ensures; stand = c.a_nested_body_has_one_answer.ensures.stands; body = c.a_nested_body_has_one_answer.ensures.body; one = c.stands_for_one.ensures }) (sym c.has_failed.ensures.failed ∙ c.if-has_failed.true) c.has_failed.ensures.small)
 
 pub returns-then-has_failed-clause-on : goal.returns-then-has_failed-clause-on
 returns-then-has_failed-clause-on g c = record {

@@ -36,7 +36,7 @@ pub returns-in-None-clause-comes : goal.returns-in-None-clause-comes
 returns-in-None-clause-comes g c = λ again old may has.
     let r = c.in-Ok-recover.recovered in
     let grows : GrowsTo c.args.catalog.now r.catalog = subst (λ (k : Catalog). GrowsTo k r.catalog) (c.in-Ok.ensures ∙ ap (catalog_for c.args.catalog.now) c.in-None.is) (c.in-Ok-recover.ensures.recovered.given_one c.in-Ok.copy refl) in
-    let laws : GrowthLaws = record { aside = c.spares_aside.ensures; stand = c.a_body_has_one_answer.ensures.stands; body = c.a_body_has_one_answer.ensures.body; one = c.stands_for_one.ensures } in
+    let laws : GrowthLaws = record { aside = c.spares_aside.ensures; stand = c.a_nested_body_has_one_answer.ensures.stands; body = c.a_nested_body_has_one_answer.ensures.body; one = c.stands_for_one.ensures } in
     new_comes g.D.Disk.kind c.args.mode c.args.every c.args.limit c.args.printing c.args.catalog.now c.requires.own c.args.requests.now c.args.last c.opened_at_last.ensures.none c.incarnations_go_on.ensures.none c.runs_over_restarts.ensures
     c.args.disk r c.serve_new.result c.serve_new.ensures.served grows c.opened_at_last.ensures.at_last
     (recovered_opened g.D.Disk.kind c.args.mode _ c.args.partitions c.args.disk r laws c.in-Ok-recover.ensures.recovered c.in-Ok-recover.ensures.later) c.in-Ok-recover.ensures.told (c.serve_new.ensures.new c.args.mode c.in-Ok-recover.ensures.recovered.goes_on) again may old
@@ -54,7 +54,7 @@ returns-then-is_fault-clause-comes g c = λ again old may has.
     let given = catalog_for c.args.catalog.now c.args.begun in
     let refuses : RefusesAsSaid {D = g.row.D.Denot} kind c.args.mode (Some given) c.args.disk c.in-Err.disk c.in-Err.error =
     subst (λ (k : Catalog). RefusesAsSaid {D = g.row.D.Denot} kind c.args.mode (Some k) c.args.disk c.in-Err.disk c.in-Err.error) c.in-Ok.ensures c.in-Err.ensures.refused in
-    let laws : GrowthLaws = record { aside = c.spares_aside.ensures; stand = c.a_body_has_one_answer.ensures.stands; body = c.a_body_has_one_answer.ensures.body; one = c.stands_for_one.ensures } in
+    let laws : GrowthLaws = record { aside = c.spares_aside.ensures; stand = c.a_nested_body_has_one_answer.ensures.stands; body = c.a_nested_body_has_one_answer.ensures.body; one = c.stands_for_one.ensures } in
     let strong = strong_before_last c.args.mode c.args.last c.args.begun c.if-not-last.true c.requires.alone in
     let fault = fault_is c.in-Err.error (sym c.is_fault.ensures ∙ c.if-is_fault.true) in
     let rose = (subst (RefusesAsSaid {D = g.row.D.Denot} kind c.args.mode (Some given) c.args.disk c.in-Err.disk) fault refuses).1 in
@@ -69,7 +69,7 @@ returns-else-not-last-clause-comes g c = λ again old may has.
     let given = catalog_for c.args.catalog.now c.args.begun in
     let refuses : RefusesAsSaid {D = g.row.D.Denot} kind c.args.mode (Some given) c.args.disk c.in-Err.disk c.in-Err.error =
     subst (λ (k : Catalog). RefusesAsSaid {D = g.row.D.Denot} kind c.args.mode (Some k) c.args.disk c.in-Err.disk c.in-Err.error) c.in-Ok.ensures c.in-Err.ensures.refused in
-    let laws : GrowthLaws = record { aside = c.spares_aside.ensures; stand = c.a_body_has_one_answer.ensures.stands; body = c.a_body_has_one_answer.ensures.body; one = c.stands_for_one.ensures } in
+    let laws : GrowthLaws = record { aside = c.spares_aside.ensures; stand = c.a_nested_body_has_one_answer.ensures.stands; body = c.a_nested_body_has_one_answer.ensures.body; one = c.stands_for_one.ensures } in
     let unless : (c.args.last ≡ true) ⊎ (is_fault c.in-Err.error ≡ false) = elim c.else-not-last.branch [
       | else-not-last-via-then-not-last+else-is_fault w ↦ inr (sym w.is_fault.ensures ∙ w.if-is_fault.false)
       | else-not-last-via-else-not-last w ↦ inl w.if-not-last.false
@@ -105,7 +105,7 @@ returns-in-Some-clause-comes g c = λ again old may has.
     let strong = strong_behind c.args.mode c.args.last c.args.begun b c.in-Some.is c.requires.alone in
     let on : MayGoOnFrom c.args.catalog.now c.args.requests.now b = subst (λ (o : Option Begun). IfSome o (MayGoOnFrom c.args.catalog.now c.args.requests.now)) c.in-Some.is c.requires.on in
     let grows : GrowsTo b.catalog r.catalog = subst (λ (k : Catalog). GrowsTo k r.catalog) (c.in-Ok.ensures ∙ ap (catalog_for c.args.catalog.now) c.in-Some.is) (c.in-Ok-recover.ensures.recovered.given_one c.in-Ok.copy refl) in
-    let laws : GrowthLaws = record { aside = c.spares_aside.ensures; stand = c.a_body_has_one_answer.ensures.stands; body = c.a_body_has_one_answer.ensures.body; one = c.stands_for_one.ensures } in
+    let laws : GrowthLaws = record { aside = c.spares_aside.ensures; stand = c.a_nested_body_has_one_answer.ensures.stands; body = c.a_nested_body_has_one_answer.ensures.body; one = c.stands_for_one.ensures } in
     let recovered = subst (λ (m : Mode). IsRecovered {D = g.row.D.Denot} kind m (Some c.in-Ok.copy) c.args.partitions c.args.disk r (recovered_database r)) strong c.in-Ok-recover.ensures.recovered in
     again_comes kind c.args.mode c.args.every c.args.limit c.args.printing c.args.catalog.now c.requires.own c.args.requests.now c.args.last c.opened_at_last.ensures.none c.incarnations_go_on.ensures.none c.runs_over_restarts.ensures
     c.args.disk r c.serve_again.result c.serve_again.ensures.served b on grows

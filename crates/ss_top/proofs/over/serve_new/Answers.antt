@@ -27,7 +27,7 @@ returns-in-Ok-clause-new g c = λ mode goes.
     let ran = ran_in kind mode c.args.every c.args.limit c.args.requests.now c.args.recovered c.args.partitions goes c.in-Ok.finished c.in-Ok.ensures.ran in
     subst (λ (turn : Turn g.row.D.Denot). ServesNew {D = g.row.D.Denot} g.D.Disk.kind mode c.args.every c.args.limit c.args.printing c.args.recovered.catalog c.args.requests.now c.args.last c.args.recovered turn) (sym c.failed.ensures)
     (failed_new kind mode c.args.every c.args.limit c.args.printing c.args.requests.now c.args.last c.args.recovered c.args.partitions strong c.requires.own goes c.in-Ok.finished ran
-    (record { aside = c.spares_aside.ensures; stand = c.a_body_has_one_answer.ensures.stands; body = c.a_body_has_one_answer.ensures.body; one = c.stands_for_one.ensures })
+    (record { aside = c.spares_aside.ensures; stand = c.a_nested_body_has_one_answer.ensures.stands; body = c.a_nested_body_has_one_answer.ensures.body; one = c.stands_for_one.ensures })
     c.incarnations_go_on.ensures.first (sym c.has_failed.ensures.failed ∙ c.if-has_failed.true) c.has_failed.ensures.small)
 
 pub returns-in-Ok-2-clause-new : goal.returns-in-Ok-2-clause-new

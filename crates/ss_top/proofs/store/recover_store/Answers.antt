@@ -16,7 +16,7 @@ returns-in-Ok-clause-came g c =
     let r = c.in-Ok.ensures.recovered in
     let w = sink_of g.K.Sink.kind c.args.sink.now c.write_turn.new.sink in
     let stored = was_stored g.D.Disk.kind c.args.mode c.args.partitions c.args.disk c.in-Ok.recovered r (λ told empty. (c.in-Ok.ensures.nothing told empty refl).1) in
-    let bodies = c.a_body_has_one_answer.ensures in
+    let bodies = c.a_nested_body_has_one_answer.ensures in
     let laws : GrowthLaws = record { aside = c.spares_aside.ensures; stand = bodies.stands; body = bodies.body; one = c.stands_for_one.ensures } in
     let opened = recovered_opened g.D.Disk.kind c.args.mode _ c.args.partitions c.args.disk c.in-Ok.recovered laws r c.in-Ok.ensures.later in
     let over = c.serve_new-turn.ensures.over refl in
@@ -28,7 +28,7 @@ returns-in-Ok-clause-came g c =
 pub returns-in-Ok-clause-told : goal.returns-in-Ok-clause-told
 returns-in-Ok-clause-told g c =
     let w = sink_of g.K.Sink.kind c.args.sink.now c.write_turn.new.sink in
-    let bodies = c.a_body_has_one_answer.ensures in
+    let bodies = c.a_nested_body_has_one_answer.ensures in
     let laws : GrowthLaws = record { aside = c.spares_aside.ensures; stand = bodies.stands; body = bodies.body; one = c.stands_for_one.ensures } in
     let opened = recovered_opened g.D.Disk.kind c.args.mode _ c.args.partitions c.args.disk c.in-Ok.recovered laws c.in-Ok.ensures.recovered c.in-Ok.ensures.later in
     let over = c.serve_new-turn.ensures.over refl in
@@ -38,7 +38,7 @@ returns-in-Ok-clause-told g c =
 pub returns-in-Ok-clause-counts : goal.returns-in-Ok-clause-counts
 returns-in-Ok-clause-counts g c =
     let w = sink_of g.K.Sink.kind c.args.sink.now c.write_turn.new.sink in
-    let bodies = c.a_body_has_one_answer.ensures in
+    let bodies = c.a_nested_body_has_one_answer.ensures in
     let laws : GrowthLaws = record { aside = c.spares_aside.ensures; stand = bodies.stands; body = bodies.body; one = c.stands_for_one.ensures } in
     let opened = recovered_opened g.D.Disk.kind c.args.mode _ c.args.partitions c.args.disk c.in-Ok.recovered laws c.in-Ok.ensures.recovered c.in-Ok.ensures.later in
     let over = c.serve_new-turn.ensures.over refl in

@@ -49,7 +49,7 @@ pub returns-in-Voter : goal.returns-in-Voter
 returns-in-Voter g c =
     let asks = subst (λ (command : Command). AsksFor (words_of c.args.words.now) (record { command = command; options = c.in-Some.field-0.options })) c.in-Voter.is c.in-Some.ensures in
     let fault = c.a_disk_has_one_fault.ensures in
-    ends_voter g.D.Disk.kind c.args.disk c.voter.result.1 c.args.limit c.args.words.now _ _ c.in-Some.field-0.options (omega arith, c.voter.ensures.counts.0, c.voter.ensures.counts.1) c.a_value_has_one_answer.ensures.catalog fault.empty fault.store fault.one c.in-Voter.show asks
+    ends_voter g.D.Disk.kind c.args.disk c.voter.result.1 c.args.limit c.args.words.now _ _ c.in-Some.field-0.options (omega arith, c.voter.ensures.counts.0, c.voter.ensures.counts.1) c.a_nested_value_has_one_answer.ensures.catalog fault.empty fault.store fault.one c.in-Voter.show asks
     refl refl c.voter.result.0 c.voter.ensures.came
 
 pub returns-in-Audit : goal.returns-in-Audit

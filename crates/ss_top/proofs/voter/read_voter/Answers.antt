@@ -6,6 +6,6 @@ use Rattle.ss_top.proofs.voter.read_voter.Goals as goal
 
 pub returns-clause-own : goal.returns-clause-own
 returns-clause-own c =
-    let read = c.read_catalog.ensures in
-    let own : IfOk c.read_catalog.result IsOwnCatalog = own_read (view c.in-Ok.value) c.read_catalog.result read.ok read.accepted read.utf8 in
+    let read = c.read_nested.ensures in
+    let own : IfOk c.read_nested.result IsOwnCatalog = own_read (view c.in-Ok.value) c.read_nested.result read.ok read.accepted read.utf8 in
     search rules

@@ -12,7 +12,7 @@ returns c =
     let n = c.from-at.result in
     let rows : Rows = c.args.rows in
     let past = c.if-at-self.false in
-    let few = c.begin.ensures.most count (omega arith) c.self.invariant in
+    let few = c.begin.ensures.most count (omega arith) c.self.invariant.0 in
     on_ok_weaker c.append_begun.result
     (λ is. put_behind count n old begun c.append_begun.new.begun rows (no_shorter old begun c.begin.ensures.longer) few c.begin.ensures.longer c.in_ok-begin.ensures.ok is
     ∙ ap (λ (lists : List Rows). set lists n (get_or lists n [] ++ rows)) c.self.view_is

@@ -20,7 +20,7 @@ pub returns-then-not-bodies-clause-furthest : goal.returns-then-not-bodies-claus
 returns-then-not-bodies-clause-furthest c =
     let catalog = c.args.catalog.now in
     subst (λ (b : Bool). IsFurthest b catalog c.args.bytes.now) (sym c.if-not-bodies.true)
-    (furthest_own catalog c.args.bytes.now (λ other own is. of_one_text c.a_value_has_one_answer.ensures.catalog catalog other c.requires.own own (sym is)))
+    (furthest_own catalog c.args.bytes.now (λ other own is. of_one_text c.a_nested_value_has_one_answer.ensures.catalog catalog other c.requires.own own (sym is)))
 
 pub returns-in-Ok-clause-furthest : goal.returns-in-Ok-clause-furthest
 returns-in-Ok-clause-furthest c =

@@ -15,7 +15,7 @@ returns-in-Err-Foreign-clause-furthest c =
     let now = c.loop-procedure.catalog in
     let i = c.loop-procedure.procedure in
     let there : i < n = omega (arith, c.loop-procedure-test.true, c.in-Ok.ensures, c.len.ensures) in
-    furthest_grown c.a_value_has_one_answer.ensures.catalog n old now c.args.bytes.now refl c.loop-procedure.invariant.grown
+    furthest_grown c.a_nested_value_has_one_answer.ensures.catalog n old now c.args.bytes.now refl c.loop-procedure.invariant.grown
     (stopped_at_cut n old now i c.args.bytes.now c.loop-procedure.rest.now c.loop-procedure.invariant there _
     (subst (λ (e : PartError). Refuses e (text_of c.loop-procedure.rest.now)) c.in-Err-Foreign.field-0-is c.in-Err-Foreign.ensures))
 
@@ -33,7 +33,7 @@ returns-then-not-branch-clause-furthest c =
     let new = c.learn_body.new.catalog in
     let i = c.loop-procedure.procedure in
     let there : i < n = omega (arith, c.loop-procedure-test.true, c.in-Ok.ensures, c.len.ensures) in
-    furthest_grown c.a_value_has_one_answer.ensures.catalog n old new c.args.bytes.now refl (grown_on old now new c.loop-procedure.invariant.grown c.learn_body.ensures.grown)
+    furthest_grown c.a_nested_value_has_one_answer.ensures.catalog n old new c.args.bytes.now refl (grown_on old now new c.loop-procedure.invariant.grown c.learn_body.ensures.grown)
     (stopped_at_none n old now i c.args.bytes.now c.loop-procedure.rest.now c.loop-procedure.invariant there new c.learn_body.ensures.grown c.in-Ok-text_in.read.0.now c.in-Ok-text_in.read.1.now
     c.in-Ok-text_in.ensures (c.in_ok-learn_body.ensures.none c.if-not-branch.true))
 
@@ -53,5 +53,5 @@ returns-clause-furthest c =
     let old = c.args.catalog.now in
     let n = length old.procedures in
     let now = c.loop-procedure.catalog in
-    furthest_grown c.a_value_has_one_answer.ensures.catalog n old now c.args.bytes.now refl c.loop-procedure.invariant.grown
+    furthest_grown c.a_nested_value_has_one_answer.ensures.catalog n old now c.args.bytes.now refl c.loop-procedure.invariant.grown
     (stopped_at_end n old now c.loop-procedure.procedure c.args.bytes.now c.loop-procedure.rest.now c.loop-procedure.invariant (omega (arith, c.loop-procedure-test.false, c.in-Ok.ensures, c.len.ensures)))

@@ -14,7 +14,7 @@ returns-in_err-parts-clause-refused c =
     let p = err_from_is_err_and c.from_residual.result c.from_residual.ensures.1 in
     let old = c.args.catalog.now in
     rw (p.1, p.2)
-    (beside_refused c.args.bodies old c.args.first c.args.bytes.now (λ other own text. of_one_text c.a_value_has_one_answer.ensures.catalog old other c.requires.own own (sym text))
+    (beside_refused c.args.bodies old c.args.first c.args.bytes.now (λ other own text. of_one_text c.a_nested_value_has_one_answer.ensures.catalog old other c.requires.own own (sym text))
     c.in_err-parts.field-0.0 c.in_err-parts.ensures.read)
 
 pub returns-in_err-numbers-clause-refused : goal.returns-in_err-numbers-clause-refused
@@ -24,7 +24,7 @@ returns-in_err-numbers-clause-refused c =
     let grown = c.last_bodies_in.ensures.grown in
     let front = ap (λ (k : Catalog). but_bodies_of k c.args.first c.args.bytes.now) grown.same ∙ c.in_ok-parts.ensures.read in
     rw (p.1, p.2)
-    (bodies_refused c.args.bodies new c.args.first c.args.bytes.now (λ other own text. of_one_text c.a_value_has_one_answer.ensures.catalog new other grown.own own (sym text))
+    (bodies_refused c.args.bodies new c.args.first c.args.bytes.now (λ other own text. of_one_text c.a_nested_value_has_one_answer.ensures.catalog new other grown.own own (sym text))
     (tables_of c.in_ok-parts.parts.0.tables, as_beside c.in_ok-parts.parts.1) c.in_ok-parts.rest.now front
     c.in_err-numbers.field-0.0 c.in_err-numbers.ensures.read c.in_err-numbers.ensures.furthest)
 

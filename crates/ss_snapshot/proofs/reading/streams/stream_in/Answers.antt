@@ -8,7 +8,7 @@ use Rattle.ss_snapshot.proofs.reading.streams.stream_in.Goals as goal
 
 pub returns-in_err-batches : goal.returns-in_err-batches
 returns-in_err-batches c =
-    let schema = c.args.stream.now.schema in
+    let schema = c.args.schema.now in
     let had = c.in_ok-had.had in
     let p = err_from_is_err_and c.from_residual-in_err-batches.result c.from_residual-in_err-batches.ensures.1 in
     rw (p.1, p.2)

@@ -1,0 +1,9 @@
+pub mod Without
+pub mod Outlines
+pub mod Members
+pub mod Told
+pub mod Joinable
+pub mod Moves
+pub mod Reads
+pub mod Answers
+pub mod Bodies
